@@ -2,24 +2,15 @@
 use Rattle.std.proofs.Common.{◌≡◌, [], ◌∷◌, refl, sym, ap, subst, ◌∙◌}
 use Rattle.jr_model.specs.declared.event.Role.{Role}
 use Rattle.jr_model.specs.declared.event.Role.TheVariants.{Outside, Within}
-use Rattle.jr_model.specs.declared.event.Act.TheVariants.{Gate, Meet}
+use Rattle.jr_model.specs.declared.event.Act.TheVariants.{Gate}
 use Rattle.jr_model.specs.declared.event.GateAct.TheVariants.{Leave}
 use Rattle.jr_steps.specs.Acts.{act_of_exit}
-use Rattle.jr_steps.specs.Knowing.{Facts, Standing, standing_after, anything, lets_go, Took}
+use Rattle.jr_steps.specs.Knowing.{Facts, Standing, anything, lets_go, Took}
 use Rattle.jr_frames.specs.Table.{Table}
 use Rattle.jr_frames.specs.Ready.{AreOwn, StandsReady}
 use Rattle.jr_frames.proofs.StillReady.{own_stepped}
 use Rattle.jr_env.specs.Calling.{CanCall}
 use Rattle.jr_env.specs.Works.{EndsStay}
-
--- what a thread learns leaves it able to make a call
-pub can_call_met : {s u : Standing} → u ≡ standing_after s (Meet ∷ []) → CanCall s → CanCall u
-can_call_met is can = record {
-  spent = ap (λ (x : Standing). x.fresh) is ∙ can.spent;
-  not_knocking = λ k. can.not_knocking (sym (ap (λ (x : Standing). x.role) is) ∙ k);
-  not_announcing = λ k. can.not_announcing (sym (ap (λ (x : Standing). x.role) is) ∙ k);
-  not_collecting = λ k. can.not_collecting (sym (ap (λ (x : Standing). x.role) is) ∙ k);
-}
 
 module _ {S : Type 0} {facts : S → Facts} where
   -- a thread that stands ready outside can make a call

@@ -1,22 +1,37 @@
--- A step of what a pass is made of, as one of the steps that are made of it; and steps that are as they were.
-use Rattle.std.proofs.Common.{◌≡◌, Some, List, sym, ap, subst, ◌∙◌}
+-- A look at the gate beside another pass or beside a note leaves an env as it must be, and so do steps that are as they were.
+use Rattle.std.proofs.Common.{◌≡◌, Some, true, List, sym, ap, subst, ◌∙◌}
+use Rattle.std.specs.List.{AllByRecursion}
 use mathlib.Core.Logic.{∥∥₁_map}
 use Rattle.jr_model.specs.declared.event.Act.{Act}
-use Rattle.jr_steps.specs.declared.known.Known.{Known}
-use Rattle.jr_steps.specs.Knowing.{IsOf, Standing, Took}
+use Rattle.jr_model.proofs.Agreement.{spares_places}
+use Rattle.jr_steps.specs.Knowing.{Facts, IsOf, Standing, Took, anything, keeps}
+use Rattle.jr_steps.proofs.StepFacts.{goes_did}
 use Rattle.jr_frames.specs.Table.{Table}
 use Rattle.jr_frames.specs.Ready.{AreOwn}
+use Rattle.jr_frames.proofs.FramesAgree.{holds_did}
 use Rattle.jr_rule.specs.declared.cells.Cells.{Ghosts}
 use Rattle.jr_rule.specs.declared.over.StepsOver.{StepsOver}
 use Rattle.jr_rule.specs.declared.row.RoomCells.{RoomCells}
-use Rattle.jr_rule.specs.Passes.{Holder, facts_of}
+use Rattle.jr_rule.specs.Passes.{facts_of}
 use Rattle.jr_rule.specs.Rooms.{AreAsBefore, holder_over}
 
-pub step_over : {S : Type 0} (holder : S → Holder) {a b : S} {acts : List Act} {met : Known → Type 0} {shows : Known → Known → Type 0} → Took facts_of (holder a) (holder b) acts met shows → Took (λ s. facts_of (holder s)) a b acts met shows
-step_over holder t = record { stands_is = t.stands_is; hint_is = t.hint_is; goes = t.goes; alone = t.alone }
+-- what is known of steps over a room's words
+abbrev facts : {P : Type 0} {G : Ghosts RoomCells P} → StepsOver RoomCells P G → Facts
+facts x = facts_of (holder_over x)
+
+-- a step over what a pass is made of, by acts that store no local word
+module _ {P : Type 0} {G : Ghosts RoomCells P} {s u : StepsOver RoomCells P G} {acts : List Act} (took : Took facts_of (holder_over s) (holder_over u) acts anything keeps) where
+  -- the frames are the thread's own still
+  pub own_looked : {t : Table} → AllByRecursion (λ a. spares_places a ≡ true) acts → AreOwn facts s t → AreOwn facts u t
+  own_looked {t} spares own = record {
+    owner = own.owner ∙ sym (ap (λ (x : Standing). x.thread) took.stands_is);
+    last = own.last ∙ sym (ap (λ (x : Standing). x.last) took.stands_is);
+    places = own.places ∙ sym (ap (λ (x : Standing). x.config.locals) took.stands_is);
+    agrees = ∥∥₁_map own.agrees (λ k. let x = took.goes k.0 k.1 tt in (x.0, x.1, holds_did k.0 x.0 t.frames acts (goes_did x.2) spares k.2));
+  }
 
 -- the frames are the own ones of steps that are as they were
-pub own_as_before : {P : Type 0} {G : Ghosts RoomCells P} {s u : StepsOver RoomCells P G} {t : Table} → AreAsBefore s u → AreOwn (λ (x : StepsOver RoomCells P G). facts_of (holder_over x)) s t → AreOwn (λ (x : StepsOver RoomCells P G). facts_of (holder_over x)) u t
+pub own_as_before : {P : Type 0} {G : Ghosts RoomCells P} {s u : StepsOver RoomCells P G} {t : Table} → AreAsBefore s u → AreOwn facts s t → AreOwn facts u t
 own_as_before {s = s} {u} a own =
     let stands : (facts_of (holder_over u)).stands ≡ (facts_of (holder_over s)).stands =
     λ i. record { room = Some (a.room i); config = (a.knows i).config; last = (a.knows i).last; thread = (a.knows i).thread; role = a.role i; fresh = a.fresh i } in

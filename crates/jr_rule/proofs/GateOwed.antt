@@ -19,12 +19,12 @@ use Rattle.jr_steps.specs.Knowing.{view, IsClosedNow, IsSettled}
 use Rattle.jr_steps.specs.declared.known.Holdings.{Holdings}
 use Rattle.jr_steps.specs.Holdings.{empty, hold}
 use Rattle.jr_rule.specs.Image.{MayHold}
-use Rattle.jr_rule.specs.Rule.{known_at, IsFound, Owes, Met}
+use Rattle.jr_rule.specs.Rule.{known_at, IsFound, Owes, LookedBy}
 use Rattle.jr_rule.proofs.StillSo.{role_at, closed_now, moves_as_known}
 use Rattle.jr_rule.proofs.Images.{image_let_go}
 use Rattle.jr_rule.proofs.Spaces.{hold_here}
 use Rattle.jr_rule.proofs.GateSteps.{CanShutFrom, shutter, gate_fits, gate_most, shows_gate, goes_in, goes_out, counted, shut_counted, announced_counted, gate_seen, holds_nothing, bars, bars_lost, announces, cancels, unbars}
-use Rattle.jr_rule.proofs.LegalSteps.{quiet, gaining, written, unwritten, won, lost, one_legal}
+use Rattle.jr_rule.proofs.LegalSteps.{quiet, gaining, written, unwritten, won, lost, one_legal, none_legal}
 use Rattle.jr_rule.proofs.Told.{Entered, Left, Barred, Announced, Cancelled, Reopened, SawGate}
 use Rattle.jr_rule.proofs.ActEffects.{gate_load_state}
 
@@ -120,8 +120,13 @@ module _ (k : Known) where
       quiet k log words held f (slice_set words 0 n) (SawGate name k n) acts (unwritten k log words held 0 t)
       (g.parts, gate_fits k.config (state log).role n (f.sized).limited.threads.1 g, g.word, refl, shows_gate g.parts k.config (state log) (known_at k log acts k.holdings) g.says refl (gate_load_state log k.thread name g.parts), refl)
 
-  -- a load that only shows what others did
-  pub meets : Owes k 0 (λ n. n) (Met k)
+  -- loads that only show what others did: of a pass that meets another, which is an event, and of one that learns a note, which is none
+  pub meets : Owes k 0 (λ n. n) (LookedBy (Meet ∷ []) k)
   meets log words held f =
       let n : ℕ = get_or words 0 0 in
-      quiet k log words held f (slice_set words 0 n) (Met k n) (Meet ∷ []) (unwritten k log words held 0 (one_legal k.config k.last log k.thread words held f.legal Meet (f.fits.row, tt) f.image)) (refl, refl)
+      quiet k log words held f (slice_set words 0 n) (LookedBy (Meet ∷ []) k n) (Meet ∷ []) (unwritten k log words held 0 (one_legal k.config k.last log k.thread words held f.legal Meet (f.fits.row, tt) f.image)) (refl, refl)
+
+  pub learns : Owes k 0 (λ n. n) (LookedBy [] k)
+  learns log words held f =
+      let n : ℕ = get_or words 0 0 in
+      quiet k log words held f (slice_set words 0 n) (LookedBy [] k n) [] (unwritten k log words held 0 (none_legal k.config k.last log k.thread words held f.legal f.image)) (refl, refl)

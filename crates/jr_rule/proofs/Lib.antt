@@ -34,4 +34,5 @@ pub mod Ended
 pub mod Gathered
 pub mod StepTaken
 pub mod SeatStepped
+pub mod LookTaken
 pub mod PassOver

@@ -14,7 +14,7 @@ use Rattle.jr_rule.specs.declared.rule.View.{View}
 use Rattle.jr_steps.specs.declared.known.Holdings.{Holdings}
 use Rattle.jr_steps.specs.Holdings.{empty}
 use Rattle.jr_rule.specs.Image.{IsImage}
-use Rattle.jr_rule.specs.Rule.{known, note_of, view_of, AreBeginnings, IsSized, EachFits, total, is_of, passes_of, Kept, newcomers, SeatState, first_alone, without_first, together, spent}
+use Rattle.jr_rule.specs.Rule.{known, note_of, view_of, view_with, AreBeginnings, IsSized, EachFits, total, is_of, passes_of, Kept, newcomers, SeatState, first_alone, without_first, together, spent}
 use Rattle.jr_rule.proofs.RuleKept.{total_append, total_at}
 
 each_append : (c : Config) (last : ℕ) (log : History) (held : ℕ → Holdings) (ks ls : List Known) → EachFits c last log held ks → EachFits c last log held ls → EachFits c last log held (ks ++ ls)
@@ -72,6 +72,11 @@ module _ (c : Config) (last : ℕ) where
   pub jots : (id : ℕ) (v : View) (k : Known) (ks : List Known) → v ≡ view_of (k ∷ ks) → Splits (Kept last c) id v v (note_of v)
   jots id v k ks is = subst (λ (w : View). Splits (Kept last c) id w w (note_of w)) (sym is)
       (cuts id (view_of (k ∷ ks)) (view_of (k ∷ ks)) (note_of (view_of (k ∷ ks))) (λ log held fit. (fit, tt)) (λ log held fit noted. (tt, ((fit.0).begins, tt))) (λ t. omega arith))
+
+  -- a copy of a seat's notes leaves it, where it has no pass
+  pub copies : (id : ℕ) (v : View) (ns : List Known) → v ≡ view_with [] ns → Splits (Kept last c) id v v v
+  copies id v ns is = subst (λ (w : View). Splits (Kept last c) id w w w) (sym is)
+      (cuts id (view_with [] ns) (view_with [] ns) (view_with [] ns) (λ log held fit. (fit, fit)) (λ log held fit noted. (noted, noted)) (λ t. refl))
 
   pub gathers : (id : ℕ) (v : View) (other : ℕ) (w : View) → Joins (Kept last c) id v other w (together v w) spent
   gathers id v other w r kept at apart there =

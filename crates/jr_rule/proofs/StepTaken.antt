@@ -103,6 +103,17 @@ module _ {z z' : Sight} {r : Role} {met : Known → Type 0} {told : Known → �
         },
       )
 
+  -- and was made of it by these acts, and shows this
+  pub leads_next : {acts : Known → List Act} {shows : Known → Known → Type 0} → Reads z r met told n acts shows → (k : Known) → z.knows k × IsOf (stands_at z role fresh) k → met k → (k' : Known) × (z'.knows k' × IsOf (stands_at z' role' fresh') k') × Goes k (acts k) k' × shows k k'
+  leads_next {acts} reads k h m =
+      let e = h.1.role ∙ is in
+      let s = among_of z role fresh k h in
+      let u = t.makes k s (e, m) in
+      let read = reads.read k u.new u.acts s e m u.says in
+      let g = u.goes in
+      let here : Goes k (acts k) u.new = record { config = g.config; last = g.last; thread = g.thread; between = g.between; seen = g.seen ∙ ap (λ l. (k.seen ++ g.between) ++ map (by k.thread) l) read.0; others = g.others; legal = g.legal; taken = g.taken } in
+      (u.new, known_next k s e m, here, read.1)
+
   -- SO THE THREAD STANDS as it must
   pub standing_next : AreSoundWords z' → {hint : ℕ} → IsStanding z role fresh hint → May z (InRole r met) → IsStanding z' role' fresh' hint
   standing_next sound {hint} s may = record {
@@ -119,18 +130,12 @@ module _ {C P : Type 0} {G : Ghosts C P} (old new : StepsOver C P G) {r : Role} 
   -- AND THE STEP WAS TAKEN, with acts that may depend on what was known
   pub took_with : {acts : Known → List Act} {role : Role} {fresh : Bool} → Reads (G.sight old.cells) r met told n acts shows → new.role ≡ role → new.fresh ≡ fresh → ((k : Known) → role ≡ role_from old.role (acts k)) → ((k : Known) → fresh ≡ fresh_from old.fresh (acts k))
       → TookWith facts old new acts (record (facts old).stands { role = role; fresh = fresh }) met shows
+  unfolding leads_next
   took_with {acts} {role} {fresh} reads role_is fresh_is role_next fresh_next =
       let left : Leaves (G.sight old.cells) r met told n old.role new.role old.fresh new.fresh = leaves reads (λ k. role_is ∙ role_next k) (λ k. fresh_is ∙ fresh_next k) in record {
         stands_is = λ i. record (t.first i) { role = role_is i; fresh = fresh_is i };
         hint_is = hint_is;
-        goes = λ k h m.
-            let e = h.1.role ∙ is in
-            let s = among_of (G.sight old.cells) old.role old.fresh k h in
-            let u = t.makes k s (e, m) in
-            let read = reads.read k u.new u.acts s e m u.says in
-            let g = u.goes in
-            let here : Goes k (acts k) u.new = record { config = g.config; last = g.last; thread = g.thread; between = g.between; seen = g.seen ∙ ap (λ l. (k.seen ++ g.between) ++ map (by k.thread) l) read.0; others = g.others; legal = g.legal; taken = g.taken } in
-            (u.new, known_next t left is k s e m, here, read.1);
+        goes = leads_next t left is reads;
         alone = λ nobody k h m. (t.makes k (among_of (G.sight old.cells) old.role old.fresh k h) (h.1.role ∙ is, m)).alone nobody;
       }
 

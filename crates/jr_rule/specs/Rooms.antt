@@ -10,6 +10,7 @@ use Rattle.jr_rule.specs.declared.closing.Left.{Left}
 use Rattle.jr_rule.specs.declared.closing_all.AllLeft.{AllLeft}
 use Rattle.jr_rule.specs.declared.note.Note.{Note}
 use Rattle.jr_rule.specs.declared.pass.Pass.{Pass}
+use Rattle.jr_rule.specs.declared.pinned_note.PinnedNote.{PinnedNote}
 use Rattle.jr_rule.specs.declared.room.Room.{Room}
 use Rattle.jr_steps.specs.declared.known.Known.{Known}
 use Rattle.jr_steps.specs.Knowing.{anything, keeps, state_of, Goes, Took}
@@ -56,6 +57,27 @@ WasNoted s n = seen_by_note n ≡ (stepping_pass s.cells.seat.me).seen
 -- ALL THAT THE NOTE SAYS WAS SEEN
 abbrev pub Learned : {P : Type 0} {G : Ghosts RoomCells P} → Note → StepsOver RoomCells P G → Type 0
 Learned n s = IsPrefix (seen_by_note n) (stepping_pass s.cells.seat.me).seen
+
+-- THE PINNED NOTE IS OF THE ROOM in which one steps, by the standing
+abbrev pub IsPinnedThere : {P : Type 0} {G : Ghosts RoomCells P} → StepsOver RoomCells P G → PinnedNote → Type 0
+IsPinnedThere s p = (facts_of (holder_over s)).stands.room ≡ Some p.perch.table_id
+
+-- what the pinned note says was seen
+abbrev pub seen_by_pinned : PinnedNote → History
+seen_by_pinned p = (noted_pass (p.perch.view, [])).seen
+
+-- A NOTE WAS PINNED: it says what it said, and is of the room that it was of
+pub record IsPinned (n : Note) (p : PinnedNote) : Type 0 where
+  pub room : p.perch.table_id ≡ n.seat.table_id
+  pub seen : seen_by_pinned p ≡ seen_by_note n
+
+-- a pinned note was made: it says all that the thread has seen
+abbrev pub WasPinned : {P : Type 0} {G : Ghosts RoomCells P} → StepsOver RoomCells P G → PinnedNote → Type 0
+WasPinned s p = seen_by_pinned p ≡ (stepping_pass s.cells.seat.me).seen
+
+-- ALL THAT THE PINNED NOTE SAYS WAS SEEN
+abbrev pub LearnedPinned : {P : Type 0} {G : Ghosts RoomCells P} → PinnedNote → StepsOver RoomCells P G → Type 0
+LearnedPinned p s = IsPrefix (seen_by_pinned p) (stepping_pass s.cells.seat.me).seen
 
 -- a room as it was opened, with its passes
 abbrev pub IsOpening : (LAST : ℕ) → Config → Room LAST → List Pass → Type 0

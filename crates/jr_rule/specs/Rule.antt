@@ -7,7 +7,6 @@ use Rattle.atomic_table.specs.Table.{State as Table, Me}
 use Rattle.jr_word.specs.declared.config.Config.{Config}
 use Rattle.jr_word.specs.Config.{in_limits, IsLimited}
 use Rattle.jr_model.specs.declared.event.Act.{Act}
-use Rattle.jr_model.specs.declared.event.Act.TheVariants.{Meet}
 use Rattle.jr_model.specs.declared.event.Role.{Role}
 use Rattle.jr_model.specs.History.{History, by, state, IsLegal, mine, role_of}
 use Rattle.jr_steps.specs.declared.known.Known.{Known}
@@ -140,12 +139,12 @@ pub record Tells (told : Known → ℕ → List Act → Known → Type 0) (m : S
   pub others : EachFits (stepping_pass m).config (stepping_pass m).last new.seen held (others_of m.0.passes)
   pub noted : AreBeginnings new.seen m.0.notes
 
--- a pass has looked at the gate, beside others that meet it
-abbrev pub Met : Known → ℕ → List Act → Known → Type 0
-Met k n acts k' = (acts ≡ Meet ∷ []) × keeps k k'
+-- a pass has looked at the gate by these acts, beside another that it meets or beside a note, and holds what it held
+abbrev pub LookedBy : List Act → Known → ℕ → List Act → Known → Type 0
+LookedBy acts k n done k' = (done ≡ acts) × keeps k k'
 
-abbrev pub LooksWith : SeatState → SeatState → Type 0
-LooksWith m m' = (n : ℕ) × Tells Met m n m'
+abbrev pub LooksBy : List Act → SeatState → SeatState → Type 0
+LooksBy acts m m' = (n : ℕ) × Tells (LookedBy acts) m n m'
 
 -- HOW A SEAT IS CUT: the first pass alone, and the others
 abbrev pub first_alone : View → View

@@ -112,7 +112,7 @@ impl<'a, const LAST: u32> StepsOver<RoomCells, &'a Room<LAST>> {
         Note { seat }
     }
 
-    /// Learns all that a note of the room says: whatever its thread had seen, this one has seen then.
+    /// Learns all that a note of the room says: whatever its thread had seen, this one has seen then. That is no event of the machine.
     ///
     /// # Operations
     ///
@@ -120,7 +120,8 @@ impl<'a, const LAST: u32> StepsOver<RoomCells, &'a Room<LAST>> {
     pub fn learn(&mut self, note: Note)
         requires { IsNoteThere self.old note }
         ensures room { self.new.place ≡ self.old.place }
-        ensures step { Took facts_of (holder_over self.old) (holder_over self.new) (Meet ∷ []) anything keeps }
+        ensures step { Took facts_of (holder_over self.old) (holder_over self.new) [] anything keeps }
+        ensures seen { Goes (stepping_pass self.old.cells.seat.me) [] (stepping_pass self.new.cells.seat.me) }
         ensures learned { Learned note self.new }
     {
         let Note { seat } = note;

@@ -36,13 +36,13 @@ ghost use Rattle.jr_model.specs.declared.event.Role.TheVariants.{Outside};
 ghost use Rattle.jr_steps.specs.Holdings.{empty};
 ghost use Rattle.jr_rule.specs.Image.{header_at as place_of_header, element_at as place_of_element};
 ghost use Rattle.jr_rule.specs.Sights.{IsSeatOf};
-ghost use Rattle.jr_rule.specs.Rule.{IsSeated, IsSized, stepping_pass, sizes, known, view_of, newcomers, others_of};
+ghost use Rattle.jr_rule.specs.Rule.{IsNote, IsSeated, IsSized, stepping_pass, sizes, known, view_of, newcomers, others_of};
 
 use crate::cells::{Cells, StepKind};
 use crate::closing::ClosedWords;
 use crate::pass::Pass;
 use crate::room::Room;
-use crate::rule::{Deal, Gather, Jot, Meeting, Part, Rule, Sizes, Tell, View};
+use crate::rule::{Again, Deal, Gather, Jot, Learning, Meeting, Part, Rule, Sizes, Tell, View};
 use crate::summing::summary;
 use crate::words::{GATE, first_element, first_header};
 use atomic_table::{Seat, Table};
@@ -125,6 +125,16 @@ impl Row {
             fresh: true,
             hint: 0,
         }
+    }
+
+    /// A copy of what the seat of a note says, in a seat of its own.
+    pub(crate) fn copy(&self, note: &mut Seat<(), View>) -> Seat<(), View>
+        requires room { note.old.table_id ≡ self.now.table.shared.table_id }
+        requires note { IsNote note.old.me }
+        ensures same { (note.new.table_id ≡ note.old.table_id) × (note.new.me ≡ note.old.me) }
+        ensures copy { (result.table_id ≡ note.old.table_id) × (result.me ≡ note.old.me) }
+    {
+        self.table.shared.split_seat::<Again>(note)
     }
 
     /// What stands at the end of all passes of the seat.
@@ -213,10 +223,11 @@ pub struct RoomCells {
 
 impl RoomCells {
     ghost use Rattle.std.specs.Prelude.{◌≡◌, ℕ};
+    ghost use Rattle.jr_model.specs.declared.event.Act.TheVariants.{Meet};
     ghost use Rattle.jr_model.specs.History.{HasMet};
     ghost use Rattle.jr_steps.specs.Knowing.{view};
     ghost use mathlib.Core.List.{IsPrefix};
-    ghost use Rattle.jr_rule.specs.Rule.{IsAlone, IsNote, LooksWith, note_of, noted_pass, stepping_pass};
+    ghost use Rattle.jr_rule.specs.Rule.{IsAlone, LooksBy, note_of, noted_pass, stepping_pass};
 
     /// The seat and another one of the room are joined, look at the gate together, and part.
     pub(crate) fn meet<const LAST: u32>(
@@ -229,7 +240,7 @@ impl RoomCells {
         requires alone { IsAlone other.me }
         ensures there { IsSeatOf room.now.row.table.shared.table_id room.now.row.config room.now.row.last self.new.seat.table_id self.new.seat.me self.new.thread }
         ensures same { (self.new.thread ≡ self.old.thread) × (self.new.seat.table_id ≡ self.old.seat.table_id) }
-        ensures looked { LooksWith self.old.seat.me self.new.seat.me }
+        ensures looked { LooksBy (Meet ∷ []) self.old.seat.me self.new.seat.me }
         ensures met { HasMet (view (stepping_pass other.me)) (view (stepping_pass self.new.seat.me)) }
         ensures other { (result.table_id ≡ other.table_id) × (result.me ≡ other.me) }
     {
@@ -249,19 +260,19 @@ impl RoomCells {
         shared.split_seat::<Jot>(&mut self.seat)
     }
 
-    /// The seat and a note's are joined, and look at the gate together; then nothing is left of the note.
+    /// The seat and a note's are joined, and look at the gate together, which is no event; then nothing is left of the note.
     pub(crate) fn learn<const LAST: u32>(&mut self, room: &Room<LAST>, note: Seat<(), View>)
         requires there { IsSeatOf room.now.row.table.shared.table_id room.now.row.config room.now.row.last self.old.seat.table_id self.old.seat.me self.old.thread }
         requires row { note.table_id ≡ self.old.seat.table_id }
         requires note { IsNote note.me }
         ensures there { IsSeatOf room.now.row.table.shared.table_id room.now.row.config room.now.row.last self.new.seat.table_id self.new.seat.me self.new.thread }
         ensures same { (self.new.thread ≡ self.old.thread) × (self.new.seat.table_id ≡ self.old.seat.table_id) }
-        ensures looked { LooksWith self.old.seat.me self.new.seat.me }
+        ensures looked { LooksBy [] self.old.seat.me self.new.seat.me }
         ensures learned { IsPrefix (noted_pass note.me).seen (stepping_pass self.new.seat.me).seen }
     {
         let shared = &room.row.table.shared;
         shared.join_seat::<Gather>(&mut self.seat, note);
-        shared.load::<Meeting>(&mut self.seat, GATE);
+        shared.load::<Learning>(&mut self.seat, GATE);
     }
 
     /// The same with the seat of other cells of the room, which have it again then. What leaves them meanwhile is their pass, and the seat that it left is spent.
@@ -271,7 +282,7 @@ impl RoomCells {
         requires alone { IsAlone other.old.seat.me }
         ensures there { IsSeatOf room.now.row.table.shared.table_id room.now.row.config room.now.row.last self.new.seat.table_id self.new.seat.me self.new.thread }
         ensures same { (self.new.thread ≡ self.old.thread) × (self.new.seat.table_id ≡ self.old.seat.table_id) }
-        ensures looked { LooksWith self.old.seat.me self.new.seat.me }
+        ensures looked { LooksBy (Meet ∷ []) self.old.seat.me self.new.seat.me }
         ensures met { HasMet (view (stepping_pass other.old.seat.me)) (view (stepping_pass self.new.seat.me)) }
         ensures other { (other.new.thread ≡ other.old.thread) × (other.new.seat.table_id ≡ other.old.seat.table_id) × (other.new.seat.me ≡ other.old.seat.me) }
     {

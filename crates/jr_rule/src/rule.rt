@@ -49,9 +49,21 @@ impl<T: StepKind> Play<(), View> for Tell<T> {
 pub struct Meeting;
 
 impl Play<(), View> for Meeting {
-    ghost use Rattle.jr_rule.specs.Rule.{Met, Tells};
+    ghost use Rattle.std.specs.Prelude.{[], ◌∷◌};
+    ghost use Rattle.jr_model.specs.declared.event.Act.TheVariants.{Meet};
+    ghost use Rattle.jr_rule.specs.Rule.{LookedBy, Tells};
 
-    ghost then = { λ s m n m'. Tells Met m n m' };
+    ghost then = { λ s m n m'. Tells (LookedBy (Meet ∷ [])) m n m' };
+}
+
+/// The look at the gate of a pass that learns what a note says. It is no event: the pass has then seen what others did, and that is all.
+pub struct Learning;
+
+impl Play<(), View> for Learning {
+    ghost use Rattle.std.specs.Prelude.{[]};
+    ghost use Rattle.jr_rule.specs.Rule.{LookedBy, Tells};
+
+    ghost then = { λ s m n m'. Tells (LookedBy []) m n m' };
 }
 
 /// The first pass leaves the seat.
@@ -85,6 +97,15 @@ impl Split<View> for Jot {
     ghost left = { λ v. v };
 
     ghost right = { note_of };
+}
+
+/// A copy of the seat's notes leaves it. It has no pass.
+pub struct Again;
+
+impl Split<View> for Again {
+    ghost left = { λ v. v };
+
+    ghost right = { λ v. v };
 }
 
 /// The passes of both seats, and their notes.

@@ -2,7 +2,7 @@
 ghost use Rattle.std.specs.Prelude.{◌≡◌, [], ◌∷◌};
 ghost use Rattle.jr_model.specs.declared.event.Act.TheVariants.{Meet};
 ghost use Rattle.jr_model.specs.History.{HasMet};
-ghost use Rattle.jr_steps.specs.Knowing.{view, anything, Took, keeps};
+ghost use Rattle.jr_steps.specs.Knowing.{view, anything, Goes, Took, keeps};
 ghost use Rattle.jr_rule.specs.Passes.{facts_of, known_of, IsSame};
 ghost use Rattle.jr_rule.specs.Rule.{stepping_pass};
 ghost use Rattle.jr_rule.specs.Rooms.{AreAsBefore, AreInOneRoom, IsNoteThere, IsOfRoom, Learned, WasNoted, holder_over};
@@ -60,7 +60,7 @@ impl<const LAST: u32> Env<RoomSteps<'_, LAST>> {
         held.steps.note()
     }
 
-    /// Learns all that a note of the room says: what its thread had seen, this one has seen then. So a reference that was made before the note was is found here, unless somebody has deleted it since. The local references stay as they are. An env in a room alone has this call.
+    /// Learns all that a note of the room says: what its thread had seen, this one has seen then. So a reference that was made before the note was is found here, unless somebody has deleted it since. It is no event of the machine. The local references stay as they are. An env in a room alone has this call.
     ///
     /// # Operations
     ///
@@ -68,7 +68,8 @@ impl<const LAST: u32> Env<RoomSteps<'_, LAST>> {
     pub fn learn(&mut self, note: Note)
         requires { IsNoteThere self.old.held.steps note }
         ensures room { self.new.held.steps.place ≡ self.old.held.steps.place }
-        ensures step { Took facts_of (holder_over self.old.held.steps) (holder_over self.new.held.steps) (Meet ∷ []) anything keeps }
+        ensures step { Took facts_of (holder_over self.old.held.steps) (holder_over self.new.held.steps) [] anything keeps }
+        ensures seen { Goes (stepping_pass self.old.held.steps.cells.seat.me) [] (stepping_pass self.new.held.steps.cells.seat.me) }
         ensures learned { Learned note self.new.held.steps }
         ensures frames { self.new.held.frames ≡ self.old.held.frames }
     {

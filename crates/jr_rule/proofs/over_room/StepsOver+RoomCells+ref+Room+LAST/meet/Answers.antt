@@ -1,35 +1,15 @@
-use Rattle.std.proofs.Common.{[], ◌∷◌, refl}
-use Rattle.jr_model.specs.declared.event.Act.TheVariants.{Meet}
-use Rattle.jr_steps.specs.Knowing.{anything, keeps}
-use Rattle.jr_rule.specs.Cells.{HasStepped, InRole}
-use Rattle.jr_rule.specs.Sights.{sight_of_seat}
-use Rattle.jr_rule.specs.CellLaws.{seat_sound}
-use Rattle.jr_rule.specs.Rule.{Met}
+use Rattle.std.proofs.Common.{refl}
 use Rattle.jr_rule.specs.Rooms.{holder_over}
-use Rattle.jr_rule.proofs.Told.{plainly}
-use Rattle.jr_rule.proofs.PassOver.{took_there}
-use Rattle.jr_rule.proofs.SeatStepped.{seat_stepped, seat_went}
-use Rattle.jr_rule.proofs.StepTaken.{may_any, leaves, standing_next, took, its_acts}
+use Rattle.jr_rule.proofs.LookTaken.{look_stands, look_took, look_went}
 use Rattle.jr_rule.proofs.over_room.StepsOver+RoomCells+ref+Room+LAST.meet.Goals as goal
 
 pub invariant_of-self : goal.invariant_of-self
 invariant_of-self g c =
     let s = c.args.self.now in
-    let x = c.meet-seat.new.self in
-    let z = sight_of_seat s.cells.seat.table_id s.cells.seat.me in
-    let t : HasStepped z (sight_of_seat x.seat.table_id x.seat.me) (InRole s.role anything) Met c.meet-seat.ensures.looked.0 = seat_stepped c.meet-seat.ensures.looked.1 c.meet-seat.ensures.same.1 in
-    record { at = c.meet-seat.ensures.there; stands = standing_next t (leaves (plainly {acts = Meet ∷ []} (λ k k' done u. u)) (λ k. refl) (λ k. refl)) refl (seat_sound c.meet-seat.ensures.there) s.stands (may_any z refl s.stands) }
+    record { at = c.meet-seat.ensures.there; stands = look_stands (holder_over s) c.meet-seat.new.self c.meet-seat.ensures.same.1 c.meet-seat.ensures.looked refl refl c.meet-seat.ensures.there s.stands }
 
 pub returns-clause-step : goal.returns-clause-step
-returns-clause-step g c =
-    let s = c.args.self.now in
-    let x = c.meet-seat.new.self in
-    let z = sight_of_seat s.cells.seat.table_id s.cells.seat.me in
-    let t : HasStepped z (sight_of_seat x.seat.table_id x.seat.me) (InRole s.role anything) Met c.meet-seat.ensures.looked.0 = seat_stepped c.meet-seat.ensures.looked.1 c.meet-seat.ensures.same.1 in
-    let next = record s { cells = x; at = c.meet-seat.ensures.there; stands = standing_next t (leaves (plainly {acts = Meet ∷ []} (λ k k' done u. u)) (λ k. refl) (λ k. refl)) refl (seat_sound c.meet-seat.ensures.there) s.stands (may_any z refl s.stands) } in
-    took_there holder_over refl refl (took s next t refl refl (Meet ∷ []) (plainly (λ k k' done u. u)) refl refl)
+returns-clause-step g c = look_took (holder_over c.args.self.now) c.meet-seat.new.self c.meet-seat.ensures.same.1 c.meet-seat.ensures.looked refl refl
 
 pub returns-clause-seen : goal.returns-clause-seen
-returns-clause-seen g c =
-    let s = c.args.self.now in
-    seat_went c.meet-seat.ensures.looked.1 (may_any (sight_of_seat s.cells.seat.table_id s.cells.seat.me) refl s.stands) (Meet ∷ []) (its_acts {r = s.role} {told = Met} {n = c.meet-seat.ensures.looked.0} {shows = keeps} (plainly {acts = Meet ∷ []} (λ k k' done u. u)))
+returns-clause-seen g c = let s = c.args.self.now in look_went (holder_over s) c.meet-seat.new.self c.meet-seat.ensures.same.1 c.meet-seat.ensures.looked refl refl s.stands

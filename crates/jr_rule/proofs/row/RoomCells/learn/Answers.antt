@@ -1,6 +1,6 @@
-use Rattle.std.proofs.Common.{rules, ap}
-use Rattle.jr_rule.specs.Rule.{Met, SeatState}
-use Rattle.jr_rule.proofs.GateOwed.{meets}
+use Rattle.std.proofs.Common.{[], rules, ap}
+use Rattle.jr_rule.specs.Rule.{LookedBy, SeatState}
+use Rattle.jr_rule.proofs.GateOwed.{learns}
 use Rattle.jr_rule.proofs.Meeting.{with_note}
 use Rattle.jr_rule.proofs.RuleKept.{plays}
 use Rattle.jr_rule.proofs.Seats.{gathers}
@@ -13,4 +13,4 @@ pub load-requires : goal.load-requires
 load-requires g c =
     let s = c.args.self.now in
     let m = c.join_seat.new.seat.me in
-    (search rules, search rules, plays _ _ _ _ _ _ _ (with_note s.seat.me c.args.note.me m c.requires.there.alone c.requires.note c.join_seat.ensures.2) _ (λ n. n) (λ n. n) Met (meets _))
+    (search rules, search rules, plays _ _ _ _ _ _ _ (with_note s.seat.me c.args.note.me m c.requires.there.alone c.requires.note c.join_seat.ensures.2) _ (λ n. n) (λ n. n) (LookedBy []) (learns _))

@@ -1,5 +1,6 @@
-use Rattle.std.proofs.Common.{rules, ap}
-use Rattle.jr_rule.specs.Rule.{Met, SeatState, others_of}
+use Rattle.std.proofs.Common.{[], ◌∷◌, rules, ap}
+use Rattle.jr_model.specs.declared.event.Act.TheVariants.{Meet}
+use Rattle.jr_rule.specs.Rule.{LookedBy, SeatState, others_of}
 use Rattle.jr_rule.proofs.GateOwed.{meets}
 use Rattle.jr_rule.proofs.Meeting.{seated_both}
 use Rattle.jr_rule.proofs.RuleKept.{plays}
@@ -14,7 +15,7 @@ load-requires g c =
     let s = c.args.self.now in
     let m = c.join_seat.new.seat.me in
     let seated = seated_both s.seat.me c.args.other.me m c.requires.there.alone c.requires.alone c.join_seat.ensures.2 in
-    (search rules, search rules, plays _ _ _ _ _ _ _ seated _ (λ n. n) (λ n. n) Met (meets _))
+    (search rules, search rules, plays _ _ _ _ _ _ _ seated _ (λ n. n) (λ n. n) (LookedBy (Meet ∷ [])) (meets _))
 
 pub split_seat-requires : goal.split_seat-requires
 split_seat-requires g c =

@@ -1,13 +1,10 @@
-use Rattle.jr_model.specs.declared.event.Act.TheVariants.{Meet}
-use Rattle.std.proofs.Common.{refl}
-use Rattle.jr_frames.proofs.StillReady.{own_stepped}
-use Rattle.jr_rule.specs.Rooms.{holder_over}
-use Rattle.jr_env.proofs.EndedStays.{can_call_met}
-use Rattle.jr_env.proofs.Meetings.{step_over}
+use Rattle.std.proofs.Common.{refl, sym, subst}
+use Rattle.jr_env.specs.Calling.{CanCall}
+use Rattle.jr_env.proofs.Meetings.{own_looked}
 use Rattle.jr_env.proofs.calls.meeting.Env+RoomSteps+LAST.meet.Goals as goal
 
 pub invariant_of-held : goal.invariant_of-held
-invariant_of-held g c = record { own = own_stepped Meet refl c.args.self.now.held.own (step_over holder_over c.meet.ensures.step) }
+invariant_of-held g c = record { own = own_looked c.meet.ensures.step (refl, tt) c.args.self.now.held.own }
 
 pub invariant_of-self : goal.invariant_of-self
-invariant_of-self g c = record { ready = can_call_met c.meet.ensures.step.stands_is c.args.self.now.ready }
+invariant_of-self g c = record { ready = subst CanCall (sym c.meet.ensures.step.stands_is) c.args.self.now.ready }

@@ -1,0 +1,51 @@
+-- A look at the gate beside another's pass, or beside a note, is a step of the pass that looks.
+use Rattle.std.proofs.Common.{◌≡◌, ℕ, List, refl}
+use Rattle.atomic_table.specs.Seated.{TableId}
+use Rattle.jr_word.specs.declared.config.Config.{Config}
+use Rattle.jr_model.specs.declared.event.Act.{Act}
+use Rattle.jr_model.specs.History.{role_from}
+use Rattle.jr_steps.specs.Knowing.{Goes, Took, anything, fresh_from, keeps}
+use Rattle.jr_rule.specs.declared.row.RoomCells.{RoomCells}
+use Rattle.jr_rule.specs.Cells.{HasStepped, InRole, IsStanding, Sight}
+use Rattle.jr_rule.specs.CellLaws.{seat_sound}
+use Rattle.jr_rule.specs.Passes.{Holder, facts_of}
+use Rattle.jr_rule.specs.Rule.{LookedBy, LooksBy, stepping_pass}
+use Rattle.jr_rule.specs.Sights.{sight_of_seat, IsSeatOf}
+use Rattle.jr_rule.proofs.SeatStepped.{seat_stepped, seat_went}
+use Rattle.jr_rule.proofs.StepTaken.{Leaves, Reads, may_any, leads_next, leaves, standing_next, its_acts}
+use Rattle.jr_rule.proofs.Told.{plainly}
+
+-- the cells that the holder stepped by are these afterwards; the acts change neither its role nor whether it is fresh
+module _ {acts : List Act} (h : Holder) (x : RoomCells) (table : x.seat.table_id ≡ h.seat.table_id) (looked : LooksBy acts h.seat.me x.seat.me)
+    (same_role : h.role ≡ role_from h.role acts) (same_fresh : h.fresh ≡ fresh_from h.fresh acts) where
+  abbrev before : Sight
+  before = sight_of_seat h.seat.table_id h.seat.me
+
+  abbrev behind : Sight
+  behind = sight_of_seat x.seat.table_id x.seat.me
+
+  stepped : HasStepped before behind (InRole h.role anything) (LookedBy acts) looked.0
+  stepped = seat_stepped looked.1 table
+
+  reads : Reads before h.role anything (LookedBy acts) looked.0 (λ k. acts) keeps
+  reads = plainly (λ k k' done u. u)
+
+  left : Leaves before h.role anything (LookedBy acts) looked.0 h.role h.role h.fresh h.fresh
+  left = leaves reads (λ k. same_role) (λ k. same_fresh)
+
+  -- the thread stands as it must
+  pub look_stands : {row : TableId} {c : Config} {last : ℕ} → IsSeatOf row c last x.seat.table_id x.seat.me x.thread → IsStanding before h.role h.fresh h.hint → IsStanding behind h.role h.fresh h.hint
+  look_stands at s = standing_next stepped left refl (seat_sound at) s (may_any before refl s)
+
+  -- the step was taken
+  pub look_took : Took facts_of h (record h { seat = x.seat; thread = x.thread }) acts anything keeps
+  look_took = record {
+    stands_is = λ i. record (stepped.first i) { role = same_role i; fresh = same_fresh i };
+    hint_is = refl;
+    goes = leads_next stepped left refl reads;
+    alone = λ nobody k s m. absurd cc;
+  }
+
+  -- and what the pass has seen is what this made of what it had
+  pub look_went : IsStanding before h.role h.fresh h.hint → Goes (stepping_pass h.seat.me) acts (stepping_pass x.seat.me)
+  look_went s = seat_went looked.1 (may_any before refl s) acts (its_acts reads)
