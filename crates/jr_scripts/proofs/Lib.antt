@@ -5,6 +5,7 @@ pub mod CopyDeeds
 pub mod UnitLines
 pub mod Retries
 pub mod Speaking
+pub mod RoomBoards
 pub mod Noted
 pub mod NamedCells
 pub mod CommandLoop

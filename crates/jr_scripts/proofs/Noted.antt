@@ -42,10 +42,18 @@ module _ {T : Type 0} where
   told_still gone same kept (inr x) = inr (noted_still same kept (λ t s. s) x)
 
   -- what was kept at the number of a name is noted under it
-  pub noted_at : {lost : Bool} (numbers : List (List ℕ × ℕ)) (notes : List (Option (Note T))) (n : List ℕ) (i : ℕ) (p : Posted T) {so : T → Type 0} → cell_number numbers n ≡ Some i → so p.told
-      → (lost ≡ true) ⊎ (posted_in (get_or notes i None) ≡ Some p) → (lost ≡ true) ⊎ IsNoted numbers notes n p.word so
-  noted_at numbers notes n i p is so (inl x) = inl x
-  noted_at numbers notes n i p is so (inr x) = inr (record { posted = p; is = ap (posted_by_number notes) is ∙ x; word = refl; says = so })
+  pub noted_at : {lost : Bool} {numbers numbers' : List (List ℕ × ℕ)} (notes : List (Option (Note T))) (n : List ℕ) (i : ℕ) (p q : Posted T) (w : ℕ) (so : T → Type 0) → numbers' ≡ numbers → cell_number numbers n ≡ Some i → p.word ≡ w → so p.told → p ≡ q
+      → (lost ≡ true) ⊎ (posted_in (get_or notes i None) ≡ Some q) → (lost ≡ true) ⊎ IsNoted numbers' notes n w so
+  noted_at notes n i p q w so same is word says found (inl x) = inl x
+  noted_at {numbers = numbers} {numbers'} notes n i p q w so same is word says found (inr x) =
+      let here : posted_noted numbers notes n ≡ Some p = ap (posted_by_number notes) is ∙ (x ∙ ap (λ (z : Posted T). Some z) (sym found)) in
+      inr (record { posted = p; is = subst (λ z. posted_noted z notes n ≡ Some p) (sym same) here; word = word; says = says })
+
+  -- what holds of what was told with a word
+  pub told_so : {lost : Bool} {numbers numbers' : List (List ℕ × ℕ)} {notes : List (Option (Note T))} {n : List ℕ} {w : ℕ} {told : T} (so : T → Type 0) → numbers' ≡ numbers → so told
+      → (lost ≡ true) ⊎ IsNoted numbers notes n w (λ t. t ≡ told) → (lost ≡ true) ⊎ IsNoted numbers' notes n w so
+  told_so so same says (inl x) = inl x
+  told_so so same says (inr x) = inr (noted_still same (λ i p is. is) (λ t e. subst so (sym e) says) x)
 
   -- ALL THAT ANOTHER NOTED
 

@@ -17,7 +17,7 @@ use Rattle.jr_scripts.specs.declared.note.Posted.{Posted}
 use Rattle.jr_scripts.specs.declared.told.Site.{Ghosts}
 use Rattle.jr_scripts.specs.declared.told.Told.{Told}
 use Rattle.jr_scripts.specs.Noting.{posted_noted}
-use Rattle.jr_scripts.specs.Pinned.{seen_by_pinned}
+use Rattle.jr_rule.specs.Rooms.{seen_by_pinned}
 use Rattle.jr_scripts.specs.Telling.{talk_told}
 use Rattle.jr_scripts.specs.AllRuns.{RanPass}
 

@@ -2,7 +2,7 @@
 use Rattle.std.specs.Prelude.{◌≡◌, ℕ, Bool, List, Option}
 use mathlib.Core.List.{IsPrefix}
 use Rattle.jr_model.specs.History.{History}
-use Rattle.jr_scripts.specs.Pinned.{seen_by_pinned}
+use Rattle.jr_rule.specs.Rooms.{seen_by_pinned}
 use Rattle.jr_scripts.specs.declared.told.Site.{Ghosts}
 use Rattle.jr_scripts.specs.declared.told.Told.{Told}
 use Rattle.jr_scripts.specs.declared.note.Note.{Note}

@@ -20,7 +20,6 @@ mod number;
 mod opening;
 mod part;
 mod perform;
-mod pinned;
 mod printed;
 mod region;
 mod reply;

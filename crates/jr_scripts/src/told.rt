@@ -3,11 +3,10 @@
 ghost use Rattle.std.specs.Prelude.{◌≡◌, Option, None, true, false};
 ghost use Rattle.atomic_table.specs.Seated.{TableId};
 ghost use Rattle.jr_rule.specs.Passes.{facts_of};
-ghost use Rattle.jr_rule.specs.Rooms.{AreAsBefore, holder_over};
-ghost use Rattle.jr_scripts.specs.Pinned.{IsToldIn, WasHeard, WasTold};
+ghost use Rattle.jr_rule.specs.Rooms.{AreAsBefore, WasPinned, holder_over};
+ghost use Rattle.jr_scripts.specs.Pinned.{IsToldIn, WasHeard};
 
-use crate::pinned::{PinnedNote, learn_pinned, pinned};
-use jr_rule::RoomSteps;
+use jr_rule::{PinnedNote, RoomSteps};
 use std::marker::{Brand, PhantomData};
 
 /// One room: a type stands for it, which the run of its threads picks.
@@ -33,21 +32,21 @@ impl<Q: Site> Told<Q> {
     pub(crate) fn by<const LAST: u32>(steps: &mut RoomSteps<'_, LAST>) -> Told<Q>
         requires { (facts_of (holder_over steps.old)).stands.room ≡ Q.room }
         ensures same { AreAsBefore steps.old steps.new }
-        ensures told { WasTold steps.old result.pinned }
+        ensures told { WasPinned steps.old result.pinned }
     {
-        let pinned = pinned(steps);
+        let pinned = steps.pin();
         Told {
             pinned,
             site: PhantomData,
         }
     }
 
-    /// The thread of the steps learns it, unless another thread reads it just then.
+    /// The thread of the steps learns it, unless another thread is just taking it.
     pub(crate) fn heard<const LAST: u32>(&self, steps: &mut RoomSteps<'_, LAST>) -> bool
         requires { (facts_of (holder_over steps.old)).stands.room ≡ Q.room }
         ensures heard { result ≡ true → WasHeard steps.old steps.new self.now.pinned }
         ensures same { result ≡ false → AreAsBefore steps.old steps.new }
     {
-        learn_pinned(steps, &self.pinned)
+        steps.learn_pinned(&self.pinned)
     }
 }

@@ -12,7 +12,7 @@ use Rattle.jr_scripts.proofs.JobLists.{told_more, told_end}
 use Rattle.jr_scripts.proofs.gathering.told_by.Goals as goal
 
 pub loop-part-preserved : goal.loop-part-preserved
-loop-part-preserved c =
+loop-part-preserved g c =
     let head : c.in_ok-head.head.items ≡ heading c.part-item.result.name = search rules in
     let one : c.extend_from_slice.new.self.items ≡ c.loop-part.text.items ++ c.in_ok-head.head.items = search rules in
     let two : c.extend_from_slice-in-loop-part.new.self.items ≡ c.extend_from_slice.new.self.items ++ c.remove-run.result.text.items = search rules in
@@ -35,10 +35,10 @@ loop-part-preserved c =
     }
 
 pub returns-clause-ok : goal.returns-clause-ok
-returns-clause-ok c = told_end c.loop-part.part-index c.args.parts.now c.loop-part.runs.items c.args.runs.items c.loop-part.passes.items c.loop-part.text.items (search rules) c.loop-part.invariant.told
+returns-clause-ok g c = told_end c.loop-part.part-index c.args.parts.now c.loop-part.runs.items c.args.runs.items c.loop-part.passes.items c.loop-part.text.items (search rules) c.loop-part.invariant.told
 
 pub returns-clause-noted : goal.returns-clause-noted
-returns-clause-noted c =
+returns-clause-noted g c =
     let all : length c.args.parts.now ≤ c.loop-part.part-index = search rules in
     let each = c.loop-part.invariant.each in
     let none : length c.loop-part.runs.items ≡ 0 = omega arith in
