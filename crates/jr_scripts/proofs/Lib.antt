@@ -6,6 +6,7 @@ pub mod UnitLines
 pub mod Retries
 pub mod Speaking
 pub mod RoomBoards
+pub mod RoomNotes
 pub mod Noted
 pub mod NamedCells
 pub mod CommandLoop

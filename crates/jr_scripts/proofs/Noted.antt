@@ -5,7 +5,7 @@ use Rattle.jr_model.specs.History.{History}
 use Rattle.jr_scripts.specs.declared.note.Note.{Note}
 use Rattle.jr_scripts.specs.declared.note.Posted.{Posted}
 use Rattle.jr_scripts.specs.Layouts.{cell_number}
-use Rattle.jr_scripts.specs.Noting.{HasAllOf, IsBlank, IsNoted, StaysNoted, posted_by_number, posted_in, posted_noted}
+use Rattle.jr_scripts.specs.Noting.{HasAllOf, IsBlank, IsNoted, StaysNoted, posted_by_number, posted_in, posted_noted, word_of}
 
 module _ {T : Type 0} where
   -- nothing is noted at first
@@ -74,7 +74,7 @@ module _ {T : Type 0} where
   told_by_all h (inl x) = let safe = h.safe in absurd cc
   told_by_all h (inr x) = noted_still refl h.kept (λ t s. s) x
 
--- what notes tell that were not lost
-pub not_lost : (lost : Bool) (told : Type 0) → lost ≡ false → (lost ≡ true) ⊎ told → told
-not_lost lost told safe (inl x) = absurd cc
-not_lost lost told safe (inr x) = x
+-- the word of what is noted
+pub noted_word : {T : Type 0} {lost : Bool} {numbers : List (List ℕ × ℕ)} {notes : List (Option (Note T))} {n : List ℕ} {w : ℕ} {so : T → Type 0} → lost ≡ false → (lost ≡ true) ⊎ IsNoted numbers notes n w so → word_of (posted_noted numbers notes n) ≡ Some w
+noted_word safe (inl x) = absurd cc
+noted_word safe (inr x) = ap word_of x.is ∙ ap (λ z. Some z) x.word

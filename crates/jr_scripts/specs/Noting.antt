@@ -34,6 +34,11 @@ posted_by_number notes None = None
 abbrev pub posted_noted : {T : Type 0} → List (List ℕ × ℕ) → List (Option (Note T)) → List ℕ → Option (Posted T)
 posted_noted numbers notes n = posted_by_number notes (cell_number numbers n)
 
+-- the word of what was posted
+abbrev pub word_of : {T : Type 0} → Option (Posted T) → Option ℕ
+word_of (Some p) = Some p.word
+word_of None = None
+
 -- what was noted is noted still
 abbrev pub StaysNoted : {T : Type 0} → List (Option (Note T)) → List (Option (Note T)) → Type 0
 StaysNoted {T = T} old new = (i : ℕ) (p : Posted T) → posted_in (get_or old i None) ≡ Some p → posted_in (get_or new i None) ≡ Some p
