@@ -5,8 +5,6 @@ pub mod CopyDeeds
 pub mod UnitLines
 pub mod Retries
 pub mod Speaking
-pub mod RoomBoards
-pub mod RoomNotes
 pub mod Noted
 pub mod NamedCells
 pub mod CommandLoop

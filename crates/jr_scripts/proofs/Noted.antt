@@ -1,11 +1,18 @@
 -- What is noted, once one note more is kept.
 use Rattle.std.proofs.lemmas.Bool.Decides.{nat_tests}
 use Rattle.std.proofs.Common.{◌≡◌, ◌⊎◌, ◌<◌, ◌≤◌, ◌++◌, ◌∙◌, ℕ, zero, suc, Bool, true, false, List, [], ◌∷◌, Option, Some, None, inl, inr, get_or, length, nat_lt, refl, sym, ap, subst, arith}
-use Rattle.jr_model.specs.History.{History}
 use Rattle.jr_scripts.specs.declared.note.Note.{Note}
 use Rattle.jr_scripts.specs.declared.note.Posted.{Posted}
 use Rattle.jr_scripts.specs.Layouts.{cell_number}
-use Rattle.jr_scripts.specs.Noting.{HasAllOf, IsBlank, IsNoted, StaysNoted, posted_by_number, posted_in, posted_noted, word_of}
+use Rattle.jr_scripts.specs.Noting.{HasAllOf, IsBlank, HasNoted, StaysNoted, posted_by_number, posted_in, posted_noted, the_word}
+use Rattle.jr_model.specs.History.{History}
+use Rattle.jr_rule.specs.Rooms.{seen_by_pinned}
+use Rattle.jr_scripts.specs.declared.told.Site.{Ghosts}
+use Rattle.jr_scripts.specs.declared.told.Told.{Told}
+use Rattle.jr_scripts.specs.declared.part.ThreadRun.{ThreadRun}
+use Rattle.jr_scripts.specs.Posting.{said}
+use Rattle.jr_scripts.specs.Telling.{has_seen, have_seen}
+use Rattle.jr_scripts.specs.Jobs.{IsToldBy, board_noted, entry_of}
 
 module _ {T : Type 0} where
   -- nothing is noted at first
@@ -27,7 +34,7 @@ module _ {T : Type 0} where
   kept_under numbers old new kept n p is = kept_at old new kept (cell_number numbers n) p is
 
   -- a word that is noted is noted still, on the same board
-  pub noted_still : {numbers numbers' : List (List ℕ × ℕ)} {old new : List (Option (Note T))} {n : List ℕ} {w : ℕ} {so so' : T → Type 0} → numbers' ≡ numbers → StaysNoted old new → ((t : T) → so t → so' t) → IsNoted numbers old n w so → IsNoted numbers' new n w so'
+  pub noted_still : {numbers numbers' : List (List ℕ × ℕ)} {old new : List (Option (Note T))} {n : List ℕ} {w : ℕ} {so so' : T → Type 0} → numbers' ≡ numbers → StaysNoted old new → ((t : T) → so t → so' t) → HasNoted numbers old n w so → HasNoted numbers' new n w so'
   noted_still {numbers} {numbers'} {old} {new} {n} same kept on x = record {
     posted = x.posted;
     is = subst (λ z. posted_noted z new n ≡ Some x.posted) (sym same) (kept_under numbers old new kept n x.posted x.is);
@@ -37,13 +44,13 @@ module _ {T : Type 0} where
 
   -- the same, where notes may be lost
   pub told_still : {lost lost' : Bool} {numbers numbers' : List (List ℕ × ℕ)} {old new : List (Option (Note T))} {n : List ℕ} {w : ℕ} {so : T → Type 0} → (lost ≡ true → lost' ≡ true) → numbers' ≡ numbers → StaysNoted old new
-      → (lost ≡ true) ⊎ IsNoted numbers old n w so → (lost' ≡ true) ⊎ IsNoted numbers' new n w so
+      → (lost ≡ true) ⊎ HasNoted numbers old n w so → (lost' ≡ true) ⊎ HasNoted numbers' new n w so
   told_still gone same kept (inl x) = inl (gone x)
   told_still gone same kept (inr x) = inr (noted_still same kept (λ t s. s) x)
 
   -- what was kept at the number of a name is noted under it
   pub noted_at : {lost : Bool} {numbers numbers' : List (List ℕ × ℕ)} (notes : List (Option (Note T))) (n : List ℕ) (i : ℕ) (p q : Posted T) (w : ℕ) (so : T → Type 0) → numbers' ≡ numbers → cell_number numbers n ≡ Some i → p.word ≡ w → so p.told → p ≡ q
-      → (lost ≡ true) ⊎ (posted_in (get_or notes i None) ≡ Some q) → (lost ≡ true) ⊎ IsNoted numbers' notes n w so
+      → (lost ≡ true) ⊎ (posted_in (get_or notes i None) ≡ Some q) → (lost ≡ true) ⊎ HasNoted numbers' notes n w so
   noted_at notes n i p q w so same is word says found (inl x) = inl x
   noted_at {numbers = numbers} {numbers'} notes n i p q w so same is word says found (inr x) =
       let here : posted_noted numbers notes n ≡ Some p = ap (posted_by_number notes) is ∙ (x ∙ ap (λ (z : Posted T). Some z) (sym found)) in
@@ -51,7 +58,7 @@ module _ {T : Type 0} where
 
   -- what holds of what was told with a word
   pub told_so : {lost : Bool} {numbers numbers' : List (List ℕ × ℕ)} {notes : List (Option (Note T))} {n : List ℕ} {w : ℕ} {told : T} (so : T → Type 0) → numbers' ≡ numbers → so told
-      → (lost ≡ true) ⊎ IsNoted numbers notes n w (λ t. t ≡ told) → (lost ≡ true) ⊎ IsNoted numbers' notes n w so
+      → (lost ≡ true) ⊎ HasNoted numbers notes n w (λ t. t ≡ told) → (lost ≡ true) ⊎ HasNoted numbers' notes n w so
   told_so so same says (inl x) = inl x
   told_so so same says (inr x) = inr (noted_still same (λ i p is. is) (λ t e. subst so (sym e) says) x)
 
@@ -70,11 +77,27 @@ module _ {T : Type 0} where
       go false l = let past : length theirs ≤ i = grind (arith, nat_tests) in let none = nothing_past theirs i past in let bad = ap posted_in none in absurd cc
 
   -- what a thread's notes tell, those tell that have all of them
-  pub told_by_all : {numbers : List (List ℕ × ℕ)} {ours theirs : List (Option (Note T))} {lost : Bool} {n : List ℕ} {w : ℕ} {so : T → Type 0} → HasAllOf ours lost theirs → (lost ≡ true) ⊎ IsNoted numbers theirs n w so → IsNoted numbers ours n w so
+  pub told_by_all : {numbers : List (List ℕ × ℕ)} {ours theirs : List (Option (Note T))} {lost : Bool} {n : List ℕ} {w : ℕ} {so : T → Type 0} → HasAllOf ours lost theirs → (lost ≡ true) ⊎ HasNoted numbers theirs n w so → HasNoted numbers ours n w so
   told_by_all h (inl x) = let safe = h.safe in absurd cc
   told_by_all h (inr x) = noted_still refl h.kept (λ t s. s) x
 
 -- the word of what is noted
-pub noted_word : {T : Type 0} {lost : Bool} {numbers : List (List ℕ × ℕ)} {notes : List (Option (Note T))} {n : List ℕ} {w : ℕ} {so : T → Type 0} → lost ≡ false → (lost ≡ true) ⊎ IsNoted numbers notes n w so → word_of (posted_noted numbers notes n) ≡ Some w
+pub noted_word : {T : Type 0} {lost : Bool} {numbers : List (List ℕ × ℕ)} {notes : List (Option (Note T))} {n : List ℕ} {w : ℕ} {so : T → Type 0} → lost ≡ false → (lost ≡ true) ⊎ HasNoted numbers notes n w so → the_word (posted_noted numbers notes n) ≡ Some w
 noted_word safe (inl x) = absurd cc
-noted_word safe (inr x) = ap word_of x.is ∙ ap (λ z. Some z) x.word
+noted_word safe (inr x) = ap the_word x.is ∙ ap (λ z. Some z) x.word
+
+-- THE BOARD OF A ROOM
+
+module _ {Q : Type 0} {G : Ghosts Q} (numbers : List (List ℕ × ℕ)) (notes : List (Option (Note (Told Q G)))) (n : List ℕ) (w : ℕ) where
+  entry_posted : (h : History) → HasNoted numbers notes n w (λ t. has_seen t h) → (said (board_noted numbers notes)).posted n w h
+  entry_posted h x = ap (entry_of {Q = Q} {G = G}) x.is ∙ λ i. Some (x.word i, x.says i)
+
+  entry_heard : (h : History) → HasNoted numbers notes n w (λ t. have_seen t h) → (said (board_noted numbers notes)).heard n w h
+  entry_heard h x = (seen_by_pinned (x.posted).told.pinned, (ap (entry_of {Q = Q} {G = G}) x.is ∙ λ i. Some (x.word i, seen_by_pinned (x.posted).told.pinned)), x.says)
+
+-- what a thread's notes tell is what the board has whose notes have all of them
+pub told_by_board : {Q : Type 0} {G : Ghosts Q} (numbers : List (List ℕ × ℕ)) (notes : List (Option (Note (Told Q G)))) (r : ThreadRun Q G) → r.notes.posts.now.numbers.entries ≡ numbers → HasAllOf notes r.notes.is_lost r.notes.notes.items → IsToldBy (board_noted numbers notes) r
+told_by_board numbers notes r same has = record {
+  posted = λ n w h x. subst (λ z. (said (board_noted z notes)).posted n w h) same (entry_posted r.notes.posts.now.numbers.entries notes n w h (told_by_all has x));
+  heard = λ n w h x. subst (λ z. (said (board_noted z notes)).heard n w h) same (entry_heard r.notes.posts.now.numbers.entries notes n w h (told_by_all has x));
+}

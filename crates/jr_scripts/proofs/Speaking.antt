@@ -1,6 +1,6 @@
 -- What commands say and hear of a board, and what else may be told in its place.
-use Rattle.std.proofs.Common.{◌≡◌, ◌∙◌, ℕ, suc, zero, true, false, Option, Some, None, List, Result, Ok, Err, inl, inr, refl, sym, ap, subst, arith, ◌+◌, ◌≤◌, ◌∷◌, []}
-use Rattle.std.specs.Prelude.{IfNone, IfSome}
+use Rattle.std.proofs.Common.{◌≡◌, ◌∙◌, ℕ, suc, true, false, Option, Some, None, List, Result, Ok, Err, inl, inr, refl, sym, ap, subst, arith, ◌+◌, ◌∷◌, []}
+use Rattle.std.specs.Prelude.{IfNone}
 use mathlib.Core.Logic.{∥∥₁_map}
 use Rattle.jr_word.specs.declared.fault.Fault.{Fault}
 use Rattle.jr_model.specs.declared.event.Role.{Role}
@@ -9,18 +9,17 @@ use Rattle.jr_model.specs.Frames.{Frames}
 use Rattle.jr_model.specs.History.{History, role_of}
 use Rattle.jr_steps.specs.declared.steps.Steps.{Ghosts}
 use Rattle.jr_steps.specs.declared.known.Known.{Known}
-use Rattle.jr_steps.specs.Knowing.{AreOf, Facts, Holds, MayKnow, Standing, Went, anything, view}
+use Rattle.jr_steps.specs.Knowing.{AreOf, Facts, Holds, MayKnow, Standing, Went, anything, view, IsOf}
 use Rattle.jr_gate.specs.Performing.{ThreadState, thread_state, thread_state_with}
 use Rattle.jr_gate.specs.Stays.{IsOwnStay}
 use Rattle.jr_steps.specs.Holdings.{header_in}
 use Rattle.jr_frames.specs.Table.{Table}
-use Rattle.jr_frames.specs.Ready.{AreOwn, StandsReady}
+use Rattle.jr_frames.specs.Ready.{AreOwn}
 use Rattle.jr_frames.proofs.FramesAgree.{holds_did}
 use Rattle.jr_critical.specs.declared.levels.Levels.{Levels}
 use Rattle.jr_critical.specs.Levels.{KnowsLevels}
 use Rattle.jr_critical.proofs.KnownLevels.{known_later}
 use Rattle.jr_env.specs.declared.env.Env.{Env}
-use Rattle.jr_env.specs.Calling.{CanCall}
 use Rattle.jr_env.specs.Deeds.{CarriedOut}
 use Rattle.jr_env.proofs.Carrying.{did_more}
 use Rattle.jr_syntax.specs.declared.command.Command.{Command}
@@ -38,9 +37,18 @@ use Rattle.jr_scripts.specs.Commands.{awaited, deed}
 use Rattle.jr_scripts.specs.RegionCommands.{deed_at, deed_within}
 use Rattle.jr_scripts.specs.Places.{Place, by_region, is_speaking, levels_after, objects_after}
 use Rattle.jr_scripts.specs.Text.{buffers_after}
-use Rattle.jr_scripts.specs.Posting.{Account, Awaits, HasLookedFor, HasPosted, HasSpoken, HasWaited, IsHeard, Learns, LearnsBy, LooksInVain, Keeps, SaysSo, Speaks, Talk, one_more, reply_to_wait, talk_of}
+use Rattle.jr_scripts.specs.Posting.{Account, Awaits, HasLookedFor, HasPosted, HasSpoken, HasWaited, IsHeard, LooksInVain, Keeps, SaysSo, Speaks, Talk, one_more, reply_to_wait, talk_of}
 use Rattle.jr_scripts.specs.Explains.{Explains, IsCutOff, LeavesText, nothing, then, unwritten, written}
 use Rattle.jr_scripts.specs.Advancing.{KnowsWith, StandsWith, deed_spoken, place_with, role_with}
+use mathlib.Core.List.{IsPrefix}
+use Rattle.jr_steps.proofs.StepFacts.{goes_did}
+use Rattle.jr_rule.specs.declared.cells.Cells.{Ghosts as CellGhosts}
+use Rattle.jr_rule.specs.declared.over.StepsOver.{StepsOver}
+use Rattle.jr_rule.specs.declared.pinned_note.PinnedNote.{PinnedNote}
+use Rattle.jr_rule.specs.declared.row.RoomCells.{RoomCells}
+use Rattle.jr_rule.specs.Passes.{facts_of}
+use Rattle.jr_rule.specs.Rooms.{AreAsBefore, WasPinned, holder_over, seen_by_pinned}
+use Rattle.jr_scripts.specs.Pinned.{WasHeard}
 
 -- two boards, and then another that tells more
 pub still_more : {B : Type 0} (layout : B → Layout) (tells : B → Account) {old mid new : B} → Keeps layout tells old mid → Keeps layout tells mid new → Keeps layout tells old new
@@ -185,10 +193,6 @@ module _ {S : Type 0} (facts : S → Facts) where
     agrees = ∥∥₁_map own.agrees (λ k. let x = w.leads k.0 k.1 tt in (x.0, x.1, holds_said t.frames c answer k.0 x.0 x.2 k.2));
   }
 
--- a thread that stands as it did can make a call still
-pub can_call_still : {s u : Standing} → u ≡ s → CanCall s → CanCall u
-can_call_still is can = subst CanCall (sym is) can
-
 module _ {S : Type 0} {G : Ghosts S} where
   stands_role : (region : Option Region) (env : Env S G) → StandsWith region env → (G.facts env.held.steps).stands.role ≡ role_with region
   stands_role None env stands = stands
@@ -256,3 +260,40 @@ module _ {t u : Talk} (s : Carries t u) {turns first : ℕ} {old : ThreadState} 
 pub leaves_still : {t u : Talk} (s : Carries t u) (turns first : ℕ) (old : ThreadState) (commands : List Command) (text : List ℕ) (new : ThreadState) (answer : Result (Unit {0}) Fault) → LeavesText t turns first old commands answer text new → LeavesText u turns first old commands answer text new
 leaves_still s turns first old commands text new (Ok x) e = record { place = e.place; done = e.done; explains = explains_still s e.explains; ended = e.ended }
 leaves_still s turns first old commands text new (Err f) e = (e.0, cut_off_still s e.1)
+
+-- IN A ROOM
+
+module _ {P : Type 0} {G : CellGhosts RoomCells P} where
+  abbrev facts_there : StepsOver RoomCells P G → Facts
+  facts_there s = facts_of (holder_over s)
+
+  -- steps that are as they were know what they knew
+  pub room_as_it_was : {s u : StepsOver RoomCells P G} → AreAsBefore s u → IsAsItWas (λ (x : StepsOver RoomCells P G). facts_of (holder_over x)) s u
+  room_as_it_was {s = s} {u} a =
+      let stands : (facts_there u).stands ≡ (facts_there s).stands =
+      λ i. record { room = Some (a.room i); config = (a.knows i).config; last = (a.knows i).last; thread = (a.knows i).thread; role = a.role i; fresh = a.fresh i } in
+      record {
+        stands_is = stands;
+        hint_is = a.hint;
+        same = λ k s. (s.0 ∙ sym a.knows, subst (λ (z : Standing). IsOf z k) (sym stands) s.1);
+      }
+
+  -- a word was posted with all that the thread has seen
+  pub room_posted : {s u : StepsOver RoomCells P G} (account : Account) (n : List ℕ) (w : ℕ) (p : PinnedNote) → AreAsBefore s u → WasPinned s p → ((h : History) → seen_by_pinned p ≡ h → account.posted n w h) → HasPosted (λ (x : StepsOver RoomCells P G). facts_of (holder_over x)) s u account n w
+  room_posted {s = s} account n w p a told posted =
+      let same = room_as_it_was a in
+      record { stands_is = same.stands_is; hint_is = same.hint_is; leads = λ k knows m. (k, same.same k knows, refl, posted k.seen (told ∙ ap (λ (z : Known). z.seen) (sym knows.0))) }
+
+  -- a look found a word, and what was told with it was heard
+  pub room_heard : {s u : StepsOver RoomCells P G} (account : Account) (n : List ℕ) (w : ℕ) (p : PinnedNote) → WasHeard s u p → ((h : History) → IsPrefix (seen_by_pinned p) h → account.heard n w h) → HasLookedFor (λ (x : StepsOver RoomCells P G). facts_of (holder_over x)) s u account n (Some w)
+  room_heard {u = u} account n w p h heard = record {
+    stands_is = h.step.stands_is;
+    hint_is = h.step.hint_is;
+    leads = λ k knows m.
+        let x = h.step.goes k knows tt in (
+          x.0,
+          x.1,
+          record { did = goes_did x.2; held = x.3; without = 1; most = omega arith; taken = (x.2).taken },
+          heard (x.0).seen (subst (λ (z : Known). IsPrefix (seen_by_pinned p) z.seen) (sym (x.1).0) h.learned),
+        );
+  }

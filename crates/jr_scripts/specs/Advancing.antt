@@ -14,15 +14,12 @@ use Rattle.jr_env.specs.declared.env.Env.{Env}
 use Rattle.jr_env.specs.Deeds.{Deed}
 use Rattle.jr_env.specs.Envs.{IsOutside, WasDoneFrom}
 use Rattle.jr_syntax.specs.declared.command.Command.{Command}
-use Rattle.jr_syntax.specs.declared.command.Command.TheVariants as commands
-use Rattle.jr_syntax.specs.declared.verb.Make.TheVariants as make
 use Rattle.jr_syntax.specs.declared.verb.OnNameAt.{OnNameAt}
 use Rattle.jr_syntax.specs.declared.verb.OnNameAt.TheVariants as on_name_at
 use Rattle.jr_syntax.specs.declared.verb.PutAt.{PutAt}
 use Rattle.jr_syntax.specs.declared.verb.PutAt.TheVariants as put_at
 use Rattle.jr_scripts.specs.declared.region.Region.{Region}
 use Rattle.jr_scripts.specs.declared.reply.Reply.{Reply}
-use Rattle.jr_scripts.specs.declared.reply.Reply.TheVariants as replies
 use Rattle.jr_scripts.specs.Names.{Names}
 use Rattle.jr_scripts.specs.Posting.{Speaks, Talk}
 use Rattle.jr_scripts.specs.Places.{Place}

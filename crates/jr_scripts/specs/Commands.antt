@@ -180,7 +180,7 @@ collecting_by turns (commands.WithTries v tries) = collecting_announced turns tr
 collecting_by turns _ = collecting
 
 -- A THREAD LEARNS: all that others have done in between is seen, by at most one operation, and nothing else of it changes
-pub record Learned (old new : ThreadState) : Type 0 where
+pub record HasLearned (old new : ThreadState) : Type 0 where
   pub did : Did old.pass new.pass []
   pub frames : new.frames ≡ old.frames
   pub held : new.held ≡ old.held
@@ -192,7 +192,7 @@ pub record Learned (old new : ThreadState) : Type 0 where
 
 -- a name was waited for: some word, with which the thread learns what its poster had seen; or the turns ran out, and nothing has changed
 abbrev pub awaited : Deed Reply
-awaited old answer new = ((w : Handle) × (answer ≡ Ok (replies.Made (Some w))) × Learned old new) ⊎ ((answer ≡ Err fault.Turns) × (new ≡ old))
+awaited old answer new = ((w : Handle) × (answer ≡ Ok (replies.Made (Some w))) × HasLearned old new) ⊎ ((answer ≡ Err fault.Turns) × (new ≡ old))
 
 module _ (turns : ℕ) where
   -- what is made of nothing else, or waited for

@@ -4,7 +4,6 @@ pub mod Layouts
 pub mod Posted
 pub mod Posting
 pub mod Noting
-pub mod Pinned
 pub mod Telling
 pub mod Tries
 pub mod Numbers
@@ -19,3 +18,4 @@ pub mod AllRuns
 pub mod Jobs
 pub mod Given
 pub mod Advancing
+pub mod Pinned

@@ -35,9 +35,9 @@ abbrev pub posted_noted : {T : Type 0} → List (List ℕ × ℕ) → List (Opti
 posted_noted numbers notes n = posted_by_number notes (cell_number numbers n)
 
 -- the word of what was posted
-abbrev pub word_of : {T : Type 0} → Option (Posted T) → Option ℕ
-word_of (Some p) = Some p.word
-word_of None = None
+abbrev pub the_word : {T : Type 0} → Option (Posted T) → Option ℕ
+the_word (Some p) = Some p.word
+the_word None = None
 
 -- what was noted is noted still
 abbrev pub StaysNoted : {T : Type 0} → List (Option (Note T)) → List (Option (Note T)) → Type 0
@@ -49,7 +49,7 @@ pub record HasAllOf {T : Type 0} (ours : List (Option (Note T))) (lost : Bool) (
   pub kept : StaysNoted theirs ours
 
 -- THE WORD IS NOTED under a name, and this is so of what was told with it
-pub record IsNoted {T : Type 0} (numbers : List (List ℕ × ℕ)) (notes : List (Option (Note T))) (n : List ℕ) (w : ℕ) (so : T → Type 0) : Type 0 where
+pub record HasNoted {T : Type 0} (numbers : List (List ℕ × ℕ)) (notes : List (Option (Note T))) (n : List ℕ) (w : ℕ) (so : T → Type 0) : Type 0 where
   pub posted : Posted T
   pub is : posted_noted numbers notes n ≡ Some posted
   pub word : posted.word ≡ w
@@ -59,6 +59,6 @@ pub record IsNoted {T : Type 0} (numbers : List (List ℕ × ℕ)) (notes : List
 abbrev pub account_noted : {T : Type 0} → (Option TableId → Type 0) → (T → History → Type 0) → (T → History → Type 0) → Bool → List (List ℕ × ℕ) → List (Option (Note T)) → Account
 account_noted serves says reaches lost numbers notes = record {
   serves = serves;
-  posted = λ n w seen. (lost ≡ true) ⊎ IsNoted numbers notes n w (λ t. says t seen);
-  heard = λ n w seen. (lost ≡ true) ⊎ IsNoted numbers notes n w (λ t. reaches t seen);
+  posted = λ n w seen. (lost ≡ true) ⊎ HasNoted numbers notes n w (λ t. says t seen);
+  heard = λ n w seen. (lost ≡ true) ⊎ HasNoted numbers notes n w (λ t. reaches t seen);
 }

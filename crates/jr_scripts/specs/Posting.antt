@@ -50,7 +50,7 @@ pub record Keeps {B : Type 0} (layout : B → Layout) (tells : B → Account) (o
   pub heard : (n : List ℕ) (w : ℕ) (h : History) → (tells old).heard n w h → (tells new).heard n w h
 
 -- WHAT A THREAD LEARNS of others: they did something in between, by at most one operation of its own, and it holds what it held
-pub record Learns (k k' : Known) : Type 0 where
+pub record LearnsOf (k k' : Known) : Type 0 where
   pub did : Did (view k) (view k') []
   pub held : k'.holdings ≡ k.holdings
   pub without : ℕ
@@ -58,13 +58,13 @@ pub record Learns (k k' : Known) : Type 0 where
   pub taken : k'.taken ≡ k.taken + without
 
 -- what a look makes of what was known: where it found nothing, nothing
-abbrev pub LearnsBy : Option ℕ → Known → Known → Type 0
-LearnsBy (Some w) k k' = Learns k k'
-LearnsBy None k k' = k' ≡ k
+abbrev pub LearnsByLook : Option ℕ → Known → Known → Type 0
+LearnsByLook (Some w) k k' = LearnsOf k k'
+LearnsByLook None k k' = k' ≡ k
 
 -- the answer to a wait, and what it makes of what was known
 abbrev pub Awaits : Result Reply Fault → Known → Known → Type 0
-Awaits answer k k' = ((w : Handle) × (answer ≡ Ok (replies.Made (Some w))) × Learns k k') ⊎ ((answer ≡ Err fault.Turns) × (k' ≡ k))
+Awaits answer k k' = ((w : Handle) × (answer ≡ Ok (replies.Made (Some w))) × LearnsOf k k') ⊎ ((answer ≡ Err fault.Turns) × (k' ≡ k))
 
 -- the answer to a wait for a name: a word that was posted under it, with all that its poster had seen; or E20, where it was looked for in vain
 abbrev pub IsHeard : Talk → List ℕ → Result Reply Fault → History → Type 0
@@ -89,7 +89,7 @@ module _ {S : Type 0} (facts : S → Facts) where
 
   -- A NAME WAS LOOKED FOR, and this was found: what was told with the word is seen then
   abbrev pub HasLookedFor : S → S → Account → List ℕ → Option ℕ → Type 0
-  HasLookedFor old new account n found = Went facts old new (facts old).stands anything (LearnsBy found) (λ k k'. IfSome found (λ w. account.heard n w k'.seen))
+  HasLookedFor old new account n found = Went facts old new (facts old).stands anything (LearnsByLook found) (λ k k'. IfSome found (λ w. account.heard n w k'.seen))
 
   -- A NAME WAS WAITED FOR, with this answer
   abbrev pub HasWaited : S → S → Talk → List ℕ → Result Reply Fault → Type 0

@@ -23,12 +23,20 @@ pub trait Board<S: Steps> {
     ghost looked: { Self → List ℕ → Option ℕ → Self → Type 0 };
 
     /// Posts a word under a name, with what its thread has seen. The thread's steps stay as they were.
+    ///
+    /// # Operations
+    ///
+    /// None that a clause counts.
     fn post(&mut self, steps: &mut S, name: &Name, word: u64)
         requires { (tells self.old).serves (S.facts steps.old).stands.room }
         ensures posted { HasPosted S.facts steps.old steps.new (tells self.new) name.now word }
         ensures kept { Keeps layout tells self.old self.new };
 
     /// The word that was posted under a name, if one is seen: then the thread learns what was told with it.
+    ///
+    /// # Operations
+    ///
+    /// At most one where it finds a word, and else none.
     fn look(&mut self, steps: &mut S, name: &Name) -> Option<u64>
         requires { (tells self.old).serves (S.facts steps.old).stands.room }
         ensures found { HasLookedFor S.facts steps.old steps.new (tells self.new) name.now result }

@@ -1,7 +1,7 @@
 //! What one thread posts and sees on a board that it shares.
 
 ghost use Rattle.std.specs.Prelude.{◌≡◌, ◌⊎◌, ◌<◌, true, Some, None, get_or, length, IfOk, IfSome};
-ghost use Rattle.jr_scripts.specs.Noting.{account_noted, cell_at, posted_in, AreOfCells, HasAllOf, IsBlank, IsNoted, StaysNoted};
+ghost use Rattle.jr_scripts.specs.Noting.{account_noted, cell_at, posted_in, AreOfCells, HasAllOf, IsBlank, HasNoted, StaysNoted};
 ghost use Rattle.jr_scripts.specs.Layouts.{cell_number, layout_of};
 
 use crate::board::{Board, Posts};
@@ -150,7 +150,7 @@ impl<'a, T: Drop> Notes<'a, T> {
     /// Posts a word under a name, with what is told.
     pub(crate) fn put(&mut self, name: &Name, word: u64, told: T)
         ensures same { self.new.posts.now ≡ self.old.posts.now }
-        ensures noted { (self.new.is_lost ≡ true) ⊎ IsNoted self.old.posts.now.numbers.entries self.new.notes.items name.now word (λ t. t ≡ told) }
+        ensures noted { (self.new.is_lost ≡ true) ⊎ HasNoted self.old.posts.now.numbers.entries self.new.notes.items name.now word (λ t. t ≡ told) }
         ensures kept { StaysNoted self.old.notes.items self.new.notes.items }
         ensures lost { self.old.is_lost ≡ true → self.new.is_lost ≡ true }
     {

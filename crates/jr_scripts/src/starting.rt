@@ -135,7 +135,13 @@ fn told_jobs<'s, 'b: 's, Q: Site + Send + Sync, E, H: Hold + Sync, const LAST: u
 }
 
 /// Does jobs, each in a thread of its own, and gives the threads' passes and what they print.
-pub(crate) fn run_threads<'a, Q: Site + Send + Sync, H: Hold + Sync, const LAST: u32, R: Threads + Wait>(
+pub(crate) fn run_threads<
+    'a,
+    Q: Site + Send + Sync,
+    H: Hold + Sync,
+    const LAST: u32,
+    R: Threads + Wait,
+>(
     rt: &R,
     alloc: Global,
     room: &'a Room<LAST>,

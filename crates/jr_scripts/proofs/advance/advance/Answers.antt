@@ -1,7 +1,7 @@
 use Rattle.std.proofs.Common.{sym, ◌∙◌}
-use Rattle.jr_scripts.specs.Advancing.{level_names, objects_in, place_with}
+use Rattle.jr_scripts.specs.Advancing.{place_with}
 use Rattle.jr_scripts.specs.Posting.{talk_of}
-use Rattle.jr_scripts.proofs.Speaking.{did_silent, did_speak, said_buffers, said_levels, said_objects, stands_still}
+use Rattle.jr_scripts.proofs.Speaking.{did_silent, did_speak, stands_still}
 use Rattle.jr_scripts.proofs.advance.advance.Goals as goal
 
 pub returns-then-hands_over-clause-does : goal.returns-then-hands_over-clause-does

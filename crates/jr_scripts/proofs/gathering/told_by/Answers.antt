@@ -4,7 +4,7 @@ use Rattle.std.specs.List.{AllByRecursion}
 use Rattle.jr_scripts.specs.Layouts.{Layout, layout_of}
 use Rattle.jr_scripts.specs.Noting.{HasAllOf}
 use Rattle.jr_scripts.specs.Jobs.{IsOver, IsToldBy, board_noted}
-use Rattle.jr_scripts.proofs.RoomNotes.{told_by_board}
+use Rattle.jr_scripts.proofs.Noted.{told_by_board}
 use Rattle.jr_scripts.specs.declared.part.ThreadRun.{ThreadRun}
 use Rattle.jr_scripts.specs.Text.{heading}
 use Rattle.jr_scripts.proofs.JobHandles.{none_left, taken}

@@ -1,4 +1,4 @@
-use Rattle.std.proofs.Common.{arith, sym, ap, subst}
+use Rattle.std.proofs.Common.{arith, sym, subst}
 use Rattle.jr_steps.specs.Knowing.{Standing}
 use Rattle.jr_scripts.specs.Posting.{no_look}
 use Rattle.jr_scripts.proofs.Speaking.{as_it_was, as_it_was_then, found_none, looked_again, looked_all, looked_none, looked_then, keeps_all, still_more}

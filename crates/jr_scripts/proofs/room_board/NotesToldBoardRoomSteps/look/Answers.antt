@@ -1,12 +1,10 @@
-use Rattle.std.proofs.Common.{◌≡◌, rules, true, ap, refl, subst, sym}
-use mathlib.Core.List.{IsPrefix}
-use Rattle.jr_rule.specs.Rooms.{seen_by_pinned}
+use Rattle.std.proofs.Common.{◌≡◌, rules, true, ap, refl}
 use Rattle.jr_scripts.specs.declared.board.Posts.{Posts}
 use Rattle.jr_scripts.specs.Layouts.{layout_of}
 use Rattle.jr_scripts.specs.Noting.{account_noted}
 use Rattle.jr_scripts.specs.Telling.{has_seen, have_seen}
 use Rattle.jr_scripts.proofs.Noted.{noted_at, told_still}
-use Rattle.jr_scripts.proofs.RoomBoards.{room_heard}
+use Rattle.jr_scripts.proofs.Speaking.{room_heard}
 use Rattle.jr_scripts.proofs.room_board.NotesToldBoardRoomSteps.look.Goals as goal
 
 pub returns-clause-found : goal.returns-clause-found

@@ -1,10 +1,10 @@
-use Rattle.std.proofs.Common.{◌≡◌, ap, refl}
+use Rattle.std.proofs.Common.{◌≡◌, ap}
 use Rattle.jr_scripts.specs.declared.board.Posts.{Posts}
 use Rattle.jr_scripts.specs.Layouts.{layout_of}
 use Rattle.jr_scripts.specs.Noting.{account_noted}
 use Rattle.jr_scripts.specs.Telling.{has_seen, have_seen}
 use Rattle.jr_scripts.proofs.Noted.{told_so, told_still}
-use Rattle.jr_scripts.proofs.RoomBoards.{room_posted}
+use Rattle.jr_scripts.proofs.Speaking.{room_posted}
 use Rattle.jr_scripts.proofs.room_board.NotesToldBoardRoomSteps.post.Goals as goal
 
 pub returns-clause-posted : goal.returns-clause-posted
