@@ -25,6 +25,7 @@ use Rattle.jr_rule.proofs.PassOver.{still_of}
 use Rattle.jr_rule.specs.Passes.{facts_of, holder_of, known_of, standing_of, IsAt, IsOpened, AreOpened, numbers_below, IsSeenIn, ClosesAll}
 use Rattle.jr_steps.proofs.StepFacts.{goes_did}
 use Rattle.jr_scripts.specs.declared.part.Job.{Job}
+use Rattle.jr_scripts.specs.declared.told.Site.{Ghosts}
 use Rattle.jr_scripts.specs.declared.part.ThreadRun.{ThreadRun}
 use Rattle.jr_gate.specs.Performing.{ThreadState, thread_state, thread_state_with}
 use Rattle.jr_env.specs.Deeds.{DoesDeed}
@@ -42,7 +43,7 @@ opened_knows : (r : Row) (p : Pass) → IsOpened r p → (facts_of (holder_of p)
 opened_knows r p o = (refl, record { config = refl; last = refl; thread = refl; role = p.held.role_is; legal = subst (λ (k : Known). IsLegal k.config k.last k.seen) (sym o.knows) tt })
 
 -- what a thread did since its pass was opened
-record Played (board : List ℕ → Option ℕ) (turns last : ℕ) (c : Config) (t first : ℕ) (commands : List Command) (lines : List ℕ) (k : Known) : Type 0 where
+record Played (board : List ℕ → Option (ℕ × History)) (turns last : ℕ) (c : Config) (t first : ℕ) (commands : List Command) (lines : List ℕ) (k : Known) : Type 0 where
   pub same_config : k.config ≡ c
   pub same_last : k.last ≡ last
   pub is_of : k.thread ≡ t
@@ -55,7 +56,7 @@ record Played (board : List ℕ → Option ℕ) (turns last : ℕ) (c : Config) 
 view_is : (c : Config) (last t : ℕ) (k : Known) → k.config ≡ c → k.last ≡ last → k.thread ≡ t → view k ≡ seeing_as c last t k.seen
 view_is c last t k a b d = λ i. record { config = a i; last = b i; thread = d i; seen = k.seen }
 
-played : (board : List ℕ → Option ℕ) (turns last : ℕ) (c : Config) (r : Row) (p q : Pass) (first : ℕ) (commands : List Command) (answer : Result (Unit {0}) Fault) (lines : List ℕ) → r.config ≡ c → r.last ≡ last → IsOpened r p → RanPass (said board) turns first commands p q answer lines → answer ≡ Ok tt
+played : (board : List ℕ → Option (ℕ × History)) (turns last : ℕ) (c : Config) (r : Row) (p q : Pass) (first : ℕ) (commands : List Command) (answer : Result (Unit {0}) Fault) (lines : List ℕ) → r.config ≡ c → r.last ≡ last → IsOpened r p → RanPass (said board) turns first commands p q answer lines → answer ≡ Ok tt
     → Played board turns last c p.thread first commands lines (known_of q)
 played board turns last c r p q first commands answer lines config_is last_is o x done =
     let t = p.thread in
@@ -92,7 +93,7 @@ played board turns last c r p q first commands answer lines config_is last_is o 
     }
 
 -- the same of a job
-job_played : (board : List ℕ → Option ℕ) (turns last : ℕ) (c : Config) (r : Row) (line : ℕ) (p p' : Pass) (q : ThreadPart) (j : Job) (x : ThreadRun) → r.config ≡ c → r.last ≡ last → IsOpened r p → IsJobOf turns line p q j → HasSaid board j x → IsDone x → x.pass ≡ p'
+job_played : {Q : Type 0} {G : Ghosts Q} (board : List ℕ → Option (ℕ × History)) (turns last : ℕ) (c : Config) (r : Row) (line : ℕ) (p p' : Pass) (q : ThreadPart) (j : Job) (x : ThreadRun Q G) → r.config ≡ c → r.last ≡ last → IsOpened r p → IsJobOf turns line p q j → HasSaid board j x → IsDone x → x.pass ≡ p'
     → Played board turns last c p.thread (line + 1) q.commands x.text.items (known_of p')
 job_played board turns last c r line p p' q j x config_is last_is o i ran done is =
     let one : RanPass (said board) j.turns j.first j.part.now.commands p x.pass x.answer x.text.items = subst (λ z. RanPass (said board) j.turns j.first j.part.now.commands z x.pass x.answer x.text.items) i.pass ran in
@@ -103,7 +104,7 @@ job_played board turns last c r line p p' q j x config_is last_is o i ran done i
     played board turns last c r p p' (line + 1) q.commands x.answer x.text.items config_is last_is o five done
 
 -- the part of a thread that is not the first
-part_of_other : (board : List ℕ → Option ℕ) (turns last : ℕ) (c : Config) (whole : History) (t first : ℕ) (part : ThreadPart) (lines : List ℕ) (k : Known) → 0 < t → Played board turns last c t first part.commands lines k → IsSeenIn whole k → IsPartOf board turns last c whole t first part lines
+part_of_other : (board : List ℕ → Option (ℕ × History)) (turns last : ℕ) (c : Config) (whole : History) (t first : ℕ) (part : ThreadPart) (lines : List ℕ) (k : Known) → 0 < t → Played board turns last c t first part.commands lines k → IsSeenIn whole k → IsPartOf board turns last c whole t first part lines
 part_of_other board turns last c whole zero first part lines k some p s = absurd (omega arith)
 part_of_other board turns last c whole (suc t) first part lines k some p s = record {
   told = p.told;
@@ -117,7 +118,7 @@ part_of_other board turns last c whole (suc t) first part lines k some p s = rec
 }
 
 -- the part of the first, which looks at the gate at the end
-part_of_first : (board : List ℕ → Option ℕ) (turns last : ℕ) (c : Config) (whole : History) (first : ℕ) (part : ThreadPart) (lines : List ℕ) (k met : Known) → Played board turns last c 0 first part.commands lines k → Did (view k) (view met) (Meet ∷ []) → IsSeenIn whole met → IsPartOf board turns last c whole 0 first part lines
+part_of_first : (board : List ℕ → Option (ℕ × History)) (turns last : ℕ) (c : Config) (whole : History) (first : ℕ) (part : ThreadPart) (lines : List ℕ) (k met : Known) → Played board turns last c 0 first part.commands lines k → Did (view k) (view met) (Meet ∷ []) → IsSeenIn whole met → IsPartOf board turns last c whole 0 first part lines
 part_of_first board turns last c whole first part lines k met p d s = record {
   told = p.told;
   explained = p.explained;
@@ -149,12 +150,12 @@ tail_is : (x y : ℕ) (xs ys : List ℕ) → x ∷ xs ≡ y ∷ ys → xs ≡ ys
 tail_is x y xs ys e = cc
 
 -- the lines of the threads
-abbrev lines_of : List ThreadRun → List (List ℕ)
+abbrev lines_of : {Q : Type 0} {G : Ghosts Q} → List (ThreadRun Q G) → List (List ℕ)
 lines_of [] = []
 lines_of (x ∷ xs) = x.text.items ∷ lines_of xs
 
-module _ (board : List ℕ → Option ℕ) (turns last : ℕ) (c : Config) (r : Row) (config_is : r.config ≡ c) (last_is : r.last ≡ last) (whole : History) where
-  parts_of_others : (a n line : ℕ) (ps : List Pass) (qs : List ThreadPart) (js : List Job) (xs : List ThreadRun) (ends : List Pass) (text : List ℕ) → 0 < a → map (λ (p : Pass). p.thread) ps ≡ counted a n
+module _ (board : List ℕ → Option (ℕ × History)) (turns last : ℕ) (c : Config) (r : Row) (config_is : r.config ≡ c) (last_is : r.last ≡ last) (whole : History) where
+  parts_of_others : {Q : Type 0} {G : Ghosts Q} (a n line : ℕ) (ps : List Pass) (qs : List ThreadPart) (js : List Job) (xs : List (ThreadRun Q G)) (ends : List Pass) (text : List ℕ) → 0 < a → map (λ (p : Pass). p.thread) ps ≡ counted a n
       → AllByRecursion (IsOpened r) ps → AreJobsOf turns line ps qs js → AllZip (HasSaid board) js xs → AreTold qs xs ends text → AllByRecursion (IsSeenIn whole) (map known_of ends) → ArePartsOf board turns last c whole a line qs (lines_of xs)
   parts_of_others a n line [] [] [] [] ends text some are o jobs ran told seen = tt
   parts_of_others a n line [] [] [] (x ∷ xs) ends text some are o jobs ran told seen = absurd ran
@@ -172,7 +173,7 @@ module _ (board : List ℕ → Option ℕ) (turns last : ℕ) (c : Config) (r : 
     parts_of_others (suc a) n (line + 1 + length q.commands) ps qs js xs ends told.2 (omega arith) (tail_is p.thread a _ _ are) o.1 jobs.1 ran.1 told.4 seen.1,
   )
 
-text_told : (qs : List ThreadPart) (xs : List ThreadRun) (ends : List Pass) (text : List ℕ) → AreTold qs xs ends text → text ≡ text_of_parts qs (lines_of xs)
+text_told : {Q : Type 0} {G : Ghosts Q} (qs : List ThreadPart) (xs : List (ThreadRun Q G)) (ends : List Pass) (text : List ℕ) → AreTold qs xs ends text → text ≡ text_of_parts qs (lines_of xs)
 text_told [] [] [] text t = t
 text_told [] (x ∷ xs) [] text t = t
 text_told [] [] (e ∷ ends) text t = absurd t
@@ -199,7 +200,7 @@ pub all_for : (c : Config) (last : ℕ) (r : Row) (turns line : ℕ) (ps : List 
 all_for c last r turns line ps qs js o jobs = All-from_recursion (IsFor r) js (jobs_for r turns line ps qs js (recursion_from_All (IsOpened r) ps o.each) jobs)
 
 -- the passes that are handed back are of the room
-ends_at : (r : Row) (qs : List ThreadPart) (js : List Job) (xs : List ThreadRun) (ends : List Pass) (text : List ℕ) → AllByRecursion (IsFor r) js → AllZip HasRun js xs → AreTold qs xs ends text → AllByRecursion (IsAt r) ends
+ends_at : {Q : Type 0} {G : Ghosts Q} (r : Row) (qs : List ThreadPart) (js : List Job) (xs : List (ThreadRun Q G)) (ends : List Pass) (text : List ℕ) → AllByRecursion (IsFor r) js → AllZip HasRun js xs → AreTold qs xs ends text → AllByRecursion (IsAt r) ends
 ends_at r qs js xs [] text for ran told = tt
 ends_at r [] js [] (e ∷ ends) text for ran told = absurd told
 ends_at r [] js (x ∷ xs) (e ∷ ends) text for ran told = absurd told
@@ -210,7 +211,7 @@ ends_at r (q ∷ qs) (j ∷ js) (x ∷ xs) (e ∷ ends) text for ran told =
     let spent = ((ran.0).spends).stands_is in
     (subst (IsAt r) told.1 (still_of r j.pass x.pass (s.room ∙ ap (λ (z : Standing). z.room) spent) (s.config ∙ ap (λ (z : Standing). z.config) spent) (s.last ∙ ap (λ (z : Standing). z.last) spent) ((for.0).opened).row), ends_at r qs js xs ends told.2 for.1 ran.1 told.4)
 
-module _ (c : Config) (last : ℕ) (r : Row) (turns line : ℕ) (ps : List Pass) (qs : List ThreadPart) (js : List Job) (xs : List ThreadRun) (ends : List Pass) (text : List ℕ) (q : Pass) (others : List Pass)
+module _ {Q : Type 0} {G : Ghosts Q} (c : Config) (last : ℕ) (r : Row) (turns line : ℕ) (ps : List Pass) (qs : List ThreadPart) (js : List Job) (xs : List (ThreadRun Q G)) (ends : List Pass) (text : List ℕ) (q : Pass) (others : List Pass)
     (o : AreOpened c last r ps) (jobs : AreJobsOf turns line ps qs js) (ran : AllZip HasRun js xs) (told : AreTold qs xs ends text) (is : ends ≡ q ∷ others) where
   all_at : All (IsAt r) (q ∷ others)
   all_at = subst (All (IsAt r)) is (All-from_recursion (IsAt r) ends (ends_at r qs js xs ends text (jobs_for r turns line ps qs js (recursion_from_All (IsOpened r) ps o.each) jobs) ran told))
@@ -221,8 +222,8 @@ module _ (c : Config) (last : ℕ) (r : Row) (turns line : ℕ) (ps : List Pass)
   pub others_at : All (IsAt r) others
   others_at = All-tail (IsAt r) q others all_at
 
-module _ (board : List ℕ → Option ℕ) (turns last : ℕ) (c : Config) (r : Row) (config_is : r.config ≡ c) (last_is : r.last ≡ last) where
-  all_parts : (n : ℕ) (ps : List Pass) (qs : List ThreadPart) (js : List Job) (xs : List ThreadRun) (e : Pass) (ends : List Pass) (text : List ℕ) (s : Summary) → map (λ (p : Pass). p.thread) ps ≡ counted 0 n
+module _ (board : List ℕ → Option (ℕ × History)) (turns last : ℕ) (c : Config) (r : Row) (config_is : r.config ≡ c) (last_is : r.last ≡ last) where
+  all_parts : {Q : Type 0} {G : Ghosts Q} (n : ℕ) (ps : List Pass) (qs : List ThreadPart) (js : List Job) (xs : List (ThreadRun Q G)) (e : Pass) (ends : List Pass) (text : List ℕ) (s : Summary) → map (λ (p : Pass). p.thread) ps ≡ counted 0 n
       → AllByRecursion (IsOpened r) ps → AreJobsOf turns 2 ps qs js → AllZip (HasSaid board) js xs → AreTold qs xs (e ∷ ends) text → ClosesAll (known_of e) (map known_of ends) s
       → (whole : History) × IsLegal c last whole × ArePartsOf board turns last c whole 0 2 qs (lines_of xs) × (s ≡ summary c last (state whole))
   all_parts n [] [] js [] e ends text s are o jobs ran told closes = absurd told
@@ -250,14 +251,14 @@ module _ (board : List ℕ → Option ℕ) (turns last : ℕ) (c : Config) (r : 
       )
 
 -- what each thread's notes tell is what one board has
-pub all_said : (board : List ℕ → Option ℕ) (js : List Job) (xs : List ThreadRun) → AllZip HasRun js xs → AllByRecursion (IsToldBy board) xs → AllZip (HasSaid board) js xs
+pub all_said : {Q : Type 0} {G : Ghosts Q} (board : List ℕ → Option (ℕ × History)) (js : List Job) (xs : List (ThreadRun Q G)) → AllZip HasRun js xs → AllByRecursion (IsToldBy board) xs → AllZip (HasSaid board) js xs
 all_said board [] [] ran told = tt
 all_said board [] (x ∷ xs) ran told = absurd ran
 all_said board (j ∷ js) [] ran told = absurd ran
-all_said board (j ∷ js) (x ∷ xs) ran told = (pass_still {t = talk_in x} {u = said board} (record { tells = told.0; in_vain = λ n v. tt }) j.turns j.first j.part.now.commands j.pass x.pass x.answer x.text.items ran.0, all_said board js xs ran.1 told.1)
+all_said board (j ∷ js) (x ∷ xs) ran told = (pass_still {t = talk_in x} {u = said board} (record { posted = (told.0).posted; heard = (told.0).heard; in_vain = λ n v. tt }) j.turns j.first j.part.now.commands j.pass x.pass x.answer x.text.items ran.0, all_said board js xs ran.1 told.1)
 
 -- ALL TOGETHER
-pub together : (board : List ℕ → Option ℕ) (turns last : ℕ) (script : Script) (r : Row) (ps : List Pass) (js : List Job) (xs : List ThreadRun) (passes : List Pass) (e : Pass) (ends : List Pass) (text whole : List ℕ) (s : Summary)
+pub together : {Q : Type 0} {G : Ghosts Q} (board : List ℕ → Option (ℕ × History)) (turns last : ℕ) (script : Script) (r : Row) (ps : List Pass) (js : List Job) (xs : List (ThreadRun Q G)) (passes : List Pass) (e : Pass) (ends : List Pass) (text whole : List ℕ) (s : Summary)
     → in_limits script.config ≡ true → length script.threads ≡ script.config.threads → AreOpened script.config last r ps → AreJobsOf turns 2 ps script.threads js → AllZip (HasSaid board) js xs → IsOfPosts (commands_of script.threads) board → AreTold script.threads xs passes text → passes ≡ e ∷ ends
     → ClosesAll (known_of e) (map known_of ends) s → whole ≡ text ++ ending s → IsRunOfAll turns last script whole
 together board turns last script r ps js xs passes e ends text whole s limits long o jobs ran posted told is closes whole_is =

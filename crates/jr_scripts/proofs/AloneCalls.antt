@@ -21,6 +21,7 @@ use Rattle.jr_model.proofs.Moments.{prefix_trans}
 use Rattle.jr_model.proofs.Stays.{mine_did}
 use Rattle.jr_gate.specs.Performing.{ThreadState}
 use Rattle.jr_env.specs.Deeds.{Deed, call_by}
+use Rattle.jr_scripts.specs.Commands.{HasLearned}
 use Rattle.jr_scripts.specs.AloneAnswers.{IsCommandFault, IsShort, LacksSpace}
 use Rattle.jr_scripts.proofs.AloneHistories.{all_back, own_acts, own_events, still_so, stays_occupied, stays_present}
 use Rattle.jr_scripts.proofs.SpaceAlone.{found_short, never_lost}
@@ -179,3 +180,12 @@ call_alone turns command silent work uncontended changes = record {
       ran_alone now command old.pass.last (work old.pass.config old.pass.last old.pass.thread now) (uncontended old.pass.config old.pass.last old.pass.thread now (ap (λ c. c.threads) (sym x.did.config) ∙ alone.one) (sym x.did.thread ∙ alone.first)) turns
       (changes old.pass.config old.pass.last old.pass.thread now) old.pass new.pass old.frames new.frames refl refl alone answer x;
 }
+
+-- a lone thread learns of nothing that others did
+pub learned_uncontended : (old new : ThreadState) → IsAlone new.pass → HasLearned old new → AllUncontended old.pass.seen → AllUncontended new.pass.seen
+learned_uncontended old new alone l before =
+    let d = l.did in
+    let own = subst (λ t. AllByRecursion (λ (e : Event). e.thread ≡ t) d.begins.0) d.thread
+    (all_back (λ (e : Event). e.thread ≡ new.pass.thread) old.pass.seen d.begins.0 (subst (AllByRecursion (λ (e : Event). e.thread ≡ new.pass.thread)) (sym d.begins.1) alone.own)) in
+    let none = own_events (λ a. is_uncontended_act a ≡ true) old.pass.thread d.begins.0 own (subst (AllByRecursion (λ a. is_uncontended_act a ≡ true)) (sym (mine_did [] d)) tt) in
+    subst AllUncontended d.begins.1 (append_all (λ e. is_uncontended_act e.act ≡ true) old.pass.seen d.begins.0 before none)

@@ -57,7 +57,7 @@ use Rattle.jr_scripts.specs.Tries.{Tried, answered, again, gave_up}
 use Rattle.jr_scripts.specs.Numbers.{has_numbers, is_number_of, word_of_number}
 use Rattle.jr_scripts.specs.Commands.{awaited, copying, deed, deletion, deleted_as, deleted_of, kind_made, loading, makes_new, makes_reference, opening_by, storing, tried, type_of}
 use Rattle.jr_scripts.specs.AloneAnswers.{IsCommandFault, LacksArray, LacksElements, LacksIndex, LacksRoom, LacksText, LacksWord, SomeObject, TakesMemory, WantsObject}
-use Rattle.jr_scripts.proofs.AloneCalls.{LedAlone, LeadsAlone, call_alone, opened_ran}
+use Rattle.jr_scripts.proofs.AloneCalls.{IsAlone, LedAlone, LeadsAlone, call_alone, learned_uncontended, opened_ran}
 use Rattle.jr_scripts.proofs.AloneParts.{LeadsFrom, answered_alone, bind_alone, bind_found, decided_alone, decided_from, done_alone, from_any, on_alone, on_both_alone, reference_in_alone, stayed, the_reference_alone, tried_alone}
 use Rattle.jr_scripts.proofs.AloneCopies.{elements_alone, units_alone}
 use Rattle.jr_scripts.proofs.AloneAnnouncing.{announcing_alone}
@@ -184,11 +184,11 @@ module _ (turns : ℕ) (names : Names) where
   pop_alone n r w = answered_alone turns _ _ (on_alone turns _ (λ c. 0) w (λ c last t s a. popped_to c last t a) (λ c last t s a reads one first. pop_uncontended names n r s c last t one first a) (λ c last t s a. refusals_change_nothing c last t s _ (CallOf.pop_local_frame a)))
 
   awaited_alone : (n : List ℕ) → LeadsAlone turns (names, commands.Make make.Wait n) awaited
-  awaited_alone n = record { led = λ old new answer alone d. led old new answer d }
+  awaited_alone n = record { led = λ old new answer alone d. led old new answer alone d }
     where
-      led : (old new : ThreadState) (answer : Result Reply Fault) → awaited old answer new → LedAlone turns (names, commands.Make make.Wait n) old.pass new.pass new.frames answer
-      led old new answer (inl x, same) = subst (λ (m : ThreadState). LedAlone turns (names, commands.Make make.Wait n) old.pass m.pass m.frames answer) (sym same) (subst (LedAlone turns (names, commands.Make make.Wait n) old.pass old.pass old.frames) (sym x.1) (stayed turns _ old.pass old.frames (Ok (replies.Made (Some x.0))) tt))
-      led old new answer (inr x, same) = subst (λ (m : ThreadState). LedAlone turns (names, commands.Make make.Wait n) old.pass m.pass m.frames answer) (sym same) (subst (LedAlone turns (names, commands.Make make.Wait n) old.pass old.pass old.frames) (sym x) (stayed turns _ old.pass old.frames (Err Turns) tt))
+      led : (old new : ThreadState) (answer : Result Reply Fault) → IsAlone new.pass → awaited old answer new → LedAlone turns (names, commands.Make make.Wait n) old.pass new.pass new.frames answer
+      led old new answer alone (inl x) = subst (LedAlone turns (names, commands.Make make.Wait n) old.pass new.pass new.frames) (sym x.1) (record { config = x.2.did.config; thread = x.2.did.thread; begins = x.2.did.begins; uncontended = learned_uncontended old new alone x.2; fault = tt })
+      led old new answer alone (inr x) = subst (λ (m : ThreadState). LedAlone turns (names, commands.Make make.Wait n) old.pass m.pass m.frames answer) (sym x.1) (subst (LedAlone turns (names, commands.Make make.Wait n) old.pass old.pass old.frames) (sym x.0) (stayed turns _ old.pass old.frames (Err Turns) tt))
 
 -- THE COMMANDS
 

@@ -48,7 +48,7 @@ use Rattle.jr_env.specs.StayDeeds.{within_by}
 use Rattle.jr_scripts.specs.RegionCommands.{deed_within, giving_up, kind_of_level, nesting, read_kind, level_reading, reading_at, level_writing, writing_at}
 use Rattle.jr_scripts.specs.AloneAnswers.{IsFaultWithin, IsNestingFault, IsReadingFault, IsWritingFault, LevelObject}
 use Rattle.jr_scripts.proofs.AloneHistories.{all_prefix}
-use Rattle.jr_scripts.proofs.AloneCalls.{AllUncontended, IsAlone, since}
+use Rattle.jr_scripts.proofs.AloneCalls.{AllUncontended, IsAlone, learned_uncontended, since}
 use Rattle.jr_scripts.proofs.AloneDeeds.{are_numbers}
 use Rattle.jr_scripts.proofs.Uncontended.{AreUncontended, is_uncontended_act, loses_none}
 use Rattle.jr_scripts.proofs.QuietCalls.{RefusedLevel, get_acts, get_refused, nest_array_quiet, nest_string_quiet, set_acts, set_refused}
@@ -325,11 +325,11 @@ giving_up_by {P} n = record { led = λ old new answer so alone d. (released n).l
     released (suc (suc n)) = stay_by 0 (λ c last t s. region_release (suc (suc n))) (λ c last t s f g acts answer one first is. subst AreUncontended (sym is.0) tt) (λ old new e so alone one first r. let bad = r.is.1 in absurd cc)
 
 awaited_by : (p : Place) (n : List ℕ) → LeadsBy Always (IsFaultWithin p (commands.Make make.Wait n)) awaited
-awaited_by p n = record { led = λ old new answer so alone d. led old new answer d }
+awaited_by p n = record { led = λ old new answer so alone d. led old new answer alone d }
   where
-    led : (old new : ThreadState) (answer : Result Reply Fault) → awaited old answer new → Led (IsFaultWithin p (commands.Make make.Wait n) (state new.pass.seen)) old.pass new.pass answer
-    led old new answer (inl x, same) = subst (λ (m : ThreadState). Led (λ e. e ≡ Turns) old.pass m.pass answer) (sym same) (subst (λ (a : Result Reply Fault). Led (λ e. e ≡ Turns) old.pass old.pass a) (sym x.1) (here {P = λ e. e ≡ Turns} old (Ok (replies.Made (Some x.0))) tt))
-    led old new answer (inr x, same) = subst (λ (m : ThreadState). Led (λ e. e ≡ Turns) old.pass m.pass answer) (sym same) (subst (λ (a : Result Reply Fault). Led (λ e. e ≡ Turns) old.pass old.pass a) (sym x) (here {P = λ e. e ≡ Turns} old (Err Turns) refl))
+    led : (old new : ThreadState) (answer : Result Reply Fault) → IsAlone new.pass → awaited old answer new → Led (IsFaultWithin p (commands.Make make.Wait n) (state new.pass.seen)) old.pass new.pass answer
+    led old new answer alone (inl x) = subst (λ (a : Result Reply Fault). Led (λ e. e ≡ Turns) old.pass new.pass a) (sym x.1) (record { config = x.2.did.config; thread = x.2.did.thread; begins = x.2.did.begins; uncontended = learned_uncontended old new alone x.2; fault = tt })
+    led old new answer alone (inr x) = subst (λ (m : ThreadState). Led (λ e. e ≡ Turns) old.pass m.pass answer) (sym x.1) (subst (λ (a : Result Reply Fault). Led (λ e. e ≡ Turns) old.pass old.pass a) (sym x.0) (here {P = λ e. e ≡ Turns} old (Err Turns) refl))
 
 abbrev Barred : State → Fault → Type 0
 Barred s e = e ≡ InCritical

@@ -15,11 +15,11 @@ use Rattle.jr_model.specs.declared.event.Role.TheVariants.{Outside}
 use Rattle.jr_scripts.specs.declared.region.Region.{Region}
 use Rattle.jr_scripts.specs.Names.{Names, no_names}
 use Rattle.jr_scripts.specs.Places.{Place, levels_after, objects_after, place_after}
-use Rattle.jr_scripts.specs.RegionCommands.{deed_at, giving_up_all}
-use Rattle.jr_scripts.specs.Advancing.{KnowsWith, level_names, objects_in, place_with, role_with}
+use Rattle.jr_scripts.specs.RegionCommands.{giving_up_all}
+use Rattle.jr_scripts.specs.Advancing.{KnowsWith, deed_spoken, level_names, objects_in, place_with, role_with}
 use Rattle.jr_scripts.specs.Text.{buffers_after, printed, names_set}
 use Rattle.jr_scripts.specs.Explains.{Explains, nothing, then, unwritten}
-use Rattle.jr_scripts.specs.Posting.{Speaks, Talk}
+use Rattle.jr_scripts.specs.Posting.{Talk}
 use Rattle.jr_scripts.specs.Runs.{WritesDown, running}
 use Rattle.jr_scripts.proofs.Speaking.{Carries, explains_still}
 use Rattle.jr_gate.specs.Performing.{IsAsBefore, thread_state}
@@ -88,10 +88,10 @@ module _ {S : Type 0} {facts : S → Facts} where
 
   module _ {old mid new : S} {f g h : Frames} {earlier talk : Talk} (carries : Carries earlier talk) (turns first : ℕ) (commands : List Command) (i : ℕ) (c : Command) (names between names' : Names) (region left : Option Region) {answer : Result Reply Fault} {out out' out'' : List ℕ} where
     pub went_on : (r : Result (Unit {0}) AllocError) → i < length commands → get_or commands i c ≡ c → Going facts old mid f g earlier turns first (take i commands) out out' names region
-        → CarriedOut facts mid new g h (role_with left) (KnowsWith region g) (KnowsWith left h) (deed_at turns (place_with names region) c) answer → Speaks talk names c answer
+        → CarriedOut facts mid new g h (role_with left) (KnowsWith region g) (KnowsWith left h) (deed_spoken talk turns (place_with names region) c) answer
         → between ≡ buffers_after c answer names → level_names left ≡ levels_after c answer (level_names region) → objects_in left ≡ objects_after c answer (objects_in region) → WritesDown (first + i) c answer between names' r out' out'' → r ≡ Ok tt
         → Going facts old new f h talk turns first (take (i + 1) commands) out out'' names' left
-    went_on r small is d does said changed levels objects kept good =
+    went_on r small is d does changed levels objects kept good =
         let w : WritesDown (first + i) c answer between names' (Ok tt) out' out'' = subst (λ r. WritesDown (first + i) c answer between names' r out' out'') good kept in
         let next : suc i ≡ i + 1 = omega arith in
         let count : length (take i commands) ≡ i = length-take-le i commands (omega arith) in
@@ -108,16 +108,16 @@ module _ {S : Type 0} {facts : S → Facts} where
                 y.2,
                 subst (λ cs. Explains talk turns first (thread_state (facts old) k f) cs (d.text ++ printed (first + i) c answer) (thread_state (facts new) y.0 h) (place_with names' left)) (sym (done_so_far commands i c small is) ∙ ap (λ n. take n commands) next)
                     (subst (λ p. Explains talk turns first (thread_state (facts old) k f) (take i commands ++ c ∷ []) (d.text ++ printed (first + i) c answer) (thread_state (facts new) y.0 h) p) at
-                    (subst (λ m. Explains talk turns first (thread_state (facts old) k f) (take i commands ++ c ∷ []) (d.text ++ printed (first + m) c answer) (thread_state (facts new) y.0 h) (place_after c answer (place_with names region))) count (then c answer (explains_still carries x.3) y.3 said))),
+                    (subst (λ m. Explains talk turns first (thread_state (facts old) k f) (take i commands ++ c ∷ []) (d.text ++ printed (first + m) c answer) (thread_state (facts new) y.0 h) (place_after c answer (place_with names region))) count (then c answer (explains_still carries x.3) y.3.0 y.3.1))),
               );
         }
 
     pub cut_off : {last : S} {j : Frames} (r : Result (Unit {0}) AllocError) (e : AllocError) → (facts old).stands.role ≡ Outside → i < length commands → get_or commands i c ≡ c → Going facts old mid f g earlier turns first (take i commands) out out' names region
-        → CarriedOut facts mid new g h (role_with left) (KnowsWith region g) (KnowsWith left h) (deed_at turns (place_with names region) c) answer → Speaks talk names c answer
+        → CarriedOut facts mid new g h (role_with left) (KnowsWith region g) (KnowsWith left h) (deed_spoken talk turns (place_with names region) c) answer
         → objects_in left ≡ objects_after c answer (objects_in region) → WritesDown (first + i) c answer between names' r out' out'' → r ≡ Err e
         → CarriedOut facts new last h j Outside (KnowsWith left h) (Holds j) (giving_up_all (objects_in left)) (Ok tt)
         → (text : List ℕ) × (out'' ≡ out ++ text) × DoesDeed facts old last f j (running talk turns first commands text) (Err fault.Memory)
-    cut_off {last} {j} r e outside small is d does said objects kept bad ended =
+    cut_off {last} {j} r e outside small is d does objects kept bad ended =
         let w : WritesDown (first + i) c answer between names' (Err e) out' out'' = subst (λ r. WritesDown (first + i) c answer between names' r out' out'') bad kept in (
           d.text,
           w ∙ d.grew,
@@ -133,7 +133,7 @@ module _ {S : Type 0} {facts : S → Facts} where
                   (
                     refl,
                     unwritten (take i commands) c (drop (suc i) commands) (thread_state (facts mid) x.0 g) (thread_state (facts new) y.0 h) (place_with names region) answer
-                        (sym (take-append-drop (suc i) commands) ∙ (ap (λ cs. cs ++ drop (suc i) commands) (done_so_far commands i c small is) ∙ append_assoc (take i commands) (c ∷ []) (drop (suc i) commands))) (explains_still carries x.3) y.3 said
+                        (sym (take-append-drop (suc i) commands) ∙ (ap (λ cs. cs ++ drop (suc i) commands) (done_so_far commands i c small is) ∙ append_assoc (take i commands) (c ∷ []) (drop (suc i) commands))) (explains_still carries x.3) y.3.0 y.3.1
                         (subst (λ os. giving_up_all os (thread_state (facts new) y.0 h) (Ok tt) (thread_state (facts last) z.0 j)) objects z.3),
                   ),
                 );

@@ -6,6 +6,7 @@ use Rattle.std.proofs.lemmas.List.{append-nil}
 use Rattle.jr_syntax.specs.declared.thread.ThreadPart.{ThreadPart}
 use Rattle.jr_rule.specs.declared.pass.Pass.{Pass}
 use Rattle.jr_scripts.specs.declared.part.Job.{Job}
+use Rattle.jr_scripts.specs.declared.told.Site.{Ghosts}
 use Rattle.jr_scripts.specs.declared.part.ThreadRun.{ThreadRun}
 use Rattle.jr_scripts.specs.Text.{heading}
 use Rattle.jr_scripts.specs.Jobs.{AreJobsOf, IsDone, AreTold}
@@ -30,7 +31,7 @@ jobs_end turns line i passes first parts jobs none all more =
     subst (AreJobsOf turns 2 first parts) (append-nil jobs) (more [] here)
 
 -- one more thread is told of
-pub told_more : (i : ℕ) (parts : List ThreadPart) (q : ThreadPart) (runs runs' first : List ThreadRun) (x : ThreadRun) (passes passes' : List Pass) (text text' : List ℕ)
+pub told_more : {Q : Type 0} {G : Ghosts Q} (i : ℕ) (parts : List ThreadPart) (q : ThreadPart) (runs runs' first : List (ThreadRun Q G)) (x : ThreadRun Q G) (passes passes' : List Pass) (text text' : List ℕ)
     → i < length parts → q ≡ get_or parts i q → runs ≡ x ∷ runs' → IsDone x → passes' ≡ passes ++ x.pass ∷ [] → text' ≡ (text ++ heading q.name) ++ x.text.items
     → ((ps : List Pass) (rest : List ℕ) → AreTold (drop i parts) runs ps rest → AreTold parts first (passes ++ ps) (text ++ rest))
     → (ps : List Pass) (rest : List ℕ) → AreTold (drop (i + 1) parts) runs' ps rest → AreTold parts first (passes' ++ ps) (text' ++ rest)
@@ -45,7 +46,7 @@ told_more i parts q runs runs' first x passes passes' text text' some is run_is 
     subst (λ l. AreTold parts first (passes' ++ ps) l) text_same (subst (λ l. AreTold parts first l (text ++ lines)) passes_same (more (x.pass ∷ ps) lines there))
 
 -- all are
-pub told_end : (i : ℕ) (parts : List ThreadPart) (runs first : List ThreadRun) (passes : List Pass) (text : List ℕ) → length parts ≤ i
+pub told_end : {Q : Type 0} {G : Ghosts Q} (i : ℕ) (parts : List ThreadPart) (runs first : List (ThreadRun Q G)) (passes : List Pass) (text : List ℕ) → length parts ≤ i
     → ((ps : List Pass) (rest : List ℕ) → AreTold (drop i parts) runs ps rest → AreTold parts first (passes ++ ps) (text ++ rest)) → AreTold parts first passes text
 told_end i parts runs first passes text all more =
     let here : AreTold (drop i parts) runs [] [] = subst (λ qs. AreTold qs runs [] []) (sym (nothing_left i parts all)) refl in

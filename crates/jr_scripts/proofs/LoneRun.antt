@@ -1,5 +1,5 @@
 -- A script of one thread that is run as one of several: its run is that of the thread alone.
-use Rattle.std.proofs.Common.{◌≡◌, ℕ, Option, List, [], ◌∷◌, ◌++◌, length, refl, sym, ap, subst, ◌∙◌, arith}
+use Rattle.std.proofs.Common.{◌≡◌, ℕ, Option, Some, None, Ok, List, [], ◌∷◌, ◌++◌, length, refl, sym, ap, subst, ◌∙◌, arith}
 use Rattle.std.proofs.lemmas.List.{append-nil}
 use Rattle.std.specs.List.{AllByRecursion}
 use Rattle.jr_word.specs.declared.config.Config.{Config}
@@ -12,7 +12,11 @@ use Rattle.jr_model.proofs.Histories.{legal_append, state_append}
 use Rattle.jr_model.proofs.Stays.{mine_did}
 use Rattle.jr_syntax.specs.declared.thread.ThreadPart.{ThreadPart}
 use Rattle.jr_syntax.specs.declared.script.Script.{Script}
-use Rattle.jr_scripts.specs.Posted.{IsOfPosts, commands_of}
+use Rattle.jr_syntax.specs.declared.command.Command.{Command}
+use Rattle.jr_scripts.specs.Posted.{IsOfPosts, IsPosted, commands_of}
+use Rattle.jr_scripts.specs.Posting.{said, said_words}
+use Rattle.jr_scripts.specs.Explains.{Explained}
+use Rattle.jr_scripts.proofs.Speaking.{Carries, leaves_still}
 use Rattle.jr_scripts.specs.Text.{heading, ending}
 use Rattle.jr_scripts.specs.Runs.{IsRun, RunsSingle, seeing, opening_moment}
 use Rattle.jr_scripts.specs.AllRuns.{IsPartOf, ArePartsOf, text_of_parts, IsRunOfAll}
@@ -35,7 +39,26 @@ meets_change_nothing : (s : State) (es : History) → AllByRecursion (λ e. e.ac
 meets_change_nothing s [] all = refl
 meets_change_nothing s (e ∷ es) all = ap (λ x. state_from x es) (meet_changes_nothing s e all.0) ∙ meets_change_nothing s es all.1
 
-module _ (board : List ℕ → Option ℕ) (turns last : ℕ) (c : Config) (one : c.threads ≡ 1) (whole : History) (legal : IsLegal c last whole) where
+-- the word of an entry
+abbrev word_in : Option (ℕ × History) → Option ℕ
+word_in (Some x) = Some x.0
+word_in None = None
+
+-- the words of a board, and what was posted and heard of there
+abbrev words_of : (List ℕ → Option (ℕ × History)) → List ℕ → Option ℕ
+words_of board n = word_in (board n)
+
+words_said : (board : List ℕ → Option (ℕ × History)) → Carries (said board) (said_words (words_of board))
+words_said board = record { posted = λ n w h is. ap word_in is; heard = λ n w h x. ap word_in x.1; in_vain = λ n v. v }
+
+words_posted : (cs : List Command) (board : List ℕ → Option (ℕ × History)) → IsOfPosts cs board → IsOfPosts cs (words_of board)
+words_posted cs board posted n w is = go (board n) refl is
+  where
+    go : (o : Option (ℕ × History)) → board n ≡ o → word_in o ≡ Some w → IsPosted cs n
+    go (Some x) here e = posted n x here
+    go None here e = absurd cc
+
+module _ (board : List ℕ → Option (ℕ × History)) (turns last : ℕ) (c : Config) (one : c.threads ≡ 1) (whole : History) (legal : IsLegal c last whole) where
   module _ (part : ThreadPart) (lines : List ℕ) (p : IsPartOf board turns last c whole 0 3 part lines) where
     -- behind what the thread has seen stands its look at the gate alone
     same_state : state whole ≡ state p.seen
@@ -52,16 +75,17 @@ module _ (board : List ℕ → Option ℕ) (turns last : ℕ) (c : Config) (one 
         let legal_seen : IsLegal c last p.seen = ((legal_append c last p.seen p.begins.0).0 (subst (IsLegal c last) (sym p.begins.1) legal)).0 in
         let all = undisturbed c last one p.seen legal_seen in
         let lone : IsAlone (p.left).pass = subst IsAlone (sym p.saw) (lone_pass (seeing c last p.seen) one refl all) in
-        let ended = ended_alone turns 3 (opening_moment c last) p.told p.left part.commands lines p.explained p.freed lone in
+        let explained : Explained (said_words (words_of board)) turns 3 (opening_moment c last) part.commands lines p.told = leaves_still (words_said board) turns 3 (opening_moment c last) part.commands lines p.told (Ok tt) p.explained in
+        let ended = ended_alone turns 3 (opening_moment c last) p.told p.left part.commands lines explained p.freed lone in
         record {
           seen = p.seen;
           lines = lines;
-          board = board;
-          posted = posted;
+          board = words_of board;
+          posted = words_posted part.commands board posted;
           legal = legal_seen;
           alone = unbarred p.seen all (ap-seen ended.uncontended);
           told = p.told;
-          explained = p.explained;
+          explained = explained;
           answers = ended.answers;
           left = p.left;
           freed = p.freed;

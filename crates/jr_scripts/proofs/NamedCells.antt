@@ -14,8 +14,9 @@ use Rattle.jr_syntax.specs.declared.verb.OnName.TheVariants as on_name
 use Rattle.jr_syntax.specs.declared.thread.ThreadPart.{ThreadPart}
 use Rattle.jr_scripts.specs.Names.{name_order}
 use Rattle.jr_scripts.specs.declared.note.Note.{Note}
+use Rattle.jr_scripts.specs.declared.note.Posted.{Posted}
 use Rattle.jr_scripts.specs.Layouts.{cell_number}
-use Rattle.jr_scripts.specs.Noting.{word_by_number, word_noted}
+use Rattle.jr_scripts.specs.Noting.{posted_by_number, posted_noted}
 use Rattle.jr_scripts.specs.Posted.{AddsPosted, IsOfPosts, IsPosted, commands_of}
 
 same_at : (n m : List ℕ) (o : Ordering) → name_order n m ≡ o → is_eq o ≡ true → n ≡ m
@@ -69,18 +70,18 @@ all_commands (q ∷ qs) (suc i) p some is =
 pub adds_part : (ps : List ThreadPart) (i : ℕ) (p : ThreadPart) (old mid new : List (List ℕ × ℕ)) → i < length ps → p ≡ get_or ps i p → AddsPosted (commands_of (take i ps)) old mid → AddsPosted p.commands mid new → AddsPosted (commands_of (take (i + 1) ps)) old new
 adds_part ps i p old mid new some is first second = subst (λ l. AddsPosted l old new) (sym (all_commands ps i p some is)) (adds_then (commands_of (take i ps)) p.commands old mid new first second)
 
--- a name under which a word is noted has a number
-numbered : (notes : List (Option Note)) (number : Option ℕ) (w : ℕ) → word_by_number notes number ≡ Some w → IsSome number
-numbered notes None w is = absurd cc
-numbered notes (Some i) w is = refl
-
-pub noted_numbered : (numbers numbers' : List (List ℕ × ℕ)) (notes : List (Option Note)) → numbers ≡ numbers' → (n : List ℕ) (w : ℕ) → word_noted numbers notes n ≡ Some w → IsSome (cell_number numbers' n)
-noted_numbered numbers numbers' notes same n w is = subst (λ z. IsSome (cell_number z n)) same (numbered notes (cell_number numbers n) w is)
+-- a name under which something is noted has a number
+pub noted_numbered : {T A : Type 0} (numbers numbers' : List (List ℕ × ℕ)) (notes : List (Option (Note T))) (entry : Option (Posted T) → Option A) → entry None ≡ None → numbers ≡ numbers' → (n : List ℕ) (x : A) → entry (posted_noted numbers notes n) ≡ Some x → IsSome (cell_number numbers' n)
+noted_numbered {A = A} numbers numbers' notes entry none same n x is = subst (λ z. IsSome (cell_number z n)) same (numbered (cell_number numbers n) is)
+  where
+    numbered : (number : Option ℕ) → entry (posted_by_number notes number) ≡ Some x → IsSome number
+    numbered None e = let bad = sym none ∙ e in absurd cc
+    numbered (Some i) e = refl
 
 -- a board that began without names
-pub of_posts : (cs : List Command) (numbers : List (List ℕ × ℕ)) (board : List ℕ → Option ℕ) → AddsPosted cs [] numbers → ((n : List ℕ) (w : ℕ) → board n ≡ Some w → IsSome (cell_number numbers n)) → IsOfPosts cs board
-of_posts cs numbers board adds named n w is = new (adds n (named n w is))
+pub of_posts : {A : Type 0} (cs : List Command) (numbers : List (List ℕ × ℕ)) (board : List ℕ → Option A) → AddsPosted cs [] numbers → ((n : List ℕ) (x : A) → board n ≡ Some x → IsSome (cell_number numbers n)) → IsOfPosts cs board
+of_posts cs numbers board adds named n x is = new (adds n (named n x is))
   where
     new : IsSome (cell_number [] n) ⊎ IsPosted cs n → IsPosted cs n
-    new (inl x) = absurd cc
-    new (inr x) = x
+    new (inl y) = absurd cc
+    new (inr y) = y

@@ -14,18 +14,16 @@ use Rattle.jr_env.specs.declared.env.Env.{Env}
 use Rattle.jr_env.specs.Deeds.{Deed}
 use Rattle.jr_env.specs.Envs.{IsOutside, WasDoneFrom}
 use Rattle.jr_syntax.specs.declared.command.Command.{Command}
-use Rattle.jr_syntax.specs.declared.command.Command.TheVariants as commands
-use Rattle.jr_syntax.specs.declared.verb.Make.TheVariants as make
 use Rattle.jr_syntax.specs.declared.verb.OnNameAt.{OnNameAt}
 use Rattle.jr_syntax.specs.declared.verb.OnNameAt.TheVariants as on_name_at
 use Rattle.jr_syntax.specs.declared.verb.PutAt.{PutAt}
 use Rattle.jr_syntax.specs.declared.verb.PutAt.TheVariants as put_at
 use Rattle.jr_scripts.specs.declared.region.Region.{Region}
 use Rattle.jr_scripts.specs.declared.reply.Reply.{Reply}
-use Rattle.jr_scripts.specs.declared.reply.Reply.TheVariants as replies
 use Rattle.jr_scripts.specs.Names.{Names}
-use Rattle.jr_scripts.specs.Posting.{IsAwaited}
+use Rattle.jr_scripts.specs.Posting.{Speaks, Talk}
 use Rattle.jr_scripts.specs.Places.{Place}
+use Rattle.jr_scripts.specs.RegionCommands.{deed_at}
 
 -- the answer of a command at an index where no region stands: E19 where it is about a level
 abbrev pub got_by : OnNameAt → Result Reply Fault → Result Reply Fault
@@ -37,11 +35,9 @@ abbrev pub put_by : PutAt → Result Reply Fault → Result Reply Fault
 put_by put_at.Put answer = answer
 put_by put_at.PutInLevel answer = Err fault.InCritical
 
--- the answer to a command by which threads hand each other something: `post` is done, and `wait` is answered as a wait may be
-abbrev pub IsSaid : Command → Result Reply Fault → Type 0
-IsSaid (commands.OnName v n) answer = answer ≡ Ok replies.Done
-IsSaid (commands.Make make.Wait n) answer = IsAwaited answer
-IsSaid _ answer = ⊥
+-- what a command does where the thread stands, with what it says and hears
+abbrev pub deed_spoken : Talk → ℕ → Place → Command → Deed Reply
+deed_spoken talk turns p c old answer new = deed_at turns p c old answer new × Speaks talk p.names c old.pass.seen answer new.pass.seen
 
 -- the names of the levels of a region, the first first
 abbrev pub level_names : Option Region → List (List ℕ)

@@ -47,7 +47,7 @@ closing_acts zero = Meet ∷ []
 closing_acts (suc t) = []
 
 -- A THREAD'S PART in the one history: up to a moment it explains the thread's lines, up to a later one the thread's local references were freed, and from there on it has no more of the thread's events
-pub record IsPartOf (board : List ℕ → Option ℕ) (turns last : ℕ) (c : Config) (whole : History) (t first : ℕ) (part : ThreadPart) (lines : List ℕ) : Type 0 where
+pub record IsPartOf (board : List ℕ → Option (ℕ × History)) (turns last : ℕ) (c : Config) (whole : History) (t first : ℕ) (part : ThreadPart) (lines : List ℕ) : Type 0 where
   pub told : ThreadState
   pub explained : Explained (said board) turns first (opening_of c last t) part.commands lines told
   pub left : ThreadState
@@ -58,7 +58,7 @@ pub record IsPartOf (board : List ℕ → Option ℕ) (turns last : ℕ) (c : Co
   pub own : mine whole t ≡ mine seen t ++ closing_acts t
 
 -- the parts of the threads from t on, of which the first stands on this line
-abbrev pub ArePartsOf : (List ℕ → Option ℕ) → ℕ → ℕ → Config → History → ℕ → ℕ → List ThreadPart → List (List ℕ) → Type 0
+abbrev pub ArePartsOf : (List ℕ → Option (ℕ × History)) → ℕ → ℕ → Config → History → ℕ → ℕ → List ThreadPart → List (List ℕ) → Type 0
 ArePartsOf board turns last c whole t line [] [] = Unit {0}
 ArePartsOf board turns last c whole t line (p ∷ ps) (lines ∷ rest) = IsPartOf board turns last c whole t (line + 1) p lines × ArePartsOf board turns last c whole (suc t) (line + 1 + length p.commands) ps rest
 ArePartsOf board turns last c whole t line _ _ = ⊥
@@ -83,12 +83,12 @@ abbrev pub text_of_parts : List ThreadPart → List (List ℕ) → List ℕ
 text_of_parts (p ∷ ps) (lines ∷ rest) = heading p.name ++ lines ++ text_of_parts ps rest
 text_of_parts _ _ = []
 
--- A RUN OF ALL: there is one legal history, with the events of the threads' calls and of their ends and no others, but for the look as the room closes, that explains each thread's part of the text; there is one board, with words only under names that a line posts, of which each post and each wait of whichever thread has the word; and the last lines tell of the last state
+-- A RUN OF ALL: there is one legal history, with the events of the threads' calls and of their ends and no others, but for the look as the room closes, that explains each thread's part of the text; there is one board, with words only under names that a line posts, each with what its poster had seen, of which each post of whichever thread has the word and just what the thread had seen, and each wait has the word, and all that the poster had seen is seen behind it; and the last lines tell of the last state
 pub record IsRunOfAll (turns last : ℕ) (s : Script) (text : List ℕ) : Type 0 where
   pub whole : History
   pub legal : IsLegal s.config last whole
   pub lines : List (List ℕ)
-  pub board : List ℕ → Option ℕ
+  pub board : List ℕ → Option (ℕ × History)
   pub posted : IsOfPosts (commands_of s.threads) board
   pub limits : in_limits s.config ≡ true
   pub one_each : length s.threads ≡ s.config.threads

@@ -1,5 +1,5 @@
 -- What commands do.
-use Rattle.std.specs.Prelude.{◌≡◌, ℕ, ℤ, Option, Some, None, Result, Ok, Err, IfErr, [], ◌∷◌}
+use Rattle.std.specs.Prelude.{◌≡◌, ◌⊎◌, ◌≤◌, ◌+◌, ℕ, ℤ, Option, Some, None, Result, Ok, Err, IfErr, [], ◌∷◌}
 use Rattle.jr_word.specs.declared.config.Config.{Config}
 use Rattle.jr_word.specs.declared.handle.RefKind.{RefKind}
 use Rattle.jr_word.specs.declared.handle.RefKind.TheVariants.{Local, Global, Weak}
@@ -10,6 +10,7 @@ use Rattle.jr_word.specs.declared.fault.Fault.{Fault}
 use Rattle.jr_word.specs.declared.fault.Fault.TheVariants as fault
 use Rattle.jr_model.specs.declared.frames.Mode.{Mode}
 use Rattle.jr_model.specs.State.{State}
+use Rattle.jr_model.specs.History.{Did}
 use Rattle.jr_model.specs.Calls.{Call}
 use Rattle.jr_model.specs.Checks.{Word, Nothing, Malformed, Parts}
 use Rattle.jr_model.specs.Objects.{get_array_critical, get_string_critical}
@@ -36,6 +37,7 @@ use Rattle.jr_syntax.specs.declared.verb.OpenLevel.TheVariants as at
 use Rattle.jr_scripts.specs.declared.reply.Reply.{Reply}
 use Rattle.jr_scripts.specs.declared.reply.Reply.TheVariants as replies
 use Rattle.jr_frames.specs.Reading.{IsReadAs}
+use Rattle.jr_gate.specs.Performing.{ThreadState}
 use Rattle.jr_scripts.specs.declared.binding.Binding.{Binding}
 use Rattle.jr_scripts.specs.declared.binding.Binding.TheVariants as bound
 use Rattle.jr_scripts.specs.Buffers.{copy_of}
@@ -44,7 +46,6 @@ use Rattle.jr_weak.specs.declared.collecting.Collected.{Collected}
 use Rattle.jr_env.specs.Collections.{announced_collection, collection}
 use Rattle.jr_env.specs.Deeds.{Deed, decided, done, new_plain, new_array, new_object_array, new_string, new_reference, new_local_ref, delete_reference, delete_local_ref, is_same_object, get_object_ref_type, push_local_frame, ensure_local_capacity, pop_local_frame, kind_of, get_array_length, get_string_length, get_object_array_element, set_object_array_element, get_array_region, set_array_region, get_array_elements, release_array_elements, get_string_chars, answered_by, ◌>>=◌, ◌>>◌}
 use Rattle.jr_env.specs.StayDeeds.{within_by}
-use Rattle.jr_scripts.specs.Posting.{IsAwaited}
 use Rattle.jr_scripts.specs.Tries.{Tried}
 use Rattle.jr_scripts.specs.Numbers.{has_numbers, word_of_number, first_number}
 
@@ -178,9 +179,20 @@ abbrev pub collecting_by : ℕ → Command → Deed Reply
 collecting_by turns (commands.WithTries v tries) = collecting_announced turns tries
 collecting_by turns _ = collecting
 
--- some word that is posted, or the turns ran out; neither an event nor a step
+-- A THREAD LEARNS: all that others have done in between is seen, by at most one operation, and nothing else of it changes
+pub record HasLearned (old new : ThreadState) : Type 0 where
+  pub did : Did old.pass new.pass []
+  pub frames : new.frames ≡ old.frames
+  pub held : new.held ≡ old.held
+  pub fresh : new.fresh ≡ old.fresh
+  pub hint : new.hint ≡ old.hint
+  pub without : ℕ
+  pub most : without ≤ 1
+  pub taken : new.taken ≡ old.taken + without
+
+-- a name was waited for: some word, with which the thread learns what its poster had seen; or the turns ran out, and nothing has changed
 abbrev pub awaited : Deed Reply
-awaited old answer new = IsAwaited answer × (new ≡ old)
+awaited old answer new = ((w : Handle) × (answer ≡ Ok (replies.Made (Some w))) × HasLearned old new) ⊎ ((answer ≡ Err fault.Turns) × (new ≡ old))
 
 module _ (turns : ℕ) where
   -- what is made of nothing else, or waited for

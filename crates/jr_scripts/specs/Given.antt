@@ -2,9 +2,10 @@
 use Rattle.std.specs.Prelude.{◌≡◌}
 use Rattle.jr_scripts.specs.declared.part.Job.{Job}
 use Rattle.jr_scripts.specs.declared.starting.Doing.{Doing}
+use Rattle.jr_scripts.specs.declared.told.Site.{Ghosts}
 
 -- the promise is of this job
-pub record IsGiven (d : Doing) (j : Job) : Type 0 where
+pub record IsGiven {Q : Type 0} {G : Ghosts Q} (d : Doing Q G) (j : Job) : Type 0 where
   pub first : d.first ≡ j.first
   pub turns : d.turns ≡ j.turns
   pub part : d.part ≡ j.part

@@ -1,6 +1,7 @@
 -- For the crate's own functions: what the threads of a script are given, and what they give back.
 use Rattle.std.specs.List.{All, AllByRecursion, AllZip}
-use Rattle.std.specs.Prelude.{◌≡◌, ◌+◌, ◌<◌, ◌^◌, ℕ, Option, Some, List, [], ◌∷◌, ◌++◌, length, Ok, IsSome}
+use Rattle.std.specs.Prelude.{◌≡◌, ◌+◌, ◌<◌, ◌^◌, ℕ, Option, Some, None, List, [], ◌∷◌, ◌++◌, length, Ok, IsSome}
+use Rattle.jr_model.specs.History.{History}
 use Rattle.jr_syntax.specs.declared.thread.ThreadPart.{ThreadPart}
 use Rattle.jr_rule.specs.declared.pass.Pass.{Pass}
 use Rattle.jr_rule.specs.declared.row.Row.{Row}
@@ -10,33 +11,42 @@ use Rattle.jr_scripts.specs.declared.part.ThreadRun.{ThreadRun}
 use Rattle.jr_scripts.specs.Text.{heading}
 use Rattle.jr_scripts.specs.Layouts.{Layout, cell_number, layout_of}
 use Rattle.jr_scripts.specs.Posting.{Talk, said}
-use Rattle.jr_scripts.specs.Noting.{talk_noted}
+use Rattle.jr_scripts.specs.declared.board.Posts.{Posts}
+use Rattle.jr_scripts.specs.declared.note.Note.{Note}
+use Rattle.jr_scripts.specs.declared.note.Posted.{Posted}
+use Rattle.jr_scripts.specs.declared.told.Site.{Ghosts}
+use Rattle.jr_scripts.specs.declared.told.Told.{Told}
+use Rattle.jr_scripts.specs.Noting.{posted_noted}
+use Rattle.jr_rule.specs.Rooms.{seen_by_pinned}
+use Rattle.jr_scripts.specs.Telling.{talk_told}
 use Rattle.jr_scripts.specs.AllRuns.{RanPass}
 
--- what a thread's notes tell
-abbrev pub talk_in : ThreadRun → Talk
-talk_in r = talk_noted r.notes.is_lost r.notes.posts.now.numbers.entries r.notes.notes.items
+module _ {Q : Type 0} {G : Ghosts Q} where
+  -- what a thread's notes tell
+  abbrev pub talk_in : ThreadRun Q G → Talk
+  talk_in r = talk_told r.notes.is_lost r.notes.posts.now.numbers.entries r.notes.notes.items
 
--- the thread did its job, with what its notes tell
-abbrev pub HasRun : Job → ThreadRun → Type 0
-HasRun j r = RanPass (talk_in r) j.turns j.first j.part.now.commands j.pass r.pass r.answer r.text.items
+  -- the thread did its job, with what its notes tell
+  abbrev pub HasRun : Job → ThreadRun Q G → Type 0
+  HasRun j r = RanPass (talk_in r) j.turns j.first j.part.now.commands j.pass r.pass r.answer r.text.items
 
--- the thread did its job, with what the board has
-abbrev pub HasSaid : (List ℕ → Option ℕ) → Job → ThreadRun → Type 0
-HasSaid board j r = RanPass (said board) j.turns j.first j.part.now.commands j.pass r.pass r.answer r.text.items
+  -- the thread did its job, with what the board has
+  abbrev pub HasSaid : (List ℕ → Option (ℕ × History)) → Job → ThreadRun Q G → Type 0
+  HasSaid board j r = RanPass (said board) j.turns j.first j.part.now.commands j.pass r.pass r.answer r.text.items
 
--- what the thread's notes tell is what the board has
-abbrev pub IsToldBy : (List ℕ → Option ℕ) → ThreadRun → Type 0
-IsToldBy board r = (n : List ℕ) (w : ℕ) → (talk_in r).tells n w → board n ≡ Some w
+  -- what the thread's notes tell is what the board has
+  pub record IsToldBy (board : List ℕ → Option (ℕ × History)) (r : ThreadRun Q G) : Type 0 where
+    pub posted : (n : List ℕ) (w : ℕ) (h : History) → (talk_in r).posted n w h → (said board).posted n w h
+    pub heard : (n : List ℕ) (w : ℕ) (h : History) → (talk_in r).heard n w h → (said board).heard n w h
 
--- the thread's notes are of this board
-abbrev pub IsOver : Layout → ThreadRun → Type 0
-IsOver layout r = layout_of r.notes.posts.now ≡ layout
+  -- the thread's notes are of this board
+  abbrev pub IsOver : Layout → ThreadRun Q G → Type 0
+  IsOver layout r = layout_of r.notes.posts.now ≡ layout
 
--- the threads did their jobs, each with notes of the board
-pub record HaveRun (layout : Layout) (js : List Job) (rs : List ThreadRun) : Type 0 where
-  pub each : AllZip HasRun js rs
-  pub over : All (IsOver layout) rs
+  -- the threads did their jobs, each with notes of the board
+  pub record HaveRun (layout : Layout) (js : List Job) (rs : List (ThreadRun Q G)) : Type 0 where
+    pub each : AllZip HasRun js rs
+    pub over : All (IsOver layout) rs
 
 -- the part can be run in the room with this pass
 pub record IsForPart (r : Row) (first : ℕ) (part : ThreadPart) (p : Pass) : Type 0 where
@@ -61,19 +71,35 @@ AreJobsOf turns line [] [] [] = Unit {0}
 AreJobsOf turns line (p ∷ ps) (q ∷ qs) (j ∷ js) = IsJobOf turns line p q j × AreJobsOf turns (line + 1 + length q.commands) ps qs js
 AreJobsOf turns line _ _ _ = ⊥
 
--- the thread was not refused memory
-abbrev pub IsDone : ThreadRun → Type 0
-IsDone r = r.answer ≡ Ok tt
+-- what was posted, and what its poster had seen
+abbrev pub entry_of : {Q : Type 0} {G : Ghosts Q} → Option (Posted (Told Q G)) → Option (ℕ × History)
+entry_of (Some p) = Some (p.word, seen_by_pinned p.told.pinned)
+entry_of None = None
 
--- none of the threads was refused memory, these are their passes, and this is what they print
-abbrev pub AreTold : List ThreadPart → List ThreadRun → List Pass → List ℕ → Type 0
-AreTold [] rs [] text = text ≡ []
-AreTold (q ∷ qs) (r ∷ rs) (p ∷ ps) text = IsDone r × (r.pass ≡ p) × (rest : List ℕ) × (text ≡ heading q.name ++ r.text.items ++ rest) × AreTold qs rs ps rest
-AreTold _ _ _ text = ⊥
+module _ {Q : Type 0} {G : Ghosts Q} where
+  -- the board that is noted
+  abbrev pub board_noted : List (List ℕ × ℕ) → List (Option (Note (Told Q G))) → List ℕ → Option (ℕ × History)
+  board_noted numbers notes n = entry_of (posted_noted numbers notes n)
 
--- the same, and what each thread's notes tell is what one board has, in which only these names stand
-pub record AreToldAlike (numbers : List (List ℕ × ℕ)) (qs : List ThreadPart) (rs : List ThreadRun) (ps : List Pass) (text : List ℕ) : Type 0 where
-  pub board : List ℕ → Option ℕ
-  pub told : AreTold qs rs ps text
-  pub noted : AllByRecursion (IsToldBy board) rs
-  pub named : (n : List ℕ) (w : ℕ) → board n ≡ Some w → IsSome (cell_number numbers n)
+  -- the thread was not refused memory
+  abbrev pub IsDone : ThreadRun Q G → Type 0
+  IsDone r = r.answer ≡ Ok tt
+
+  -- none of the threads was refused memory, these are their passes, and this is what they print
+  abbrev pub AreTold : List ThreadPart → List (ThreadRun Q G) → List Pass → List ℕ → Type 0
+  AreTold [] rs [] text = text ≡ []
+  AreTold (q ∷ qs) (r ∷ rs) (p ∷ ps) text = IsDone r × (r.pass ≡ p) × (rest : List ℕ) × (text ≡ heading q.name ++ r.text.items ++ rest) × AreTold qs rs ps rest
+  AreTold _ _ _ text = ⊥
+
+  -- the same, and what each thread's notes tell is what one board has, in which only these names stand
+  pub record AreToldAlike (numbers : List (List ℕ × ℕ)) (qs : List ThreadPart) (rs : List (ThreadRun Q G)) (ps : List Pass) (text : List ℕ) : Type 0 where
+    pub board : List ℕ → Option (ℕ × History)
+    pub told : AreTold qs rs ps text
+    pub noted : AllByRecursion (IsToldBy board) rs
+    pub named : (n : List ℕ) (x : ℕ × History) → board n ≡ Some x → IsSome (cell_number numbers n)
+
+  -- the threads of the parts did their jobs, with notes of this board, and this is what is told of them
+  pub record HaveTold (board : Posts (Told Q G)) (js : List Job) (qs : List ThreadPart) (ps : List Pass) (text : List ℕ) : Type 0 where
+    pub runs : List (ThreadRun Q G)
+    pub ran : HaveRun (layout_of board) js runs
+    pub alike : AreToldAlike board.numbers.entries qs runs ps text

@@ -15,5 +15,5 @@ pub record Layout : Type 0 where
   pub numbers : List (List ℕ × ℕ)
   pub cells : List Named
 
-abbrev pub layout_of : Posts → Layout
+abbrev pub layout_of : {T : Type 0} → Posts T → Layout
 layout_of posts = record { numbers = posts.numbers.entries; cells = posts.cells.items }

@@ -4,6 +4,7 @@ pub mod Layouts
 pub mod Posted
 pub mod Posting
 pub mod Noting
+pub mod Telling
 pub mod Tries
 pub mod Numbers
 pub mod Commands
@@ -17,3 +18,4 @@ pub mod AllRuns
 pub mod Jobs
 pub mod Given
 pub mod Advancing
+pub mod Pinned

@@ -1,45 +1,64 @@
 -- What the notes of a thread say was posted.
 use Rattle.std.specs.Prelude.{◌≡◌, ◌⊎◌, ℕ, Bool, true, false, List, Option, Some, None, get_or}
 use Rattle.std.specs.Sync.OnceLock.{Named}
+use Rattle.atomic_table.specs.Seated.{TableId}
+use Rattle.jr_model.specs.History.{History}
 use Rattle.jr_scripts.specs.declared.note.Note.{Note}
+use Rattle.jr_scripts.specs.declared.note.Posted.{Posted}
 use Rattle.jr_scripts.specs.Layouts.{cell_number}
-use Rattle.jr_scripts.specs.Posting.{Talk}
+use Rattle.jr_scripts.specs.Posting.{Account}
 
 -- the cell at a number
 abbrev pub cell_at : List Named → ℕ → ℕ
 cell_at cells i = (get_or cells i (record { id = 0 })).id
 
 -- each note is of the cell at its number
-abbrev pub AreOfCells : List Named → List (Option Note) → Type 0
-AreOfCells cells notes = (i : ℕ) (note : Note) → get_or notes i None ≡ Some note → note.token.of ≡ cell_at cells i
+abbrev pub AreOfCells : {T : Type 0} → List Named → List (Option (Note T)) → Type 0
+AreOfCells {T = T} cells notes = (i : ℕ) (note : Note T) → get_or notes i None ≡ Some note → note.token.of ≡ cell_at cells i
 
 -- nothing was noted
-abbrev pub IsBlank : List (Option Note) → Type 0
+abbrev pub IsBlank : {T : Type 0} → List (Option (Note T)) → Type 0
 IsBlank notes = (i : ℕ) → get_or notes i None ≡ None
 
--- the word of a note, if there is one
-abbrev pub word_in : Option Note → Option ℕ
-word_in (Some note) = Some note.word
-word_in None = None
+-- what was posted, by a note, if there is one
+abbrev pub posted_in : {T : Type 0} → Option (Note T) → Option (Posted T)
+posted_in (Some note) = Some note.token.value
+posted_in None = None
 
--- the word that is noted at a number, if there is a number
-abbrev pub word_by_number : List (Option Note) → Option ℕ → Option ℕ
-word_by_number notes (Some i) = word_in (get_or notes i None)
-word_by_number notes None = None
+-- what is noted at a number, if there is a number
+abbrev pub posted_by_number : {T : Type 0} → List (Option (Note T)) → Option ℕ → Option (Posted T)
+posted_by_number notes (Some i) = posted_in (get_or notes i None)
+posted_by_number notes None = None
 
--- THE WORD THAT IS NOTED under a name, by notes of a board whose names have these numbers
-abbrev pub word_noted : List (List ℕ × ℕ) → List (Option Note) → List ℕ → Option ℕ
-word_noted numbers notes n = word_by_number notes (cell_number numbers n)
+-- WHAT IS NOTED under a name, by notes of a board whose names have these numbers: the word, and what was told with it
+abbrev pub posted_noted : {T : Type 0} → List (List ℕ × ℕ) → List (Option (Note T)) → List ℕ → Option (Posted T)
+posted_noted numbers notes n = posted_by_number notes (cell_number numbers n)
+
+-- the word of what was posted
+abbrev pub the_word : {T : Type 0} → Option (Posted T) → Option ℕ
+the_word (Some p) = Some p.word
+the_word None = None
 
 -- what was noted is noted still
-abbrev pub StaysNoted : List (Option Note) → List (Option Note) → Type 0
-StaysNoted old new = (i w : ℕ) → word_in (get_or old i None) ≡ Some w → word_in (get_or new i None) ≡ Some w
+abbrev pub StaysNoted : {T : Type 0} → List (Option (Note T)) → List (Option (Note T)) → Type 0
+StaysNoted {T = T} old new = (i : ℕ) (p : Posted T) → posted_in (get_or old i None) ≡ Some p → posted_in (get_or new i None) ≡ Some p
 
 -- the other's notes were not lost, and what they have these have too
-pub record HasAllOf (ours : List (Option Note)) (lost : Bool) (theirs : List (Option Note)) : Type 0 where
+pub record HasAllOf {T : Type 0} (ours : List (Option (Note T))) (lost : Bool) (theirs : List (Option (Note T))) : Type 0 where
   pub safe : lost ≡ false
   pub kept : StaysNoted theirs ours
 
--- what a thread's notes tell: anything where they were lost
-abbrev pub talk_noted : Bool → List (List ℕ × ℕ) → List (Option Note) → Talk
-talk_noted lost numbers notes = record { tells = λ n w. (lost ≡ true) ⊎ (word_noted numbers notes n ≡ Some w); in_vain = λ n. Unit {0} }
+-- THE WORD IS NOTED under a name, and this is so of what was told with it
+pub record HasNoted {T : Type 0} (numbers : List (List ℕ × ℕ)) (notes : List (Option (Note T))) (n : List ℕ) (w : ℕ) (so : T → Type 0) : Type 0 where
+  pub posted : Posted T
+  pub is : posted_noted numbers notes n ≡ Some posted
+  pub word : posted.word ≡ w
+  pub says : so posted.told
+
+-- WHAT A THREAD'S NOTES TELL, of a board that serves these, where what is told with a word says this of what its poster had seen, and this of what whoever heard it has: anything where they were lost
+abbrev pub account_noted : {T : Type 0} → (Option TableId → Type 0) → (T → History → Type 0) → (T → History → Type 0) → Bool → List (List ℕ × ℕ) → List (Option (Note T)) → Account
+account_noted serves says reaches lost numbers notes = record {
+  serves = serves;
+  posted = λ n w seen. (lost ≡ true) ⊎ HasNoted numbers notes n w (λ t. says t seen);
+  heard = λ n w seen. (lost ≡ true) ⊎ HasNoted numbers notes n w (λ t. reaches t seen);
+}

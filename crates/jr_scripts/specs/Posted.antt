@@ -17,8 +17,8 @@ commands_of [] = []
 commands_of (p ∷ ps) = p.commands ++ commands_of ps
 
 -- a board has words only under names that one of the commands posts
-abbrev pub IsOfPosts : List Command → (List ℕ → Option ℕ) → Type 0
-IsOfPosts cs board = (n : List ℕ) (w : ℕ) → board n ≡ Some w → IsPosted cs n
+abbrev pub IsOfPosts : {A : Type 0} → List Command → (List ℕ → Option A) → Type 0
+IsOfPosts {A = A} cs board = (n : List ℕ) (x : A) → board n ≡ Some x → IsPosted cs n
 
 -- a name that has a number had one before, or one of the commands posts it
 abbrev pub AddsPosted : List Command → List (List ℕ × ℕ) → List (List ℕ × ℕ) → Type 0

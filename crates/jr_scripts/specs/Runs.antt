@@ -23,7 +23,7 @@ use Rattle.jr_env.specs.Envs.{WasDone}
 use Rattle.jr_scripts.specs.declared.reply.Reply.{Reply}
 use Rattle.jr_scripts.specs.Names.{Names}
 use Rattle.jr_scripts.specs.Posted.{IsOfPosts}
-use Rattle.jr_scripts.specs.Posting.{Talk, said}
+use Rattle.jr_scripts.specs.Posting.{Talk, said_words}
 use Rattle.jr_scripts.specs.Commands.{tried}
 use Rattle.jr_scripts.specs.Text.{printed, names_set, heading, ending}
 use Rattle.jr_scripts.specs.Explains.{Explained, LeavesText}
@@ -80,7 +80,7 @@ pub record IsRun (turns last : ℕ) (c : Config) (part : ThreadPart) (text : Lis
   pub legal : IsLegal c last seen
   pub alone : AllByRecursion IsUnbarred seen
   pub told : ThreadState
-  pub explained : Explained (said board) turns 3 (opening_moment c last) part.commands lines told
+  pub explained : Explained (said_words board) turns 3 (opening_moment c last) part.commands lines told
   pub answers : AnswersAlone explained.explains
   pub left : ThreadState
   pub freed : IsFreed turns told left

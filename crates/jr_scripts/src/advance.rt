@@ -6,15 +6,15 @@ ghost use Rattle.jr_env.specs.Collections.{FitsRoom};
 ghost use Rattle.jr_env.specs.Envs.{IsOutside};
 ghost use Rattle.jr_weak.specs.Markers.{room_of};
 ghost use Rattle.jr_syntax.specs.declared.command.Command.TheVariants as commands;
-ghost use Rattle.jr_scripts.specs.Advancing.{level_names, objects_in, place_with, DidOpen, DidWith, StandsIn, StandsWith};
+ghost use Rattle.jr_scripts.specs.Advancing.{deed_spoken, level_names, objects_in, place_with, DidOpen, DidWith, StandsIn, StandsWith};
 ghost use Rattle.jr_scripts.specs.Commands.{deed, opening_levels};
 ghost use Rattle.jr_scripts.specs.Places.{is_closing, is_speaking, levels_after, objects_after};
-ghost use Rattle.jr_scripts.specs.Posting.{talk_of, Speaks, Keeps};
+ghost use Rattle.jr_scripts.specs.Posting.{talk_of, Keeps};
 ghost use Rattle.jr_scripts.specs.RegionCommands.{deed_at, deed_within};
 ghost use Rattle.jr_scripts.specs.Text.{buffers_after};
 
 use crate::board::Board;
-use crate::commands::posting::spoken;
+use crate::commands::posting::{hands_over, speak};
 use crate::commands::regions::{close, nest, open, read_by, write_by};
 use crate::names::Names;
 use crate::perform::perform;
@@ -139,31 +139,26 @@ fn call_within<S: Steps>(env: &mut Env<S>, names: &Names, region: Region, comman
     }
 }
 
-/// What a command does where the thread stands.
-pub(crate) fn advance<S: Steps, B: Board>(
+/// What a command does where the thread stands, if threads hand each other nothing by it.
+fn call<S: Steps>(
     alloc: Global,
     env: &mut Env<S>,
     names: &mut Names,
     marker: &mut Marker,
     region: Option<Region>,
-    board: &mut B,
     turns: u64,
     command: &Command,
 ) -> Left
     requires stand { StandsWith region env.old }
     requires room { FitsRoom marker.old env.old }
+    requires silent { is_speaking command.now ≡ false }
     ensures does { DidWith env.old env.new region result.region (deed_at turns (place_with names.old region) command.now) result.answer }
     ensures stand { StandsWith result.region env.new }
     ensures levels { level_names result.region ≡ levels_after command.now result.answer (level_names region) }
     ensures objects { objects_in result.region ≡ objects_after command.now result.answer (objects_in region) }
     ensures names { names.new ≡ buffers_after command.now result.answer names.old }
-    ensures speaks { Speaks (talk_of B.tells B.looked turns board.new) names.old command.now result.answer }
-    ensures kept { Keeps B.layout B.tells board.old board.new }
     ensures room { room_of marker.new ≡ room_of marker.old }
 {
-    if let Some(answer) = spoken(board, names, turns, command) {
-        return Left { region, answer };
-    }
     if let Some(region) = region {
         return call_within(env, names, region, command);
     }
@@ -179,4 +174,33 @@ pub(crate) fn advance<S: Steps, B: Board>(
             }
         }
     }
+}
+
+/// What a command does where the thread stands.
+pub(crate) fn advance<S: Steps, B: Board<S>>(
+    alloc: Global,
+    env: &mut Env<S>,
+    names: &mut Names,
+    marker: &mut Marker,
+    region: Option<Region>,
+    board: &mut B,
+    turns: u64,
+    command: &Command,
+) -> Left
+    requires stand { StandsWith region env.old }
+    requires room { FitsRoom marker.old env.old }
+    requires there { (B.tells board.old).serves (S.facts env.old.held.steps).stands.room }
+    ensures does { DidWith env.old env.new region result.region (deed_spoken (talk_of B.tells B.looked turns board.new) turns (place_with names.old region) command.now) result.answer }
+    ensures stand { StandsWith result.region env.new }
+    ensures levels { level_names result.region ≡ levels_after command.now result.answer (level_names region) }
+    ensures objects { objects_in result.region ≡ objects_after command.now result.answer (objects_in region) }
+    ensures names { names.new ≡ buffers_after command.now result.answer names.old }
+    ensures kept { Keeps B.layout B.tells board.old board.new }
+    ensures room { room_of marker.new ≡ room_of marker.old }
+{
+    if hands_over(command) {
+        let answer = speak(board, env, names, turns, command);
+        return Left { region, answer };
+    }
+    call(alloc, env, names, marker, region, turns, command)
 }

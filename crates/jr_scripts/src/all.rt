@@ -1,27 +1,25 @@
 //! Runs scripts of several threads, each in a thread of its own, in one room.
 
-ghost use Rattle.std.specs.Prelude.{◌≡◌, ◌⊎◌, ◌↔◌, ◌+◌, ◌<◌, ◌^◌, [], All, Err, length, map, IfOk, IfErr, OnOk, OnErr};
+ghost use Rattle.std.specs.Prelude.{◌≡◌, ◌⊎◌, ◌↔◌, ◌+◌, ◌<◌, ◌^◌, [], Some, All, Err, length, map, IfOk, IfErr, OnOk, OnErr};
 ghost use Rattle.jr_rule.specs.Passes.{known_of, ClosesAll};
-ghost use Rattle.jr_rule.specs.Rooms.{IsOfRoom};
+ghost use Rattle.jr_rule.specs.Rooms.{IsOfRoom, IsOpening};
 ghost use Rattle.jr_word.specs.declared.fault.Fault.TheVariants.{Memory, Size};
 ghost use Rattle.jr_scripts.specs.AllRuns.{CanBeRun, lines_of_parts, IsLeftInside, IsRunOfAll, RunsAll};
-ghost use Rattle.jr_scripts.specs.Jobs.{AreJobsOf, AreTold, AreToldAlike, IsOver, IsToldBy};
-ghost use Rattle.jr_scripts.specs.Layouts.{layout_of};
+ghost use Rattle.jr_scripts.specs.Jobs.{AreJobsOf};
 ghost use Rattle.jr_scripts.specs.Posted.{AddsPosted, commands_of};
-ghost use Rattle.jr_scripts.specs.Noting.{word_noted};
-ghost use Rattle.std.specs.List.{AllByRecursion};
 
 use crate::board::Posts;
 use crate::hold::Hold;
-use crate::notes::Notes;
-use crate::part::{Job, ThreadRun};
-use crate::printed::{ending, heading};
+use crate::part::Job;
+use crate::printed::ending;
 use crate::runnable::{FIRST_PART, can_be_run};
 use crate::starting::run_threads;
+use crate::told::{Site, Told};
 use jr_rule::{Pass, Room, Summary};
 use jr_syntax::{Script, ThreadPart};
 use jr_word::{Fault, LAST_SERIAL};
 use std::alloc::{AllocError, Global};
+use std::marker::Brand;
 use std::sync::Wait;
 use std::thread::Threads;
 
@@ -75,59 +73,8 @@ fn jobs_of(
     Ok(jobs)
 }
 
-/// The passes of threads that were not refused memory, and what the threads print. What each of them posted and saw is among all that was.
-fn told_by<'a>(
-    alloc: Global,
-    parts: &[ThreadPart],
-    mut runs: Vec<ThreadRun<'a>>,
-    all: &Notes<'a>,
-) -> Result<(Vec<Pass>, Vec<u8>), Fault>
-    requires long { length runs.items ≡ length parts.now }
-    requires over { All (IsOver (layout_of all.now.posts.now)) runs.items }
-    ensures ok { IfOk result (λ r. AreTold parts.now runs.entry.items r.0.items r.1.items) }
-    ensures noted { IfOk result (λ r. AllByRecursion (IsToldBy (word_noted all.now.posts.now.numbers.entries all.now.notes.items)) runs.entry.items) }
-    ensures err { IfErr result (λ e. e ≡ Memory) }
-{
-    let mut passes = Vec::new(alloc);
-    let mut text = Vec::new(alloc);
-    for part in parts {
-        if passes.reserve(1).is_err() {
-            return Err(Fault::Memory);
-        }
-        let run = runs.remove(0);
-        let Ok(()) = run.answer else {
-            return Err(Fault::Memory);
-        };
-        if !all.has_all_of(&run.notes) {
-            return Err(Fault::Memory);
-        }
-        let head = heading(alloc, &part.name).map_err(out_of_memory)?;
-        text.extend_from_slice(&head).map_err(out_of_memory)?;
-        text.extend_from_slice(&run.text).map_err(out_of_memory)?;
-        let ThreadRun { pass, .. } = run;
-        passes.push_reserved(pass);
-    }
-    Ok((passes, text))
-}
-
-/// The same, of threads that shared this board.
-fn told<'a>(
-    alloc: Global,
-    parts: &[ThreadPart],
-    board: &'a Posts,
-    runs: Vec<ThreadRun<'a>>,
-) -> Result<(Vec<Pass>, Vec<u8>), Fault>
-    requires long { length runs.items ≡ length parts.now }
-    requires over { All (IsOver (layout_of board.now)) runs.items }
-    ensures ok { IfOk result (λ r. AreToldAlike board.now.numbers.entries parts.now runs.entry.items r.0.items r.1.items) }
-    ensures err { IfErr result (λ e. e ≡ Memory) }
-{
-    let all = Notes::of_all(alloc, board);
-    told_by(alloc, parts, runs, &all)
-}
-
 /// A board for the names that the parts post.
-fn board_of(alloc: Global, parts: &[ThreadPart]) -> Result<Posts, Fault>
+fn board_of<Q: Site>(alloc: Global, parts: &[ThreadPart]) -> Result<Posts<Told<Q>>, Fault>
     ensures ok { IfOk result (λ board. AddsPosted (commands_of parts.now) [] board.numbers.entries) }
     ensures err { IfErr result (λ e. e ≡ Memory) }
 {
@@ -140,7 +87,34 @@ fn board_of(alloc: Global, parts: &[ThreadPart]) -> Result<Posts, Fault>
     Ok(board)
 }
 
-/// Runs the threads of a script, and gives what is printed.
+/// Runs the threads of a script in a room that was opened for them, and gives what is printed.
+fn text_in_room<Q: Site + Send + Sync, R: Threads + Wait, H: Hold + Sync>(
+    rt: &R,
+    alloc: Global,
+    script: &Script,
+    hold: &H,
+    turns: u64,
+    room: Room<LAST_SERIAL>,
+    passes: Vec<Pass>,
+) -> Result<Vec<u8>, Fault>
+    requires script { CanBeRun script.now }
+    requires opened { IsOpening 4294967295 script.now.config room passes.items }
+    requires site { Some room.row.table.shared.table_id ≡ Q.room }
+    ensures ok { IfOk result (λ text. IsRunOfAll turns 4294967295 script.now text.items) }
+    ensures err { IfErr result (λ e. (e ≡ Memory) ⊎ IsLeftInside e) }
+{
+    let parts = script.threads.as_slice();
+    let jobs = jobs_of(alloc, parts, passes, turns)?;
+    let board = board_of::<Q>(alloc, parts)?;
+    let (mut passes, mut text) = run_threads(rt, alloc, &room, &board, hold, parts, jobs)?;
+    let first = passes.remove(0);
+    let summary = closed(room, first, passes)?;
+    let end = ending(alloc, summary).map_err(out_of_memory)?;
+    text.extend_from_slice(&end).map_err(out_of_memory)?;
+    Ok(text)
+}
+
+/// Opens a room for the threads of a script, runs them there, and gives what is printed.
 fn text_of_all<R: Threads + Wait, H: Hold + Sync>(
     rt: &R,
     alloc: Global,
@@ -152,17 +126,8 @@ fn text_of_all<R: Threads + Wait, H: Hold + Sync>(
     ensures ok { IfOk result (λ text. IsRunOfAll turns 4294967295 script.now text.items) }
     ensures err { IfErr result (λ e. (e ≡ Memory) ⊎ IsLeftInside e) }
 {
-    let parts = script.threads.as_slice();
     let (room, passes) = Room::<LAST_SERIAL>::open(alloc, script.config)?;
-    let jobs = jobs_of(alloc, parts, passes, turns)?;
-    let board = board_of(alloc, parts)?;
-    let runs = run_threads(rt, alloc, &room, &board, hold, jobs)?;
-    let (mut passes, mut text) = told(alloc, parts, &board, runs)?;
-    let first = passes.remove(0);
-    let summary = closed(room, first, passes)?;
-    let end = ending(alloc, summary).map_err(out_of_memory)?;
-    text.extend_from_slice(&end).map_err(out_of_memory)?;
-    Ok(text)
+    text_in_room::<Brand, R, H>(rt, alloc, script, hold, turns, room, passes)
 }
 
 /// Runs the threads of a script side by side, and appends what they print. The hold is called around each command.

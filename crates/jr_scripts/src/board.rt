@@ -1,51 +1,63 @@
 //! What the threads of a script post to each other, by name.
 
+use crate::note::Posted;
+use jr_steps::Steps;
 use jr_syntax::{Command, Name, OnName};
 use std::alloc::{AllocError, Global};
 use std::collections::BTreeMap;
 use std::sync::OnceLock;
 
 /// Where a thread posts words under names, and looks for those that were posted. What a board tells, once it does, it tells from then on.
-pub trait Board {
-    ghost use Rattle.std.specs.Prelude.{ℕ, List, Option, IfSome};
+pub trait Board<S: Steps> {
+    ghost use Rattle.std.specs.Prelude.{ℕ, List, Option};
     ghost use Rattle.jr_scripts.specs.Layouts.{Layout};
-    ghost use Rattle.jr_scripts.specs.Posting.{Keeps};
+    ghost use Rattle.jr_scripts.specs.Posting.{Account, HasLookedFor, HasPosted, Keeps};
 
     /// How the board is laid out, which nothing changes.
     ghost layout: { Self → Layout };
 
-    /// This word was posted under this name.
-    ghost tells: { Self → List ℕ → ℕ → Type 0 };
+    /// Whom the board serves, and which words were posted there and heard of, with what had been seen.
+    ghost tells: { Self → Account };
 
     /// A look for this name found this, and left the board so.
     ghost looked: { Self → List ℕ → Option ℕ → Self → Type 0 };
 
-    /// Posts a word under a name.
-    fn post(&mut self, name: &Name, word: u64)
-        ensures posted { tells self.new name.now word }
+    /// Posts a word under a name, with what its thread has seen. The thread's steps stay as they were.
+    ///
+    /// # Operations
+    ///
+    /// None that a clause counts.
+    fn post(&mut self, steps: &mut S, name: &Name, word: u64)
+        requires { (tells self.old).serves (S.facts steps.old).stands.room }
+        ensures posted { HasPosted S.facts steps.old steps.new (tells self.new) name.now word }
         ensures kept { Keeps layout tells self.old self.new };
 
-    /// The word that was posted under a name, if one is seen.
-    fn look(&mut self, name: &Name) -> Option<u64>
-        ensures found { IfSome result (λ w. tells self.new name.now w) }
+    /// The word that was posted under a name, if one is seen: then the thread learns what was told with it.
+    ///
+    /// # Operations
+    ///
+    /// At most one where it finds a word, and else none.
+    fn look(&mut self, steps: &mut S, name: &Name) -> Option<u64>
+        requires { (tells self.old).serves (S.facts steps.old).stands.room }
+        ensures found { HasLookedFor S.facts steps.old steps.new (tells self.new) name.now result }
         ensures once { looked self.old name.now result self.new }
         ensures kept { Keeps layout tells self.old self.new };
 }
 
-/// A board with a cell for each name that may be posted, which is written once: the first word that is posted under a name stays. No thread waits for another there.
+/// A board with a cell for each name that may be posted, which is written once: the first word that is posted under a name stays, with what is told there. No thread waits for another there.
 #[derive(Drop)]
-pub struct Posts {
+pub struct Posts<T> {
     pub(crate) numbers: BTreeMap<Name, usize>,
-    pub(crate) cells: Vec<OnceLock<u64>>,
+    pub(crate) cells: Vec<OnceLock<Posted<T>>>,
 }
 
-impl Posts {
+impl<T: Drop> Posts<T> {
     ghost use Rattle.std.specs.Prelude.{◌≡◌, ◌<◌, ◌∷◌, [], Some, IfSome, OnOk, length};
     ghost use Rattle.jr_scripts.specs.Layouts.{cell_number};
     ghost use Rattle.jr_scripts.specs.Posted.{AddsPosted};
 
     /// A board without names; takes no memory.
-    pub fn new(alloc: Global) -> Posts
+    pub fn new(alloc: Global) -> Posts<T>
         ensures { result.numbers.entries ≡ [] }
     {
         Posts {

@@ -1,24 +1,28 @@
-//! A word that was posted, as a thread knows it.
+//! What was posted, as a thread knows it.
 
 ghost use Rattle.std.specs.Prelude.{◌≡◌};
 
 use std::sync::OnceToken;
 
-/// A word that a thread posted or saw, and what shows that it stays where it was posted.
+/// What was posted: a word, and what was told with it.
 #[derive(Drop)]
-pub(crate) struct Note<'a> {
+pub(crate) struct Posted<T> {
     pub(crate) word: u64,
-    pub(crate) token: OnceToken<'a, u64>,
-    ghost shown: { token.value ≡ word },
+    pub(crate) told: T,
 }
 
-impl<'a> Note<'a> {
-    /// Two notes of one cell have one word.
-    pub(crate) fn agrees(&self, other: &Note<'a>)
+/// What shows that something stays where a thread posted it, or saw it.
+#[derive(Drop)]
+pub(crate) struct Note<'a, T> {
+    pub(crate) token: OnceToken<'a, Posted<T>>,
+}
+
+impl<'a, T> Note<'a, T> {
+    /// Two notes of one cell are of one word, and of what was told with it.
+    pub(crate) fn agrees(&self, other: &Note<'a, T>)
         requires { self.now.token.of ≡ other.now.token.of }
-        ensures { self.now.word ≡ other.now.word }
+        ensures { self.now.token.value ≡ other.now.token.value }
     {
-        let (_ours, _theirs) = (self.word, other.word);
         self.token.agrees(&other.token);
     }
 }

@@ -1,26 +1,26 @@
 //! What one thread posts and sees on a board that it shares.
 
-ghost use Rattle.std.specs.Prelude.{◌≡◌, ◌⊎◌, ◌<◌, ℕ, true, Some, None, get_or, length, IfOk, IfSome};
-ghost use Rattle.jr_scripts.specs.Noting.{cell_at, word_in, AreOfCells, HasAllOf, IsBlank, StaysNoted};
-ghost use Rattle.jr_scripts.specs.Layouts.{layout_of};
-ghost use Rattle.jr_scripts.specs.Noting.{word_noted};
+ghost use Rattle.std.specs.Prelude.{◌≡◌, ◌⊎◌, ◌<◌, true, Some, None, get_or, length, IfOk, IfSome};
+ghost use Rattle.jr_scripts.specs.Noting.{account_noted, cell_at, posted_in, AreOfCells, HasAllOf, IsBlank, HasNoted, StaysNoted};
+ghost use Rattle.jr_scripts.specs.Layouts.{cell_number, layout_of};
 
 use crate::board::{Board, Posts};
-use crate::note::Note;
+use crate::note::{Note, Posted};
+use jr_steps::Steps;
 use jr_syntax::Name;
 use std::alloc::{AllocError, Global};
 
 /// What one thread posts and sees on a board that it shares: it keeps what shows that each word stays where it was posted. To post or to look takes neither memory nor a lock.
 #[derive(Drop)]
-pub struct Notes<'a> {
-    pub(crate) posts: &'a Posts,
-    pub(crate) notes: Vec<Option<Note<'a>>>,
+pub struct Notes<'a, T> {
+    pub(crate) posts: &'a Posts<T>,
+    pub(crate) notes: Vec<Option<Note<'a, T>>>,
     pub(crate) is_lost: bool,
     ghost of: { AreOfCells posts.now.cells.items notes.items },
 }
 
 /// A place for each of so many notes.
-fn blank<'a>(alloc: Global, count: usize) -> Result<Vec<Option<Note<'a>>>, AllocError>
+fn blank<'a, T>(alloc: Global, count: usize) -> Result<Vec<Option<Note<'a, T>>>, AllocError>
     ensures { IfOk result (λ v. IsBlank v.items) }
 {
     let mut notes = Vec::new(alloc);
@@ -30,32 +30,35 @@ fn blank<'a>(alloc: Global, count: usize) -> Result<Vec<Option<Note<'a>>>, Alloc
     Ok(notes)
 }
 
-/// The note of a word that is posted now at a number; none where it isn't, as where one stands there.
-fn posted<'a>(posts: &'a Posts, number: usize, word: u64) -> Option<Note<'a>>
+/// The note of what is posted now at a number; none where it isn't, as where something stands there.
+fn posted<'a, T: Drop>(
+    posts: &'a Posts<T>,
+    number: usize,
+    word: u64,
+    told: T,
+) -> Option<Note<'a, T>>
     requires { number < length posts.now.cells.items }
-    ensures { IfSome result (λ note. (note.token.of ≡ cell_at posts.now.cells.items number) × (note.word ≡ word)) }
+    ensures { IfSome result (λ note. (note.token.of ≡ cell_at posts.now.cells.items number) × (note.token.value.word ≡ word) × (note.token.value.told ≡ told)) }
 {
-    match posts.cells[number].try_set(word) {
-        Ok(token) => Some(Note { word, token }),
+    match posts.cells[number].try_set(Posted { word, told }) {
+        Ok(token) => Some(Note { token }),
         Err(_) => None,
     }
 }
 
-/// The note of the word that was posted at a number, if one is seen.
-fn seen<'a>(posts: &'a Posts, number: usize) -> Option<Note<'a>>
+/// The note of what was posted at a number, if it is seen.
+fn seen<'a, T>(posts: &'a Posts<T>, number: usize) -> Option<Note<'a, T>>
     requires { number < length posts.now.cells.items }
     ensures { IfSome result (λ note. note.token.of ≡ cell_at posts.now.cells.items number) }
 {
-    let cell = &posts.cells[number];
-    let token = cell.witness()?;
-    let word = *cell.value(&token);
-    Some(Note { word, token })
+    let token = posts.cells[number].witness()?;
+    Some(Note { token })
 }
 
 /// What was noted of a cell is what another note of it has.
-fn has_word<'a>(noted: &Option<Note<'a>>, note: &Note<'a>)
+fn has_same<'a, T>(noted: &Option<Note<'a, T>>, note: &Note<'a, T>)
     requires { (n : _) → noted.now ≡ Some n → n.token.of ≡ note.now.token.of }
-    ensures { (w : ℕ) → word_in noted.now ≡ Some w → note.now.word ≡ w }
+    ensures { (p : _) → posted_in noted.now ≡ Some p → note.now.token.value ≡ p }
 {
     match noted {
         Some(earlier) => earlier.agrees(note),
@@ -64,9 +67,9 @@ fn has_word<'a>(noted: &Option<Note<'a>>, note: &Note<'a>)
 }
 
 /// Whether what the others noted of a cell is noted here too.
-fn has_note<'a>(ours: &Option<Note<'a>>, theirs: &Option<Note<'a>>) -> bool
+fn has_note<'a, T>(ours: &Option<Note<'a, T>>, theirs: &Option<Note<'a, T>>) -> bool
     requires { (m n : _) → ours.now ≡ Some m → theirs.now ≡ Some n → m.token.of ≡ n.token.of }
-    ensures { result ≡ true → (w : ℕ) → word_in theirs.now ≡ Some w → word_in ours.now ≡ Some w }
+    ensures { result ≡ true → (p : _) → posted_in theirs.now ≡ Some p → posted_in ours.now ≡ Some p }
 {
     match theirs {
         None => true,
@@ -80,9 +83,9 @@ fn has_note<'a>(ours: &Option<Note<'a>>, theirs: &Option<Note<'a>>) -> bool
     }
 }
 
-impl<'a> Notes<'a> {
+impl<'a, T: Drop> Notes<'a, T> {
     /// The notes of a thread that has posted and seen nothing. Where memory is refused for them they are lost.
-    pub fn new(alloc: Global, posts: &'a Posts) -> Notes<'a>
+    pub fn new(alloc: Global, posts: &'a Posts<T>) -> Notes<'a, T>
         ensures { result.posts.now ≡ posts.now }
     {
         match blank(alloc, posts.cells.len()) {
@@ -100,7 +103,7 @@ impl<'a> Notes<'a> {
     }
 
     /// The notes of who has seen all that was posted until now.
-    pub(crate) fn of_all(alloc: Global, posts: &'a Posts) -> Notes<'a>
+    pub(crate) fn of_all(alloc: Global, posts: &'a Posts<T>) -> Notes<'a, T>
         ensures { result.posts.now ≡ posts.now }
     {
         let mut all = Notes::new(alloc, posts);
@@ -113,10 +116,10 @@ impl<'a> Notes<'a> {
     }
 
     /// Keeps the note of a word at a number.
-    fn keep(&mut self, number: usize, note: Note<'a>)
+    pub(crate) fn keep(&mut self, number: usize, note: Note<'a, T>)
         requires { note.token.of ≡ cell_at self.old.posts.now.cells.items number }
         ensures same { self.new.posts.now ≡ self.old.posts.now }
-        ensures noted { (self.new.is_lost ≡ true) ⊎ (word_in (get_or self.new.notes.items number None) ≡ Some note.entry.word) }
+        ensures noted { (self.new.is_lost ≡ true) ⊎ (posted_in (get_or self.new.notes.items number None) ≡ Some note.entry.token.value) }
         ensures kept { StaysNoted self.old.notes.items self.new.notes.items }
         ensures lost { self.old.is_lost ≡ true → self.new.is_lost ≡ true }
     {
@@ -124,12 +127,12 @@ impl<'a> Notes<'a> {
             self.is_lost = true;
             return;
         }
-        has_word(&self.notes[number], &note);
+        has_same(&self.notes[number], &note);
         self.notes[number] = Some(note);
     }
 
     /// Whether all that another thread noted, on the same board, is noted here too. It never is where the other's notes were lost.
-    pub(crate) fn has_all_of(&self, other: &Notes<'a>) -> bool
+    pub(crate) fn has_all_of(&self, other: &Notes<'a, T>) -> bool
         requires { layout_of other.now.posts.now ≡ layout_of self.now.posts.now }
         ensures { result ≡ true → HasAllOf self.now.notes.items other.now.is_lost other.now.notes.items }
     {
@@ -143,30 +146,60 @@ impl<'a> Notes<'a> {
         }
         true
     }
-}
 
-impl Board for Notes<'_> {
-    ghost tells = { λ board n w. (board.is_lost ≡ true) ⊎ (word_noted board.posts.now.numbers.entries board.notes.items n ≡ Some w) };
-
-    ghost looked = { λ first n found last. Unit {0} };
-
-    ghost layout = { λ board. layout_of board.posts.now };
-
-    fn post(&mut self, name: &Name, word: u64) {
+    /// Posts a word under a name, with what is told.
+    pub(crate) fn put(&mut self, name: &Name, word: u64, told: T)
+        ensures same { self.new.posts.now ≡ self.old.posts.now }
+        ensures noted { (self.new.is_lost ≡ true) ⊎ HasNoted self.old.posts.now.numbers.entries self.new.notes.items name.now word (λ t. t ≡ told) }
+        ensures kept { StaysNoted self.old.notes.items self.new.notes.items }
+        ensures lost { self.old.is_lost ≡ true → self.new.is_lost ≡ true }
+    {
         let Some(number) = self.posts.number(name) else {
             self.is_lost = true;
             return;
         };
-        match posted(self.posts, number, word) {
+        match posted(self.posts, number, word, told) {
             Some(note) => self.keep(number, note),
             None => self.is_lost = true,
         }
     }
 
-    fn look(&mut self, name: &Name) -> Option<u64> {
+    /// The number of the cell of a name, and the note of what was posted there, if it is seen.
+    pub(crate) fn find(&self, name: &Name) -> Option<(usize, Note<'a, T>)>
+        ensures number { IfSome result (λ r. cell_number self.now.posts.now.numbers.entries name.now ≡ Some r.0) }
+        ensures few { IfSome result (λ r. r.0 < length self.now.posts.now.cells.items) }
+        ensures of { IfSome result (λ r. r.1.token.of ≡ cell_at self.now.posts.now.cells.items r.0) }
+    {
         let number = self.posts.number(name)?;
         let note = seen(self.posts, number)?;
-        let word = note.word;
+        Some((number, note))
+    }
+
+    /// What was posted, by a note of it.
+    pub(crate) fn posted(&self, number: usize, note: &Note<'a, T>) -> &'a Posted<T>
+        requires few { number < length self.now.posts.now.cells.items }
+        requires of { note.now.token.of ≡ cell_at self.now.posts.now.cells.items number }
+        ensures { result.now ≡ note.now.token.value }
+    {
+        self.posts.cells[number].value(&note.token)
+    }
+}
+
+/// Over any steps, a board of words alone: of what a thread has seen it tells nothing.
+impl<S: Steps> Board<S> for Notes<'_, ()> {
+    ghost layout = { λ board. layout_of board.posts.now };
+
+    ghost tells = { λ board. account_noted (λ room. Unit {0}) (λ t seen. Unit {0}) (λ t seen. Unit {0}) board.is_lost board.posts.now.numbers.entries board.notes.items };
+
+    ghost looked = { λ first n found last. Unit {0} };
+
+    fn post(&mut self, _steps: &mut S, name: &Name, word: u64) {
+        self.put(name, word, ());
+    }
+
+    fn look(&mut self, _steps: &mut S, name: &Name) -> Option<u64> {
+        let (number, note) = self.find(name)?;
+        let word = self.posted(number, &note).word;
         self.keep(number, note);
         Some(word)
     }

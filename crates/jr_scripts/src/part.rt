@@ -2,8 +2,9 @@
 
 ghost use Rattle.jr_scripts.specs.AllRuns.{RanPass};
 ghost use Rattle.jr_scripts.specs.Layouts.{layout_of};
-ghost use Rattle.jr_scripts.specs.Noting.{talk_noted};
-ghost use Rattle.std.specs.Prelude.{◌≡◌};
+ghost use Rattle.jr_scripts.specs.Telling.{talk_told};
+ghost use Rattle.jr_rule.specs.Rooms.{IsOfRoom};
+ghost use Rattle.std.specs.Prelude.{◌≡◌, Some};
 ghost use Rattle.jr_scripts.specs.Jobs.{IsForPart};
 
 use crate::board::Posts;
@@ -11,6 +12,7 @@ use crate::hold::Hold;
 use crate::notes::Notes;
 use crate::opening::opened_env;
 use crate::to_end::run_to_end;
+use crate::told::{Site, Told};
 use jr_rule::{Pass, Room, RoomSteps};
 use jr_syntax::ThreadPart;
 use jr_word::Fault;
@@ -27,26 +29,27 @@ pub(crate) struct Job<'a> {
 
 /// What a thread gives back: its pass, its lines, whether memory was refused, and its notes of the board.
 #[derive(Drop)]
-pub(crate) struct ThreadRun<'a> {
+pub(crate) struct ThreadRun<'a, Q: Site> {
     pub(crate) pass: Pass,
     pub(crate) text: Vec<u8>,
     pub(crate) answer: Result<(), Fault>,
-    pub(crate) notes: Notes<'a>,
+    pub(crate) notes: Notes<'a, Told<Q>>,
 }
 
 /// Does a job, and frees the thread's local references at its end.
-pub(crate) fn run_job<'a, H: Hold, const LAST: u32>(
+pub(crate) fn run_job<'a, Q: Site, H: Hold, const LAST: u32>(
     alloc: Global,
     room: &Room<LAST>,
-    board: &'a Posts,
+    board: &'a Posts<Told<Q>>,
     hold: &H,
     first: usize,
     turns: u64,
     part: &ThreadPart,
     pass: Pass,
-) -> ThreadRun<'a>
-    requires { IsForPart room.now.row first part.now pass }
-    ensures ran { RanPass (talk_noted result.notes.is_lost result.notes.posts.now.numbers.entries result.notes.notes.items) turns first part.now.commands pass result.pass result.answer result.text.items }
+) -> ThreadRun<'a, Q>
+    requires part { IsForPart room.now.row first part.now pass }
+    requires site { Some room.now.row.table.shared.table_id ≡ Q.room }
+    ensures ran { RanPass (talk_told result.notes.is_lost result.notes.posts.now.numbers.entries result.notes.notes.items) turns first part.now.commands pass result.pass result.answer result.text.items }
     ensures over { layout_of result.notes.posts.now ≡ layout_of board.now }
 {
     let mut text = Vec::new(alloc);

@@ -94,7 +94,7 @@ fn record(
 /// E16 where memory was refused.
 ///
 /// What the commands that were done have changed stays, and the text has their lines, perhaps but for the last one's.
-pub fn run_thread<S: Steps, B: Board, H: Hold>(
+pub fn run_thread<S: Steps, B: Board<S>, H: Hold>(
     alloc: Global,
     env: &mut Env<S>,
     marker: &mut Marker,
@@ -108,6 +108,7 @@ pub fn run_thread<S: Steps, B: Board, H: Hold>(
     requires lines { first + length commands.now < 2 ^ 64 }
     requires outside { IsOutside env.old }
     requires room { FitsRoom marker.old env.old }
+    requires there { (B.tells board.old).serves (S.facts env.old.held.steps).stands.room }
     ensures explained { (text : List ℕ) × (out.new.items ≡ out.old.items ++ text) × RanThread env.old env.new (talk_of B.tells B.looked turns board.new) turns first commands.now result text }
     ensures kept { Keeps B.layout B.tells board.old board.new }
     ensures outside { IsOutside env.new }

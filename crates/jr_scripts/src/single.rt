@@ -37,7 +37,7 @@ fn run_part(alloc: Global, config: Config, part: &ThreadPart, turns: u64) -> Res
     let steps = PlainSteps::<LAST_SERIAL>::new(alloc, config)?;
     let mut env = opened_env(steps);
     let commands = part.commands.as_slice();
-    let mut posts = Posts::new(alloc);
+    let mut posts = Posts::<()>::new(alloc);
     let Ok(()) = posts.add(commands) else {
         return Err(Fault::Memory);
     };

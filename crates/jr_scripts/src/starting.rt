@@ -1,16 +1,18 @@
 //! Starts the threads of a script, and joins them.
 
-ghost use Rattle.std.specs.Prelude.{◌≡◌, Err, IfSome, MatchResult, All};
+ghost use Rattle.std.specs.Prelude.{◌≡◌, Err, Some, IfSome, MatchResult, All, length};
 ghost use Rattle.jr_word.specs.declared.fault.Fault.TheVariants.{Memory};
-ghost use Rattle.jr_scripts.specs.Jobs.{HaveRun, IsFor, IsForPart};
+ghost use Rattle.jr_scripts.specs.Jobs.{HaveRun, HaveTold, IsFor, IsForPart};
 ghost use Rattle.jr_scripts.specs.AllRuns.{RanPass};
 ghost use Rattle.jr_scripts.specs.Given.{IsGiven};
 ghost use Rattle.jr_scripts.specs.Layouts.{layout_of};
-ghost use Rattle.jr_scripts.specs.Noting.{talk_noted};
+ghost use Rattle.jr_scripts.specs.Telling.{talk_told};
 
 use crate::board::Posts;
+use crate::gathering::told;
 use crate::hold::Hold;
 use crate::part::{Job, ThreadRun, run_job};
+use crate::told::{Site, Told};
 use jr_rule::{Pass, Room};
 use jr_syntax::ThreadPart;
 use jr_word::Fault;
@@ -22,28 +24,29 @@ use std::thread::{Promise, PromisedHandle, Scope, Threads};
 
 /// The promise of a thread: it has done this job.
 #[derive(Drop)]
-pub(crate) struct Doing<'a> {
+pub(crate) struct Doing<'a, Q: Site> {
     first: usize,
     turns: u64,
     part: &'a ThreadPart,
     pass: Snapshot<Pass>,
-    board: &'a Posts,
+    board: &'a Posts<Told<Q>>,
 }
 
-impl<'a, 'b> Promise<ThreadRun<'b>> for Doing<'a> {
-    ghost kept_by = { λ p r. RanPass (talk_noted r.notes.is_lost r.notes.posts.now.numbers.entries r.notes.notes.items) p.turns p.first p.part.now.commands p.pass.value r.pass r.answer r.text.items × (layout_of r.notes.posts.now ≡ layout_of p.board.now) };
+impl<'a, 'b, Q: Site> Promise<ThreadRun<'b, Q>> for Doing<'a, Q> {
+    ghost kept_by = { λ p r. RanPass (talk_told r.notes.is_lost r.notes.posts.now.numbers.entries r.notes.notes.items) p.turns p.first p.part.now.commands p.pass.value r.pass r.answer r.text.items × (layout_of r.notes.posts.now ≡ layout_of p.board.now) };
 }
 
 /// Does a job in a thread of its own, where one can be started.
-fn start<'s, 'b: 's, E, H: Hold + Sync, const LAST: u32>(
+fn start<'s, 'b: 's, Q: Site + Send + Sync, E, H: Hold + Sync, const LAST: u32>(
     alloc: Global,
     scope: &Scope<'s, E>,
     room: &'s Room<LAST>,
-    board: &'b Posts,
+    board: &'b Posts<Told<Q>>,
     hold: &'s H,
     job: Job<'s>,
-) -> Option<PromisedHandle<ThreadRun<'b>, Doing<'s>>>
-    requires { IsFor room.now.row job }
+) -> Option<PromisedHandle<ThreadRun<'b, Q>, Doing<'s, Q>>>
+    requires job { IsFor room.now.row job }
+    requires site { Some room.now.row.table.shared.table_id ≡ Q.room }
     ensures given { IfSome result (λ h. IsGiven h.promise job.entry) }
     ensures over { IfSome result (λ h. h.promise.board.now ≡ board.now) }
 {
@@ -60,18 +63,18 @@ fn start<'s, 'b: 's, E, H: Hold + Sync, const LAST: u32>(
         pass: Snapshot::of(&pass),
         board,
     };
-    let there = move || -> ThreadRun
-        requires { IsForPart room.now.row first part.now pass }
-        ensures { RanPass (talk_noted result.notes.is_lost result.notes.posts.now.numbers.entries result.notes.notes.items) turns first part.entry.now.commands pass result.pass result.answer result.text.items × (layout_of result.notes.posts.now ≡ layout_of board.entry.now) }
+    let there = move || -> ThreadRun<Q>
+        requires { IsForPart room.now.row first part.now pass × (Some room.now.row.table.shared.table_id ≡ Q.room) }
+        ensures { RanPass (talk_told result.notes.is_lost result.notes.posts.now.numbers.entries result.notes.notes.items) turns first part.entry.now.commands pass result.pass result.answer result.text.items × (layout_of result.notes.posts.now ≡ layout_of board.entry.now) }
     { run_job(alloc, room, board, hold, first, turns, part, pass) };
     scope.spawn_with(promise, there).ok()
 }
 
 /// Joins the threads, and gives up.
-fn given_up<'s, 'b, R: Threads>(
+fn given_up<'s, 'b, Q: Site, R: Threads>(
     rt: &R,
-    handles: Vec<PromisedHandle<ThreadRun<'b>, Doing<'s>>>,
-) -> Result<Vec<ThreadRun<'b>>, Fault>
+    handles: Vec<PromisedHandle<ThreadRun<'b, Q>, Doing<'s, Q>>>,
+) -> Result<Vec<ThreadRun<'b, Q>>, Fault>
     ensures { result ≡ Err Memory }
 {
     for handle in handles {
@@ -81,16 +84,17 @@ fn given_up<'s, 'b, R: Threads>(
 }
 
 /// Does jobs, each in a thread of its own.
-fn run_jobs<'s, 'b: 's, E, H: Hold + Sync, const LAST: u32, R: Threads>(
+fn run_jobs<'s, 'b: 's, Q: Site + Send + Sync, E, H: Hold + Sync, const LAST: u32, R: Threads>(
     rt: &R,
     alloc: Global,
     scope: &Scope<'s, E>,
     room: &'s Room<LAST>,
-    board: &'b Posts,
+    board: &'b Posts<Told<Q>>,
     hold: &'s H,
     mut jobs: Vec<Job<'s>>,
-) -> Result<Vec<ThreadRun<'b>>, Fault>
-    requires { All (λ j. IsFor room.now.row j) jobs.items }
+) -> Result<Vec<ThreadRun<'b, Q>>, Fault>
+    requires jobs { All (λ j. IsFor room.now.row j) jobs.items }
+    requires site { Some room.now.row.table.shared.table_id ≡ Q.room }
     ensures { MatchResult result (λ runs. HaveRun (layout_of board.now) jobs.entry.items runs.items) (λ e. e ≡ Memory) }
 {
     let mut handles = Vec::new(alloc);
@@ -110,24 +114,53 @@ fn run_jobs<'s, 'b: 's, E, H: Hold + Sync, const LAST: u32, R: Threads>(
     }
 }
 
-/// The same, and each thread has ended.
-pub(crate) fn run_threads<'a, H: Hold + Sync, const LAST: u32, R: Threads + Wait>(
+/// The same, and gives the threads' passes and what they print. Each of them has ended then.
+fn told_jobs<'s, 'b: 's, Q: Site + Send + Sync, E, H: Hold + Sync, const LAST: u32, R: Threads>(
+    rt: &R,
+    alloc: Global,
+    scope: &Scope<'s, E>,
+    room: &'s Room<LAST>,
+    board: &'b Posts<Told<Q>>,
+    hold: &'s H,
+    parts: &[ThreadPart],
+    jobs: Vec<Job<'s>>,
+) -> Result<(Vec<Pass>, Vec<u8>), Fault>
+    requires long { length jobs.items ≡ length parts.now }
+    requires jobs { All (λ j. IsFor room.now.row j) jobs.items }
+    requires site { Some room.now.row.table.shared.table_id ≡ Q.room }
+    ensures { MatchResult result (λ r. HaveTold board.now jobs.entry.items parts.now r.0.items r.1.items) (λ e. e ≡ Memory) }
+{
+    let runs = run_jobs(rt, alloc, scope, room, board, hold, jobs)?;
+    told(alloc, parts, board, runs)
+}
+
+/// Does jobs, each in a thread of its own, and gives the threads' passes and what they print.
+pub(crate) fn run_threads<
+    'a,
+    Q: Site + Send + Sync,
+    H: Hold + Sync,
+    const LAST: u32,
+    R: Threads + Wait,
+>(
     rt: &R,
     alloc: Global,
     room: &'a Room<LAST>,
-    board: &'a Posts,
+    board: &'a Posts<Told<Q>>,
     hold: &'a H,
+    parts: &'a [ThreadPart],
     jobs: Vec<Job<'a>>,
-) -> Result<Vec<ThreadRun<'a>>, Fault>
-    requires { All (λ j. IsFor room.now.row j) jobs.items }
-    ensures { MatchResult result (λ runs. HaveRun (layout_of board.now) jobs.entry.items runs.items) (λ e. e ≡ Memory) }
+) -> Result<(Vec<Pass>, Vec<u8>), Fault>
+    requires long { length jobs.items ≡ length parts.now }
+    requires jobs { All (λ j. IsFor room.now.row j) jobs.items }
+    requires site { Some room.now.row.table.shared.table_id ≡ Q.room }
+    ensures { MatchResult result (λ r. HaveTold board.now jobs.entry.items parts.now r.0.items r.1.items) (λ e. e ≡ Memory) }
 {
     thread::scope(
         thread::scope_env(),
         rt,
-        move |scope| -> Result<Vec<ThreadRun>, Fault>
-            requires { All (λ j. IsFor room.now.row j) jobs.items }
-            ensures { MatchResult result (λ runs. HaveRun (layout_of board.entry.now) jobs.entry.items runs.items) (λ e. e ≡ Memory) }
-        { run_jobs(rt, alloc, scope, room, board, hold, jobs) },
+        move |scope| -> Result<(Vec<Pass>, Vec<u8>), Fault>
+            requires { (length jobs.items ≡ length parts.now) × All (λ j. IsFor room.now.row j) jobs.items × (Some room.now.row.table.shared.table_id ≡ Q.room) }
+            ensures { MatchResult result (λ r. HaveTold board.entry.now jobs.entry.items parts.entry.now r.0.items r.1.items) (λ e. e ≡ Memory) }
+        { told_jobs(rt, alloc, scope, room, board, hold, parts, jobs) },
     )
 }

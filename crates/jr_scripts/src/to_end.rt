@@ -19,7 +19,7 @@ use jr_word::Fault;
 use std::alloc::Global;
 
 /// Runs the commands of a thread as `run_thread` does, with a marker that it makes before the first of them.
-fn run_with_marker<S: Steps, B: Board, H: Hold>(
+fn run_with_marker<S: Steps, B: Board<S>, H: Hold>(
     alloc: Global,
     env: &mut Env<S>,
     first: usize,
@@ -31,6 +31,7 @@ fn run_with_marker<S: Steps, B: Board, H: Hold>(
 ) -> Result<(), Fault>
     requires lines { first + length commands.now < 2 ^ 64 }
     requires outside { IsOutside env.old }
+    requires there { (B.tells board.old).serves (S.facts env.old.held.steps).stands.room }
     ensures explained { (text : List ℕ) × (out.new.items ≡ out.old.items ++ text) × RanThread env.old env.new (talk_of B.tells B.looked turns board.new) turns first commands.now result text }
     ensures kept { Keeps B.layout B.tells board.old board.new }
     ensures outside { IsOutside env.new }
@@ -59,7 +60,7 @@ fn run_with_marker<S: Steps, B: Board, H: Hold>(
 /// E16 where memory was refused, also for the marker.
 ///
 /// What the commands that were done have changed stays but for the local references, and the text has their lines, perhaps but for the last one's.
-pub fn run_to_end<S: Steps, B: Board, H: Hold>(
+pub fn run_to_end<S: Steps, B: Board<S>, H: Hold>(
     alloc: Global,
     env: &mut Env<S>,
     first: usize,
@@ -71,6 +72,7 @@ pub fn run_to_end<S: Steps, B: Board, H: Hold>(
 ) -> Result<(), Fault>
     requires lines { first + length commands.now < 2 ^ 64 }
     requires outside { IsOutside env.old }
+    requires there { (B.tells board.old).serves (S.facts env.old.held.steps).stands.room }
     ensures ended { (text : List ℕ) × (out.new.items ≡ out.old.items ++ text) × RanToEnd env.old env.new (talk_of B.tells B.looked turns board.new) turns first commands.now result text }
     ensures kept { Keeps B.layout B.tells board.old board.new }
     ensures outside { IsOutside env.new }

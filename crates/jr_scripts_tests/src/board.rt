@@ -3,7 +3,9 @@
 use crate::printing::{BEFORE, TURNS, prints};
 use crate::scripts::{SIZES, name_of};
 use crate::threads::HANDED_OVER;
+use jr_rule::PlainSteps;
 use jr_scripts::{Board, NoHold, Notes, Posts, run_all, run_one};
+use jr_steps::Steps;
 use jr_syntax::{Command, OnName, Script, Sequence, ThreadPart, parse};
 use jr_word::Fault;
 use std::alloc::Global;
@@ -23,21 +25,27 @@ const SIX_POSTS: &[u8] =
     b"vm threads 1 slots 1 objects 1 words 0 locals 16\nthread a\npost m\npost ab\npost z\npost a\npost abcdefghijklmnop\npost b\n";
 
 /// Checks that each of these commands posts a name, which has its own number, if any has.
-fn have_numbers(rt: &impl Abort, notes: &mut Notes<'_>, commands: &[Command], any: bool) {
+fn have_numbers<S: Steps>(
+    rt: &impl Abort,
+    steps: &mut S,
+    notes: &mut Notes<'_, ()>,
+    commands: &[Command],
+    any: bool,
+) {
     for (i, command) in commands.iter().enumerate() {
         let Command::OnName { verb: _, name } = command else {
             panic!(rt; "a command posts no name")
         };
         let wanted = if any { Some(i as u64) } else { None };
-        assert!(rt; notes.look(name) == wanted);
+        assert!(rt; notes.look(steps, name) == wanted);
     }
 }
 
 /// Posts the number of each command under the name that it posts.
-fn post_numbers(notes: &mut Notes<'_>, commands: &[Command]) {
+fn post_numbers<S: Steps>(steps: &mut S, notes: &mut Notes<'_, ()>, commands: &[Command]) {
     for (i, command) in commands.iter().enumerate() {
         if let Command::OnName { verb: _, name } = command {
-            notes.post(name, i as u64);
+            notes.post(steps, name, i as u64);
         }
     }
 }
@@ -51,27 +59,29 @@ fn each_name_has_a_word_of_its_own(rt: HostRuntime) -> Result<(), Fail> {
     };
     let commands = part.commands.as_slice();
     assert!(rt; commands.len() == 6);
-    let mut posts = Posts::new(alloc);
+    let mut posts = Posts::<()>::new(alloc);
     posts.add(commands)?;
     let mut notes = Notes::new(alloc, &posts);
-    have_numbers(&rt, &mut notes, commands, false);
-    post_numbers(&mut notes, commands);
-    have_numbers(&rt, &mut notes, commands, true);
+    let mut steps = PlainSteps::<2>::new(alloc, SIZES)?;
+    have_numbers(&rt, &mut steps, &mut notes, commands, false);
+    post_numbers(&mut steps, &mut notes, commands);
+    have_numbers(&rt, &mut steps, &mut notes, commands, true);
     let mut others = Notes::new(alloc, &posts);
-    have_numbers(&rt, &mut others, commands, true);
+    have_numbers(&rt, &mut steps, &mut others, commands, true);
     Ok(())
 }
 
 #[test]
 fn the_first_word_of_a_name_stays(rt: HostRuntime) -> Result<(), Fail> {
     let alloc = rt.alloc();
-    let mut posts = Posts::new(alloc);
+    let mut posts = Posts::<()>::new(alloc);
     let name = name_of(b"g")?;
     posts.add(&[posting(b"g")?])?;
     let mut notes = Notes::new(alloc, &posts);
-    notes.post(&name, 0);
-    notes.post(&name, 6);
-    assert!(rt; notes.look(&name) == Some(0));
+    let mut steps = PlainSteps::<2>::new(alloc, SIZES)?;
+    notes.post(&mut steps, &name, 0);
+    notes.post(&mut steps, &name, 6);
+    assert!(rt; notes.look(&mut steps, &name) == Some(0));
     Ok(())
 }
 
@@ -106,13 +116,14 @@ fn a_second_post_of_a_name_gives_the_run_up(rt: HostRuntime) -> Result<(), Fail>
 #[test]
 fn a_name_without_a_cell_is_not_posted(rt: HostRuntime) -> Result<(), Fail> {
     let alloc = rt.alloc();
-    let mut posts = Posts::new(alloc);
+    let mut posts = Posts::<()>::new(alloc);
     posts.add(&[posting(b"g")?])?;
     let mut notes = Notes::new(alloc, &posts);
+    let mut steps = PlainSteps::<2>::new(alloc, SIZES)?;
     let other = name_of(b"ga")?;
-    notes.post(&other, 6);
-    assert!(rt; notes.look(&other).is_none());
-    assert!(rt; notes.look(&name_of(b"g")?).is_none());
+    notes.post(&mut steps, &other, 6);
+    assert!(rt; notes.look(&mut steps, &other).is_none());
+    assert!(rt; notes.look(&mut steps, &name_of(b"g")?).is_none());
     Ok(())
 }
 

@@ -73,7 +73,7 @@ fn run_from_line_10<S: Steps>(
     requires { IsOutside env.old }
     ensures { IsOutside env.new }
 {
-    let board = Posts::new(alloc);
+    let board = Posts::<()>::new(alloc);
     let mut marker = Marker::new(alloc, env.held.steps.config())?;
     run_thread(
         alloc,

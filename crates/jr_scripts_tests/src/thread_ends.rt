@@ -29,7 +29,7 @@ fn ends<S: Steps>(rt: &impl Abort, alloc: Global, env: &mut Env<S>, turns: u64) 
     requires { IsOutside env.old }
     ensures { IsOutside env.new }
 {
-    let posts = Posts::new(alloc);
+    let posts = Posts::<()>::new(alloc);
     let mut notes = Notes::new(alloc, &posts);
     let mut out = Vec::from_slice(alloc, BEFORE)?;
     run_to_end(alloc, env, 3, &[], &mut notes, &NoHold, turns, &mut out)?;

@@ -1,37 +1,48 @@
 //! What the names of a thread are handed to other threads for, by a board.
 
-ghost use Rattle.std.specs.Prelude.{◌≡◌, false, IfSome, MatchOption};
+ghost use Rattle.std.specs.Prelude.{◌≡◌, true, IfNone};
 ghost use Rattle.jr_scripts.specs.declared.reply.Reply.TheVariants.{Done};
-ghost use Rattle.jr_scripts.specs.Advancing.{IsSaid};
 ghost use Rattle.jr_scripts.specs.Names.{word_posted};
 ghost use Rattle.jr_scripts.specs.Places.{is_speaking};
-ghost use Rattle.jr_scripts.specs.Posting.{reply_to_wait, talk_of, IsAwaited, IsHeard, Speaks, Keeps};
-ghost use Rattle.jr_syntax.specs.declared.command.Command.TheVariants as commands;
+ghost use Rattle.jr_scripts.specs.Posting.{reply_to_wait, talk_of, HasLookedFor, HasPosted, HasSpoken, HasWaited, Keeps};
 
 use crate::board::Board;
 use crate::names::Names;
 use crate::reply::Reply;
+use jr_env::Env;
+use jr_steps::Steps;
 use jr_syntax::{Command, Make, Name};
 use jr_word::{Fault, Handle};
 use std::thread;
 
-/// Puts on the board what a name stands for.
-fn post<B: Board>(board: &mut B, names: &Names, name: &Name) -> Reply
-    ensures done { result ≡ Done }
-    ensures posted { B.tells board.new name.now (word_posted names.now name.now) }
-    ensures kept { Keeps B.layout B.tells board.old board.new }
+/// Whether threads hand each other something by a command.
+pub(crate) fn hands_over(command: &Command) -> bool
+    ensures { result ≡ is_speaking command.now }
 {
-    board.post(name, names.word(name));
-    Reply::Done
+    match command {
+        Command::OnName { .. } => true,
+        Command::Make { verb, .. } => match verb {
+            Make::Wait => true,
+            Make::Plain => false,
+        },
+        _ => false,
+    }
 }
 
 /// Looks for a posted word, up to `turns` times, and lets other threads run between two looks.
-fn word_awaited<B: Board>(board: &mut B, name: &Name, turns: u64) -> Option<u64>
-    ensures found { MatchOption result ((talk_of B.tells B.looked turns board.new).in_vain name.now) (λ w. B.tells board.new name.now w) }
+fn word_awaited<S: Steps, B: Board<S>>(
+    board: &mut B,
+    steps: &mut S,
+    name: &Name,
+    turns: u64,
+) -> Option<u64>
+    requires { (B.tells board.old).serves (S.facts steps.old).stands.room }
+    ensures found { HasLookedFor S.facts steps.old steps.new (B.tells board.new) name.now result }
+    ensures vain { IfNone result ((talk_of B.tells B.looked turns board.new).in_vain name.now) }
     ensures kept { Keeps B.layout B.tells board.old board.new }
 {
     for _ in 0..turns {
-        match board.look(name) {
+        match board.look(steps, name) {
             Some(word) => return Some(word),
             None => thread::yield_now(),
         }
@@ -49,50 +60,61 @@ fn reply_of(found: Option<u64>) -> Result<Reply, Fault>
     }
 }
 
-/// Waits until a name was posted, for `turns` looks.
+/// Waits until a name was posted, for `turns` looks, and learns what was told with it.
 ///
 /// # Errors
 ///
 /// E20: each look found nothing.
-fn wait<B: Board>(board: &mut B, name: &Name, turns: u64) -> Result<Reply, Fault>
-    ensures heard { IsHeard (talk_of B.tells B.looked turns board.new) name.now result }
-    ensures awaited { IsAwaited result }
-    ensures kept { Keeps B.layout B.tells board.old board.new }
-{
-    reply_of(word_awaited(board, name, turns))
-}
-
-/// The answer to a wait, none where an object is to be made.
-fn awaited<B: Board>(
+fn wait<S: Steps, B: Board<S>>(
     board: &mut B,
-    turns: u64,
-    verb: Make,
+    steps: &mut S,
     name: &Name,
-) -> Option<Result<Reply, Fault>>
-    ensures said { MatchOption result (is_speaking (commands.Make verb name.now) ≡ false) (λ answer. IsSaid (commands.Make verb name.now) answer) }
-    ensures heard { IfSome result (λ answer. IsHeard (talk_of B.tells B.looked turns board.new) name.now answer) }
+    turns: u64,
+) -> Result<Reply, Fault>
+    requires { (B.tells board.old).serves (S.facts steps.old).stands.room }
+    ensures waited { HasWaited S.facts steps.old steps.new (talk_of B.tells B.looked turns board.new) name.now result }
     ensures kept { Keeps B.layout B.tells board.old board.new }
 {
-    match verb {
-        Make::Wait => Some(wait(board, name, turns)),
-        Make::Plain => None,
-    }
+    reply_of(word_awaited(board, steps, name, turns))
 }
 
-/// The answer to a command by which threads hand each other words. To any other there is none, and nothing was done.
-pub(crate) fn spoken<B: Board>(
+/// The answer to a command by which threads hand each other words.
+fn spoken<S: Steps, B: Board<S>>(
     board: &mut B,
+    steps: &mut S,
     names: &Names,
     turns: u64,
     command: &Command,
-) -> Option<Result<Reply, Fault>>
-    ensures said { MatchOption result (is_speaking command.now ≡ false) (λ answer. IsSaid command.now answer) }
-    ensures speaks { IfSome result (λ answer. Speaks (talk_of B.tells B.looked turns board.new) names.now command.now answer) }
+) -> Result<Reply, Fault>
+    requires there { (B.tells board.old).serves (S.facts steps.old).stands.room }
+    requires speaks { is_speaking command.now ≡ true }
+    ensures spoke { HasSpoken S.facts steps.old steps.new (talk_of B.tells B.looked turns board.new) names.now command.now result }
     ensures kept { Keeps B.layout B.tells board.old board.new }
 {
     match command {
-        Command::OnName { name, .. } => Some(Ok(post(board, names, name))),
-        Command::Make { verb, name } => awaited(board, turns, *verb, name),
-        _ => None,
+        Command::OnName { name, .. } => {
+            board.post(steps, name, names.word(name));
+            Ok(Reply::Done)
+        }
+        Command::Make { name, .. } => wait(board, steps, name, turns),
+        _ => unreachable!(),
     }
+}
+
+/// The same, of the thread of an env.
+pub(crate) fn speak<S: Steps, B: Board<S>>(
+    board: &mut B,
+    env: &mut Env<S>,
+    names: &Names,
+    turns: u64,
+    command: &Command,
+) -> Result<Reply, Fault>
+    requires there { (B.tells board.old).serves (S.facts env.old.held.steps).stands.room }
+    requires speaks { is_speaking command.now ≡ true }
+    ensures spoke { HasSpoken S.facts env.old.held.steps env.new.held.steps (talk_of B.tells B.looked turns board.new) names.now command.now result }
+    ensures frames { env.new.held.frames ≡ env.old.held.frames }
+    ensures kept { Keeps B.layout B.tells board.old board.new }
+{
+    let held = &mut env.held;
+    spoken(board, &mut held.steps, names, turns, command)
 }

@@ -1,15 +1,14 @@
-use Rattle.jr_scripts.proofs.Speaking.{did_say, said_buffers, said_levels, said_objects}
-use Rattle.jr_scripts.specs.Advancing.{level_names, objects_in}
+use Rattle.std.proofs.Common.{sym, ◌∙◌}
+use Rattle.jr_scripts.specs.Advancing.{place_with}
+use Rattle.jr_scripts.specs.Posting.{talk_of}
+use Rattle.jr_scripts.proofs.Speaking.{did_silent, did_speak, stands_still}
 use Rattle.jr_scripts.proofs.advance.advance.Goals as goal
 
-pub returns-in-Some-clause-does : goal.returns-in-Some-clause-does
-returns-in-Some-clause-does g c = did_say c.args.turns c.args.names.now c.args.region c.args.env.now c.args.command.now c.in-Some.answer c.requires.stand c.in-Some.ensures.said
+pub returns-then-hands_over-clause-does : goal.returns-then-hands_over-clause-does
+returns-then-hands_over-clause-does g c = did_speak g.met.S.Steps.fits (talk_of g.B.Board.tells g.B.Board.looked c.args.turns c.speak-answer.new.board) c.args.turns c.args.names.now c.args.region c.args.env.now c.speak-answer.new.env c.args.command.now c.speak-answer.result c.requires.stand c.speak-answer.ensures.frames c.speak-answer.ensures.spoke
 
-pub returns-in-Some-clause-levels : goal.returns-in-Some-clause-levels
-returns-in-Some-clause-levels g c = said_levels c.args.command.now c.in-Some.answer (level_names c.args.region) c.in-Some.ensures.said
+pub returns-then-hands_over-clause-stand : goal.returns-then-hands_over-clause-stand
+returns-then-hands_over-clause-stand g c = stands_still g.met.S.Steps.fits (talk_of g.B.Board.tells g.B.Board.looked c.args.turns c.speak-answer.new.board) c.args.names.now c.args.region c.args.env.now c.speak-answer.new.env c.args.command.now c.speak-answer.result c.requires.stand c.speak-answer.ensures.frames c.speak-answer.ensures.spoke
 
-pub returns-in-Some-clause-objects : goal.returns-in-Some-clause-objects
-returns-in-Some-clause-objects g c = said_objects c.args.command.now c.in-Some.answer (objects_in c.args.region) c.in-Some.ensures.said
-
-pub returns-in-Some-clause-names : goal.returns-in-Some-clause-names
-returns-in-Some-clause-names g c = said_buffers c.args.command.now c.in-Some.answer c.args.names.now c.in-Some.ensures.said
+pub returns-clause-does : goal.returns-clause-does
+returns-clause-does g c = did_silent (talk_of g.B.Board.tells g.B.Board.looked c.args.turns c.args.board.now) c.args.turns (place_with c.args.names.now c.args.region) c.args.command.now (sym c.hands_over.ensures ∙ c.if-hands_over.false) c.call.ensures.does

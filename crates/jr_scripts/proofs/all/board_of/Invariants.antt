@@ -3,4 +3,4 @@ use Rattle.jr_scripts.specs.Posted.{AddsPosted, commands_of}
 use Rattle.jr_scripts.proofs.all.board_of.Given as goal
 
 abbrev pub invariant-loop-part : goal.invariant-loop-part
-invariant-loop-part l = AddsPosted (commands_of (take l.part-index l.parts)) [] l.board.numbers.entries
+invariant-loop-part g l = AddsPosted (commands_of (take l.part-index l.parts)) [] l.board.numbers.entries

@@ -4,9 +4,9 @@ use Rattle.jr_scripts.proofs.Noted.{blank_more, blank_none}
 use Rattle.jr_scripts.proofs.notes.blank.Goals as goal
 
 pub loop-init : goal.loop-init
-loop-init c = subst IsBlank (sym c.new-notes.ensures.items) blank_none
+loop-init g c = subst (IsBlank {T = g.row.T.Denot}) (sym c.new-notes.ensures.items) (blank_none {T = g.row.T.Denot})
 
 pub loop-preserved : goal.loop-preserved
-loop-preserved c =
+loop-preserved g c =
     let more : c.push.new.self.items ≡ c.loop.notes.items ++ None ∷ [] = search rules in
-    subst IsBlank (sym more) (blank_more c.loop.notes.items c.loop.invariant)
+    subst (IsBlank {T = g.row.T.Denot}) (sym more) (blank_more c.loop.notes.items c.loop.invariant)

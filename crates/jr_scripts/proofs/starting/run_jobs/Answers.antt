@@ -11,7 +11,7 @@ loop-alloc-preserved g c =
     record {
       all = given_more c.loop-alloc.handles.items c.push_reserved.new.self.items c.in-Some.handle c.loop-alloc.jobs.items c.remove-job.new.self.items c.args.jobs.items c.remove-job.result more is c.in-Some.ensures.given c.loop-alloc.invariant.all;
       at = All-rest (IsFor c.args.room.now.row) c.remove-job.result c.remove-job.new.self.items c.loop-alloc.jobs.items is c.loop-alloc.invariant.at;
-      over = All-same (λ (h : Thread). h.promise.board.now ≡ c.args.board.now) _ _ more (All-push (λ (h : Thread). h.promise.board.now ≡ c.args.board.now) c.loop-alloc.handles.items c.in-Some.handle c.loop-alloc.invariant.over c.in-Some.ensures.over);
+      over = All-same (λ (h : Thread _). h.promise.board.now ≡ c.args.board.now) _ _ more (All-push (λ (h : Thread _). h.promise.board.now ≡ c.args.board.now) c.loop-alloc.handles.items c.in-Some.handle c.loop-alloc.invariant.over c.in-Some.ensures.over);
     }
 
 pub returns-in-Ok : goal.returns-in-Ok

@@ -8,7 +8,7 @@ abbrev pub invariant-loop-alloc : goal.invariant-loop-alloc
 invariant-loop-alloc g l = record {
   all : map given_to l.handles.items ++ l.jobs.items ≡ l.fn.jobs.items;
   at : All (λ j. IsFor l.room.row j) l.jobs.items;
-  over : All (λ (h : Thread). h.promise.board.now ≡ l.board) l.handles.items;
+  over : All (λ (h : Thread _). h.promise.board.now ≡ l.board) l.handles.items;
 }
 
 abbrev pub decreases-loop-alloc : goal.decreases-loop-alloc

@@ -1,0 +1,23 @@
+-- What is told with a word in a room: what its poster had seen there.
+use Rattle.std.specs.Prelude.{◌≡◌, ℕ, Bool, List, Option}
+use mathlib.Core.List.{IsPrefix}
+use Rattle.jr_model.specs.History.{History}
+use Rattle.jr_rule.specs.Rooms.{seen_by_pinned}
+use Rattle.jr_scripts.specs.declared.told.Site.{Ghosts}
+use Rattle.jr_scripts.specs.declared.told.Told.{Told}
+use Rattle.jr_scripts.specs.declared.note.Note.{Note}
+use Rattle.jr_scripts.specs.Posting.{Talk}
+use Rattle.jr_scripts.specs.Noting.{account_noted}
+
+module _ {Q : Type 0} {G : Ghosts Q} where
+  -- it says that its poster had seen this
+  abbrev pub has_seen : Told Q G → History → Type 0
+  has_seen t seen = seen_by_pinned t.pinned ≡ seen
+
+  -- whoever has seen this has seen all that its poster had
+  abbrev pub have_seen : Told Q G → History → Type 0
+  have_seen t seen = IsPrefix (seen_by_pinned t.pinned) seen
+
+  -- what a thread's notes of a room's board tell
+  abbrev pub talk_told : Bool → List (List ℕ × ℕ) → List (Option (Note (Told Q G))) → Talk
+  talk_told lost numbers notes = let a = account_noted (λ room. room ≡ G.room) has_seen have_seen lost numbers notes in record { posted = a.posted; heard = a.heard; in_vain = λ n. Unit {0} }

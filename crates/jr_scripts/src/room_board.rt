@@ -1,0 +1,36 @@
+//! The board of a room's threads.
+
+ghost use Rattle.std.specs.Prelude.{◌≡◌};
+ghost use Rattle.jr_scripts.specs.Layouts.{layout_of};
+ghost use Rattle.jr_scripts.specs.Noting.{account_noted};
+ghost use Rattle.jr_scripts.specs.Telling.{has_seen, have_seen};
+
+use crate::board::Board;
+use crate::notes::Notes;
+use crate::told::{Site, Told};
+use jr_rule::RoomSteps;
+use jr_syntax::Name;
+
+/// In a room, a board tells with each word all that its poster had seen. A look that comes while another thread reads what was told finds nothing.
+impl<Q: Site, const LAST: u32> Board<RoomSteps<'_, LAST>> for Notes<'_, Told<Q>> {
+    ghost layout = { λ board. layout_of board.posts.now };
+
+    ghost tells = { λ board. account_noted (λ room. room ≡ Q.room) has_seen have_seen board.is_lost board.posts.now.numbers.entries board.notes.items };
+
+    ghost looked = { λ first n found last. Unit {0} };
+
+    fn post(&mut self, steps: &mut RoomSteps<'_, LAST>, name: &Name, word: u64) {
+        let told = Told::by(steps);
+        self.put(name, word, told);
+    }
+
+    fn look(&mut self, steps: &mut RoomSteps<'_, LAST>, name: &Name) -> Option<u64> {
+        let (number, note) = self.find(name)?;
+        let posted = self.posted(number, &note);
+        if !posted.told.heard(steps) {
+            return None;
+        }
+        self.keep(number, note);
+        Some(posted.word)
+    }
+}
