@@ -22,7 +22,7 @@ use Rattle.jr_env.specs.Collections.{announced_collection}
 use Rattle.jr_env.specs.Deeds.{Deed, delete_reference, done, get_object_ref_type, is_same_object, making_steps, new_object_array, new_plain, packed, pop_local_frame, push_local_frame, ◌>>=◌, ◌>>◌}
 use Rattle.jr_env.specs.StayDeeds.{within_by}
 use Rattle.first_room.specs.declared.TheConstants.{TRIES}
-use Rattle.first_room.specs.Calls.{GotNoTurn, HasLearned, HasPrepared, again, clearing, collecting_in_turn, collecting_twice, getting_no_turn, is_handed, is_kept_out, none, opens_region, preparing, reading_within, sharing, visiting}
+use Rattle.first_room.specs.Calls.{GotNoTurn, SeesMore, HasPrepared, again, clearing, collecting_in_turn, collecting_twice, getting_no_turn, is_handed, is_kept_out, none, opens_region, preparing, reading_within, sharing, visiting}
 use Rattle.first_room.proofs.Answered.{global_opened, region_read}
 use Rattle.first_room.proofs.Preparing.{IsOwn, IsQuiet, IsTraced, Spared, answered_spared, both_done, made_quiet, making_spared, on_spared, pop_spared, push_spared, quiet_then, read_as}
 use Rattle.first_room.proofs.Tracing.{traced}
@@ -102,7 +102,7 @@ pub record WasHanded (x : ℕ) (old new : ThreadState) : Type 0 where
   pub mid : ThreadState
   pub prepared : ∥ HasPrepared w noted ∥₁
   pub begins : IsPrefix noted mid.pass.seen
-  pub learned : HasLearned old mid
+  pub learned : SeesMore old mid
   pub rest : rest_of_visit w mid (Ok x) new
 
 pub was_handed : (old new : ThreadState) (x : ℕ) → visiting old (Ok x) new → WasHanded x old new

@@ -82,7 +82,7 @@ abbrev pub HasPrepared : ℕ → History → Type 0
 HasPrepared global seen = (weak : ℕ) × (by_then : ThreadState) × preparing (first_moment 0) (Ok (weak, global)) by_then × (by_then.pass ≡ seen_by 0 seen)
 
 -- it may see more, and no more than that has changed
-pub record HasLearned (old new : ThreadState) : Type 0 where
+pub record SeesMore (old new : ThreadState) : Type 0 where
   pub did : Did old.pass new.pass []
   pub frames : new.frames ≡ old.frames
   pub held : new.held ≡ old.held
@@ -91,7 +91,7 @@ pub record HasLearned (old new : ThreadState) : Type 0 where
 
 -- the word of the first thread's global reference was handed over with a note, and the note was learned: all that the first thread had seen by then is seen
 abbrev pub is_handed : Deed ℕ
-is_handed old answer new = (w : ℕ) × (answer ≡ Ok w) × (noted : History) × ∥ HasPrepared w noted ∥₁ × IsPrefix noted new.pass.seen × HasLearned old new
+is_handed old answer new = (w : ℕ) × (answer ≡ Ok w) × (noted : History) × ∥ HasPrepared w noted ∥₁ × IsPrefix noted new.pass.seen × SeesMore old new
 
 -- a critical region is opened over the array that a word names: its object
 abbrev pub opens_region : ℕ → Deed ℕ
