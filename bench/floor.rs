@@ -1028,6 +1028,31 @@ fn round(case: usize, work: Work) -> Option<Vec<Done>> {
     })
 }
 
+/// What a note costs that is made and learned: a load of the gate as it leaves its thread's seat, one as it joins it, and the look.
+fn note_all(room: &Room, work: Work, came: &AtomicU64) -> Option<Done> {
+    if !all_came(came, work.threads) {
+        return None;
+    }
+    let began = Instant::now();
+    for _ in 0..work.calls {
+        for _ in 0..3 {
+            std::hint::black_box(room.gate().load(SeqCst));
+        }
+    }
+    Some((began, Instant::now(), work.calls as usize))
+}
+
+/// A round of notes.
+fn round_of_notes(work: Work) -> Option<Vec<Done>> {
+    let (room, came) = (Room::new(u64::from(work.threads)), AtomicU64::new(0));
+    let (room, came) = (&room, &came);
+    std::thread::scope(|scope| {
+        let others: Vec<_> = (1..work.threads).map(|_| scope.spawn(move || note_all(room, work, came))).collect();
+        let first = note_all(room, work, came);
+        std::iter::once(first).chain(others.into_iter().map(|other| other.join().ok()?)).collect()
+    })
+}
+
 /// How long a call took, in tenths of nanoseconds, where all threads ran most of the time.
 fn time_of_call(work: Work, done: &[Done]) -> Option<u128> {
     let calls = work.calls as usize;
@@ -1050,6 +1075,17 @@ struct FullRoom {
     marked: Vec<bool>,
     found: Vec<u16>,
     noted: Vec<(u32, u16, u32)>,
+}
+
+/// What stands in a full room: slots by their state, objects and their words by kind, those that nothing reaches, local references, and the words that are used.
+#[derive(Default)]
+struct Census {
+    slots: [u32; 4],
+    cleared: u32,
+    objects: [(u32, u32); 16],
+    unreached: [(u32, u32); 16],
+    locals: u32,
+    used: u32,
 }
 
 /// How many local places the thread of a full room has.
@@ -1207,6 +1243,46 @@ impl FullRoom {
         self.word(0).fetch_sub(SHUT, SeqCst);
         Some((cleared, dropped, used))
     }
+    /// A census: a collection's marking, and a look at each slot, header and local word, and at the top.
+    #[inline(never)]
+    fn census(&mut self) -> Option<Census> {
+        if !self.is_shut() {
+            return None;
+        }
+        self.mark();
+        let mut census = Census::default();
+        for at in 2..2 + self.arrays {
+            let word = self.word(at).load(SeqCst);
+            census.slots[(word & 3) as usize] += 1;
+            census.cleared += u32::from(word & 3 == WEAK && word >> 34 == 0);
+        }
+        for object in 1..=self.arrays {
+            let header = self.header(object).load(SeqCst);
+            let (kind, length) = ((header & 15) as usize, (header >> 4 & 0xff_ffff) as u32);
+            census.objects[kind].0 += 1;
+            census.objects[kind].1 += length;
+            if !self.marked[object] {
+                census.unreached[kind].0 += 1;
+                census.unreached[kind].1 += length;
+            }
+        }
+        for at in 2 + self.arrays..2 + self.arrays + FEW_PLACES {
+            census.locals += u32::from(self.word(at).load(SeqCst) != 0);
+        }
+        census.used = self.word(1).load(SeqCst) as u32;
+        self.word(0).fetch_sub(SHUT, SeqCst);
+        Some(census)
+    }
+}
+
+/// How long a census took, in tenths of nanoseconds.
+fn time_of_census(arrays: usize, every: usize) -> Option<u128> {
+    let (mut room, reached) = FullRoom::new(arrays, every);
+    let began = Instant::now();
+    let census = std::hint::black_box(room.census()?);
+    let time = began.elapsed();
+    let (unreached, used) = (census.unreached[INT as usize].0 as usize, census.used as usize);
+    if unreached == arrays - reached && used == arrays * SHORT as usize { Some((time * 10).as_nanos()) } else { None }
 }
 
 /// How long a collection took, in tenths of nanoseconds.
@@ -1230,13 +1306,18 @@ fn print_times(name: &str, mut times: Vec<u128>) {
 }
 
 fn main() {
-    let kind = std::env::args().nth(1).filter(|word| word == "collect" || word == "stays");
+    let kind = std::env::args().nth(1).filter(|word| word == "collect" || word == "stays" || word == "notes");
     let words: Vec<u32> = std::env::args().skip(1 + usize::from(kind.is_some())).filter_map(|word| word.parse().ok()).collect();
     match (kind.as_deref(), &words[..]) {
         (Some("collect"), &[arrays, every, rounds]) => {
             for (name, is_announced) in [("collect", false), ("collect_announced", true)] {
                 print_times(name, (0..rounds).filter_map(|_| time_of_collection(arrays as usize, every as usize, is_announced)).collect());
             }
+            print_times("census", (0..rounds).filter_map(|_| time_of_census(arrays as usize, every as usize)).collect());
+        }
+        (Some("notes"), &[threads, standing, calls, rounds]) => {
+            let work = Work { threads, standing, calls };
+            print_times("note,learn", (0..rounds).filter_map(|_| time_of_call(work, &round_of_notes(work)?)).collect());
         }
         (None | Some("stays"), &[threads, standing, calls, rounds]) => {
             let work = Work { threads, standing, calls };
@@ -1246,7 +1327,7 @@ fn main() {
             }
         }
         _ => {
-            eprintln!("usage: floor [stays] THREADS STANDING CALLS ROUNDS | floor collect ARRAYS EVERY ROUNDS");
+            eprintln!("usage: floor [stays | notes] THREADS STANDING CALLS ROUNDS | floor collect ARRAYS EVERY ROUNDS");
             std::process::exit(1);
         }
     }

@@ -1,9 +1,10 @@
 //! The fixed text: how often calls answer as they should.
 
 use crate::beside::{BESIDE, Task, Tries, is_right};
-use crate::case::{CASES, Case};
-use crate::collections::{Collections, WAYS};
+use crate::case::CASES;
+use crate::collections::{COLLECTING, Collections, WAYS};
 use crate::measure::time_of;
+use crate::notes::NOTES;
 use crate::round::{Job, Work, done_at, round};
 use std::alloc::Global;
 use std::io;
@@ -16,14 +17,18 @@ const CALLS: u32 = 300;
 /// How many references stand meanwhile.
 const STANDING: u32 = 100;
 
-/// How often a call of so many threads answered as it should.
-fn right<R: Threads + Clock + Sync>(rt: &R, alloc: Global, case: Case, threads: u32) -> usize {
-    let work = Work {
+/// What so many threads do.
+fn work_of(threads: u32) -> Work {
+    Work {
         threads,
         standing: STANDING,
         calls: CALLS,
-    };
-    let Some(done) = round(rt, alloc, Job::Calls(case, work)) else {
+    }
+}
+
+/// How often the calls of a round answered as they should.
+fn right<R: Threads + Clock + Sync>(rt: &R, alloc: Global, job: Job) -> usize {
+    let Some(done) = round(rt, alloc, job) else {
         return 0;
     };
     let mut right = 0usize;
@@ -39,10 +44,14 @@ fn right<R: Threads + Clock + Sync>(rt: &R, alloc: Global, case: Case, threads: 
 pub(crate) fn print<R: Threads + Clock + Print + Sync>(rt: &R, alloc: Global) -> io::Result<()> {
     println!(rt; "each call, {CALLS} times by each thread: how often it answered as it should")?;
     for case in CASES {
-        let (one, two) = (right(rt, alloc, case, 1), right(rt, alloc, case, 2));
+        let one = right(rt, alloc, Job::Calls(case, work_of(1)));
+        let two = right(rt, alloc, Job::Calls(case, work_of(2)));
         let name = case.name();
         println!(rt; "{name}: {one} by one thread, {two} by two")?;
     }
+    let one = right(rt, alloc, Job::Notes(work_of(1)));
+    let two = right(rt, alloc, Job::Notes(work_of(2)));
+    println!(rt; "{NOTES}: {one} by one thread, {two} by two")?;
     print_collections(rt, alloc)?;
     print_beside(rt, alloc)
 }
@@ -71,7 +80,7 @@ fn print_beside<R: Threads + Clock + Print + Sync>(rt: &R, alloc: Global) -> io:
         count: CALLS,
     };
     for (beside, call) in BESIDE {
-        for (way, name) in WAYS {
+        for (way, name) in COLLECTING {
             let is_right = is_right(rt, alloc, Task { tries, way, beside });
             println!(rt;
                 "{name}, tried {CALLS} times beside {call}, was made or refused each time: {is_right}"

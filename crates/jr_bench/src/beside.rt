@@ -2,7 +2,7 @@
 
 use crate::arrays::ArrayCase;
 use crate::case::{Case, Env};
-use crate::collections::{WAYS, Way};
+use crate::collections::{COLLECTING, Way};
 use crate::measure::times_of;
 use crate::round::{Done, Job, Signs, all_came, done_at, round};
 use jr_steps::Steps;
@@ -207,7 +207,7 @@ pub(crate) fn print<R: Threads + Clock + Print + Sync>(
     rounds: u32,
 ) -> io::Result<()> {
     for (beside, call) in BESIDE {
-        for (way, name) in WAYS {
+        for (way, name) in COLLECTING {
             let job = Job::Beside(Task { tries, way, beside });
             let rounds = times_of(rt, alloc, job, rounds)?;
             print_median(rt, name, call, rounds.as_slice())?;

@@ -1,10 +1,11 @@
-//! How long a collection takes, announced or not.
+//! How long a collection takes, announced or not, and how long a census.
 
 ghost use Rattle.jr_env.specs.Collections.{FitsRoom};
 
 use crate::case::Env;
 use crate::measure::{print_times, times_of};
 use crate::round::{Done, Job, Signs};
+use jr_census::Census;
 use jr_steps::Steps;
 use jr_weak::{Collected, Marker};
 use jr_word::{Config, Fault};
@@ -22,23 +23,41 @@ const LOCALS: u32 = 16;
 /// How often an announced collection tries to shut the gate.
 const TRIES: u32 = 100_000;
 
-/// How a collection is made.
+/// How a collection is made, or asked for.
 #[derive(Clone, Copy)]
 pub(crate) enum Way {
     /// By one step that is refused where another thread is inside.
     Direct,
     /// By an announcement, behind which nobody goes in.
     Announced,
+    /// Not at all: a census tells what it would come to.
+    Asked,
 }
 
-/// Each way with its name.
-pub(crate) const WAYS: [(Way, &'static str); 2] = [
+/// Each way to collect, with its name.
+pub(crate) const COLLECTING: [(Way, &'static str); 2] = [
     (Way::Direct, "collect"),
     (Way::Announced, "collect_announced"),
 ];
 
+/// Each way, with its name.
+pub(crate) const WAYS: [(Way, &'static str); 3] = [
+    (Way::Direct, "collect"),
+    (Way::Announced, "collect_announced"),
+    (Way::Asked, "census"),
+];
+
+/// What a collection would come to where no weak reference stands, by a census.
+fn told(census: Census) -> Collected {
+    Collected {
+        cleared: 0,
+        dropped: census.unreached.live,
+        used: census.words.reached,
+    }
+}
+
 impl Way {
-    /// Collects.
+    /// Collects, or asks.
     pub(crate) fn collect<S: Steps>(
         self,
         env: &mut Env<S>,
@@ -49,6 +68,7 @@ impl Way {
         match self {
             Way::Direct => env.collect(marker),
             Way::Announced => env.collect_announced(marker, TRIES),
+            Way::Asked => env.census(marker).map(told),
         }
     }
 }
@@ -118,7 +138,7 @@ impl Collections {
     }
 }
 
-/// Prints a line for a collection and one for an announced one, as those of calls are.
+/// Prints a line for a collection, one for an announced one and one for a census, as those of calls are.
 pub(crate) fn print<R: Threads + Clock + Print + Sync>(
     rt: &R,
     alloc: Global,

@@ -1,7 +1,7 @@
 //! How long the calls for references and arrays take in a room that threads share, how often they answer as they should, and how many collections come in beside them.
 //!
 //! With no word it makes each call a few hundred times, by one thread and by two, and prints how often each answered as it should: the same text on every machine.
-//! With the words THREADS STANDING CALLS ROUNDS it measures each call, with stays before them just those that are made in stays too, and with the words collect ARRAYS EVERY ROUNDS a collection, announced or not: `measure` tells what it prints.
+//! With the words THREADS STANDING CALLS ROUNDS it measures each call, with stays before them just those that are made in stays too and with notes a note that is made and learned, and with the words collect ARRAYS EVERY ROUNDS a collection, announced or not, and a census: `measure` tells what it prints.
 //! With the words beside CALLERS TRIES ROUNDS it counts how many collections come in beside so many threads that call without a break: `beside` tells what it prints.
 #![tactic(auto)]
 
@@ -14,6 +14,7 @@ mod collections;
 mod copies;
 mod criticals;
 mod measure;
+mod notes;
 mod round;
 mod stays;
 
@@ -36,7 +37,9 @@ enum Measured {
     Calls(Work),
     /// Each call that is made in stays too.
     Stays(Work),
-    /// A collection.
+    /// A note that is made and learned.
+    Notes(Work),
+    /// A collection, and a census.
     Collection(Collections),
     /// How many collections come in beside threads that call.
     Beside(Tries),
@@ -55,13 +58,14 @@ fn act<R: AllocGlobal + Env + Print + Eprint + Clock + Threads + Sync>(rt: &R) -
         Some((Measured::Stays(work), rounds)) => {
             measure::print(rt, rt.alloc(), &WITH_STAYS, work, rounds)
         }
+        Some((Measured::Notes(work), rounds)) => notes::print(rt, rt.alloc(), work, rounds),
         Some((Measured::Collection(work), rounds)) => {
             collections::print(rt, rt.alloc(), work, rounds)
         }
         Some((Measured::Beside(tries), rounds)) => beside::print(rt, rt.alloc(), tries, rounds),
         None => {
             eprintln!(rt;
-                "usage: jr_bench [[stays] THREADS STANDING CALLS ROUNDS | collect ARRAYS EVERY ROUNDS | beside CALLERS TRIES ROUNDS]"
+                "usage: jr_bench [[stays | notes] THREADS STANDING CALLS ROUNDS | collect ARRAYS EVERY ROUNDS | beside CALLERS TRIES ROUNDS]"
             )?;
             Err(io::Error::from(io::ErrorKind::InvalidInput))
         }
@@ -71,8 +75,8 @@ fn act<R: AllocGlobal + Env + Print + Eprint + Clock + Threads + Sync>(rt: &R) -
 /// What the words ask to be measured, and in how many rounds.
 fn asked(words: &[String]) -> Option<(Measured, u32)> {
     if let [kind, threads, standing, calls, rounds] = words {
-        let work = work_in_stays(kind, threads, standing, calls)?;
-        return Some((Measured::Stays(work), number(rounds)?));
+        let work = work(threads, standing, calls)?;
+        return Some((of_kind(kind, work)?, number(rounds)?));
     }
     let [first, second, third, rounds] = words else {
         return None;
@@ -91,15 +95,11 @@ fn asked(words: &[String]) -> Option<(Measured, u32)> {
     Some((measured, number(rounds)?))
 }
 
-/// How often each call is made that is made in stays too, where the first word asks for it.
-fn work_in_stays(
-    kind: &String,
-    threads: &String,
-    standing: &String,
-    calls: &String,
-) -> Option<Work> {
+/// What the first word asks to be measured by this work.
+fn of_kind(kind: &String, work: Work) -> Option<Measured> {
     match kind.as_str() {
-        "stays" => work(threads, standing, calls),
+        "stays" => Some(Measured::Stays(work)),
+        "notes" => Some(Measured::Notes(work)),
         _ => None,
     }
 }

@@ -5,6 +5,7 @@ ghost use Rattle.jr_rule.specs.Passes.{IsOpened};
 use crate::beside::Task;
 use crate::case::{Case, Env, FrameCase};
 use crate::collections::{Collections, Way};
+use crate::notes::note_all;
 use jr_rule::{Pass, Room, RoomSteps};
 use jr_steps::Steps;
 use jr_word::{Config, LAST_SERIAL};
@@ -41,6 +42,8 @@ pub(crate) struct Work {
 pub(crate) enum Job {
     /// Each makes the same call.
     Calls(Case, Work),
+    /// Each notes what it has seen, and learns it.
+    Notes(Work),
     /// One tries collections, and the others call without a break.
     Beside(Task),
     /// The one thread fills the room, and collects.
@@ -164,7 +167,7 @@ impl Job {
     /// The sizes of its room.
     fn config(self) -> Config {
         match self {
-            Job::Calls(_, work) => Config {
+            Job::Calls(_, work) | Job::Notes(work) => Config {
                 threads: work.threads,
                 slots: Config::MOST_SLOTS,
                 objects: Config::MOST_OBJECTS,
@@ -177,15 +180,16 @@ impl Job {
     }
 
     /// A thread does its part.
-    fn act<R: Clock, S: Steps>(
+    fn act<R: Clock, const LAST: u32>(
         self,
         rt: &R,
         alloc: Global,
-        env: &mut Env<S>,
+        env: &mut Env<RoomSteps<'_, LAST>>,
         signs: &Signs,
     ) -> Option<Done> {
         match self {
             Job::Calls(case, work) => call_all(rt, alloc, env, case, work, signs),
+            Job::Notes(work) => note_all(rt, env, work, signs),
             Job::Beside(task) => task.act(rt, alloc, env, signs),
             Job::Collects(work, way) => work.time_in(rt, alloc, env, way, signs),
         }
