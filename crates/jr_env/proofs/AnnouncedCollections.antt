@@ -19,7 +19,7 @@ use Rattle.jr_model.proofs.Stays.{did_then}
 use Rattle.jr_model.proofs.Windows.{is_within, window_act, window_some}
 use Rattle.jr_steps.specs.declared.known.Known.{Known}
 use Rattle.jr_steps.specs.Knowing.{Facts, Standing, Took, Went, anything, fresh_from, keeps, view}
-use Rattle.jr_steps.proofs.StepFacts.{goes_did}
+use Rattle.jr_steps.proofs.StepFacts.{goes_did, took_less}
 use Rattle.jr_gate.specs.Acting.{ActedTo, KeepsInTwo}
 use Rattle.jr_gate.specs.Announcing.{WasNotAnnounced}
 use Rattle.jr_gate.specs.Performing.{hint_from, thread_state}
@@ -255,10 +255,10 @@ module _ {S : Type 0} {facts : S → Facts} where
     }
 
     not_announced_deed : (e : Fault) → WasNotAnnounced facts a b e → DoesDeed facts a b t.frames t.frames (announced_collection tries) (Err e)
-    not_announced_deed e (inl z) = closed_deed e z.0 z.1 z.3
+    not_announced_deed e (inl z) = closed_deed e z.0 z.1 (took_less (λ j k s. s.0) z.3)
     not_announced_deed e (inr (inl z)) = lost_deed e (ShutBusy z.0) refl refl (λ f. refl) (λ s i. refl)
         (inr (inl (tt, t.frames, Meet ∷ [], ShutBusy z.0 ∷ [], refl, (refl, refl, refl), inr (inl (closed_is tries t.frames z.0 e z.1)))))
-        (record { stands_is = (z.3).stands_is; hint_is = (z.3).hint_is; leads = λ k s m. let y = (z.3).leads k s m in (y.0, y.1, y.2, ((subst (λ f. Grounds k.seen (view y.0) f) (sym z.1) tt, y.3.0), y.3.1, y.3.2)) })
+        (record { stands_is = (z.3).stands_is; hint_is = (z.3).hint_is; leads = λ k s m. let y = (z.3).leads k s m in (y.0, y.1, y.2, ((subst (λ f. Grounds k.seen (view y.0) f) (sym z.1) tt, y.3.0.0), y.3.1, y.3.2)) })
         (z.3).stands_is
     not_announced_deed e (inr (inr z)) = lost_deed e Meet refl refl (λ f. refl) (λ s i. refl)
         (inr (inl (tt, t.frames, Meet ∷ [], Meet ∷ [], refl, (refl, refl, refl), inr (inr (inl (tt, t.frames, Meet ∷ [], [], refl, (refl, refl, refl), (z.0, z.1, (refl, ap (λ f. Err f) z.2, refl))))))))

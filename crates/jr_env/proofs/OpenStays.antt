@@ -1,5 +1,5 @@
 -- A stay that goes on from call to call, for whatever was known: it is an open stay of the machine, which no collection disturbs.
-use Rattle.std.proofs.Common.{◌≡◌, ℕ, [], ◌∷◌, Result, Ok, Err, IfOk, IfErr, inl, inr, refl, sym, ap, subst, ◌∙◌}
+use Rattle.std.proofs.Common.{◌≡◌, ℕ, [], ◌∷◌, Result, Ok, Err, IfOk, IfErr, ⊎_elim, inl, inr, refl, sym, ap, subst, ◌∙◌}
 use Rattle.jr_word.specs.declared.config.Config.{Config}
 use Rattle.jr_word.specs.declared.fault.Fault.{Fault}
 use Rattle.jr_word.specs.declared.fault.Fault.TheVariants.{Barred}
@@ -9,13 +9,12 @@ use Rattle.jr_model.specs.declared.event.Role.TheVariants.{Outside, Within}
 use Rattle.jr_model.specs.State.{State}
 use Rattle.jr_model.specs.Frames.{Frames}
 use Rattle.jr_model.specs.History.{History, Did, PassView}
-use Rattle.jr_model.specs.Windows.{IsWindow, Stepped}
+use Rattle.jr_model.specs.Windows.{Ends, IsWindow, Stepped}
 use Rattle.jr_model.specs.Calls.{Call, Ran, done}
 use Rattle.jr_model.specs.Parts.{enter}
-use Rattle.jr_model.specs.StayCalls.{IsOpenStay, IsStayCall, was_entered, has_called}
+use Rattle.jr_model.proofs.CriticalRegions.{one_stay, one_stay_left}
 use Rattle.jr_model.proofs.Moments.{prefix_self}
 use Rattle.jr_model.proofs.Runs.{ran_act}
-use Rattle.jr_model.proofs.StayCalls.{no_collection_in_open_stay, no_collection_up_to_exit}
 use Rattle.jr_model.proofs.Windows.{stepped_last}
 use Rattle.jr_steps.specs.declared.known.Known.{Known}
 use Rattle.jr_steps.specs.declared.steps.Steps.{Ghosts}
@@ -33,11 +32,12 @@ use Rattle.jr_frames.proofs.FramesAgree.{holds_did}
 use Rattle.jr_frames.proofs.StillReady.{own_stepped, ready_entered}
 use Rattle.jr_elements.specs.Copies.{answer_in}
 use Rattle.jr_env.specs.Calling.{CanCall}
+use Rattle.jr_env.specs.Entries.{HasStayed}
 use Rattle.jr_env.specs.OpenStays.{EndsAsOneStay, Enters, EntersOver, IsInStay, Leaves, StaysOn, StaysSince}
 use Rattle.jr_env.specs.Works.{EndsStayOver}
 use Rattle.jr_env.proofs.EndedStays.{can_call}
 use Rattle.jr_env.proofs.InsideGate.{completes_barred}
-use Rattle.jr_env.proofs.StandingRegions.{at_known, at_same}
+use Rattle.jr_env.proofs.StandingRegions.{as_stands, stays_more}
 
 -- THE ENTRY AND THE EXIT, as calls of the machine
 
@@ -61,16 +61,14 @@ ran_shut {begun = begun} f d w = record {
   grounds = tt;
 }
 
--- the same room and thread
-record IsOfOne (p q : PassView) : Type 0 where
-  config : q.config ≡ p.config
-  last : q.last ≡ p.last
-  thread : q.thread ≡ p.thread
-
--- a stay is in one room, of one thread
-of_one : {p : PassView} {g : Frames} {q : PassView} {f : Frames} → IsOpenStay p g q f → IsOfOne p q
-of_one (was_entered r) = record { config = r.did.config; last = r.did.last; thread = r.did.thread }
-of_one (has_called acts before did call) = let b = of_one before in record { config = did.config ∙ b.config; last = did.last ∙ b.last; thread = did.thread ∙ b.thread }
+-- the entry that was made is the first of a stay
+entered : {old new : PassView} {f g : Frames} → Ran old new f g enter (Ok tt) → HasStayed old new
+entered {old} {new} {f} {g} r = go r.is
+  where
+    go : enter f r.acts (Ok tt) g → HasStayed old new
+    go (inl is) = record { acts = []; did = subst (Did old new) is.0 r.did; stays = tt }
+    go (inr (inl x)) = absurd (⊎_elim (λ y. let bad = y.6.1 in cc) (λ y. let bad = y.1 in cc) x.6)
+    go (inr (inr x)) = absurd (let bad = x.1 in cc)
 
 module _ {S : Type 0} {facts : S → Facts} where
   -- a thread that stands ready within can make a call
@@ -167,9 +165,8 @@ module _ {S : Type 0} {G : Ghosts S} where
   since_entry : (old new : Held S G) → new.frames ≡ old.frames → EntersOver old new (Ok tt) → StaysSince old new
   since_entry old new same e j s m =
       let x = e.ran j s m in
-      let f = old.frames.frames in
-      let stay : IsOpenStay (view j) f (view x.0) new.frames.frames = subst (λ (t : Table). IsOpenStay (view j) f (view x.0) t.frames) (sym same) (was_entered x.2.ran) in
-      (x.0, x.1, stay, (no_collection_in_open_stay (view j) (view x.0) f new.frames.frames stay, subst (λ (t : Table). Holds t.frames x.0) (sym same) x.3.1))
+      let stay : HasStayed (view j) (view x.0) = entered x.2.ran in
+      (x.0, x.1, stay, (one_stay (as_stands stay), subst (λ (t : Table). Holds t.frames x.0) (sym same) x.3.1))
 
   -- the entry, once a stay that was left has been ended
   module _ (old mid new : Held S G) (ended : EndsStayOver old mid) (same : new.frames ≡ mid.frames) where
@@ -186,7 +183,8 @@ module _ {S : Type 0} {G : Ghosts S} where
   ends_as_one old new same took begun since i s m =
       let x = since i s m in
       let y = (leaves G.facts old.steps new.steps old.frames took).ran x.0 x.1 x.3.1 in
-      (y.0, y.1, no_collection_up_to_exit (view i) (view x.0) (view y.0) begun.frames.frames old.frames.frames old.frames.frames x.2 y.2.ran, subst (λ (t : Table). Holds t.frames y.0) (sym same) y.3.1)
+      let r = y.2.ran in
+      (y.0, y.1, one_stay_left (as_stands x.2) (subst (Did (view x.0) (view y.0)) r.is.0 r.did) (subst (Ends (view x.0) (view y.0)) r.is.0 r.window.last refl), subst (λ (t : Table). Holds t.frames y.0) (sym same) y.3.1)
 
   module _ (fits : AreOf G.facts) (old new : Held S G) where
     -- a work in a stay, with which it goes on
@@ -197,11 +195,7 @@ module _ {S : Type 0} {G : Ghosts S} where
         let x = since i s m in
         let y = p.ran x.0 x.1 x.3.1 in
         let r = y.2.ran in
-        let f = old.frames.frames in
-        let g = new.frames.frames in
         let at = (G.facts old.steps).stands in
-        let here = at_known (λ c l t. IsStayCall c l t (state_of y.0) f r.acts g) (fits old.steps x.0 x.1) (law at.config at.last at.thread (state_of y.0) f g r.acts answer r.is) in
-        let one = of_one x.2 in
-        let call = at_same (λ c l t. IsStayCall c l t (state_of y.0) f r.acts g) one.config one.last one.thread here in
-        let stay : IsOpenStay (view i) begun.frames.frames (view y.0) g = has_called r.acts x.2 r.did call in
-        (y.0, y.1, stay, (no_collection_in_open_stay (view i) (view y.0) begun.frames.frames g stay, y.3.1))
+        let none = law at.config at.last at.thread (state_of y.0) old.frames.frames new.frames.frames r.acts answer r.is in
+        let stay = stays_more x.2 r.acts r.did none in
+        (y.0, y.1, stay, (one_stay (as_stands stay), y.3.1))

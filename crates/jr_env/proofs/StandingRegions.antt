@@ -1,5 +1,5 @@
--- The calls of a region, for whatever was known, make a region of the machine, which no collection disturbs.
-use Rattle.std.proofs.Common.{◌≡◌, ◌≤◌, ◌+◌, ◌∷◌, [], ℕ, zero, suc, length, List, Option, Some, None, Result, Ok, Err, IfOk, IfNone, IfSome, sym, ap, subst, ◌∙◌, arith}
+-- The calls of a region, for whatever was known, make one stay, which no collection disturbs.
+use Rattle.std.proofs.Common.{◌≡◌, ◌≢◌, ◌≤◌, ◌+◌, ◌∷◌, ◌++◌, [], ℕ, zero, suc, length, List, Option, Some, None, Result, Ok, Err, IfOk, IfNone, IfSome, inl, inr, refl, sym, ap, subst, ◌∙◌, arith}
 use Rattle.std.proofs.lemmas.List.{length-append, length-map}
 use Rattle.jr_word.specs.declared.config.Config.{Config}
 use Rattle.jr_word.specs.declared.fault.Fault.{Fault}
@@ -7,59 +7,59 @@ use Rattle.jr_word.specs.declared.kind.Kind.{Kind}
 use Rattle.jr_model.specs.declared.event.Role.TheVariants.{Outside}
 use Rattle.jr_model.specs.declared.event.Act.{Act}
 use Rattle.jr_model.specs.declared.event.Act.TheVariants.{Gate}
-use Rattle.jr_model.specs.declared.event.GateAct.TheVariants.{Leave}
+use Rattle.jr_model.specs.declared.event.GateAct.TheVariants.{Enter, Leave}
 use Rattle.jr_model.specs.State.{State}
 use Rattle.jr_model.specs.Frames.{Frames}
 use Rattle.jr_model.specs.History.{by, Did, PassView}
-use Rattle.jr_model.specs.Calls.{Call, Ran}
+use Rattle.jr_model.specs.Calls.{Call, Ran, opened}
 use Rattle.jr_model.specs.Checks.{Word}
-use Rattle.jr_model.specs.Objects.{get_array_critical, get_string_critical, nest_array, nest_string, region_get, region_set, region_release}
-use Rattle.jr_model.specs.CriticalRegions.{IsOneStay, IsRegion, IsRegionCall, opened_at_array, opened_at_string, goes_on, nests_array, nests_string, gets, sets, gives_up_level}
-use Rattle.jr_model.proofs.CriticalRegions.{no_collection_in_region, no_collection_up_to_release}
+use Rattle.jr_model.specs.Objects.{get_array_critical, get_string_critical, level_array, level_string, nest_array, nest_string, region_get, region_set, region_release}
+use Rattle.jr_model.specs.Windows.{Ends as Last}
+use Rattle.jr_model.specs.CriticalRegions.{IsOneStay}
+use Rattle.jr_model.proofs.CriticalRegions.{Stands, Stays, level_array_stays, level_string_stays, one_stay, one_stay_left}
+use Rattle.jr_model.proofs.EachCall.{get_work, nest_array_work, nest_string_work, set_work}
+use Rattle.jr_model.proofs.Exactly.{append_all}
+use Rattle.jr_model.proofs.Lawful.{work_stays}
+use Rattle.jr_model.proofs.Stays.{did_then}
 use Rattle.jr_steps.specs.declared.known.Known.{Known}
 use Rattle.jr_steps.specs.declared.steps.Steps.{Ghosts}
-use Rattle.jr_steps.specs.Knowing.{AreOf, Facts, IsOf, Leads, Standing, view, state_of, Holds}
+use Rattle.jr_steps.specs.Knowing.{Facts, Leads, view, state_of, Holds}
 use Rattle.jr_frames.specs.declared.held.Held.{Held}
 use Rattle.jr_frames.specs.Table.{Table}
 use Rattle.jr_critical.specs.declared.level.Level.{Level}
 use Rattle.jr_critical.specs.declared.levels.Levels.{Levels}
 use Rattle.jr_critical.specs.Levels.{GivesUpAll, GivesUpAllOver, GivesUpLast, GivesUpLastOver, KnowsLevels, LeavesBefore, Nests, NestsOver, Opens, OpensOver, Reaches, ReadsAt, StandOver, WritesAt, level_nested, level_object, objects_of}
+use Rattle.jr_env.specs.Entries.{HasStayed, NoneLeaves}
 use Rattle.jr_env.specs.StandingRegions.{EndsUndisturbed, StandsOn, StandsSince}
 use Rattle.jr_env.specs.Works.{EndsStayOver}
 
--- the same room and thread
-record IsOfOne (p q : PassView) : Type 0 where
-  config : q.config ≡ p.config
-  last : q.last ≡ p.last
-  thread : q.thread ≡ p.thread
+-- a stay as the model's proofs have it
+pub as_stands : {old new : PassView} → HasStayed old new → Stands old new
+as_stands p = record { acts = p.acts; did = p.did; stays = p.stays }
 
--- a region is in one room, of one thread
-of_one : {p : PassView} {g : Frames} {q : PassView} {f : Frames} → IsRegion p g q f → IsOfOne p q
-of_one (opened_at_array s a o r) = record { config = r.did.config; last = r.did.last; thread = r.did.thread }
-of_one (opened_at_string s a o r) = record { config = r.did.config; last = r.did.last; thread = r.did.thread }
-of_one (goes_on s acts region did call) =
-    let before = of_one region in
-    record { config = did.config ∙ before.config; last = did.last ∙ before.last; thread = did.thread ∙ before.thread }
+-- what goes on without an exit stays
+pub stays_more : {old mid new : PassView} → HasStayed old mid → (acts : List Act) → Did mid new acts → NoneLeaves acts → HasStayed old new
+stays_more p acts did none = record { acts = p.acts ++ acts; did = did_then (Gate Enter ∷ p.acts) acts p.did did; stays = append_all (λ a. a ≢ Gate Leave) p.acts acts p.stays none }
 
--- what is said of one configuration, last serial and thread is said of those that are the same
-pub at_same : (P : Config → ℕ → ℕ → Type 0) {c d : Config} {l m t u : ℕ} → c ≡ d → l ≡ m → t ≡ u → P c l t → P d m u
-at_same P {c} {d} {l} {m} {t} {u} e n o x = subst (λ y. P y m u) e (subst (λ y. P c y u) n (subst (λ y. P c l y) o x))
-
--- and so what is said of a pass's standing is of what it knows
-pub at_known : {s : Standing} {k : Known} (P : Config → ℕ → ℕ → Type 0) → IsOf s k → P s.config s.last s.thread → P k.config k.last k.thread
-at_known P is x = at_same P (sym is.config) (sym is.last) (sym is.thread) x
+-- an opening that was answered enters, and its work has no exit
+was_opened : {old new : PassView} {f g : Frames} {o : ℕ} (work : Call ℕ) → Stays work → Ran old new f g (opened work) (Ok o) → HasStayed old new
+was_opened {old} {new} {f} {g} {o} work stays r = go r.is
+  where
+    go : opened work f r.acts (Ok o) g → HasStayed old new
+    go (inl bad) = absurd (let e = bad.1 in cc)
+    go (inr is) = record { acts = is.0; did = subst (Did old new) is.1.0 r.did; stays = stays f g is.0 (Ok o) is.1.1 }
 
 -- a call of a region was made between what was known and what is
-record Continues (f : Frames) (j k : Known) : Type 0 where
+record Continues (j k : Known) : Type 0 where
   acts : List Act
   did : Did (view j) (view k) acts
-  call : IsRegionCall j.config j.last j.thread (state_of k) f acts f
+  stays : NoneLeaves acts
 
--- with a level left, a release is a call of the region
-gives_up : {c : Config} {last t : ℕ} {s : State} {f g : Frames} {acts : List Act} (n : ℕ) → 2 ≤ n → region_release n f acts (Ok tt) g → IsRegionCall c last t s f acts g
-gives_up zero few is = absurd (omega arith)
-gives_up (suc zero) few is = absurd (omega arith)
-gives_up (suc (suc n)) few is = gives_up_level n (Ok tt) is
+-- with a level left, a release is no exit
+gives_up : (f g : Frames) (acts : List Act) (n : ℕ) → 2 ≤ n → region_release n f acts (Ok tt) g → NoneLeaves acts
+gives_up f g acts zero few is = absurd (omega arith)
+gives_up f g acts (suc zero) few is = absurd (omega arith)
+gives_up f g acts (suc (suc n)) few is = subst NoneLeaves (sym is.0) tt
 
 -- how many levels there were, where these are left
 two_levels : (v w : Levels) → LeavesBefore v (Some w) → 1 ≤ length (objects_of w) → 2 ≤ length (objects_of v)
@@ -71,7 +71,7 @@ two_levels v w before some =
 module _ {S : Type 0} (facts : S → Facts) where
   -- the region stands, over steps and frames
   abbrev Since : S → S → Frames → Frames → Levels → Type 0
-  Since o a g f v = Leads facts o a (Holds g) (λ j k. IsRegion (view j) g (view k) f) (λ j k. IsOneStay (view j) (view k) [] × KnowsLevels v f k)
+  Since o a g f v = Leads facts o a (Holds g) (λ j k. HasStayed (view j) (view k)) (λ j k. IsOneStay (view j) (view k) [] × KnowsLevels v f k)
 
   -- it was not disturbed up to its end
   abbrev Undisturbed : S → S → Frames → Frames → Type 0
@@ -79,7 +79,7 @@ module _ {S : Type 0} (facts : S → Facts) where
 
   -- what a call of the region makes of what is known
   abbrev Further : S → S → Frames → Levels → Levels → Type 0
-  Further a b f v u = Leads facts a b (KnowsLevels v f) (λ j k. Continues f j k) (λ j k. KnowsLevels u f k)
+  Further a b f v u = Leads facts a b (KnowsLevels v f) (λ j k. Continues j k) (λ j k. KnowsLevels u f k)
 
   -- what its end makes of it
   abbrev Ends : S → S → Frames → Levels → Type 0
@@ -90,16 +90,14 @@ module _ {S : Type 0} (facts : S → Facts) where
     further u next p i s m =
         let x = p i s m in
         let y = next x.0 x.1 x.3.1 in
-        let one = of_one x.2 in
-        let call = at_same (λ c l t. IsRegionCall c l t (state_of y.0) f y.2.acts f) one.config one.last one.thread y.2.call in
-        let region : IsRegion (view i) g (view y.0) f = goes_on (state_of y.0) y.2.acts x.2 y.2.did call in
-        (y.0, y.1, region, (no_collection_in_region (view i) (view y.0) g f region, y.3))
+        let stay = stays_more x.2 y.2.acts y.2.did y.2.stays in
+        (y.0, y.1, stay, (one_stay (as_stands stay), y.3))
 
     ends : Ends a b f v → Since o a g f v → Undisturbed o b g f
     ends next p i s m =
         let x = p i s m in
         let y = next x.0 x.1 x.3.1 in
-        (y.0, y.1, no_collection_up_to_release (view i) (view x.0) (view y.0) g f f x.2 y.2, y.3)
+        (y.0, y.1, one_stay_left (as_stands x.2) (subst (Did (view x.0) (view y.0)) y.2.is.0 y.2.did) (subst (Last (view x.0) (view y.0)) y.2.is.0 y.2.window.last refl), y.3)
 
   module _ (a b : S) (f : Frames) (v : Levels) where
     all_end : GivesUpAll facts a b f v → Ends a b f v
@@ -114,48 +112,53 @@ module _ {S : Type 0} (facts : S → Facts) where
     level_gives_up w before some e j s m =
         let x = e.ran j s m in
         let r = x.2.ran in
-        (x.0, x.1, record { acts = r.acts; did = r.did; call = gives_up (length (objects_of v)) (two_levels v w before some) r.is }, (x.3.0.0, x.3.1))
+        (x.0, x.1, record { acts = r.acts; did = r.did; stays = gives_up f f r.acts (length (objects_of v)) (two_levels v w before some) r.is }, (x.3.0.0, x.3.1))
 
-    module _ (fits : AreOf facts) where
-      opens_at_array : (w : ℕ) → Opens facts a b f w get_array_critical (Ok v) → Since a b f f v
-      opens_at_array w p j s m =
-          let x = p.2.ran j s m in
-          let region : IsRegion (view j) f (view x.0) f = opened_at_array (state_of x.0) p.0 (level_object v 0) (at_known (λ c l t. Ran (view j) (view x.0) f f (get_array_critical c l t (state_of x.0) p.0) (Ok (level_object v 0))) (fits a j s) x.2.ran) in
-          (x.0, x.1, region, (no_collection_in_region (view j) (view x.0) f f region, (x.3.0.0, x.3.1)))
+    opens_at_array : (w : ℕ) → Opens facts a b f w get_array_critical (Ok v) → Since a b f f v
+    opens_at_array w p j s m =
+        let x = p.2.ran j s m in
+        let at = (facts a).stands in
+        let stay = was_opened (level_array at.config at.last at.thread (state_of x.0) 0 p.0) (level_array_stays at.config at.last at.thread (state_of x.0) 0 p.0) x.2.ran in
+        (x.0, x.1, stay, (one_stay (as_stands stay), (x.3.0.0, x.3.1)))
 
-      opens_at_string : (w : ℕ) → Opens facts a b f w get_string_critical (Ok v) → Since a b f f v
-      opens_at_string w p j s m =
-          let x = p.2.ran j s m in
-          let region : IsRegion (view j) f (view x.0) f = opened_at_string (state_of x.0) p.0 (level_object v 0) (at_known (λ c l t. Ran (view j) (view x.0) f f (get_string_critical c l t (state_of x.0) p.0) (Ok (level_object v 0))) (fits a j s) x.2.ran) in
-          (x.0, x.1, region, (no_collection_in_region (view j) (view x.0) f f region, (x.3.0.0, x.3.1)))
+    opens_at_string : (w : ℕ) → Opens facts a b f w get_string_critical (Ok v) → Since a b f f v
+    opens_at_string w p j s m =
+        let x = p.2.ran j s m in
+        let at = (facts a).stands in
+        let stay = was_opened (level_string at.config at.last at.thread (state_of x.0) 0 p.0) (level_string_stays at.config at.last at.thread (state_of x.0) 0 p.0) x.2.ran in
+        (x.0, x.1, stay, (one_stay (as_stands stay), (x.3.0.0, x.3.1)))
 
-      array_nests : (w : ℕ) (u : Levels) (answer : Result ℕ Fault) → Nests facts a b f w nest_array v u answer → Further a b f v u
-      array_nests w u answer e j s m =
-          let x = e.2.ran j s m in
-          let r = x.2.ran in
-          let call = at_known (λ c l t. nest_array c l t (state_of x.0) (objects_of v) e.0 f r.acts (level_nested answer u) f) (fits a j s) r.is in
-          (x.0, x.1, record { acts = r.acts; did = r.did; call = nests_array (objects_of v) e.0 (level_nested answer u) call }, x.3)
+    array_nests : (w : ℕ) (u : Levels) (answer : Result ℕ Fault) → Nests facts a b f w nest_array v u answer → Further a b f v u
+    array_nests w u answer e j s m =
+        let x = e.2.ran j s m in
+        let r = x.2.ran in
+        let at = (facts a).stands in
+        let none = work_stays (nest_array_work {asked = 0} at.config at.last at.thread (state_of x.0) (objects_of v) e.0) f f r.acts (level_nested answer u) r.is in
+        (x.0, x.1, record { acts = r.acts; did = r.did; stays = none }, x.3)
 
-      string_nests : (w : ℕ) (u : Levels) (answer : Result ℕ Fault) → Nests facts a b f w nest_string v u answer → Further a b f v u
-      string_nests w u answer e j s m =
-          let x = e.2.ran j s m in
-          let r = x.2.ran in
-          let call = at_known (λ c l t. nest_string c l t (state_of x.0) (objects_of v) e.0 f r.acts (level_nested answer u) f) (fits a j s) r.is in
-          (x.0, x.1, record { acts = r.acts; did = r.did; call = nests_string (objects_of v) e.0 (level_nested answer u) call }, x.3)
+    string_nests : (w : ℕ) (u : Levels) (answer : Result ℕ Fault) → Nests facts a b f w nest_string v u answer → Further a b f v u
+    string_nests w u answer e j s m =
+        let x = e.2.ran j s m in
+        let r = x.2.ran in
+        let at = (facts a).stands in
+        let none = work_stays (nest_string_work {asked = 0} at.config at.last at.thread (state_of x.0) (objects_of v) e.0) f f r.acts (level_nested answer u) r.is in
+        (x.0, x.1, record { acts = r.acts; did = r.did; stays = none }, x.3)
 
-      level_gets : (level i : ℕ) (kind : Kind) (answer : Result ℕ Fault) → Reaches facts a b f v (λ c last t s. region_get c last t s kind (level_object v level) i) answer → Further a b f v v
-      level_gets level i kind answer e j s m =
-          let x = e.ran j s m in
-          let r = x.2.ran in
-          let call = at_known (λ c l t. region_get c l t (state_of x.0) kind (level_object v level) i f r.acts answer f) (fits a j s) r.is in
-          (x.0, x.1, record { acts = r.acts; did = r.did; call = gets kind (level_object v level) i answer call }, x.3.1)
+    level_gets : (level i : ℕ) (kind : Kind) (answer : Result ℕ Fault) → Reaches facts a b f v (λ c last t s. region_get c last t s kind (level_object v level) i) answer → Further a b f v v
+    level_gets level i kind answer e j s m =
+        let x = e.ran j s m in
+        let r = x.2.ran in
+        let at = (facts a).stands in
+        let none = work_stays (get_work {asked = 0} at.config at.last at.thread (state_of x.0) kind (level_object v level) i) f f r.acts answer r.is in
+        (x.0, x.1, record { acts = r.acts; did = r.did; stays = none }, x.3.1)
 
-      level_sets : (level i word : ℕ) (kind : Kind) (answer : Result (Unit {0}) Fault) → Reaches facts a b f v (λ c last t s. region_set c last t s kind (level_object v level) i word) answer → Further a b f v v
-      level_sets level i word kind answer e j s m =
-          let x = e.ran j s m in
-          let r = x.2.ran in
-          let call = at_known (λ c l t. region_set c l t (state_of x.0) kind (level_object v level) i word f r.acts answer f) (fits a j s) r.is in
-          (x.0, x.1, record { acts = r.acts; did = r.did; call = sets kind (level_object v level) i word answer call }, x.3.1)
+    level_sets : (level i word : ℕ) (kind : Kind) (answer : Result (Unit {0}) Fault) → Reaches facts a b f v (λ c last t s. region_set c last t s kind (level_object v level) i word) answer → Further a b f v v
+    level_sets level i word kind answer e j s m =
+        let x = e.ran j s m in
+        let r = x.2.ran in
+        let at = (facts a).stands in
+        let none = work_stays (set_work {asked = 0} at.config at.last at.thread (state_of x.0) kind (level_object v level) i word) f f r.acts answer r.is in
+        (x.0, x.1, record { acts = r.acts; did = r.did; stays = none }, x.3.1)
 
 -- THE CALLS OF AN ENV, whose frames stay as they were
 
@@ -177,21 +180,20 @@ module _ {S : Type 0} {G : Ghosts S} (old new : Held S G) (same : new.frames ≡
   stands_before None one stand e = tt
   stands_before (Some w) before stand e = goes w (level_gives_up G.facts old.steps new.steps old.frames.frames v w before stand.some e)
 
-  module _ (fits : AreOf G.facts) where
-    pub stands_over_array : (w : ℕ) (u : Levels) (answer : Result ℕ Fault) → NestsOver old new w nest_array v u answer → StandsOn old new v u
-    stands_over_array w u answer e = goes u (array_nests G.facts old.steps new.steps old.frames.frames v fits w u answer e)
+  pub stands_over_array : (w : ℕ) (u : Levels) (answer : Result ℕ Fault) → NestsOver old new w nest_array v u answer → StandsOn old new v u
+  stands_over_array w u answer e = goes u (array_nests G.facts old.steps new.steps old.frames.frames v w u answer e)
 
-    pub stands_over_string : (w : ℕ) (u : Levels) (answer : Result ℕ Fault) → NestsOver old new w nest_string v u answer → StandsOn old new v u
-    stands_over_string w u answer e = goes u (string_nests G.facts old.steps new.steps old.frames.frames v fits w u answer e)
+  pub stands_over_string : (w : ℕ) (u : Levels) (answer : Result ℕ Fault) → NestsOver old new w nest_string v u answer → StandsOn old new v u
+  stands_over_string w u answer e = goes u (string_nests G.facts old.steps new.steps old.frames.frames v w u answer e)
 
-    pub stands_read : (level i : ℕ) (kind : Kind) (answer : Result ℕ Fault) → ReadsAt old new v level kind i answer → StandsOn old new v v
-    stands_read level i kind answer e = goes v (level_gets G.facts old.steps new.steps old.frames.frames v fits level i kind answer e)
+  pub stands_read : (level i : ℕ) (kind : Kind) (answer : Result ℕ Fault) → ReadsAt old new v level kind i answer → StandsOn old new v v
+  stands_read level i kind answer e = goes v (level_gets G.facts old.steps new.steps old.frames.frames v level i kind answer e)
 
-    pub stands_written : (level i word : ℕ) (kind : Kind) (answer : Result (Unit {0}) Fault) → WritesAt old new v level kind i word answer → StandsOn old new v v
-    stands_written level i word kind answer e = goes v (level_sets G.facts old.steps new.steps old.frames.frames v fits level i word kind answer e)
+  pub stands_written : (level i word : ℕ) (kind : Kind) (answer : Result (Unit {0}) Fault) → WritesAt old new v level kind i word answer → StandsOn old new v v
+  stands_written level i word kind answer e = goes v (level_sets G.facts old.steps new.steps old.frames.frames v level i word kind answer e)
 
 -- the opening, once a stay that was left has been ended
-module _ {S : Type 0} {G : Ghosts S} (fits : AreOf G.facts) (old mid new : Held S G) (ended : EndsStayOver old mid) (same : new.frames ≡ mid.frames) where
+module _ {S : Type 0} {G : Ghosts S} (old mid new : Held S G) (ended : EndsStayOver old mid) (same : new.frames ≡ mid.frames) where
   stands_from : (call : Config → ℕ → ℕ → State → Word → Call ℕ) (w : ℕ) (v : Levels) → ((a : S) (f : Frames) → Opens G.facts a new.steps f w call (Ok v) → Since G.facts a new.steps f f v)
       → OpensOver mid new w call (Ok v) → (G.facts old.steps).stands.role ≡ Outside → StandsSince old new v
   stands_from call w v opens p out =
@@ -200,9 +202,9 @@ module _ {S : Type 0} {G : Ghosts S} (fits : AreOf G.facts) (old mid new : Held 
       (subst (λ (t : Table). Since G.facts mid.steps new.steps mid.frames.frames t.frames v) (sym same) (opens mid.steps mid.frames.frames p)))
 
   pub stands_at_array : (w : ℕ) (answer : Result Levels Fault) → OpensOver mid new w get_array_critical answer → IfOk answer (λ v. (G.facts old.steps).stands.role ≡ Outside → StandsSince old new v)
-  stands_at_array w (Ok v) p = stands_from get_array_critical w v (λ a f. opens_at_array G.facts a new.steps f v fits w) p
+  stands_at_array w (Ok v) p = stands_from get_array_critical w v (λ a f. opens_at_array G.facts a new.steps f v w) p
   stands_at_array w (Err e) p = tt
 
   pub stands_at_string : (w : ℕ) (answer : Result Levels Fault) → OpensOver mid new w get_string_critical answer → IfOk answer (λ v. (G.facts old.steps).stands.role ≡ Outside → StandsSince old new v)
-  stands_at_string w (Ok v) p = stands_from get_string_critical w v (λ a f. opens_at_string G.facts a new.steps f v fits w) p
+  stands_at_string w (Ok v) p = stands_from get_string_critical w v (λ a f. opens_at_string G.facts a new.steps f v w) p
   stands_at_string w (Err e) p = tt

@@ -1,5 +1,6 @@
 pub mod Deeds
 pub mod Envs
+pub mod Entries
 pub mod StandingRegions
 pub mod Criticals
 pub mod Collections

@@ -1,4 +1,4 @@
--- A stay that goes on from call to call, from the moment before its entry on, for whatever was known then: the calls of a stay make an open stay of the machine (`IsOpenStay`), in which no step of a collection comes.
+-- A stay that goes on from call to call, from the moment before its entry on, for whatever was known then: its thread entered and has not left, and no step of a collection comes.
 use Rattle.std.specs.Prelude.{ℕ, Result, Ok, Err, List, []}
 use Rattle.jr_word.specs.declared.config.Config.{Config}
 use Rattle.jr_word.specs.declared.fault.Fault.{Fault}
@@ -10,17 +10,17 @@ use Rattle.jr_model.specs.Frames.{Frames}
 use Rattle.jr_model.specs.Calls.{Call}
 use Rattle.jr_model.specs.Parts.{enter, leave}
 use Rattle.jr_model.specs.CriticalRegions.{IsOneStay}
-use Rattle.jr_model.specs.StayCalls.{IsOpenStay, IsStayCall}
 use Rattle.jr_steps.specs.declared.steps.Steps.{Ghosts}
 use Rattle.jr_steps.specs.declared.known.Known.{Known}
 use Rattle.jr_steps.specs.Knowing.{Facts, view, keeps, lets_go, Holds, Leads}
 use Rattle.jr_gate.specs.Performing.{IsAsBefore, IsMade, Performed, thread_state}
 use Rattle.jr_frames.specs.declared.held.Held.{Held}
+use Rattle.jr_env.specs.Entries.{HasStayed, NoneLeaves}
 use Rattle.jr_env.specs.StandingRegions.{WasUndisturbed}
 
--- the work is that of calls in a stay: whatever acts it has, such a call has them
+-- the work has no exit, whatever acts it has
 abbrev pub IsInStay : {A : Type 0} → (Config → ℕ → ℕ → State → Call A) → Type 0
-IsInStay {A} work = (c : Config) (last thread : ℕ) (s : State) (f g : Frames) (acts : List Act) (answer : Result A Fault) → work c last thread s f acts answer g → IsStayCall c last thread s f acts g
+IsInStay {A} work = (c : Config) (last thread : ℕ) (s : State) (f g : Frames) (acts : List Act) (answer : Result A Fault) → work c last thread s f acts answer g → NoneLeaves acts
 
 -- where the thread stands behind an entry: within, and outside where it was refused
 abbrev pub role_entered : Result (Unit {0}) Fault → Role
@@ -58,9 +58,9 @@ module _ {S : Type 0} {G : Ghosts S} where
       Performed G.facts old.steps new.steps old.frames.frames new.frames.frames (silent (G.facts old.steps).stands.config) (Holds old.frames.frames) (asked (G.facts old.steps).stands.config (G.facts old.steps).stands.last (G.facts old.steps).stands.thread) answer
       (λ j k. Unit {0} × Holds new.frames.frames k)
 
-  -- A STAY STANDS SINCE THEN: whatever was known at the beginning leads to something known now between which its thread entered, and then its calls came and no others of the thread. So all that was seen since its entry is one stay, and no event in it, of whatever thread, is a step of a collection
+  -- A STAY STANDS SINCE THEN: whatever was known at the beginning leads to something known now between which its thread entered, and has not left. So all that was seen since its entry is one stay, and no event in it, of whatever thread, is a step of a collection
   abbrev pub StaysSince : Held S G → Held S G → Type 0
-  StaysSince begun new = Leads G.facts begun.steps new.steps (Holds begun.frames.frames) (λ j k. IsOpenStay (view j) begun.frames.frames (view k) new.frames.frames) (λ j k. IsOneStay (view j) (view k) [] × Holds new.frames.frames k)
+  StaysSince begun new = Leads G.facts begun.steps new.steps (Holds begun.frames.frames) (λ j k. HasStayed (view j) (view k)) (λ j k. IsOneStay (view j) (view k) [] × Holds new.frames.frames k)
 
   -- THE STAY GOES ON by this call: since whatever moment it stood, it stands
   abbrev pub StaysOn : Held S G → Held S G → Type 0

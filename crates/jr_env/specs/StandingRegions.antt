@@ -1,19 +1,20 @@
--- A critical region from the moment before its opening on, for whatever was known then: the calls of an env make a region of the machine (`IsRegion`), in which no step of a collection comes.
+-- A critical region from the moment before its opening on, for whatever was known then: its thread entered and has not left, and no step of a collection comes.
 use Rattle.std.specs.Prelude.{[], ◌∷◌}
 use Rattle.jr_model.specs.declared.event.Act.TheVariants.{Gate}
 use Rattle.jr_model.specs.declared.event.GateAct.TheVariants.{Leave}
 use Rattle.jr_model.specs.History.{by}
-use Rattle.jr_model.specs.CriticalRegions.{IsOneStay, IsRegion}
+use Rattle.jr_model.specs.CriticalRegions.{IsOneStay}
 use Rattle.jr_steps.specs.declared.steps.Steps.{Ghosts}
 use Rattle.jr_steps.specs.Knowing.{view, Holds, Leads}
 use Rattle.jr_frames.specs.declared.held.Held.{Held}
 use Rattle.jr_critical.specs.declared.levels.Levels.{Levels}
 use Rattle.jr_critical.specs.Levels.{KnowsLevels}
+use Rattle.jr_env.specs.Entries.{HasStayed}
 
 module _ {S : Type 0} {G : Ghosts S} where
-  -- A REGION WITH THESE LEVELS STANDS SINCE THEN: whatever was known at the beginning leads to something known now between which it was opened, and then its calls came and no others of the thread. So all that was seen since its entry is one stay, and no event in it, of whatever thread, is a step of a collection. The header of each level is known
+  -- A REGION WITH THESE LEVELS STANDS SINCE THEN: whatever was known at the beginning leads to something known now between which its thread entered, and has not left. So all that was seen since its entry is one stay, and no event in it, of whatever thread, is a step of a collection. The header of each level is known
   abbrev pub StandsSince : Held S G → Held S G → Levels → Type 0
-  StandsSince begun new v = Leads G.facts begun.steps new.steps (Holds begun.frames.frames) (λ j k. IsRegion (view j) begun.frames.frames (view k) new.frames.frames) (λ j k. IsOneStay (view j) (view k) [] × KnowsLevels v new.frames.frames k)
+  StandsSince begun new v = Leads G.facts begun.steps new.steps (Holds begun.frames.frames) (λ j k. HasStayed (view j) (view k)) (λ j k. IsOneStay (view j) (view k) [] × KnowsLevels v new.frames.frames k)
 
   -- THE REGION GOES ON by this call, from these levels to those: since whatever moment it stood, it stands
   abbrev pub StandsOn : Held S G → Held S G → Levels → Levels → Type 0

@@ -23,10 +23,10 @@ use Rattle.jr_steps.specs.declared.known.Known.{Known}
 use Rattle.jr_steps.specs.declared.loads.GateLoad.TheVariants as gate
 use Rattle.jr_steps.specs.Acts.{act_of_gate_load, act_of_announcement, all_counted, is_closed}
 use Rattle.jr_steps.specs.Knowing.{AreLone, AreOf, Facts, Goes, IsLone, MayKnow, ShowsAnnounced, ShowsGate, Standing, Took, anything, keeps, lets_go, standing_after, view}
-use Rattle.jr_steps.proofs.GateFacts.{nobody_closes}
+use Rattle.jr_steps.proofs.GateFacts.{nobody_closes, somebody_closes}
 use Rattle.jr_steps.proofs.StepFacts.{goes_did, goes_stepped, took_less}
 use Rattle.jr_gate.specs.Acting.{ActedTo, KeepsInTwo}
-use Rattle.jr_gate.specs.Announcing.{AnnouncesInTwo, WasNotAnnounced}
+use Rattle.jr_gate.specs.Announcing.{AnnouncesInTwo, FindsClosed, WasNotAnnounced}
 use Rattle.jr_gate.proofs.Alone.{all_outside, others_outside, never_busy}
 use Rattle.jr_gate.proofs.Closing.{busy_counts}
 use Rattle.jr_gate.proofs.Withdrawing.{two}
@@ -55,8 +55,8 @@ announcing_window {old} d = record { from = prefix_self old.seen; to = d.begins;
 
 module _ {S : Type 0} {facts : S → Facts} where
   -- a look that found the gate closed
-  pub look_closed : {a b : S} (p : GateParts) → is_closed p.state ≡ true → Took facts a b (act_of_gate_load gate.Busy p ∷ []) anything (λ j k. ShowsGate p k × keeps j k) → Took facts a b (ShutBusy (all_counted p) ∷ []) anything keeps
-  look_closed {a} {b} p closed t = took_less (λ j k s. s.1)
+  pub look_closed : {a b : S} (p : GateParts) → is_closed p.state ≡ true → Took facts a b (act_of_gate_load gate.Busy p ∷ []) anything (λ j k. ShowsGate p k × keeps j k) → Took facts a b (ShutBusy (all_counted p) ∷ []) anything FindsClosed
+  look_closed {a} {b} p closed t = took_less (λ j k s. (s.1, somebody_closes s.0 closed))
       (subst (λ (x : Act). Took facts a b (x ∷ []) anything (λ j k. ShowsGate p k × keeps j k)) (ap (λ z. if z then ShutBusy (all_counted p) else Meet) closed) t)
 
   -- and one that found it open
@@ -87,7 +87,7 @@ module _ {S : Type 0} {facts : S → Facts} where
 
   -- WHAT WAS DONE, by the parts that the look found, and by those that the exchange did
   pub was_closed : {a b : S} (some : (s : S) → MayKnow facts s anything) (p : GateParts) (e : Fault) → is_closed p.state ≡ true → e ≡ Busy (all_counted p) → Took facts a b (act_of_gate_load gate.Busy p ∷ []) anything (λ j k. ShowsGate p k × keeps j k) → WasNotAnnounced facts a b e
-  was_closed {a} some p e closed is t = let u = look_closed p closed t in inl (all_counted p, is, busy_counts (some a) (all_counted p) u, u)
+  was_closed {a} some p e closed is t = let u = look_closed p closed t in inl (all_counted p, is, busy_counts (some a) (all_counted p) (took_less (λ j k s. s.0) u), u)
 
   module _ {a b c : S} (some : (s : S) → MayKnow facts s anything) where
     pub announced_in_two : (p : GateParts) (n : ℕ) → p ≡ open_with n → Took facts a b (act_of_gate_load gate.Busy p ∷ []) anything (λ j k. ShowsGate p k × keeps j k) → Took facts b c (Gate Announce ∷ []) anything lets_go
@@ -98,7 +98,7 @@ module _ {S : Type 0} {facts : S → Facts} where
         → Took facts b c (act_of_announcement (Err q) ∷ []) anything (ShowsAnnounced n (Err q)) → WasNotAnnounced facts a c e
     was_closed_between p q n e wide closed is look t =
         let u = look_closed q closed (lost_look n q t) in
-        inr (inl (all_counted q, is, busy_counts (some b) (all_counted q) u, acted Meet (ShutBusy (all_counted q)) (λ v w d. window_some Meet (ShutBusy (all_counted q) ∷ []) d (refl, (refl, tt))) (λ j k l g h f s. (s ∙ f.1, two g h)) (look_open p n wide look) u))
+        inr (inl (all_counted q, is, busy_counts (some b) (all_counted q) (took_less (λ j k s. s.0) u), acted Meet (ShutBusy (all_counted q)) (λ v w d. window_some Meet (ShutBusy (all_counted q) ∷ []) d (refl, (refl, tt))) (λ j k l g h f s. ((s.0 ∙ f.1, two g h), s.1)) (look_open p n wide look) u))
 
     pub was_moved_between : (p q : GateParts) (n m : ℕ) → p ≡ open_with n → q ≡ open_with m → Took facts a b (act_of_gate_load gate.Busy p ∷ []) anything (λ j k. ShowsGate p k × keeps j k)
         → Took facts b c (act_of_announcement (Err q) ∷ []) anything (ShowsAnnounced n (Err q)) → WasNotAnnounced facts a c (Moved n m)

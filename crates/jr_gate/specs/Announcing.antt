@@ -4,24 +4,29 @@ use Rattle.jr_word.specs.declared.fault.Fault.{Fault}
 use Rattle.jr_word.specs.declared.fault.Fault.TheVariants.{Busy, Moved}
 use Rattle.jr_model.specs.declared.event.Act.TheVariants.{Gate, ShutBusy, Meet}
 use Rattle.jr_model.specs.declared.event.GateAct.TheVariants.{Announce}
+use Rattle.jr_model.specs.State.{SomebodyCloses}
 use Rattle.jr_model.specs.Refusals.{GateHasMoved}
 use Rattle.jr_model.specs.Windows.{IsLastSeen}
 use Rattle.jr_steps.specs.declared.known.Known.{Known}
-use Rattle.jr_steps.specs.Knowing.{Facts, anything, keeps, view, Took}
+use Rattle.jr_steps.specs.Knowing.{Facts, anything, keeps, view, state_of, Took}
 use Rattle.jr_gate.specs.Acting.{ActedTo, KeepsInTwo, LetsGoInTwo}
 
 -- two operations, of which the last announces it, and nothing is held then
 abbrev pub AnnouncesInTwo : Known → Known → Type 0
 AnnouncesInTwo j k = LetsGoInTwo j k × IsLastSeen (view k) (Gate Announce)
 
+-- a thread keeps the gate closed then, and the pass holds what it held
+abbrev pub FindsClosed : Known → Known → Type 0
+FindsClosed j k = keeps j k × SomebodyCloses (state_of k)
+
 module _ {S : Type 0} (facts : S → Facts) (old new : S) (e : Fault) where
   -- the look found the gate closed, by another thread
   abbrev pub WasClosed : Type 0
-  WasClosed = (n : ℕ) × (e ≡ Busy n) × (1 ≤ n) × Took facts old new (ShutBusy n ∷ []) anything keeps
+  WasClosed = (n : ℕ) × (e ≡ Busy n) × (1 ≤ n) × Took facts old new (ShutBusy n ∷ []) anything FindsClosed
 
   -- the look found it open, and another thread closed it before the exchange
   abbrev pub WasClosedBetween : Type 0
-  WasClosedBetween = (n : ℕ) × (e ≡ Busy n) × (1 ≤ n) × ActedTo facts old new (Meet ∷ ShutBusy n ∷ []) anything KeepsInTwo
+  WasClosedBetween = (n : ℕ) × (e ≡ Busy n) × (1 ≤ n) × ActedTo facts old new (Meet ∷ ShutBusy n ∷ []) anything (λ j k. KeepsInTwo j k × SomebodyCloses (state_of k))
 
   -- both found it open, with one count and with another
   abbrev pub WasMovedBetween : Type 0

@@ -133,6 +133,17 @@ all_both P Q (x ∷ xs) p q = ((p.0, q.0), all_both P Q xs p.1 q.1)
 around : (before more between : History) (first last : Event) → (((before ++ first ∷ []) ++ more) ++ between) ++ last ∷ [] ≡ before ++ first ∷ (more ++ between) ++ last ∷ []
 around before more between first last = ap (λ l. l ++ last ∷ []) (append_assoc (before ++ first ∷ []) more between ∙ append_assoc before (first ∷ []) (more ++ between))
 
+all_before : (P : Event → Type 0) (xs ys : History) → AllByRecursion P (xs ++ ys) → AllByRecursion P xs
+all_before P [] ys h = tt
+all_before P (x ∷ xs) ys h = (h.0, all_before P xs ys h.1)
+
+-- an announcement stands up to each of the shuts that are refused in it
+cut : {t : ℕ} {es before rest : History} (earlier since : History) (n : ℕ) → IsAnnouncement t es before (earlier ++ by t (ShutBusy n) ∷ since) rest → IsAnnouncement t es before earlier (by t (ShutBusy n) ∷ since ++ rest)
+cut {t} {es} {before} {rest} earlier since n k = record {
+  parts = k.parts ∙ (ap (λ l. l ++ rest) (sym (append_assoc before (by t (Gate Announce) ∷ earlier) (by t (ShutBusy n) ∷ since))) ∙ append_assoc (before ++ by t (Gate Announce) ∷ earlier) (by t (ShutBusy n) ∷ since) rest);
+  stands = all_before (λ e. (e ≢ by t (Gate Cancel)) × (e ≢ by t (Gate Reopen))) earlier (by t (ShutBusy n) ∷ since) k.stands;
+}
+
 -- WHO ANNOUNCED, did no more than these acts, and then ended it
 pub announced_until : {q r s : PassView} (acts : List Act) (end : GateAct) → AllByRecursion (λ a. a ≢ Gate Cancel) acts → AllByRecursion (λ a. a ≢ Gate Reopen) acts → IsLastSeen q (Gate Announce) → Did q r acts → Stepped r s (Gate end) → AnnouncedUntil s acts end
 announced_until {q} {r} {s} acts end cancels reopens first d step =
@@ -153,4 +164,14 @@ announced_until {q} {r} {s} acts end cancels reopens first d step =
           (never (Gate Cancel) inside t (subst (λ l. AllByRecursion (λ a. a ≢ Gate Cancel) l) (sym own) cancels))
           (never (Gate Reopen) inside t (subst (λ l. AllByRecursion (λ a. a ≢ Gate Reopen) l) (sym own) reopens));
     } in
-    record { before = first.before; inside = inside; stands = stands; own = own; nobody_enters = nobody_enters r.config r.last t s.seen first.before inside (by t (Gate end) ∷ []) step.did.legal stands }
+    let rest = by t (Gate end) ∷ [] in
+    record {
+      before = first.before;
+      inside = inside;
+      stands = stands;
+      own = own;
+      nobody_enters = nobody_enters r.config r.last t s.seen first.before inside rest step.did.legal stands;
+      only_leave = λ earlier since u is w. within_only_leave r.config r.last t u s.seen first.before earlier since rest step.did.legal (subst (λ l. IsAnnouncement t s.seen first.before l rest) is stands) w;
+      counts = λ earlier since n is. subst (λ (c : Config). n ≡ count_below c.threads (λ u. is_inside ((state (first.before ++ by t (Gate Announce) ∷ earlier)).role u))) (sym step.did.config)
+          (announcer_counts r.config r.last t n s.seen first.before earlier (since ++ rest) step.did.legal (cut earlier since n (subst (λ l. IsAnnouncement t s.seen first.before l rest) is stands)));
+    }

@@ -16,13 +16,17 @@ pub record IsAnnouncement (t : ℕ) (whole : History) (before inside rest : Hist
   pub parts : whole ≡ before ++ by t (Gate Announce) ∷ inside ++ rest
   pub stands : AllByRecursion (λ e. (e ≢ by t (Gate Cancel)) × (e ≢ by t (Gate Reopen))) inside
 
--- AN ANNOUNCEMENT AND ITS END, which is the last event that a pass has seen: between them its thread did these acts, and nobody entered
+-- AN ANNOUNCEMENT AND ITS END, which is the last event that a pass has seen: between them its thread did these acts, nobody entered, who was within only left, and each shut that was refused counted just those who were within or knocked
 pub record AnnouncedUntil (new : PassView) (acts : List Act) (end : GateAct) : Type 0 where
   pub before : History
   pub inside : History
   pub stands : IsAnnouncement new.thread new.seen before inside (by new.thread (Gate end) ∷ [])
   pub own : mine inside new.thread ≡ acts
   pub nobody_enters : AllByRecursion (λ e. e.act ≢ Gate Enter) inside
+  pub only_leave : (earlier since : History) (u : ℕ) → inside ≡ earlier ++ since → (state (before ++ by new.thread (Gate Announce) ∷ earlier ++ since)).role u ≡ Within
+      → ((state (before ++ by new.thread (Gate Announce) ∷ earlier)).role u ≡ Within) × AllByRecursion (λ e. e ≢ by u (Gate Leave)) since
+  pub counts : (earlier since : History) (n : ℕ) → inside ≡ earlier ++ by new.thread (ShutBusy n) ∷ since
+      → n ≡ count_below new.config.threads (λ u. is_inside ((state (before ++ by new.thread (Gate Announce) ∷ earlier)).role u))
 
 -- NOBODY ENTERS while an announcement stands
 abbrev pub NobodyEnters : Config → ℕ → Type 0

@@ -1,15 +1,17 @@
 -- What a pass shows, and what a room gives.
-use Rattle.std.specs.Prelude.{◌≡◌, ◌⊎◌, ◌<◌, ℕ, zero, suc, Bool, true, List, [], ◌∷◌, ◌++◌, map}
+use Rattle.std.specs.Prelude.{◌≡◌, ◌⊎◌, ◌<◌, ℕ, zero, suc, Bool, true, false, List, [], ◌∷◌, ◌++◌, map}
 use Rattle.std.specs.List.{All, AllByRecursion}
 use mathlib.Core.List.{IsPrefix}
 use Rattle.atomic_table.specs.declared.shared.Seat.{Seat}
 use Rattle.jr_word.specs.declared.config.Config.{Config}
 use Rattle.jr_model.specs.declared.event.Role.{Role}
 use Rattle.jr_model.specs.declared.event.Role.TheVariants.{Outside}
-use Rattle.jr_model.specs.declared.event.Act.TheVariants.{Meet}
+use Rattle.jr_model.specs.declared.event.Act.TheVariants.{Create, Look, Delete, Meet}
+use Rattle.jr_model.specs.declared.event.Found.{Found}
+use Rattle.jr_model.specs.declared.event.Found.TheVariants.{Stale}
 use Rattle.jr_model.specs.declared.summary.Summary.{Summary}
-use Rattle.jr_model.specs.State.{not_outside, summary}
-use Rattle.jr_model.specs.History.{History, state, mine, IsLegal}
+use Rattle.jr_model.specs.State.{Handle, not_outside, summary}
+use Rattle.jr_model.specs.History.{History, by, state, mine, is_collection_step, IsLegal, IsStay}
 use Rattle.jr_steps.specs.declared.known.Known.{Known}
 use Rattle.jr_rule.specs.declared.pass.Pass.{Pass}
 use Rattle.jr_rule.specs.declared.row.Row.{Row}
@@ -124,12 +126,19 @@ pub record ClosesAll (k : Known) (ks : List Known) (s : Summary) : Type 0 where
   pub nobody : not_outside k.config (state_of met) ≡ 0
   pub ends : EndsAll met ks s
 
--- ALL THESE PASSES SAW ONE HISTORY: the first looked at the gate, and there is a legal history that begins with all that each of them has seen and has no more of their events; and where each thread of the room has its pass among them, it has no others
+-- what the laws say of a history: once a handle is deleted each look at it is stale, and it is not created again; and no step of a collection lies in a stay
+pub record KeepsTheLaws (es : History) : Type 0 where
+  pub stale : (h : Handle) (t u : ℕ) (r : Found) (before between rest : History) → es ≡ before ++ by t (Delete h) ∷ between ++ by u (Look h r) ∷ rest → r ≡ Stale
+  pub not_again : (h : Handle) (t u o : ℕ) (before between rest : History) → ¬ (es ≡ before ++ by t (Delete h) ∷ between ++ by u (Create h o) ∷ rest)
+  pub apart : (t : ℕ) (before inside rest : History) → IsStay t es before inside rest → AllByRecursion (λ e. is_collection_step e.act ≡ false) inside
+
+-- ALL THESE PASSES SAW ONE HISTORY: the first looked at the gate, and there is a legal history that begins with all that each of them has seen and has no more of their events; and where each thread of the room has its pass among them, it has no others. What the laws say is so of it
 pub record SawOneHistory (k : Known) (ks : List Known) : Type 0 where
   pub met : Known
   pub goes : Goes k (Meet ∷ []) met
   pub whole : History
   pub legal : IsLegal met.config met.last whole
+  pub lawful : KeepsTheLaws whole
   pub each : AllByRecursion (IsSeenIn whole) (met ∷ ks)
   pub alone : HasEachPass met.config (met ∷ ks) → HasNoOthers whole (met ∷ ks)
 

@@ -1,8 +1,11 @@
-use Rattle.std.proofs.Common.{◌≢◌, ◌≤◌, ℕ, refl, sym, ap, ◌∙◌, map, arith}
+use Rattle.std.proofs.Common.{◌≢◌, ◌≤◌, ℕ, refl, sym, ap, subst, ◌∙◌, map, arith}
 use Rattle.jr_word.specs.declared.config.Config.{Config}
 use Rattle.jr_model.specs.State.{not_outside}
+use Rattle.jr_model.specs.History.{History, IsLegal}
+use Rattle.jr_model.proofs.Gates.{no_collection_inside}
+use Rattle.jr_model.proofs.References.{deleted_is_stale, deleted_is_not_created}
 use Rattle.jr_steps.specs.Knowing.{state_of}
-use Rattle.jr_rule.specs.Passes.{known_of}
+use Rattle.jr_rule.specs.Passes.{known_of, KeepsTheLaws}
 use Rattle.jr_rule.proofs.Gathered.{exactly}
 use Rattle.jr_rule.proofs.room.Room.close_all.Goals as goal
 
@@ -34,10 +37,18 @@ returns-clause-ok g c =
       ends = c.close_all.ensures;
     }
 
+-- a legal history keeps the laws
+lawful : (c : Config) (last : ℕ) (es : History) → IsLegal c last es → KeepsTheLaws es
+lawful c last es l = record {
+  stale = λ h t u r before between rest is. deleted_is_stale c last h t u r before between rest (subst (IsLegal c last) is l);
+  not_again = λ h t u o before between rest is. deleted_is_not_created c last h t u o before between rest (subst (IsLegal c last) is l);
+  apart = λ t before inside rest stay. no_collection_inside c last t es before inside rest l stay;
+}
+
 pub returns-clause-seen : goal.returns-clause-seen
 returns-clause-seen g c =
     let all = returns-clause-ok g c in
-    let ends = all.ends in record { met = all.met; goes = all.goes; whole = ends.whole; legal = ends.legal; each = (ends.first, ends.others); alone = ends.alone }
+    let ends = all.ends in record { met = all.met; goes = all.goes; whole = ends.whole; legal = ends.legal; lawful = lawful all.met.config all.met.last ends.whole ends.legal; each = (ends.first, ends.others); alone = ends.alone }
 
 pub returns-clause-exact : goal.returns-clause-exact
 returns-clause-exact g c all = exactly (known_of c.args.pass) (map known_of c.args.others.items) c.close_all.result (returns-clause-ok g c) all
