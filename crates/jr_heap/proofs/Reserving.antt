@@ -114,7 +114,7 @@ module _ {S : Type 0} {facts : S → Facts} {a b : S} (fits : AreOf facts) (insi
             did = d;
             is = lost n u found some;
             window = window_act (ReserveLost n u found) d tt tt;
-            grounds = raced k.seen n u found (sometime_last j.2.begins j.3) (goes_did g.2) room_here;
+            grounds = (n, raced k.seen n u found (sometime_last j.2.begins j.3) (goes_did g.2) room_here);
             shows = (e, two_steps k j.0 g.0 j.5 g.2.taken);
           },
         ))
