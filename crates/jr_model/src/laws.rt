@@ -5,7 +5,7 @@ ghost use Rattle.jr_model.specs.History.{PassView};
 ghost use Rattle.jr_model.specs.StayCalls.{NoCollectionInOpenStay, NoCollectionUpToExit};
 ghost use Rattle.jr_model.specs.CriticalRegions.{NoCollectionInRegion, NoCollectionUpToRelease};
 ghost use Rattle.jr_model.specs.Announcements.{NobodyEnters, WithinOnlyLeave, AnnouncerCounts};
-ghost use Rattle.jr_model.specs.Grounded.{FreeIndexIsFound, RefusedInItsStay, EachIsProbed, CallsAreTheirStays};
+ghost use Rattle.jr_model.specs.Grounded.{RefusedInItsStay, EachIsProbed, CallsAreTheirStays};
 ghost use Rattle.jr_model.specs.TrueRefusals.{CallsRefuseTruly, PartsRefuseTruly};
 ghost use Rattle.jr_model.specs.Moves.{CallsMoveFrames};
 ghost use Rattle.jr_model.specs.RefusedCalls.{RefusalsChangeNothing, RefusedPartsChangeNothing, HarmlessChangesNothing};
@@ -157,11 +157,10 @@ pub fn refusals_change_nothing()
     ensures acts { HarmlessChangesNothing }
 {}
 
-/// What a refusal of any call says of the shared room was so at a moment of that call: E10, E13 and E14 at the very act that they tell of, E11 at one moment, E12 and E23 at two, and E8 for each index at a moment of its own. So a creation is E8 only where no index was free all the time since it was probed, and a new reference for what was so within its own stay alone.
+/// What a refusal of any call says of the shared room was so at a moment of that call: E10, E13 and E14 at the very act that they tell of, E11 at one moment, E12 and E23 at two, and E8 for each index at a moment of its own, behind a probe of it. A new reference is E8 for what was so within its own stay alone, in which it probed each index.
 pub fn refusals_are_true()
     ensures calls { (c : Config) (last thread : ℕ) (s : State) → CallsRefuseTruly c last thread s }
     ensures parts { (c : Config) (last thread : ℕ) (s : State) → PartsRefuseTruly c last thread s }
-    ensures row { FreeIndexIsFound }
     ensures stay { RefusedInItsStay }
     ensures probes { EachIsProbed }
 {}
