@@ -181,7 +181,7 @@ pub fn announced_gates_only_empty()
     ensures { (c : Config) (last : ℕ) → WithinOnlyLeave c last }
 {}
 
-/// A refused shut of the thread that announced it counts just the threads that are within or knock.
+/// A refused shut of the thread that announced it counts just the threads that are in its way: each was within at the announcement and has not left since, or knocks then.
 pub fn announcers_count_who_is_inside()
     ensures { (c : Config) (last : ℕ) → AnnouncerCounts c last }
 {}
