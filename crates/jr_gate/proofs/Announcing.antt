@@ -55,7 +55,7 @@ announcing_window {old} d = record { from = prefix_self old.seen; to = d.begins;
 
 module _ {S : Type 0} {facts : S → Facts} where
   -- a look that found the gate closed
-  pub look_closed : {a b : S} (p : GateParts) → is_closed p.state ≡ true → Took facts a b (act_of_gate_load gate.Busy p ∷ []) anything (λ j k. ShowsGate p k × keeps j k) → Took facts a b (ShutBusy (all_counted p) ∷ []) anything FindsClosed
+  pub look_closed : {a b : S} (p : GateParts) → is_closed p.state ≡ true → Took facts a b (act_of_gate_load gate.Busy p ∷ []) anything (λ j k. ShowsGate p k × keeps j k) → Took facts a b (ShutBusy (all_counted p) ∷ []) anything (FindsClosed keeps)
   look_closed {a} {b} p closed t = took_less (λ j k s. (s.1, somebody_closes s.0 closed))
       (subst (λ (x : Act). Took facts a b (x ∷ []) anything (λ j k. ShowsGate p k × keeps j k)) (ap (λ z. if z then ShutBusy (all_counted p) else Meet) closed) t)
 
