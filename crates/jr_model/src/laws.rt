@@ -140,7 +140,7 @@ pub fn references_stand_until_deleted()
     ensures cleared { (c : Config) (last : ℕ) → ClearedUntilDeleted c last }
 {}
 
-/// A collection that leaves nothing out clears and drops exactly what is to be, each once. What is reached keeps its kind and elements, and so many words are used as the present objects have.
+/// A collection that leaves nothing out clears and drops exactly what is to be, each once. What is reached keeps its kind and elements, no other object is present any more, and so many words are used as the present objects have.
 pub fn collections_are_exact()
     ensures { (c : Config) (last : ℕ) → CollectionIsExact c last }
 {}
