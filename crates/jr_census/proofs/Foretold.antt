@@ -1,15 +1,14 @@
 -- What a census tells of what nothing reaches, and of words, is what a collection drops and frees.
-use Rattle.std.proofs.Common.{◌≡◌, ◌≤◌, ◌<◌, ◌+◌, ◌==◌, ℕ, Bool, true, false, not, Option, Some, None, IsSome, is_some, List, [], ◌∷◌, ◌++◌, length, get_or, slice_index_or, nat_eq, sum_by, Contains, refl, sym, ap, subst, ◌∙◌, arith, eq-eqb}
+use Rattle.std.proofs.Common.{◌≡◌, ◌≤◌, ◌+◌, ◌==◌, ℕ, Bool, true, false, not, Option, Some, None, IsSome, is_some, List, [], ◌∷◌, ◌++◌, length, get_or, slice_index_or, sum_by, Contains, refl, sym, ap, subst, ◌∙◌, arith, eq-eqb}
 use Rattle.std.specs.List.{AllByRecursion, list_any}
 use Rattle.std.proofs.lemmas.List.Folds.{list_any_at}
 use Rattle.std.proofs.lemmas.List.Sums.{sum_by-cons}
 use Rattle.jr_word.specs.declared.config.Config.{Config}
-use Rattle.jr_word.specs.declared.kind.Kind.{Kind}
 use Rattle.jr_model.specs.declared.event.Act.TheVariants.{Gate}
 use Rattle.jr_model.specs.declared.event.GateAct.TheVariants.{Shut, Reopen}
 use Rattle.jr_model.specs.Maps.{sum_below}
 use Rattle.jr_model.specs.State.{Contents, Handle, HaveSameTables, IsPresent, IsReached, State, length_of, present_words}
-use Rattle.jr_model.specs.History.{History, by, state}
+use Rattle.jr_model.specs.History.{by, state}
 use Rattle.jr_model.specs.CollectionCalls.{IsExact, IsToDrop, KeepsReached}
 use Rattle.jr_model.proofs.Counts.{bit}
 use Rattle.jr_model.proofs.Exactly.{collection_is_exact}
@@ -19,7 +18,6 @@ use Rattle.jr_model.proofs.Lengths.{sum_same}
 use Rattle.jr_compact.proofs.Listed.{sum_listed}
 use Rattle.jr_weak.specs.Marks.{IsExactly}
 use Rattle.jr_weak.proofs.Leading.{reached_present}
-use Rattle.jr_census.specs.declared.taking.Census.{Census}
 use Rattle.jr_census.specs.Counts.{AreObjects, is_present_as, marked, unless, unmarked}
 use Rattle.jr_census.specs.Laws.{AreListed, CollectionIsForetold}
 use Rattle.jr_census.specs.declared.objects.Objects.{Objects as ObjectCounts}

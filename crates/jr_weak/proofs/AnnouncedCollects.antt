@@ -24,7 +24,7 @@ use Rattle.jr_gate.specs.Acting.{ActedTo}
 use Rattle.jr_gate.specs.Announcing.{AnnouncesInTwo, WasNotAnnounced}
 use Rattle.jr_compact.specs.Counting.{TakesWithin}
 use Rattle.jr_weak.specs.Counting.{collection_steps}
-use Rattle.jr_weak.specs.Collecting.{CollectsFrom, Finishes, GivesUp, MakesAnnouncedCollection, closed_at_look, closed_at_exchange, moved_at_exchange, taken_back}
+use Rattle.jr_weak.specs.Collecting.{Finishes, GivesUp, MakesAnnouncedCollection, closed_at_look, closed_at_exchange, moved_at_exchange, taken_back}
 use Rattle.jr_weak.specs.Waiting.{CancelsAfter, ShutsAfter}
 use Rattle.jr_weak.proofs.Collects.{collects_since, within_since}
 use Rattle.jr_weak.proofs.Tries.{one_more}
