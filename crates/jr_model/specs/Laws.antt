@@ -134,7 +134,7 @@ FramesStayAgreed = (old new : PassView) (f g : Frames) (acts : List Act) → Are
 abbrev pub HandleIsAtPlace : Type 0
 HandleIsAtPlace = (f : Frames) (h : Handle) (o : ℕ) → AreSound f → object_of f h ≡ Some o → object_at f h.index ≡ Some o
 
--- a collection that leaves nothing out clears and drops exactly what is to be, each once, and keeps what is reached
+-- a collection that leaves nothing out clears and drops exactly what is to be, each once, and keeps what is reached and nothing else
 abbrev pub CollectionIsExact : Config → ℕ → Type 0
 CollectionIsExact c last = (t : ℕ) (before inside rest : History) (cleared : List Handle) (dropped : List ℕ) (used : ℕ)
     → IsLegal c last (before ++ by t (Gate Shut) ∷ inside ++ by t (Gate Reopen) ∷ rest)

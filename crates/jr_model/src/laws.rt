@@ -140,7 +140,7 @@ pub fn references_stand_until_deleted()
     ensures cleared { (c : Config) (last : ℕ) → ClearedUntilDeleted c last }
 {}
 
-/// A collection that leaves nothing out clears and drops exactly what is to be, each once. What is reached keeps its kind and elements, and so many words are used as the present objects have.
+/// A collection that leaves nothing out clears and drops exactly what is to be, each once. What is reached keeps its kind and elements, no other object is present any more, and so many words are used as the present objects have.
 pub fn collections_are_exact()
     ensures { (c : Config) (last : ℕ) → CollectionIsExact c last }
 {}
@@ -180,7 +180,7 @@ pub fn announced_gates_only_empty()
     ensures { (c : Config) (last : ℕ) → WithinOnlyLeave c last }
 {}
 
-/// A refused shut of the thread that announced it counts just the threads that are within or knock.
+/// A refused shut of the thread that announced it counts just the threads that are in its way: each was within at the announcement and has not left since, or knocks then.
 pub fn announcers_count_who_is_inside()
     ensures { (c : Config) (last : ℕ) → AnnouncerCounts c last }
 {}
