@@ -93,10 +93,12 @@ static List objects, globals, weaks;
 static Named board[MOST_LINES];
 static int posts;
 
+/* Ends the process where something wasn't done. */
 static void must(int is_done) {
     if (!is_done) abort();
 }
 
+/* Adds a reference that was made. */
 static void add(List *to, jobject reference) {
     pthread_mutex_lock(&lock);
     to->its[to->count] = reference;
@@ -104,6 +106,7 @@ static void add(List *to, jobject reference) {
     pthread_mutex_unlock(&lock);
 }
 
+/* Takes away a reference that is deleted. */
 static void take(List *from, jobject reference) {
     pthread_mutex_lock(&lock);
     int at = 0;
@@ -141,9 +144,10 @@ static void free_copy(JNIEnv *env, Value copy) {
     (*env)->DeleteWeakGlobalRef(env, copy.reference);
 }
 
-static void name_it(Thread *thread, const char *name, Value named) {
+/* Has a name stand for something else. */
+static void name_it(Thread *thread, const char *name, Value given) {
     Value *at = place(thread, name), old = *at;
-    *at = named;
+    *at = given;
     if (old.sort == COPY) free_copy(thread->env, old);
 }
 
@@ -235,7 +239,10 @@ static void do_elems(Thread *thread, JNIEnv *env, char **words) {
     name_it(thread, words[1], (Value){COPY, (*env)->NewWeakGlobalRef(env, array), kind, kind->copy(env, array)});
 }
 
-static void read_from(Thread *thread, Value of, char **words) { fprintf(thread->out, "%s %s %s %lld\n", words[0], words[1], words[2], (long long)of.kind->read(of.elements, atoi(words[2]))); }
+static void read_from(Thread *thread, Value of, char **words) {
+    fprintf(thread->out, "%s %s %s %lld\n", words[0], words[1], words[2], (long long)of.kind->read(of.elements, atoi(words[2])));
+}
+
 static void write_to(Value of, char **words) { of.kind->write(of.elements, atoi(words[2]), atoll(words[3])); }
 static void do_eget(Thread *thread, JNIEnv *env, char **words) { (void)env, read_from(thread, value(thread, words[1]), words); }
 static void do_eput(Thread *thread, JNIEnv *env, char **words) { (void)env, write_to(value(thread, words[1]), words); }
@@ -251,7 +258,9 @@ static void do_release(Thread *thread, JNIEnv *env, char **words) {
 }
 
 /* Opens a level. In a region no JNI function may be called but these: the kind is the one that the machine told when the name was set. */
-static void open_level(Thread *thread, const char *name, Sort sort, Value at, const void *elements) { thread->levels[thread->level_count++] = (Named){name, {sort, at.reference, at.kind, (void *)elements}}; }
+static void open_level(Thread *thread, const char *name, Sort sort, Value at, const void *elements) {
+    thread->levels[thread->level_count++] = (Named){name, {sort, at.reference, at.kind, (void *)elements}};
+}
 
 static void do_crit(Thread *thread, JNIEnv *env, char **words) {
     Value at = value(thread, words[2]);
@@ -388,10 +397,12 @@ static const struct {
     const char *verb;
     Command *act;
 } COMMANDS[] = {
-    {"plain", do_plain}, {"boolean", do_array}, {"byte", do_array}, {"char", do_array}, {"short", do_array}, {"int", do_array}, {"long", do_array}, {"objs", do_objs}, {"string", do_string},
-    {"len", do_len}, {"slen", do_slen}, {"chars", do_chars}, {"get", do_get}, {"set", do_set}, {"load", do_load}, {"store", do_store}, {"elems", do_elems}, {"eget", do_eget}, {"eput", do_eput},
-    {"release", do_release}, {"crit", do_crit}, {"critstr", do_critstr}, {"cget", do_cget}, {"cset", do_cset}, {"endcrit", do_endcrit}, {"global", do_global}, {"weak", do_weak}, {"local", do_local},
-    {"pop", do_pop}, {"push", do_push}, {"ensure", do_ensure}, {"drop", do_drop}, {"type", do_type}, {"same", do_same}, {"gc", do_gc}, {"gcann", do_gc}, {"post", do_post}, {"wait", do_wait},
+    {"plain", do_plain}, {"boolean", do_array}, {"byte", do_array}, {"char", do_array}, {"short", do_array}, {"int", do_array}, {"long", do_array},
+    {"objs", do_objs}, {"string", do_string}, {"len", do_len}, {"slen", do_slen}, {"chars", do_chars}, {"get", do_get}, {"set", do_set},
+    {"load", do_load}, {"store", do_store}, {"elems", do_elems}, {"eget", do_eget}, {"eput", do_eput}, {"release", do_release}, {"crit", do_crit},
+    {"critstr", do_critstr}, {"cget", do_cget}, {"cset", do_cset}, {"endcrit", do_endcrit}, {"global", do_global}, {"weak", do_weak},
+    {"local", do_local}, {"pop", do_pop}, {"push", do_push}, {"ensure", do_ensure}, {"drop", do_drop}, {"type", do_type}, {"same", do_same},
+    {"gc", do_gc}, {"gcann", do_gc}, {"post", do_post}, {"wait", do_wait},
 };
 
 /* ---- threads and scripts */
