@@ -239,13 +239,26 @@ static void do_elems(Thread *thread, JNIEnv *env, char **words) {
     name_it(thread, words[1], (Value){COPY, (*env)->NewWeakGlobalRef(env, array), kind, kind->copy(env, array)});
 }
 
-static void read_from(Thread *thread, Value of, char **words) {
+/* The elements that the name of `eget` or `cget` and their like stands for: of a copy, or of the newest level of that name. */
+static Value elements_of(Thread *thread, char **words) {
+    if (words[0][0] == 'e') return value(thread, words[1]);
+    int at = thread->level_count - 1;
+    while (strcmp(thread->levels[at].name, words[1]) != 0) at--;
+    return thread->levels[at].value;
+}
+
+static void do_read(Thread *thread, JNIEnv *env, char **words) {
+    Value of = elements_of(thread, words);
+    (void)env;
     fprintf(thread->out, "%s %s %s %lld\n", words[0], words[1], words[2], (long long)of.kind->read(of.elements, atoi(words[2])));
 }
 
-static void write_to(Value of, char **words) { of.kind->write(of.elements, atoi(words[2]), atoll(words[3])); }
-static void do_eget(Thread *thread, JNIEnv *env, char **words) { (void)env, read_from(thread, value(thread, words[1]), words); }
-static void do_eput(Thread *thread, JNIEnv *env, char **words) { (void)env, write_to(value(thread, words[1]), words); }
+static void do_write(Thread *thread, JNIEnv *env, char **words) {
+    Value of = elements_of(thread, words);
+    (void)env;
+    of.kind->write(of.elements, atoi(words[2]), atoll(words[3]));
+}
+
 static jint mode_of(const char *word) { return strcmp(word, "copy") == 0 ? 0 : strcmp(word, "commit") == 0 ? JNI_COMMIT : JNI_ABORT; }
 
 static void do_release(Thread *thread, JNIEnv *env, char **words) {
@@ -271,16 +284,6 @@ static void do_critstr(Thread *thread, JNIEnv *env, char **words) {
     Value at = {.reference = named(thread, words[2]), .kind = &KINDS[CHAR]};
     open_level(thread, words[1], STRING_LEVEL, at, (*env)->GetStringCritical(env, at.reference, NULL));
 }
-
-/* The newest level of a name. */
-static Value level(Thread *thread, const char *name) {
-    int at = thread->level_count - 1;
-    while (strcmp(thread->levels[at].name, name) != 0) at--;
-    return thread->levels[at].value;
-}
-
-static void do_cget(Thread *thread, JNIEnv *env, char **words) { (void)env, read_from(thread, level(thread, words[1]), words); }
-static void do_cset(Thread *thread, JNIEnv *env, char **words) { (void)env, write_to(level(thread, words[1]), words); }
 
 static void end_level(Thread *thread, JNIEnv *env, jint mode) {
     Value last = thread->levels[--thread->level_count].value;
@@ -399,8 +402,8 @@ static const struct {
 } COMMANDS[] = {
     {"plain", do_plain}, {"boolean", do_array}, {"byte", do_array}, {"char", do_array}, {"short", do_array}, {"int", do_array}, {"long", do_array},
     {"objs", do_objs}, {"string", do_string}, {"len", do_len}, {"slen", do_slen}, {"chars", do_chars}, {"get", do_get}, {"set", do_set},
-    {"load", do_load}, {"store", do_store}, {"elems", do_elems}, {"eget", do_eget}, {"eput", do_eput}, {"release", do_release}, {"crit", do_crit},
-    {"critstr", do_critstr}, {"cget", do_cget}, {"cset", do_cset}, {"endcrit", do_endcrit}, {"global", do_global}, {"weak", do_weak},
+    {"load", do_load}, {"store", do_store}, {"elems", do_elems}, {"eget", do_read}, {"eput", do_write}, {"release", do_release}, {"crit", do_crit},
+    {"critstr", do_critstr}, {"cget", do_read}, {"cset", do_write}, {"endcrit", do_endcrit}, {"global", do_global}, {"weak", do_weak},
     {"local", do_local}, {"pop", do_pop}, {"push", do_push}, {"ensure", do_ensure}, {"drop", do_drop}, {"type", do_type}, {"same", do_same},
     {"gc", do_gc}, {"gcann", do_gc}, {"post", do_post}, {"wait", do_wait},
 };
