@@ -2,8 +2,7 @@ ghost use Rattle.std.specs.Prelude.{ℕ};
 ghost use Rattle.jr_word.specs.declared.config.Config.{Config};
 ghost use Rattle.jr_model.specs.State.{State};
 ghost use Rattle.jr_model.specs.History.{PassView};
-ghost use Rattle.jr_model.specs.StayCalls.{NoCollectionInOpenStay, NoCollectionUpToExit};
-ghost use Rattle.jr_model.specs.CriticalRegions.{NoCollectionInRegion, NoCollectionUpToRelease};
+ghost use Rattle.jr_model.specs.OpenStays.{GoesOnWithItsActs, NoCollectionInOpenStay, NoCollectionUpToExit};
 ghost use Rattle.jr_model.specs.Announcements.{NobodyEnters, WithinOnlyLeave, AnnouncerCounts};
 ghost use Rattle.jr_model.specs.Grounded.{RefusedInItsStay, EachIsProbed, CallsAreTheirStays};
 ghost use Rattle.jr_model.specs.TrueRefusals.{CallsRefuseTruly, PartsRefuseTruly};
@@ -66,14 +65,9 @@ pub fn stays_exclude_collections()
     ensures collection { (c : Config) (last : ℕ) → OthersWait c last }
 {}
 
-/// No collection step lies between the opening of a critical region and the release of its first level, whatever calls of the region come between, and whatever the other threads do.
-pub fn regions_exclude_collections()
-    ensures stands { NoCollectionInRegion }
-    ensures released { NoCollectionUpToRelease }
-{}
-
-/// From the entry of a stay that goes on from call to call to its exit, no step of a collection comes, of whatever thread; and all between is one stay of the thread.
+/// From the entry of a stay that goes on from call to call, or of a critical region, to its exit, no step of a collection comes, of whatever thread; and all between is one stay of the thread, with its acts and no others.
 pub fn open_stays_exclude_collections()
+    ensures goes { GoesOnWithItsActs }
     ensures stands { NoCollectionInOpenStay }
     ensures left { NoCollectionUpToExit }
 {}
