@@ -22,7 +22,7 @@ use Rattle.jr_rule.specs.declared.pass.Pass.{Pass}
 use Rattle.jr_rule.specs.declared.row.Row.{Row}
 use Rattle.jr_rule.specs.Passes.{known_of, stands_of, HasEachPass, HasPass, IsAt, IsSeenIn, PassStands}
 use Rattle.jr_rule.specs.Sights.{IsSeatOf}
-use Rattle.jr_rule.specs.Rule.{crowd_of, first_alone, others_of, stepping_pass, together, view_of, AreBeginnings, CountedBy, Counts, EachFits, IsAlone, IsCrowd, IsSeated, LookedBy, SeatState, Tells}
+use Rattle.jr_rule.specs.Rule.{crowd_of, first_alone, others_of, stepping_pass, together, view_of, AreBeginnings, CountedBy, HasCounted, EachFits, IsAlone, IsCrowd, IsSeated, LookedBy, SeatState, Tells}
 use Rattle.jr_rule.proofs.Ended.{seen_in}
 use Rattle.jr_rule.proofs.GateSteps.{counted_after}
 
@@ -59,7 +59,7 @@ at_last r xs ys o p e is all =
 
 -- WHAT THE LOOK COUNTS
 
-pub counts_so : (m c m' : SeatState) (n count : ℕ) (q : GateParts) → m ≡ c → Tells CountedBy m n m' → ((p : GateParts) → IsGate p → n ≡ gate_word p → q ≡ p) → count ≡ all_counted q → Counts c m' count
+pub counts_so : (m c m' : SeatState) (n count : ℕ) (q : GateParts) → m ≡ c → Tells CountedBy m n m' → ((p : GateParts) → IsGate p → n ≡ gate_word p → q ≡ p) → count ≡ all_counted q → HasCounted c m' count
 counts_so m c m' n count q e t same is =
     let s = t.says in
     let new : t.new ≡ stepping_pass m' = sym (ap stepping_pass t.is) in record {
@@ -68,7 +68,7 @@ counts_so m c m' n count q e t same is =
       is = is ∙ (ap all_counted (same s.0 s.1 s.2) ∙ (counted_after s.0 t.goes s.4 ∙ ap (λ (k : Known). not_outside k.config (state_of k)) new));
     }
 
-module _ (first rest m' : SeatState) (ks : List Known) (count : ℕ) (c : Counts (crowd_of first ks rest) m' count) where
+module _ (first rest m' : SeatState) (ks : List Known) (count : ℕ) (c : HasCounted (crowd_of first ks rest) m' count) where
   pub counted_is : m' ≡ (view_of ((c.tells).new ∷ (ks ++ rest.0.passes)), [])
   counted_is = c.tells.is
 
