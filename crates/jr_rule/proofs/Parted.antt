@@ -1,32 +1,28 @@
 -- Passes that close their room together: their seats come together, look at the gate, and part.
-use Rattle.std.proofs.Common.{◌≡◌, ◌≢◌, ◌≤◌, ◌<◌, ⊎_elim, ℕ, not, Option, Some, IfSome, option_to_list, List, [], ◌∷◌, ◌++◌, map, refl, sym, ap, subst, ◌∙◌, arith, append_assoc}
+use Rattle.std.proofs.Common.{◌≡◌, ◌≤◌, ◌<◌, ⊎_elim, ℕ, not, Option, Some, IfSome, option_to_list, List, [], ◌∷◌, ◌++◌, map, sym, ap, subst, ◌∙◌, arith, append_assoc}
 use Rattle.std.proofs.lemmas.List.{append-nil}
 use Rattle.std.specs.List.{All, AllByRecursion}
 use Rattle.std.proofs.lemmas.List.Elements.{All-nil, All-cons, All-head, All-pop, All-tail}
 use mathlib.Core.List.{map-append}
-use Rattle.atomic_table.specs.Seated.{TableId}
 use Rattle.jr_word.specs.declared.config.Config.{Config}
 use Rattle.jr_word.specs.declared.gate.GateParts.{GateParts}
 use Rattle.jr_word.specs.Gate.{gate_word, IsGate}
 use Rattle.jr_model.specs.declared.event.Act.{Act}
 use Rattle.jr_model.specs.declared.event.Act.TheVariants.{Meet}
-use Rattle.jr_model.specs.declared.event.Role.{Role}
 use Rattle.jr_model.specs.declared.event.Role.TheVariants.{Outside}
 use Rattle.jr_model.specs.State.{not_outside, is_outside}
-use Rattle.jr_model.specs.History.{History, state, mine, role_of, role_from}
+use Rattle.jr_model.specs.History.{History, state, role_from}
 use Rattle.jr_model.proofs.Counts.{count_all_false}
 use Rattle.jr_model.proofs.Stays.{role_did, role_of_state}
 use Rattle.jr_steps.specs.declared.known.Known.{Known}
-use Rattle.jr_steps.specs.declared.known.Holdings.{Holdings}
 use Rattle.jr_steps.specs.Acts.{all_counted}
-use Rattle.jr_steps.specs.Holdings.{InSpace}
-use Rattle.jr_steps.specs.Knowing.{Goes, keeps, state_of, view}
+use Rattle.jr_steps.specs.Knowing.{Goes, state_of}
 use Rattle.jr_steps.proofs.StepFacts.{goes_did}
 use Rattle.jr_rule.specs.declared.pass.Pass.{Pass}
 use Rattle.jr_rule.specs.declared.row.Row.{Row}
 use Rattle.jr_rule.specs.Passes.{known_of, stands_of, HasEachPass, HasPass, IsAt, IsSeenIn, PassStands}
 use Rattle.jr_rule.specs.Sights.{IsSeatOf}
-use Rattle.jr_rule.specs.Rule.{crowd_of, first_alone, first_of, others_of, stepping_pass, together, view_of, AreBeginnings, CountedBy, HaveCounted, EachFits, IsAlone, IsCrowd, IsSeated, LookedBy, LooksBy, SeatState, Tells}
+use Rattle.jr_rule.specs.Rule.{crowd_of, first_alone, others_of, stepping_pass, together, view_of, AreBeginnings, CountedBy, HasCounted, EachFits, IsAlone, IsCrowd, IsSeated, LookedBy, SeatState, Tells}
 use Rattle.jr_rule.proofs.Ended.{seen_in}
 use Rattle.jr_rule.proofs.GateSteps.{counted_after}
 
@@ -63,7 +59,7 @@ at_last r xs ys o p e is all =
 
 -- WHAT THE LOOK COUNTS
 
-pub counts_so : (m c m' : SeatState) (n count : ℕ) (q : GateParts) → m ≡ c → Tells CountedBy m n m' → ((p : GateParts) → IsGate p → n ≡ gate_word p → q ≡ p) → count ≡ all_counted q → HaveCounted c m' count
+pub counts_so : (m c m' : SeatState) (n count : ℕ) (q : GateParts) → m ≡ c → Tells CountedBy m n m' → ((p : GateParts) → IsGate p → n ≡ gate_word p → q ≡ p) → count ≡ all_counted q → HasCounted c m' count
 counts_so m c m' n count q e t same is =
     let s = t.says in
     let new : t.new ≡ stepping_pass m' = sym (ap stepping_pass t.is) in record {
@@ -72,7 +68,7 @@ counts_so m c m' n count q e t same is =
       is = is ∙ (ap all_counted (same s.0 s.1 s.2) ∙ (counted_after s.0 t.goes s.4 ∙ ap (λ (k : Known). not_outside k.config (state_of k)) new));
     }
 
-module _ (first rest m' : SeatState) (ks : List Known) (count : ℕ) (c : HaveCounted (crowd_of first ks rest) m' count) where
+module _ (first rest m' : SeatState) (ks : List Known) (count : ℕ) (c : HasCounted (crowd_of first ks rest) m' count) where
   pub counted_is : m' ≡ (view_of ((c.tells).new ∷ (ks ++ rest.0.passes)), [])
   counted_is = c.tells.is
 

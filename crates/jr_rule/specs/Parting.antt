@@ -5,7 +5,7 @@ use Rattle.jr_rule.specs.declared.pass.Pass.{Pass}
 use Rattle.jr_rule.specs.declared.row.Parted.{Parted}
 use Rattle.jr_rule.specs.declared.rule.View.{View}
 use Rattle.jr_rule.specs.Passes.{known_of, stands_of}
-use Rattle.jr_rule.specs.Rule.{crowd_of, first_alone, view_of, HaveCounted, SeatState}
+use Rattle.jr_rule.specs.Rule.{crowd_of, first_alone, view_of, HasCounted, SeatState}
 
 -- a seat of nobody
 abbrev pub no_seat : SeatState
@@ -15,7 +15,7 @@ no_seat = (view_of [], [])
 pub record HaveParted (first rest : Seat (Unit {0}) View) (others : List Pass) (len capacity : ℕ) (p : Parted) : Type 0 where
   pub room : p.first.table_id ≡ first.table_id
   pub together : SeatState
-  pub counts : HaveCounted (crowd_of first.me (map known_of others) rest.me) together p.inside
+  pub counts : HasCounted (crowd_of first.me (map known_of others) rest.me) together p.inside
   pub alone : p.first.me ≡ (first_alone together.0, together.1)
   pub some : 1 ≤ p.inside
   pub same_rest : (p.rest.table_id ≡ rest.table_id) × (p.rest.me ≡ rest.me)
@@ -27,7 +27,7 @@ pub record HaveParted (first rest : Seat (Unit {0}) View) (others : List Pass) (
 pub record IsParted (first : Seat (Unit {0}) View) (others : List Pass) (p : Parted) : Type 0 where
   pub room : p.first.table_id ≡ first.table_id
   pub together : SeatState
-  pub counts : HaveCounted (crowd_of first.me (map known_of others) no_seat) together p.inside
+  pub counts : HasCounted (crowd_of first.me (map known_of others) no_seat) together p.inside
   pub alone : p.first.me ≡ (first_alone together.0, together.1)
   pub some : 1 ≤ p.inside
   pub same_others : map stands_of p.others.items ≡ map stands_of others

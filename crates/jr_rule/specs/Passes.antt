@@ -1,5 +1,5 @@
 -- What a pass shows, and what a room gives.
-use Rattle.std.specs.Prelude.{◌≡◌, ◌⊎◌, ◌<◌, ℕ, zero, suc, Bool, true, false, List, [], ◌∷◌, ◌++◌, map}
+use Rattle.std.specs.Prelude.{◌≡◌, ◌⊎◌, ◌<◌, ℕ, zero, suc, Bool, true, List, [], ◌∷◌, ◌++◌, map}
 use Rattle.std.specs.List.{All, AllByRecursion}
 use mathlib.Core.List.{IsPrefix}
 use Rattle.atomic_table.specs.declared.shared.Seat.{Seat}

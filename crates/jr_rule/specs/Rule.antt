@@ -155,7 +155,7 @@ abbrev pub CountedBy : Known → ℕ → List Act → Known → Type 0
 CountedBy k n acts k' = (p : GateParts) × IsGate p × (n ≡ gate_word p) × (acts ≡ Meet ∷ []) × ShowsGate p k' × keeps k k'
 
 -- PASSES AT ONE SEAT COUNTED the threads inside, knocking, announcing or collecting, by one look at the gate
-pub record HaveCounted (m m' : SeatState) (count : ℕ) : Type 0 where
+pub record HasCounted (m m' : SeatState) (count : ℕ) : Type 0 where
   pub found : ℕ
   pub tells : Tells CountedBy m found m'
   pub is : count ≡ not_outside (stepping_pass m').config (state_of (stepping_pass m'))

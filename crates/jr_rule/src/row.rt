@@ -36,7 +36,7 @@ ghost use Rattle.jr_model.specs.declared.event.Role.TheVariants.{Outside};
 ghost use Rattle.jr_steps.specs.Holdings.{empty};
 ghost use Rattle.jr_rule.specs.Image.{header_at as place_of_header, element_at as place_of_element};
 ghost use Rattle.jr_rule.specs.Sights.{IsSeatOf};
-ghost use Rattle.jr_rule.specs.Rule.{crowd_of, HaveCounted, IsAlone, IsCrowd, IsNote, IsSeated, IsSized, stepping_pass, sizes, known, view_of, newcomers, others_of};
+ghost use Rattle.jr_rule.specs.Rule.{crowd_of, HasCounted, IsAlone, IsCrowd, IsNote, IsSeated, IsSized, stepping_pass, sizes, known, view_of, newcomers, others_of};
 
 use crate::cells::{Cells, StepKind};
 use crate::closing::ClosedWords;
@@ -185,7 +185,7 @@ impl Row {
         requires first { IsAlone first.old.me }
         requires rest { IsCrowd rest.me }
         ensures room { first.new.table_id ≡ first.old.table_id }
-        ensures counts { HaveCounted (crowd_of first.old.me [] rest.me) first.new.me result }
+        ensures counts { HasCounted (crowd_of first.old.me [] rest.me) first.new.me result }
     {
         let shared = &self.table.shared;
         shared.join_seat::<Gather>(first, rest);
@@ -202,7 +202,7 @@ impl Row {
         requires room { seat.table_id ≡ self.now.table.shared.table_id }
         requires first { IsAlone seat.me }
         requires others { All (λ p. IsAt self.now p) others.items }
-        ensures ok { IfOk result (λ s. (s.table_id ≡ seat.table_id) × HaveCounted (crowd_of seat.me (map known_of others.items) no_seat) s.me 0) }
+        ensures ok { IfOk result (λ s. (s.table_id ≡ seat.table_id) × HasCounted (crowd_of seat.me (map known_of others.items) no_seat) s.me 0) }
         ensures err { IfErr result (λ p. IsParted seat others.items p) }
     {
         let none = self.table.shared.split_seat::<Part>(&mut seat);
@@ -221,7 +221,7 @@ impl Row {
         requires first { IsAlone first.me }
         requires rest { IsCrowd rest.me }
         requires others { All (λ p. IsAt self.now p) others.items }
-        ensures ok { IfOk result (λ s. (s.table_id ≡ first.table_id) × HaveCounted (crowd_of first.me (map known_of others.items) rest.me) s.me 0) }
+        ensures ok { IfOk result (λ s. (s.table_id ≡ first.table_id) × HasCounted (crowd_of first.me (map known_of others.items) rest.me) s.me 0) }
         ensures err { IfErr result (λ p. HaveParted first rest others.items (vec_len others) (vec_capacity others) p) }
     {
         let shared = &self.table.shared;

@@ -1,6 +1,6 @@
 use Rattle.std.proofs.Common.{◌≡◌, ◌+◌, ◌++◌, ◌∷◌, [], option_to_list, map, rules, sym, ap, subst, ◌∙◌}
 use Rattle.jr_rule.specs.Passes.{known_of, stands_of}
-use Rattle.jr_rule.specs.Rule.{HaveCounted, SeatState, stepping_pass, without_first}
+use Rattle.jr_rule.specs.Rule.{HasCounted, SeatState, stepping_pass, without_first}
 use Rattle.jr_rule.proofs.Parted.{at_last, crowd_more, more_stand, same_crowd, still_crowd}
 use Rattle.jr_rule.proofs.Seats.{deals, gathers, parts}
 use Rattle.jr_rule.proofs.row.Row.+count_all.Goals as goal
@@ -45,7 +45,7 @@ returns-in-Err-clause-err t c =
     let knows = ap stepping_pass split.4 ∙ ap stepping_pass e in record {
       room = h.room;
       together = h.together;
-      counts = subst (λ (z : SeatState). HaveCounted z h.together c.in-Err.parted.inside) (same_crowd p s rest joined c.args.first.me xs init is) h.counts;
+      counts = subst (λ (z : SeatState). HasCounted z h.together c.in-Err.parted.inside) (same_crowd p s rest joined c.args.first.me xs init is) h.counts;
       alone = h.alone;
       some = h.some;
       same_rest = (split.0 ∙ (h.same_rest.0 ∙ (c.join_seat.ensures.0 ∙ (at.row ∙ sym (c.requires.same ∙ c.requires.room)))), split.2 ∙ (ap (λ (m : SeatState). (without_first m.0, m.1)) e ∙ sym c.requires.rest));
