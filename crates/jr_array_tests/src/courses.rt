@@ -46,7 +46,7 @@ fn others<'a>(
     ensures { All (λ p. IsOpened room.now.row p) passes.new.items }
 {
     match by {
-        By::Maker => Ok(Others::Maker(next_env(room, passes)?)),
+        By::Maker => Ok(Others::Maker(next_env(room, passes)?, 3)),
         By::Both(kind, first, second) => {
             let first = with_plans(room, passes, kind, first)?;
             let second = with_plans(room, passes, kind, second)?;

@@ -12,6 +12,8 @@ mod copies;
 #[cfg(test)]
 mod courses;
 #[cfg(test)]
+mod deletion_threads;
+#[cfg(test)]
 mod element_types;
 #[cfg(test)]
 mod elements;

@@ -60,8 +60,8 @@ fn kind_of(at: usize, old: u64, new: u64) -> Option<Before> {
 /// Who else is in the room, and what they do before a step of a thread.
 #[derive(Drop)]
 pub(crate) enum Others<U: Steps> {
-    /// A thread makes an array of one element before each reservation.
-    Maker(Env<U>),
+    /// A thread makes an array before each reservation, the next one of so many elements.
+    Maker(Env<U>, u32),
     /// Each of two threads does what it plans.
     Planners(Planned<U>, Planned<U>),
 }
@@ -77,7 +77,7 @@ impl<U: Steps> Others<U> {
 
     fn act_before(&mut self, before: Before) {
         match self {
-            Others::Maker(env) => make_before(env, before),
+            Others::Maker(env, length) => make_before(env, length, before),
             Others::Planners(first, second) => {
                 first.act(before);
                 second.act(before);
@@ -93,10 +93,11 @@ impl<U: Steps> Others<U> {
     }
 }
 
-/// Makes an array of one element before a reservation.
-fn make_before<U: Steps>(env: &mut Env<U>, before: Before) {
+/// Makes an array before a reservation, of three elements and of two by turns.
+fn make_before<U: Steps>(env: &mut Env<U>, length: &mut u32, before: Before) {
     if before == Before::Reservation {
-        let _ = env.new_array::<i32>(1);
+        let _ = env.new_array::<i32>(*length);
+        *length = if *length == 3 { 2 } else { 3 };
     }
 }
 
@@ -183,14 +184,14 @@ pub(crate) fn with_others<C: Cells<P>, P: Copy, U: Steps>(
     }
 }
 
-/// Each call that reserves words is refused with E12, as another thread reserved one more each time. It has left no local reference.
+/// Each call that reserves words is refused with E12, as another thread reserved some each time. It has left no local reference.
 pub(crate) fn is_overtaken<S: Steps>(rt: &impl Abort, env: &mut Env<S>) -> Result<(), Fail> {
-    refuses(rt, env.new_array::<i32>(3), Fault::Raced(0, 1));
-    refuses(rt, env.new_string(&[1, 2]), Fault::Raced(1, 2));
+    refuses(rt, env.new_array::<i32>(3), Fault::Raced(0, 3));
+    refuses(rt, env.new_string(&[1, 2]), Fault::Raced(3, 5));
     refuses(
         rt,
         env.new_object_array(3, Handle::NULL),
-        Fault::Raced(2, 3),
+        Fault::Raced(5, 8),
     );
     assert!(rt; env.held.steps.thread() == 1);
     assert!(rt; env.get_object_ref_type(FIRST) == Ok(0));
@@ -200,12 +201,12 @@ pub(crate) fn is_overtaken<S: Steps>(rt: &impl Abort, env: &mut Env<S>) -> Resul
 // A call that E12 refused has left no local reference, no object and no word.
 #[test]
 fn another_thread_is_always_faster(rt: HostRuntime) -> Result<(), Fail> {
-    // Three arrays of the other thread, with an element each.
+    // Three arrays of the other thread, with three, two and three elements.
     let summary = Summary {
         globals: 0,
         weaks: 0,
         live: 3,
-        used: 3,
+        used: 8,
     };
     let left = Some(summary);
     overtakes(&rt, rt.alloc(), SMALL, By::Maker, Shown::IsOvertaken, left)

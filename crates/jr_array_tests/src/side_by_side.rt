@@ -1,4 +1,5 @@
 //! Two threads of a room that run side by side: whose words each reserves while the other looks for them, and regions beside collections.
+use crate::deletion_threads::{Side, delete_beside, make_contested};
 use crate::envs::{LAST, leaves, next_env};
 use crate::overtaken::FIRST;
 use jr_env::Env;
@@ -116,23 +117,29 @@ fn collect_often<S: Steps>(steps: &mut S, collections: u32, tries: u32) -> u32 {
 
 /// What a thread does.
 #[derive(Clone, Copy)]
-enum Job {
+pub(crate) enum Job {
     /// Makes arrays of one element.
     Make,
     /// Opens regions over an array of two elements, and writes there.
     Write,
     /// Collects.
     Collect,
+    /// Deletes references that the other thread deletes too, each at the same time.
+    Delete(Side),
 }
 
 impl Job {
-    /// Makes, before any thread is started, the array that it is done with.
+    /// Makes, before any thread is started, what it is done with.
     fn prepare<S: Steps>(self, rt: &impl Abort, env: &mut Env<S>) -> Result<(), Fail> {
-        if let Job::Write = self {
-            let array = env.new_array::<i64>(2)?;
-            assert!(rt; array == FIRST);
+        match self {
+            Job::Write => {
+                let array = env.new_array::<i64>(2)?;
+                assert!(rt; array == FIRST);
+                Ok(())
+            }
+            Job::Delete(Side::One) => make_contested(rt, env),
+            _ => Ok(()),
         }
-        Ok(())
     }
 
     /// Does it. How often it was done.
@@ -144,15 +151,18 @@ impl Job {
                 let mut steps = env.into_pass();
                 Ok(collect_often(&mut steps, COLLECTIONS, TRIES))
             }
+            Job::Delete(side) => delete_beside(&mut env, side),
         }
     }
 
-    /// How many arrays it has made, and how many elements they have, where it was done as often as it is to.
-    fn made(self, done: u32) -> Result<(u32, u32), Fail> {
+    /// How many arrays it has made, how many elements they have, and how many global references stand, where it was done as often as it is to.
+    fn made(self, done: u32) -> Result<(u32, u32, u32), Fail> {
         match self {
-            Job::Make => Ok((done, done)),
-            Job::Write if done == REGIONS => Ok((1, 2)),
-            Job::Collect if done == COLLECTIONS => Ok((0, 0)),
+            Job::Make => Ok((done, done, 0)),
+            Job::Write if done == REGIONS => Ok((1, 2, 0)),
+            Job::Collect if done == COLLECTIONS => Ok((0, 0, 0)),
+            Job::Delete(Side::One) => Ok((1, 4, 1)),
+            Job::Delete(Side::Other) => Ok((0, 0, 0)),
             _ => Err("a thread has done less than it is to")?,
         }
     }
@@ -176,7 +186,7 @@ fn ended<R: Threads>(rt: &R, thread: Option<JoinHandle<Result<u32, Fault>>>) -> 
 }
 
 /// Two threads do their jobs side by side, each as often as it is to. Then what they made stands, and no more.
-fn both_do<R: Threads + Wait + Abort>(
+pub(crate) fn both_do<R: Threads + Wait + Abort>(
     rt: &R,
     alloc: Global,
     config: Config,
@@ -193,10 +203,10 @@ fn both_do<R: Threads + Wait + Abort>(
         let second = start(scope, two, second);
         (ended(rt, first), ended(rt, second))
     });
-    let (live, used) = one.made(first?)?;
-    let (more_live, more_used) = two.made(second?)?;
+    let (live, used, globals) = one.made(first?)?;
+    let (more_live, more_used, more_globals) = two.made(second?)?;
     let summary = Summary {
-        globals: 0,
+        globals: globals.saturating_add(more_globals),
         weaks: 0,
         live: live.saturating_add(more_live),
         used: used.saturating_add(more_used),
