@@ -13,7 +13,7 @@ loop-i-preserved g c = (
   c.advance-left.ensures.stand,
   c.advance-left.ensures.room ∙ c.loop-i.invariant.2,
   still_more g.B.Board.layout g.B.Board.tells c.loop-i.invariant.3 c.advance-left.ensures.kept,
-  followed c.index-commands-i.result c.loop-i.names c.advance-left.new.names c.record.new.names c.advance-left.result.answer c.loop-i.words.items c.record.new.words.items _ _ _ c.record.result (g.B.Board.follows c.advance-left.new.board) c.advance-left.ensures.names c.record.ensures c.in-Ok.is c.advance-left.ensures.follows,
+  followed c.index-commands-i.result _ _ _ _ _ _ _ _ _ c.record.result (g.B.Board.follows c.advance-left.new.board) c.advance-left.ensures.names c.record.ensures c.in-Ok.is c.advance-left.ensures.follows,
 )
 
 pub advance-left-requires-clause-follows : goal.advance-left-requires-clause-follows
