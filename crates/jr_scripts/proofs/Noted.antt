@@ -62,12 +62,12 @@ module _ {T : Type 0} where
   -- WORDS THAT ARE NOTED
 
   -- they are still, below the same stamp or a greater one
-  pub below_still : {numbers numbers' : List (List ℕ × ℕ)} {old new : List (Option (Note T))} {stamp stamp' : ℕ} (words : Words) → numbers' ≡ numbers → StaysNoted old new → stamp ≤ stamp' → AreBelow numbers old stamp words → AreBelow numbers' new stamp' words
-  below_still [] same kept more below = tt
-  below_still {numbers} {numbers'} {old} {new} (x ∷ xs) same kept more below =
+  pub below_still : {numbers numbers' : List (List ℕ × ℕ)} (old new : List (Option (Note T))) {stamp stamp' : ℕ} (words : Words) → numbers' ≡ numbers → StaysNoted old new → stamp ≤ stamp' → AreBelow numbers old stamp words → AreBelow numbers' new stamp' words
+  below_still old new [] same kept more below = tt
+  below_still {numbers} {numbers'} old new (x ∷ xs) same kept more below =
       let one = below.0 in
       let less = one.2 in
-      ((one.0, subst (λ z. posted_noted z new x.0 ≡ Some one.0) (sym same) (kept_under numbers old new kept x.0 one.0 one.1), omega arith), below_still xs same kept more below.1)
+      ((one.0, subst (λ z. posted_noted z new x.0 ≡ Some one.0) (sym same) (kept_under numbers old new kept x.0 one.0 one.1), omega arith), below_still old new xs same kept more below.1)
 
   below_last : (numbers : List (List ℕ × ℕ)) (notes : List (Option (Note T))) (stamp : ℕ) (words : Words) (x : List ℕ × ℕ) → (p : Posted T) × (posted_noted numbers notes x.0 ≡ Some p) × (p.stamp < stamp) → AreBelow numbers notes stamp words → AreBelow numbers notes stamp (words ++ x ∷ [])
   below_last numbers notes stamp [] x one below = (one, tt)
@@ -82,28 +82,28 @@ module _ {T : Type 0} where
       go false = below_last numbers notes stamp words (n, w) (p, is, less) below
 
   -- the words of a thread that posted or heard one
-  pub words_more : {lost lost' : Bool} {numbers numbers' : List (List ℕ × ℕ)} {old new : List (Option (Note T))} {heard heard' : ℕ} {so : Posted T → Type 0} (words : Words) (n : List ℕ) (w : ℕ) → (lost ≡ true → lost' ≡ true) → numbers' ≡ numbers → StaysNoted old new → ((p : Posted T) → so p → p.stamp ≤ heard')
+  pub words_more : {lost lost' : Bool} {numbers numbers' : List (List ℕ × ℕ)} (old : List (Option (Note T))) {new : List (Option (Note T))} {heard heard' : ℕ} {so : Posted T → Type 0} (words : Words) (n : List ℕ) (w : ℕ) → (lost ≡ true → lost' ≡ true) → numbers' ≡ numbers → StaysNoted old new → ((p : Posted T) → so p → p.stamp ≤ heard')
       → (lost' ≡ true) ⊎ (heard ≤ heard') → (lost' ≡ true) ⊎ HasNoted numbers' new n w so → words_noted lost numbers old heard words → words_noted lost' numbers' new heard' (words_with words n w)
-  words_more words n w gone same kept few more (inl x) had = inl x
-  words_more words n w gone same kept few more (inr x) (inl y) = inl (gone y)
-  words_more words n w gone same kept few (inl z) (inr x) (inr y) = inl z
-  words_more {numbers' = numbers'} {new = new} {heard' = heard'} words n w gone same kept few (inr z) (inr x) (inr y) =
+  words_more old words n w gone same kept few more (inl x) had = inl x
+  words_more old words n w gone same kept few more (inr x) (inl y) = inl (gone y)
+  words_more old words n w gone same kept few (inl z) (inr x) (inr y) = inl z
+  words_more {numbers' = numbers'} old {new} {heard' = heard'} words n w gone same kept few (inr z) (inr x) (inr y) =
       let top = few x.posted x.says in
-      inr (below_with numbers' new (suc heard') words n w x.posted x.is (omega arith) (below_still words same kept (omega arith) y))
+      inr (below_with numbers' new (suc heard') words n w x.posted x.is (omega arith) (below_still old new words same kept (omega arith) y))
 
   -- of one that posted
-  pub put_words : {lost lost' : Bool} {numbers numbers' : List (List ℕ × ℕ)} {old new : List (Option (Note T))} {heard heard' : ℕ} {told : T} (words : Words) (n : List ℕ) (w : ℕ) → (lost ≡ true → lost' ≡ true) → numbers' ≡ numbers → StaysNoted old new
+  pub put_words : {lost lost' : Bool} {numbers numbers' : List (List ℕ × ℕ)} (old : List (Option (Note T))) {new : List (Option (Note T))} {heard heard' : ℕ} {told : T} (words : Words) (n : List ℕ) (w : ℕ) → (lost ≡ true → lost' ≡ true) → numbers' ≡ numbers → StaysNoted old new
       → (lost' ≡ true) ⊎ (suc heard ≤ heard') → (lost' ≡ true) ⊎ HasNoted numbers new n w (λ p. (p.told ≡ told) × (p.stamp ≡ suc heard)) → words_noted lost numbers old heard words → words_noted lost' numbers' new heard' (words_with words n w)
-  put_words words n w gone same kept (inl x) noted had = inl x
-  put_words {heard = heard} {heard'} words n w gone same kept (inr x) noted had = words_more {so = λ p. p.stamp ≡ suc heard} words n w gone same kept (λ p e. omega arith) (inr (omega arith)) (told_still (λ z. z) same (λ i p is. is) (λ p e. e.1) noted) had
+  put_words old words n w gone same kept (inl x) noted had = inl x
+  put_words old {heard = heard} {heard'} words n w gone same kept (inr x) noted had = words_more old {so = λ p. p.stamp ≡ suc heard} words n w gone same kept (λ p e. omega arith) (inr (omega arith)) (told_still (λ z. z) same (λ i p is. is) (λ p e. e.1) noted) had
 
   -- what is told with a word that was posted behind these
-  pub posted_behind : {lost lost' : Bool} {numbers numbers' : List (List ℕ × ℕ)} {old new : List (Option (Note T))} {heard : ℕ} {told : T} (so : T → Type 0) (words : Words) (n : List ℕ) (w : ℕ) → (lost ≡ true → lost' ≡ true) → numbers' ≡ numbers → StaysNoted old new → so told
+  pub posted_behind : {lost lost' : Bool} {numbers numbers' : List (List ℕ × ℕ)} (old : List (Option (Note T))) {new : List (Option (Note T))} {heard : ℕ} {told : T} (so : T → Type 0) (words : Words) (n : List ℕ) (w : ℕ) → (lost ≡ true → lost' ≡ true) → numbers' ≡ numbers → StaysNoted old new → so told
       → (lost' ≡ true) ⊎ HasNoted numbers new n w (λ p. (p.told ≡ told) × (p.stamp ≡ suc heard)) → words_noted lost numbers old heard words → (lost' ≡ true) ⊎ HasNoted numbers' new n w (λ p. so p.told × AreBelow numbers' new p.stamp words)
-  posted_behind so words n w gone same kept says (inl x) had = inl x
-  posted_behind so words n w gone same kept says (inr x) (inl y) = inl (gone y)
-  posted_behind {numbers' = numbers'} {new = new} so words n w gone same kept says (inr x) (inr y) =
-      inr (noted_still same (λ i p is. is) (λ p e. let up = e.1 in (subst so (sym e.0) says, below_still words same kept (omega arith) y)) x)
+  posted_behind old so words n w gone same kept says (inl x) had = inl x
+  posted_behind old so words n w gone same kept says (inr x) (inl y) = inl (gone y)
+  posted_behind {numbers' = numbers'} old {new} so words n w gone same kept says (inr x) (inr y) =
+      inr (noted_still same (λ i p is. is) (λ p e. let up = e.1 in (subst so (sym e.0) says, below_still old new words same kept (omega arith) y)) x)
 
   -- ALL THAT ANOTHER NOTED
 
@@ -145,6 +145,6 @@ module _ {Q : Type 0} {G : Ghosts Q} (numbers : List (List ℕ × ℕ)) (notes :
 -- what a thread's notes tell is what the board has whose notes have all of them
 pub told_by_board : {Q : Type 0} {G : Ghosts Q} (numbers : List (List ℕ × ℕ)) (notes : List (Option (Note (Told Q G)))) (r : ThreadRun Q G) → r.notes.posts.now.numbers.entries ≡ numbers → HasAllOf notes r.notes.is_lost r.notes.notes.items → IsToldBy (board_noted numbers notes) (rank_noted numbers notes) r
 told_by_board numbers notes r same has = subst (λ z. IsToldBy (board_noted z notes) (rank_noted z notes) r) same (record {
-  posted = λ words n w h x. entry_posted r.notes.posts.now.numbers.entries notes words n w h (told_by_all has (λ p e. (e.0, below_still words refl has.kept (omega arith) e.1)) x);
+  posted = λ words n w h x. entry_posted r.notes.posts.now.numbers.entries notes words n w h (told_by_all has (λ p e. (e.0, below_still r.notes.notes.items notes words refl has.kept (omega arith) e.1)) x);
   heard = λ n w h x. entry_heard r.notes.posts.now.numbers.entries notes n w h (told_by_all has (λ p e. e) x);
 })
