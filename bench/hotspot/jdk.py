@@ -4,6 +4,7 @@ import os
 import shutil
 import subprocess
 import sys
+from copy import copy
 
 HERE = os.path.dirname(os.path.abspath(__file__))
 OUT = os.path.join(HERE, "..", "out", "hotspot")
@@ -24,10 +25,25 @@ class Kit:
     def build(self):
         """Builds the library of native methods and the class."""
         os.makedirs(OUT, exist_ok=True)
+        self.build_library(os.path.join(HERE, f"{self.class_name.lower()}.c"))
+        subprocess.run([os.path.join(self.home, "bin", "javac"), "-d", OUT, os.path.join(HERE, f"{self.class_name}.java")], check=True)
+
+    def build_library(self, source):
+        """Builds the library from a C file."""
         include = os.path.join(self.home, "include")
         flags = ["-std=gnu11", "-O2", "-Wall", "-Wextra", "-fPIC", "-shared", "-pthread", f"-I{include}", f"-I{include}/linux"]
-        subprocess.run(["gcc", *flags, "-o", self.library, os.path.join(HERE, f"{self.class_name.lower()}.c")], check=True)
-        subprocess.run([os.path.join(self.home, "bin", "javac"), "-d", OUT, os.path.join(HERE, f"{self.class_name}.java")], check=True)
+        subprocess.run(["gcc", *flags, "-o", self.library, source], check=True)
+
+    def built_from(self, source):
+        """Returns a kit that differs in its library alone, which is built from another C file."""
+        other = copy(self)
+        other.library = f"{os.path.abspath(source)}.so"
+        other.build_library(source)
+        return other
+
+    def has(self, option):
+        """Returns whether the machine starts with an option."""
+        return subprocess.run([os.path.join(self.home, "bin", "java"), option, "-version"], capture_output=True, check=False).returncode == 0
 
     def command(self, options, words):
         """Returns the command that runs the class with the machine's options, whose first word is the library."""

@@ -8,13 +8,14 @@ use Rattle.jr_word.specs.declared.handle.Handle.{Handle}
 use Rattle.jr_word.specs.declared.handle.RefKind.TheVariants.{Global, Weak}
 use Rattle.jr_word.specs.declared.kind.Kind.TheVariants.{Int, Long}
 use Rattle.jr_word.specs.Elem.{signed_word}
+use Rattle.jr_model.specs.declared.event.Role.{Role}
 use Rattle.jr_model.specs.declared.event.Role.TheVariants.{Outside}
 use Rattle.jr_model.specs.Frames.{Frames, fresh_frames}
 use Rattle.jr_model.specs.Objects.{get_array_critical, region_get}
 use Rattle.jr_steps.specs.declared.known.Known.{Known}
 use Rattle.jr_steps.specs.Knowing.{AreOf, Facts, Holds, Spent, Standing}
 use Rattle.jr_gate.specs.Performing.{IsAsBefore, thread_state, thread_state_with}
-use Rattle.jr_env.proofs.Carrying.{did_more, did_reply, does_then, own_call}
+use Rattle.jr_env.proofs.Carrying.{did_in_role, did_more, did_reply, does_then, own_call}
 use Rattle.jr_rule.specs.declared.pass.Pass.{Pass}
 use Rattle.jr_rule.specs.Passes.{Holder, facts_of, holder_of, standing_of}
 use Rattle.jr_frames.specs.Table.{Table}
@@ -22,7 +23,7 @@ use Rattle.jr_critical.specs.declared.levels.Levels.{Levels}
 use Rattle.jr_critical.specs.Levels.{GivesUpAll, Opens, Reaches, in_words, level_object, objects_of}
 use Rattle.jr_weak.specs.declared.collecting.Collected.{Collected}
 use Rattle.jr_env.specs.Collections.{collection}
-use Rattle.jr_env.specs.Deeds.{Deed, DoesDeed, DoesOutside, new_plain, new_array, new_object_array, new_reference, delete_reference, is_same_object, get_object_ref_type, push_local_frame, pop_local_frame, set_array_region, done, ◌>>=◌}
+use Rattle.jr_env.specs.Deeds.{CarriedOut, Deed, DoesDeed, DoesOutside, after_exit, new_plain, new_array, new_object_array, new_reference, delete_reference, is_same_object, get_object_ref_type, push_local_frame, pop_local_frame, set_array_region, done, ◌>>=◌}
 use Rattle.first_room.specs.Calls.{clearing, collecting_in_turn, collecting_twice, is_handed, is_kept_out, preparing, reading_within, sharing, visiting, word_made}
 use Rattle.first_room.specs.Parts.{HasCome}
 
@@ -107,6 +108,7 @@ module _ {S : Type 0} {facts : S → Facts} where
   reads_within fits a b c d f f1 f2 g word v w (Ok x) out opened one same1 same2 same left reached ended done = record {
     does = λ o. region_read fits a b c d f.frames f1.frames f2.frames g.frames word v (signed_word w32 x) out opened (ap (λ (t : Table). t.frames) same1) (ap (λ (t : Table). t.frames) (same2 ∙ same1)) (ap (λ (t : Table). t.frames) (same ∙ (same2 ∙ same1)))
         (reached (omega arith)) (subst (λ u. GivesUpAll facts c d f2.frames u) left ended);
+    left = λ no. absurd (no out);
     outside = done;
   }
   reads_within fits a b c d f f1 f2 g word v w (Err e) out opened one same1 same2 same left reached ended done = tt
@@ -119,24 +121,28 @@ module _ {S : Type 0} {facts : S → Facts} where
       let read = d5.does d4.outside in
       does_then _ handed (does_then _ (d1.does out) (does_then _ (d2.does d1.outside) (does_then _ (d3.does d2.outside) (does_then _ (d4.does d3.outside) read))))
 
-  -- a call from steps that differ in nothing that is known of them
-  pub does_from : {A : Type 0} {deed : Deed A} {r : Result A Fault} (a b c : S) (f f' g : Frames)
-      → (facts b).stands ≡ (facts a).stands → (facts b).hint ≡ (facts a).hint → ((k : Known) → (facts a).knows k → (facts b).knows k) → f' ≡ f → DoesOutside facts b c f' g deed r → DoesOutside facts a c f g deed r
-  does_from {deed = deed} {r = r} a b c f f' g stands hint know same d = record {
-    does = λ out.
-        let x = d.does (ap (λ (z : Standing). z.role) stands ∙ out) in
+  -- a deed from steps that differ in nothing that is known of them
+  module _ {A : Type 0} {r : Result A Fault} (a b c : S) (f f' g : Frames) (stands : (facts b).stands ≡ (facts a).stands) (hint : (facts b).hint ≡ (facts a).hint) (know : (k : Known) → (facts a).knows k → (facts b).knows k) (same : f' ≡ f) where
+    did_from : (deed : Deed A) (role : Role) → CarriedOut facts b c f' g role (Holds f') (Holds g) deed r → CarriedOut facts a c f g role (Holds f) (Holds g) deed r
+    did_from deed role x = record {
+      stands_is = subst (λ (z : Standing). IsAsBefore (record z { role = role }) (facts c).stands) stands x.stands_is;
+      did = λ k s n.
+          let y = x.did k (know k s) (subst (λ h. Holds h k) (sym same) n) in (
+            y.0,
+            y.1,
+            y.2,
+            subst (λ (z : Bool × ℕ × Frames). deed (thread_state_with z.0 z.1 k z.2) r (thread_state (facts c) y.0 g)) (λ i. ((stands i).fresh, hint i, same i)) y.3,
+          );
+    }
+
+    pub does_from : {deed : Deed A} → DoesOutside facts b c f' g deed r → DoesOutside facts a c f g deed r
+    does_from {deed} d =
+        let role : (facts b).stands.role ≡ (facts a).stands.role = ap (λ (z : Standing). z.role) stands in
         record {
-          stands_is = subst (λ (z : Standing). IsAsBefore z (facts c).stands) stands x.stands_is;
-          did = λ k s n.
-              let y = x.did k (know k s) (subst (λ h. Holds h k) (sym same) n) in (
-                y.0,
-                y.1,
-                y.2,
-                subst (λ (z : Bool × ℕ × Frames). deed (thread_state_with z.0 z.1 k z.2) r (thread_state (facts c) y.0 g)) (λ i. ((stands i).fresh, hint i, same i)) y.3,
-              );
-        };
-    outside = d.outside;
-  }
+          does = λ out. did_in_role role (did_from deed (facts b).stands.role (d.does (role ∙ out)));
+          left = λ no. did_from (after_exit deed) Outside (d.left (λ out. no (sym role ∙ out)));
+          outside = d.outside;
+        }
 
   module _ {a b : S} {f g : Frames} where
     -- a refusal by its name

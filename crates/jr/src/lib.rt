@@ -3,9 +3,12 @@
 
 pub use jr_census::{Census, KindCounts, Objects, Slots, Words};
 pub use jr_elements::Elements;
-pub use jr_env::{Env, EnvCall, LocalFrames, Region, Scoped, Stay, calls, with_local_frame};
+pub use jr_env::{
+    Env, EnvCall, LocalFrames, Region, Scoped, Stay, calls, is_made_again, is_short_of_room,
+    with_local_frame,
+};
 pub use jr_model::{Mode, Summary};
-pub use jr_rule::{AllLeft, Left, Note, Pass, PlainSteps, Room, RoomSteps};
+pub use jr_rule::{AllLeft, Left, Note, Pass, PinnedNote, PlainSteps, Room, RoomSteps};
 pub use jr_steps::Steps;
 pub use jr_threads::{NativeCode, Ran, run_native};
 pub use jr_weak::{Collected, Marker};

@@ -3,6 +3,7 @@ pub mod SlotsCounted
 pub mod HeadersCounted
 pub mod LocalsCounted
 pub mod WordsCounted
+pub mod Foretold
 pub mod Dumped
 pub mod LocalsDumped
 pub mod Takes

@@ -1,4 +1,5 @@
 pub mod Counts
 pub mod Dumps
 pub mod Taking
+pub mod Laws
 pub mod Telling

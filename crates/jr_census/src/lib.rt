@@ -3,6 +3,7 @@
 
 mod dump;
 mod dumping;
+mod laws;
 mod locals;
 mod objects;
 mod slots;
@@ -10,6 +11,7 @@ mod taking;
 mod words;
 
 pub use dumping::take_dump;
+pub use laws::censuses_foretell_collections;
 pub use objects::{KindCounts, Objects};
 pub use slots::Slots;
 pub use taking::{Census, take_census};

@@ -13,7 +13,7 @@ use Rattle.jr_model.specs.Frames.{Frames}
 use Rattle.jr_model.specs.Calls.{Ran}
 use Rattle.jr_model.specs.Checks.{Word}
 use Rattle.jr_model.specs.Objects.{nested}
-use Rattle.jr_model.proofs.CriticalRegions.{level_array_stays, level_string_stays}
+use Rattle.jr_model.proofs.OpenStays.{level_array_stays, level_string_stays}
 use Rattle.jr_model.proofs.Lawful.{NoLeave}
 use Rattle.jr_model.proofs.Runs.{ran_err, ran_give}
 use Rattle.jr_steps.specs.declared.known.Known.{Known}

@@ -23,6 +23,7 @@ use Rattle.jr_gate.proofs.SameRoom.{nothing_changed}
 use Rattle.jr_frames.specs.Ready.{StandsReady}
 use Rattle.jr_env.specs.Deeds.{Deed, DoesDeed, DoesOutside, call_apart}
 use Rattle.jr_env.specs.Works.{EndsStay}
+use Rattle.jr_env.proofs.EnvCalls.{did_left}
 
 -- a test that refuses, and one that is passed
 refused_by : (b : Bool) (e : Fault) (f : Frames) → b ≡ true → refuse_if b e f [] (Err e) f
@@ -66,6 +67,7 @@ module _ {S : Type 0} {facts : S → Facts} where
   pub does_from : {o a b : S} {r t : Table} {g : Frames} {A : Type 0} {deed : Deed A} {answer : Result A Fault} → EndsStay facts o a r t → DoesDeed facts a b t.frames g deed answer → DoesOutside facts o b r.frames g deed answer
   does_from {o} {a} {b} {r} {t} {g} {deed = deed} {answer = answer} e d = record {
     does = λ out. subst (λ (m : S). DoesDeed facts m b r.frames g deed answer) (e.same out) (subst (λ (x : Table). DoesDeed facts a b x.frames g deed answer) e.frames d);
+    left = λ no. did_left (e.left no) (subst (λ (x : Table). DoesDeed facts a b x.frames g deed answer) e.frames d);
     outside = d.stands_is.role ∙ e.ready.role_is;
   }
 

@@ -1,4 +1,4 @@
--- A stay that goes on from call to call, for whatever was known: it is an open stay of the machine, which no collection disturbs.
+-- A stay that goes on from call to call, for whatever was known: which no collection disturbs.
 use Rattle.std.proofs.Common.{◌≡◌, ℕ, [], ◌∷◌, Result, Ok, Err, IfOk, IfErr, ⊎_elim, inl, inr, refl, sym, ap, subst, ◌∙◌}
 use Rattle.jr_word.specs.declared.config.Config.{Config}
 use Rattle.jr_word.specs.declared.fault.Fault.{Fault}
@@ -12,10 +12,9 @@ use Rattle.jr_model.specs.History.{History, Did, PassView}
 use Rattle.jr_model.specs.Windows.{Ends, IsWindow, Stepped}
 use Rattle.jr_model.specs.Calls.{Call, Ran, done}
 use Rattle.jr_model.specs.Parts.{enter}
-use Rattle.jr_model.proofs.CriticalRegions.{one_stay, one_stay_left}
+use Rattle.jr_model.specs.OpenStays.{HasStayed}
+use Rattle.jr_model.proofs.OpenStays.{one_stay, one_stay_left, stays_more}
 use Rattle.jr_model.proofs.Moments.{prefix_self}
-use Rattle.jr_model.proofs.Runs.{ran_act}
-use Rattle.jr_model.proofs.Windows.{stepped_last}
 use Rattle.jr_steps.specs.declared.known.Known.{Known}
 use Rattle.jr_steps.specs.declared.steps.Steps.{Ghosts}
 use Rattle.jr_steps.specs.Knowing.{AreOf, Facts, Standing, anything, keeps, lets_go, state_of, view, Holds, Took}
@@ -32,12 +31,10 @@ use Rattle.jr_frames.proofs.FramesAgree.{holds_did}
 use Rattle.jr_frames.proofs.StillReady.{own_stepped, ready_entered}
 use Rattle.jr_elements.specs.Copies.{answer_in}
 use Rattle.jr_env.specs.Calling.{CanCall}
-use Rattle.jr_env.specs.Entries.{HasStayed}
-use Rattle.jr_env.specs.OpenStays.{EndsAsOneStay, Enters, EntersOver, IsInStay, Leaves, StaysOn, StaysSince}
+use Rattle.jr_env.specs.OpenStays.{BehindExit, EndsAsOneStay, Enters, EntersOver, IsInStay, StaysOn, StaysSince}
 use Rattle.jr_env.specs.Works.{EndsStayOver}
-use Rattle.jr_env.proofs.EndedStays.{can_call}
+use Rattle.jr_env.proofs.EndedStays.{can_call, leaves}
 use Rattle.jr_env.proofs.InsideGate.{completes_barred}
-use Rattle.jr_env.proofs.StandingRegions.{as_stands, stays_more}
 
 -- THE ENTRY AND THE EXIT, as calls of the machine
 
@@ -135,22 +132,6 @@ module _ {S : Type 0} (facts : S → Facts) (a b : S) (t : Table) where
 
   -- THE EXIT
 
-  pub leaves : Took facts a b (Gate Leave ∷ []) anything lets_go → Leaves facts a b t.frames
-  leaves took = record {
-    stands_is = record {
-      room = ap (λ (s : Standing). s.room) took.stands_is;
-      config = ap (λ (s : Standing). s.config) took.stands_is;
-      last = ap (λ (s : Standing). s.last) took.stands_is;
-      thread = ap (λ (s : Standing). s.thread) took.stands_is;
-      role = ap (λ (s : Standing). s.role) took.stands_is;
-    };
-    ran = λ k s m.
-        let y = took.goes k s tt in
-        let d = goes_did y.2 in
-        let left = ran_act t.frames (Gate Leave) (λ out. absurd cc) (λ out. stepped_last (goes_stepped y.2)) d in
-        (y.0, y.1, made_of (spend_step took (λ n i. refl) k s tt t.frames t.frames) left, (y.3, holds_did k y.0 t.frames (Gate Leave ∷ []) d (refl, tt) m));
-  }
-
   pub ready_left : StandsReady facts Within a t → Took facts a b (Gate Leave ∷ []) anything lets_go → StandsReady facts Outside b t
   ready_left r took = record {
     role_is = ap (λ (s : Standing). s.role) took.stands_is;
@@ -166,7 +147,7 @@ module _ {S : Type 0} {G : Ghosts S} where
   since_entry old new same e j s m =
       let x = e.ran j s m in
       let stay : HasStayed (view j) (view x.0) = entered x.2.ran in
-      (x.0, x.1, stay, (one_stay (as_stands stay), subst (λ (t : Table). Holds t.frames x.0) (sym same) x.3.1))
+      (x.0, x.1, stay, (one_stay stay, subst (λ (t : Table). Holds t.frames x.0) (sym same) x.3.1))
 
   -- the entry, once a stay that was left has been ended
   module _ (old mid new : Held S G) (ended : EndsStayOver old mid) (same : new.frames ≡ mid.frames) where
@@ -175,6 +156,14 @@ module _ {S : Type 0} {G : Ghosts S} where
         subst (λ (a : S). Enters G.facts a new.steps old.frames.frames (answer_in (λ (i : Inside). tt) answer)) (ended.same out)
         (subst (λ (t : Table). Enters G.facts mid.steps new.steps t.frames (answer_in (λ (i : Inside). tt) answer)) ended.frames (enters_so G.facts mid.steps new.steps mid.frames answer went shut))
 
+    -- and once one that was left has been ended
+    pub goes_in_behind : (answer : Result Inside Fault) → WentIn G.facts mid.steps new.steps answer → WasShut G.facts mid.steps new.steps answer → BehindExit old (λ m. Enters G.facts m new.steps old.frames.frames (answer_in (λ (i : Inside). tt) answer))
+    goes_in_behind answer went shut inside = (
+      mid.steps,
+      leaves G.facts old.steps mid.steps old.frames.frames (ended.left inside),
+      subst (λ (t : Table). Enters G.facts mid.steps new.steps t.frames (answer_in (λ (i : Inside). tt) answer)) ended.frames (enters_so G.facts mid.steps new.steps mid.frames answer went shut),
+    )
+
     pub stays_since : (answer : Result Inside Fault) → WentIn G.facts mid.steps new.steps answer → WasShut G.facts mid.steps new.steps answer → IfOk answer (λ i. (G.facts old.steps).stands.role ≡ Outside → StaysSince old new)
     stays_since (Ok i) went shut = λ out. since_entry old new (same ∙ ended.frames) (goes_in (Ok i) went shut out)
     stays_since (Err e) went shut = tt
@@ -182,9 +171,9 @@ module _ {S : Type 0} {G : Ghosts S} where
   pub ends_as_one : (old new : Held S G) → new.frames ≡ old.frames → Took G.facts old.steps new.steps (Gate Leave ∷ []) anything lets_go → EndsAsOneStay old new
   ends_as_one old new same took begun since i s m =
       let x = since i s m in
-      let y = (leaves G.facts old.steps new.steps old.frames took).ran x.0 x.1 x.3.1 in
+      let y = (leaves G.facts old.steps new.steps old.frames.frames took).ran x.0 x.1 x.3.1 in
       let r = y.2.ran in
-      (y.0, y.1, one_stay_left (as_stands x.2) (subst (Did (view x.0) (view y.0)) r.is.0 r.did) (subst (Ends (view x.0) (view y.0)) r.is.0 r.window.last refl), subst (λ (t : Table). Holds t.frames y.0) (sym same) y.3.1)
+      (y.0, y.1, one_stay_left x.2 (subst (Did (view x.0) (view y.0)) r.is.0 r.did) (subst (Ends (view x.0) (view y.0)) r.is.0 r.window.last refl), subst (λ (t : Table). Holds t.frames y.0) (sym same) y.3.1)
 
   module _ (fits : AreOf G.facts) (old new : Held S G) where
     -- a work in a stay, with which it goes on
@@ -198,4 +187,4 @@ module _ {S : Type 0} {G : Ghosts S} where
         let at = (G.facts old.steps).stands in
         let none = law at.config at.last at.thread (state_of y.0) old.frames.frames new.frames.frames r.acts answer r.is in
         let stay = stays_more x.2 r.acts r.did none in
-        (y.0, y.1, stay, (one_stay (as_stands stay), y.3.1))
+        (y.0, y.1, stay, (one_stay stay, y.3.1))

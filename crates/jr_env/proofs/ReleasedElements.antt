@@ -11,9 +11,11 @@ use Rattle.jr_steps.specs.Knowing.{AreOf, Facts}
 use Rattle.jr_elements.specs.Copies.{answer_in, kept}
 use Rattle.jr_frames.specs.Reading.{IsReadAs}
 use Rattle.jr_frames.specs.Table.{Table}
-use Rattle.jr_env.specs.Works.{Completes}
+use Rattle.jr_env.specs.Works.{Completes, EndsStay}
 use Rattle.jr_env.specs.Deeds.{DoesOutside, release_answer, release_array_elements}
+use Rattle.jr_env.proofs.Carrying.{does_nothing}
 use Rattle.jr_env.proofs.EnvCalls.{does_call_on}
+use Rattle.jr_env.proofs.FrameCalls.{does_from}
 use Rattle.jr_env.proofs.WholeCopies.{completes_left}
 
 -- the words of what is kept are what is kept of the words
@@ -21,6 +23,12 @@ pub kept_words : {A : Type 0} (words : A → List ℕ) (x : A) (mode : Mode) →
 kept_words words x Copy = refl
 kept_words words x Commit = refl
 kept_words words x Abort = refl
+
+-- a release that gives the elements up does nothing
+pub aborts : {S : Type 0} {facts : S → Facts} {o a : S} {r t : Table} (kind : Kind) (w : ℕ) (buffer : List ℕ) → EndsStay facts o a r t → (mode : Mode) → (mode ≢ Abort → ⊥) → DoesOutside facts o a r.frames t.frames (release_array_elements kind w buffer mode) (Ok None)
+aborts kind w buffer e Copy never = absurd (never (λ i. cc))
+aborts kind w buffer e Commit never = absurd (never (λ i. cc))
+aborts kind w buffer e Abort never = does_from e (does_nothing (λ p. (refl, refl)))
 
 -- a release that writes the elements back
 module _ {S : Type 0} {facts : S → Facts} (fits : AreOf facts) {a b : S} {t u : Table} (kind : Kind) (w : ℕ) (r : Word) (reads : IsReadAs w r) (buffer : List ℕ) where

@@ -1,5 +1,5 @@
 -- The calls of a region, for whatever was known, make one stay, which no collection disturbs.
-use Rattle.std.proofs.Common.{◌≡◌, ◌≢◌, ◌≤◌, ◌+◌, ◌∷◌, ◌++◌, [], ℕ, zero, suc, length, List, Option, Some, None, Result, Ok, Err, IfOk, IfNone, IfSome, inl, inr, refl, sym, ap, subst, ◌∙◌, arith}
+use Rattle.std.proofs.Common.{◌≡◌, ◌≢◌, ◌≤◌, ◌+◌, ◌∷◌, ◌++◌, [], ℕ, zero, suc, length, List, Option, Some, None, Result, Ok, Err, IfErr, IfOk, IfNone, IfSome, inl, inr, refl, sym, ap, subst, ◌∙◌, arith}
 use Rattle.std.proofs.lemmas.List.{length-append, length-map}
 use Rattle.jr_word.specs.declared.config.Config.{Config}
 use Rattle.jr_word.specs.declared.fault.Fault.{Fault}
@@ -15,12 +15,10 @@ use Rattle.jr_model.specs.Calls.{Call, Ran, opened}
 use Rattle.jr_model.specs.Checks.{Word}
 use Rattle.jr_model.specs.Objects.{get_array_critical, get_string_critical, level_array, level_string, nest_array, nest_string, region_get, region_set, region_release}
 use Rattle.jr_model.specs.Windows.{Ends as Last}
-use Rattle.jr_model.specs.CriticalRegions.{IsOneStay}
-use Rattle.jr_model.proofs.CriticalRegions.{Stands, Stays, level_array_stays, level_string_stays, one_stay, one_stay_left}
+use Rattle.jr_model.specs.OpenStays.{HasStayed, IsOneStay, NoneLeaves}
+use Rattle.jr_model.proofs.OpenStays.{Stays, level_array_stays, level_string_stays, one_stay, one_stay_left, stays_more}
 use Rattle.jr_model.proofs.EachCall.{get_work, nest_array_work, nest_string_work, set_work}
-use Rattle.jr_model.proofs.Exactly.{append_all}
 use Rattle.jr_model.proofs.Lawful.{work_stays}
-use Rattle.jr_model.proofs.Stays.{did_then}
 use Rattle.jr_steps.specs.declared.known.Known.{Known}
 use Rattle.jr_steps.specs.declared.steps.Steps.{Ghosts}
 use Rattle.jr_steps.specs.Knowing.{Facts, Leads, view, state_of, Holds}
@@ -28,18 +26,14 @@ use Rattle.jr_frames.specs.declared.held.Held.{Held}
 use Rattle.jr_frames.specs.Table.{Table}
 use Rattle.jr_critical.specs.declared.level.Level.{Level}
 use Rattle.jr_critical.specs.declared.levels.Levels.{Levels}
-use Rattle.jr_critical.specs.Levels.{GivesUpAll, GivesUpAllOver, GivesUpLast, GivesUpLastOver, KnowsLevels, LeavesBefore, Nests, NestsOver, Opens, OpensOver, Reaches, ReadsAt, StandOver, WritesAt, level_nested, level_object, objects_of}
-use Rattle.jr_env.specs.Entries.{HasStayed, NoneLeaves}
+use Rattle.jr_critical.specs.Levels.{GivesUpAll, GivesUpAllOver, GivesUpLast, GivesUpLastOver, KnowsLevels, LeavesBefore, Nests, NestsOver, Opens, OpensOver, Reaches, ReadsAt, StandOver, StandsOutside, WritesAt, level_nested, level_object, objects_of}
 use Rattle.jr_env.specs.StandingRegions.{EndsUndisturbed, StandsOn, StandsSince}
+use Rattle.jr_env.specs.declared.env.Env.{Env}
+use Rattle.jr_env.specs.Criticals.{HasEntered, WasRefused}
+use Rattle.jr_env.specs.Envs.{IsOutside}
+use Rattle.jr_env.specs.OpenStays.{BehindExit}
 use Rattle.jr_env.specs.Works.{EndsStayOver}
-
--- a stay as the model's proofs have it
-pub as_stands : {old new : PassView} → HasStayed old new → Stands old new
-as_stands p = record { acts = p.acts; did = p.did; stays = p.stays }
-
--- what goes on without an exit stays
-pub stays_more : {old mid new : PassView} → HasStayed old mid → (acts : List Act) → Did mid new acts → NoneLeaves acts → HasStayed old new
-stays_more p acts did none = record { acts = p.acts ++ acts; did = did_then (Gate Enter ∷ p.acts) acts p.did did; stays = append_all (λ a. a ≢ Gate Leave) p.acts acts p.stays none }
+use Rattle.jr_env.proofs.EndedStays.{leaves}
 
 -- an opening that was answered enters, and its work has no exit
 was_opened : {old new : PassView} {f g : Frames} {o : ℕ} (work : Call ℕ) → Stays work → Ran old new f g (opened work) (Ok o) → HasStayed old new
@@ -91,13 +85,13 @@ module _ {S : Type 0} (facts : S → Facts) where
         let x = p i s m in
         let y = next x.0 x.1 x.3.1 in
         let stay = stays_more x.2 y.2.acts y.2.did y.2.stays in
-        (y.0, y.1, stay, (one_stay (as_stands stay), y.3))
+        (y.0, y.1, stay, (one_stay stay, y.3))
 
     ends : Ends a b f v → Since o a g f v → Undisturbed o b g f
     ends next p i s m =
         let x = p i s m in
         let y = next x.0 x.1 x.3.1 in
-        (y.0, y.1, one_stay_left (as_stands x.2) (subst (Did (view x.0) (view y.0)) y.2.is.0 y.2.did) (subst (Last (view x.0) (view y.0)) y.2.is.0 y.2.window.last refl), y.3)
+        (y.0, y.1, one_stay_left x.2 (subst (Did (view x.0) (view y.0)) y.2.is.0 y.2.did) (subst (Last (view x.0) (view y.0)) y.2.is.0 y.2.window.last refl), y.3)
 
   module _ (a b : S) (f : Frames) (v : Levels) where
     all_end : GivesUpAll facts a b f v → Ends a b f v
@@ -119,14 +113,14 @@ module _ {S : Type 0} (facts : S → Facts) where
         let x = p.2.ran j s m in
         let at = (facts a).stands in
         let stay = was_opened (level_array at.config at.last at.thread (state_of x.0) 0 p.0) (level_array_stays at.config at.last at.thread (state_of x.0) 0 p.0) x.2.ran in
-        (x.0, x.1, stay, (one_stay (as_stands stay), (x.3.0.0, x.3.1)))
+        (x.0, x.1, stay, (one_stay stay, (x.3.0.0, x.3.1)))
 
     opens_at_string : (w : ℕ) → Opens facts a b f w get_string_critical (Ok v) → Since a b f f v
     opens_at_string w p j s m =
         let x = p.2.ran j s m in
         let at = (facts a).stands in
         let stay = was_opened (level_string at.config at.last at.thread (state_of x.0) 0 p.0) (level_string_stays at.config at.last at.thread (state_of x.0) 0 p.0) x.2.ran in
-        (x.0, x.1, stay, (one_stay (as_stands stay), (x.3.0.0, x.3.1)))
+        (x.0, x.1, stay, (one_stay stay, (x.3.0.0, x.3.1)))
 
     array_nests : (w : ℕ) (u : Levels) (answer : Result ℕ Fault) → Nests facts a b f w nest_array v u answer → Further a b f v u
     array_nests w u answer e j s m =
@@ -208,3 +202,25 @@ module _ {S : Type 0} {G : Ghosts S} (old mid new : Held S G) (ended : EndsStayO
   pub stands_at_string : (w : ℕ) (answer : Result Levels Fault) → OpensOver mid new w get_string_critical answer → IfOk answer (λ v. (G.facts old.steps).stands.role ≡ Outside → StandsSince old new v)
   stands_at_string w (Ok v) p = stands_from get_string_critical w v (λ a f. opens_at_string G.facts a new.steps f v w) p
   stands_at_string w (Err e) p = tt
+
+-- what such an opening left, over an env
+module _ {S : Type 0} {G : Ghosts S} (old new : Env S G) (mid : Held S G) (ended : EndsStayOver old.held mid) (same : new.held.frames ≡ mid.frames) (call : Config → ℕ → ℕ → State → Word → Call ℕ) (w : ℕ) where
+  opens_from : (answer : Result Levels Fault) → OpensOver mid new.held w call answer → IsOutside old → OpensOver old.held new.held w call answer
+  opens_from answer p out =
+      subst (λ (a : S). Opens G.facts a new.held.steps old.held.frames.frames w call answer) (ended.same out)
+      (subst (λ (t : Table). Opens G.facts mid.steps new.held.steps t.frames w call answer) ended.frames p)
+
+  opens_behind : (answer : Result Levels Fault) → OpensOver mid new.held w call answer → BehindExit old.held (λ m. Opens G.facts m new.held.steps old.held.frames.frames w call answer)
+  opens_behind answer p inside = (
+    mid.steps,
+    leaves G.facts old.held.steps mid.steps old.held.frames.frames (ended.left inside),
+    subst (λ (t : Table). Opens G.facts mid.steps new.held.steps t.frames w call answer) ended.frames p,
+  )
+
+  pub has_entered : (answer : Result Levels Fault) → OpensOver mid new.held w call answer → IfOk answer (λ v. StandOver v new.held × (length (objects_of v) ≡ 1)) → IfOk answer (λ v. HasEntered old new v w call)
+  has_entered (Ok v) p ok = record { opens = opens_from (Ok v) p; left = opens_behind (Ok v) p; one = ok.1; frames = same ∙ ended.frames; stand = ok.0 }
+  has_entered (Err e) p ok = tt
+
+  pub was_refused : (answer : Result Levels Fault) → OpensOver mid new.held w call answer → IfErr answer (λ e. StandsOutside new.held) → IfErr answer (λ e. WasRefused old new w call e)
+  was_refused (Ok v) p err = tt
+  was_refused (Err e) p err = record { refuses = opens_from (Err e) p; left = opens_behind (Err e) p; frames = same ∙ ended.frames; outside = err.role_is }

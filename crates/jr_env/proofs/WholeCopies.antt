@@ -94,7 +94,7 @@ module _ {A B : Type 0} (form : A → B) where
     whole_in n call answer p = record { stands_is = p.stands_is; ran = λ k s m. let x = p.ran k s m in (x.0, x.1, made_of (spending x.2) (ran_whole _ answer x.2.ran), x.3) }
 
   pub completes_in : {S : Type 0} {facts : S → Facts} {a b : S} {t u : Table} (n : ℕ) (call : State → Call B) (answer : Result A Fault) → Completes facts a b t u n (λ s. entered (in_form form (call s))) answer → Completes facts a b t u n (λ s. entered (call s)) (answer_in form answer)
-  completes_in n call answer p = record { call = λ out. whole_in n call answer (p.call out); ready = p.ready }
+  completes_in n call answer p = record { call = λ out. whole_in n call answer (p.call out); left = λ no. let x = p.left no in (x.0, x.1, whole_in n call answer x.2); ready = p.ready }
 
 -- WHAT IS LEFT of the elements after they were written back
 
@@ -106,9 +106,9 @@ module _ {S : Type 0} {facts : S → Facts} {a b : S} {f g : Frames} where
   whole_left : {B : Type 0} (n : ℕ) (left : B) (call : State → Call (Unit {0})) (answer : Result (Unit {0}) Fault) → CallsWhole facts a b f g n call answer → CallsWhole facts a b f g n (λ s. call s >> done left) (answer_in (λ u. left) answer)
   whole_left n left call answer p = record { stands_is = p.stands_is; ran = λ k s m. let x = p.ran k s m in (x.0, x.1, made_of (spending x.2) (ran_left left answer x.2.ran), x.3) }
 
--- a whole call that leaves this, where the thread stood outside
+-- a whole call that leaves this
 pub completes_left : {S B : Type 0} {facts : S → Facts} {a b : S} {t u : Table} (n : ℕ) (left : B) (call : State → Call (Unit {0})) (answer : Result (Unit {0}) Fault) → Completes facts a b t u n call answer → Completes facts a b t u n (λ s. call s >> done left) (answer_in (λ u. left) answer)
-completes_left n left call answer p = record { call = λ out. whole_left n left call answer (p.call out); ready = p.ready }
+completes_left n left call answer p = record { call = λ out. whole_left n left call answer (p.call out); left = λ no. let x = p.left no in (x.0, x.1, whole_left n left call answer x.2); ready = p.ready }
 
 -- THE SAME FOR EACH STATE that keeps its objects
 

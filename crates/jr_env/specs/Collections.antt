@@ -1,19 +1,16 @@
 -- What a collection that an env makes did.
-use Rattle.std.specs.Prelude.{◌≡◌, ◌≢◌, ◌<◌, ◌≤◌, ◌⊎◌, ◌+◌, ℕ, Ok, Err, List, [], ◌∷◌, ◌++◌, map, length}
+use Rattle.std.specs.Prelude.{◌≡◌, ◌≢◌, ◌<◌, ◌≤◌, ◌+◌, ℕ, Ok, Err, List, length}
 use Rattle.jr_word.specs.declared.fault.Fault.{Fault}
 use Rattle.jr_word.specs.declared.fault.Fault.TheVariants.{Busy, Moved}
-use Rattle.jr_model.specs.declared.event.Act.TheVariants.{Gate, ShutBusy}
-use Rattle.jr_model.specs.declared.event.GateAct.TheVariants.{Cancel, Shut, Reopen}
-use Rattle.jr_model.specs.Announcements.{AnnouncedUntil}
 use Rattle.jr_model.specs.State.{Handle}
 use Rattle.jr_model.specs.Calls.{Ran}
-use Rattle.jr_model.specs.CollectionCalls.{announcing_acts, sweeping_acts, Collects}
-use Rattle.jr_model.specs.History.{Did}
+use Rattle.jr_model.specs.CollectionCalls.{Collects}
 use Rattle.jr_model.specs.Parts as parts
 use Rattle.jr_steps.specs.declared.steps.Steps.{Ghosts}
 use Rattle.jr_steps.specs.Holdings.{empty}
 use Rattle.jr_gate.specs.Performing.{ThreadState, IsMade}
 use Rattle.jr_weak.specs.declared.collecting.Collected.{Collected}
+use Rattle.jr_weak.specs.Collecting.{CollectsAnnounced, WasGivenUp, announced_steps}
 use Rattle.jr_weak.specs.Counting.{collection_steps}
 use Rattle.jr_weak.specs.declared.marker.Marker.{Marker}
 use Rattle.jr_weak.specs.Markers.{room_of}
@@ -46,37 +43,25 @@ abbrev pub collection : Deed Collected
 collection old (Ok c) new = IsCollected old new c
 collection old (Err e) new = IsKeptOut old new e
 
--- AN ANNOUNCED COLLECTION WAS MADE: after fewer refused shuts than there were tries, by one operation for each act up to its shut, and from then on the machine's as above, by no more than the sizes of the room say. From the announcement to the reopening nobody entered
+-- AN ANNOUNCED COLLECTION WAS MADE: the machine's, after fewer refused shuts than there were tries, by no more operations than these shuts and the sizes of the room say. The frames and the hint stay as they are, and afterwards the thread holds nothing
 pub record IsCollectedAnnounced (tries : ℕ) (old new : ThreadState) (c : Collected) : Type 0 where
   pub refused : List ℕ
   pub few : length refused < tries
-  pub shutting : ThreadState
-  pub announced : Did old.pass shutting.pass (announcing_acts refused)
-  pub taken : shutting.taken ≡ old.taken + length (announcing_acts refused)
   pub cleared : List Handle
   pub dropped : List ℕ
   pub clears : length cleared ≡ c.cleared
   pub drops : length dropped ≡ c.dropped
-  pub collects : Collects shutting.pass new.pass cleared dropped c.used
-  pub finished : new.taken ≤ shutting.taken + collection_steps old.pass.config
-  pub until : AnnouncedUntil new.pass (map ShutBusy refused ++ Gate Shut ∷ sweeping_acts cleared dropped c.used) Reopen
+  pub collects : CollectsAnnounced old.pass new.pass refused cleared dropped c.used
   pub ran : Ran old.pass new.pass old.frames new.frames (parts.collect_announced tries) (Ok (c.cleared, c.dropped, c.used))
+  pub taken : new.taken ≤ old.taken + announced_steps refused old.pass.config
   pub fresh : new.fresh ≡ old.fresh
   pub hint : new.hint ≡ old.hint
   pub lets_go : new.held ≡ empty
 
--- IT WAS TAKEN BACK: each try was refused, the last with this count. From the announcement to its end nobody entered, and afterwards the thread holds nothing
-pub record IsTakenBack (tries : ℕ) (new : ThreadState) : Type 0 where
-  pub refused : List ℕ
-  pub count : ℕ
-  pub all : length refused + 1 ≡ tries
-  pub until : AnnouncedUntil new.pass (map ShutBusy refused ++ ShutBusy count ∷ []) Cancel
-  pub lets_go : new.held ≡ empty
-
--- IT GOT NO TURN: it was taken back, or it was not announced, since another thread kept the gate closed or moved its count, and then the thread holds what it held
+-- IT WAS GIVEN UP: it took one operation for each of its acts, which came to one of four ends
 pub record IsGivenUp (tries : ℕ) (old new : ThreadState) (e : Fault) : Type 0 where
   pub made : IsMade 0 old new (parts.collect_announced tries) (Err e)
-  pub ended : (new.held ≡ old.held) ⊎ IsTakenBack tries new
+  pub ended : WasGivenUp tries old.pass new.pass old.held new.held made.ran.acts e
 
 -- an announced collection, or its refusal
 abbrev pub announced_collection : ℕ → Deed Collected

@@ -12,11 +12,12 @@ use Rattle.jr_frames.specs.declared.held.Held.{Held}
 use Rattle.jr_frames.specs.Table.{Table}
 use Rattle.jr_steps.specs.declared.steps.Steps as steps
 use Rattle.jr_critical.specs.declared.levels.Levels.{Levels}
-use Rattle.jr_critical.specs.Levels.{objects_of, GivesUpLastOver, LeavesBefore, OpensOver, StandOver}
+use Rattle.jr_critical.specs.Levels.{objects_of, GivesUpLastOver, LeavesBefore, Opens, OpensOver, StandOver}
 use Rattle.jr_env.specs.declared.env.Env.{Env}
 use Rattle.jr_env.specs.contracts.env.Env as env
 use Rattle.jr_env.specs.declared.critical_region.Region.{Region}
 use Rattle.jr_env.specs.Envs.{IsOutside}
+use Rattle.jr_env.specs.OpenStays.{BehindExit}
 use Rattle.jr_env.specs.StandingRegions.{EndsUndisturbed}
 
 module _ {S : Type 0} {G : steps.Ghosts S} where
@@ -40,23 +41,26 @@ module _ {S : Type 0} {G : steps.Ghosts S} where
   abbrev pub frames_of : Region S G → Table
   frames_of r = (held_of r).frames
 
-  -- A REGION WAS OPENED by this call, where the thread stood outside: there is one level, of the object that the call found; and in any case the thread is within, and the frames are as they were
+  -- A REGION WAS OPENED by this call, from outside: there is one level, of the object that the call found; and the thread is within, and the frames are as they were
   pub record WasOpened (old : Env S G) (r : Region S G) (w : ℕ) (call : Config → ℕ → ℕ → State → Word → Call ℕ) : Type 0 where
     pub opens : IsOutside old → OpensOver old.held (held_of r) w call (Ok (levels_of r))
+    pub left : BehindExit old.held (λ mid. Opens G.facts mid (steps_of r) old.held.frames.frames w call (Ok (levels_of r)))
     pub one : length (objects_of (levels_of r)) ≡ 1
     pub frames : frames_of r ≡ old.held.frames
     pub within : (G.facts (steps_of r)).stands.role ≡ Within
 
-  -- THESE LEVELS WERE ENTERED by this call, where the thread stood outside: there is one, of the object that the call found; and in any case they stand over the env, whose thread is within, and the frames are as they were
+  -- THESE LEVELS WERE ENTERED by this call, from outside: there is one, of the object that the call found; and they stand over the env, whose thread is within, and the frames are as they were
   pub record HasEntered (old new : Env S G) (v : Levels) (w : ℕ) (call : Config → ℕ → ℕ → State → Word → Call ℕ) : Type 0 where
     pub opens : IsOutside old → OpensOver old.held new.held w call (Ok v)
+    pub left : BehindExit old.held (λ mid. Opens G.facts mid new.held.steps old.held.frames.frames w call (Ok v))
     pub one : length (objects_of v) ≡ 1
     pub frames : new.held.frames ≡ old.held.frames
     pub stand : StandOver v new.held
 
-  -- NO REGION WAS OPENED by this call, but it was refused for this, where the thread stood outside; and afterwards it stands outside in any case, with the frames as they were
+  -- NO REGION WAS OPENED by this call, but it was refused for this, from outside; and afterwards the thread stands outside, with the frames as they were
   pub record WasRefused (old new : Env S G) (w : ℕ) (call : Config → ℕ → ℕ → State → Word → Call ℕ) (e : Fault) : Type 0 where
     pub refuses : IsOutside old → OpensOver old.held new.held w call (Err e)
+    pub left : BehindExit old.held (λ mid. Opens G.facts mid new.held.steps old.held.frames.frames w call (Err e))
     pub frames : new.held.frames ≡ old.held.frames
     pub outside : IsOutside new
 
@@ -74,10 +78,10 @@ module _ {S : Type 0} {G : steps.Ghosts S} where
     pub outside : IsOutside new
 
 module _ (S : RattleType) (G : steps.Ghosts S.Denot) where
-  -- the env rests in the region that was opened, or is what the refusal left
+  -- who lent the env gets it back at the region's end; where none was opened, at once, as the refusal left it
   abbrev pub rests_in : ℕ → (Config → ℕ → ℕ → State → Word → Call ℕ) → MutBor (Env S.Denot G) → Result (Region S.Denot G) Fault → Fml
   rests_in w call old result = RestsIfErr (env.the_row S G) old (λ r. r.env.ghost_name) result (λ new. IfErr result (λ e. WasRefused old.now new w call e))
 
-  -- the env rests in the region with the levels that are left, or is what its end left
+  -- who lent the env gets it back at the end of the region that is left; where none is, at once, as the region's end left it
   abbrev pub rests_in_left : Region S.Denot G → Option (Region S.Denot G) → Fml
   rests_in_left r result = RestsIfNone (env.the_row S G) r.env (λ left. left.env.ghost_name) result (HasEnded r)

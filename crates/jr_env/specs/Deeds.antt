@@ -1,5 +1,5 @@
 -- What the calls of an env do, from one moment of its pass and frames to another.
-use Rattle.std.specs.Prelude.{◌≡◌, ◌⊎◌, ◌+◌, ℕ, Bool, Option, Some, None, Result, Ok, Err, List, length}
+use Rattle.std.specs.Prelude.{◌≡◌, ◌≢◌, ◌⊎◌, ◌+◌, ℕ, Bool, Option, Some, None, Result, Ok, Err, List, length}
 use Rattle.jr_word.specs.declared.handle.RefKind.{RefKind}
 use Rattle.jr_word.specs.declared.kind.Kind.{Kind}
 use Rattle.jr_word.specs.declared.handle.Handle.{Handle as HandleWord}
@@ -17,6 +17,7 @@ use Rattle.jr_model.specs.History.{state}
 use Rattle.jr_model.specs.Frames.{Frames}
 use Rattle.jr_model.specs.Calls.{Call}
 use Rattle.jr_model.specs.Checks.{Word}
+use Rattle.jr_model.specs.Parts.{leave}
 use Rattle.jr_steps.specs.declared.known.Known.{Known}
 use Rattle.jr_steps.specs.Holdings.{empty}
 use Rattle.jr_steps.specs.Knowing.{Facts, Leads, Holds}
@@ -77,6 +78,10 @@ abbrev pub ◌>>◌ : {A B : Type 0} → Deed A → Deed B → Deed B
 -- the answer of a deed, in another form
 abbrev pub answered_by : {A B : Type 0} → (A → B) → Deed A → Deed B
 answered_by f first = first >>= (λ x. done (f x))
+
+-- the exit from a stay that a region left, and then this
+abbrev pub after_exit : {A : Type 0} → Deed A → Deed A
+after_exit deed old answer new = (mid : ThreadState) × call (λ c last t s. leave) old (Ok tt) mid × deed mid answer new
 
 -- the word of a handle, as native code holds it
 abbrev pub packed : Handle → HandleWord
@@ -211,7 +216,8 @@ module _ {S : Type 0} (facts : S → Facts) where
   abbrev pub DoesDeed : {A : Type 0} → S → S → Frames → Frames → Deed A → Result A Fault → Type 0
   DoesDeed old new before after deed answer = CarriedOut old new before after (facts old).stands.role (Holds before) (Holds after) deed answer
 
-  -- so was a call's, where the thread stood outside; and afterwards it stands outside in any case
+  -- so was a call's, where the thread stood outside; where it stood in a stay that a region left, its exit was made, and then the call's deed; and afterwards it stands outside in any case
   pub record DoesOutside {A : Type 0} (old new : S) (before after : Frames) (deed : Deed A) (answer : Result A Fault) : Type 0 where
     pub does : (facts old).stands.role ≡ Outside → CarriedOut old new before after (facts old).stands.role (Holds before) (Holds after) deed answer
+    pub left : (facts old).stands.role ≢ Outside → CarriedOut old new before after Outside (Holds before) (Holds after) (after_exit deed) answer
     pub outside : (facts new).stands.role ≡ Outside

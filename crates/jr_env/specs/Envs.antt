@@ -22,6 +22,6 @@ WasDoneFrom {G = G} old new met shown role deed answer = CarriedOut G.facts old.
 abbrev pub WasDone : {S A : Type 0} {G : Ghosts S} → Env S G → Env S G → Deed A → Result A Fault → Type 0
 WasDone {G = G} old new deed answer = CarriedOut G.facts old.held.steps new.held.steps old.held.frames.frames new.held.frames.frames (G.facts old.held.steps).stands.role (Holds old.held.frames.frames) (Holds new.held.frames.frames) deed answer
 
--- THE CALL DID THE DEED, with this answer, where the thread stood outside; and afterwards it stands outside in any case
+-- THE CALL DID THE DEED, with this answer: from where the thread stood outside, or once it had made the exit from a stay that a region left; and afterwards it stands outside in any case
 abbrev pub Does : {S A : Type 0} {G : Ghosts S} → Env S G → Env S G → Deed A → Result A Fault → Type 0
 Does {G = G} old new deed answer = DoesOutside G.facts old.held.steps new.held.steps old.held.frames.frames new.held.frames.frames deed answer

@@ -1,4 +1,4 @@
--- For the crate's own functions: what each work asks is a call in a stay.
+-- For the crate's own functions: what each work asks has no exit.
 use Rattle.std.specs.Prelude.{ℕ, Ok, Err, None, List, [], ◌∷◌, ◌++◌, replicate}
 use Rattle.std.proofs.Common.{refl, inl, inr, sym}
 use Rattle.std.proofs.lemmas.List.{append-nil}

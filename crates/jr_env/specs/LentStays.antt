@@ -12,7 +12,7 @@ use Rattle.jr_env.specs.contracts.env.Env as env
 use Rattle.jr_env.specs.declared.stay.Stay.{Stay}
 use Rattle.jr_env.specs.Deeds.{Deed}
 use Rattle.jr_env.specs.Envs.{IsOutside, WasDone}
-use Rattle.jr_env.specs.OpenStays.{EntersOver, StaysOn, StaysSince}
+use Rattle.jr_env.specs.OpenStays.{BehindExit, Enters, EntersOver, StaysOn, StaysSince}
 
 module _ {S : Type 0} {G : steps.Ghosts S} where
   -- the env that a stay borrows
@@ -27,17 +27,19 @@ module _ {S : Type 0} {G : steps.Ghosts S} where
   abbrev pub frames_in : Stay S G → Table
   frames_in r = (held_in r).frames
 
-  -- A STAY WAS ENTERED, where the thread stood outside; and in any case the thread is within, and the frames are as they were
+  -- A STAY WAS ENTERED, from outside; and the thread is within, and the frames are as they were
   pub record WasEntered (old : Env S G) (r : Stay S G) : Type 0 where
     pub enters : IsOutside old → EntersOver old.held (held_in r) (Ok tt)
+    pub left : BehindExit old.held (λ mid. Enters G.facts mid (held_in r).steps old.held.frames.frames (Ok tt))
     pub since : IsOutside old → StaysSince old.held (held_in r)
     pub frames : frames_in r ≡ old.held.frames
     pub within : (G.facts (held_in r).steps).stands.role ≡ Within
 
-  -- NO STAY WAS ENTERED: the entry was refused by E13, where the thread stood outside; and afterwards it stands outside in any case, with the frames as they were
+  -- NO STAY WAS ENTERED: the entry was refused by E13, from outside; and afterwards the thread stands outside, with the frames as they were
   pub record WasBarred (old new : Env S G) (e : Fault) : Type 0 where
     pub fault : e ≡ Barred
     pub enters : IsOutside old → EntersOver old.held new.held (Err e)
+    pub left : BehindExit old.held (λ mid. Enters G.facts mid new.held.steps old.held.frames.frames (Err e))
     pub frames : new.held.frames ≡ old.held.frames
     pub outside : IsOutside new
 
@@ -51,6 +53,6 @@ module _ {S : Type 0} {G : steps.Ghosts S} where
   DoesWithin old new deed answer = DoesInside (env_in old).now (env_in new).now deed answer
 
 module _ (S : RattleType) (G : steps.Ghosts S.Denot) where
-  -- the env rests in the stay that was entered, or is what the refusal left
+  -- who lent the env gets it back at the stay's end; where none was entered, at once, as the refusal left it
   abbrev pub rests_within : MutBor (Env S.Denot G) → Result (Stay S.Denot G) Fault → Fml
   rests_within old result = RestsIfErr (env.the_row S G) old (λ r. r.env.ghost_name) result (λ new. IfErr result (λ e. WasBarred old.now new e))

@@ -1,12 +1,11 @@
 pub mod Deeds
 pub mod Envs
-pub mod Entries
 pub mod StandingRegions
+pub mod OpenStays
 pub mod Criticals
 pub mod Collections
 pub mod Censuses
 pub mod Tries
-pub mod OpenStays
 pub mod Works
 pub mod StayDeeds
 pub mod LentStays

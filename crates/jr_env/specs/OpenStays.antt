@@ -1,5 +1,5 @@
 -- A stay that goes on from call to call, from the moment before its entry on, for whatever was known then: its thread entered and has not left, and no step of a collection comes.
-use Rattle.std.specs.Prelude.{ℕ, Result, Ok, Err, List, []}
+use Rattle.std.specs.Prelude.{◌≢◌, ℕ, Result, Ok, Err, List, []}
 use Rattle.jr_word.specs.declared.config.Config.{Config}
 use Rattle.jr_word.specs.declared.fault.Fault.{Fault}
 use Rattle.jr_model.specs.declared.event.Act.{Act}
@@ -9,13 +9,12 @@ use Rattle.jr_model.specs.State.{State}
 use Rattle.jr_model.specs.Frames.{Frames}
 use Rattle.jr_model.specs.Calls.{Call}
 use Rattle.jr_model.specs.Parts.{enter, leave}
-use Rattle.jr_model.specs.CriticalRegions.{IsOneStay}
+use Rattle.jr_model.specs.OpenStays.{HasStayed, IsOneStay, NoneLeaves}
 use Rattle.jr_steps.specs.declared.steps.Steps.{Ghosts}
 use Rattle.jr_steps.specs.declared.known.Known.{Known}
 use Rattle.jr_steps.specs.Knowing.{Facts, view, keeps, lets_go, Holds, Leads}
 use Rattle.jr_gate.specs.Performing.{IsAsBefore, IsMade, Performed, thread_state}
 use Rattle.jr_frames.specs.declared.held.Held.{Held}
-use Rattle.jr_env.specs.Entries.{HasStayed, NoneLeaves}
 use Rattle.jr_env.specs.StandingRegions.{WasUndisturbed}
 
 -- the work has no exit, whatever acts it has
@@ -51,6 +50,10 @@ module _ {S : Type 0} {G : Ghosts S} where
   -- the gate was left
   abbrev pub LeavesOver : Held S G → Held S G → Type 0
   LeavesOver old new = Leaves G.facts old.steps new.steps old.frames.frames
+
+  -- where the thread stood in a stay that a region left, it made the exit, and from behind that this was done
+  abbrev pub BehindExit : Held S G → (S → Type 0) → Type 0
+  BehindExit old done = (G.facts old.steps).stands.role ≢ Outside → (mid : S) × Leaves G.facts old.steps mid old.frames.frames × done mid
 
   -- this work was done in a stay, by so many operations beside its acts as it takes in the room's sizes
   abbrev pub PerformsOver : {A : Type 0} → Held S G → Held S G → (Config → ℕ) → (Config → ℕ → ℕ → State → Call A) → Result A Fault → Type 0

@@ -3,13 +3,12 @@ use Rattle.std.specs.Prelude.{[], ◌∷◌}
 use Rattle.jr_model.specs.declared.event.Act.TheVariants.{Gate}
 use Rattle.jr_model.specs.declared.event.GateAct.TheVariants.{Leave}
 use Rattle.jr_model.specs.History.{by}
-use Rattle.jr_model.specs.CriticalRegions.{IsOneStay}
+use Rattle.jr_model.specs.OpenStays.{HasStayed, IsOneStay}
 use Rattle.jr_steps.specs.declared.steps.Steps.{Ghosts}
 use Rattle.jr_steps.specs.Knowing.{view, Holds, Leads}
 use Rattle.jr_frames.specs.declared.held.Held.{Held}
 use Rattle.jr_critical.specs.declared.levels.Levels.{Levels}
 use Rattle.jr_critical.specs.Levels.{KnowsLevels}
-use Rattle.jr_env.specs.Entries.{HasStayed}
 
 module _ {S : Type 0} {G : Ghosts S} where
   -- A REGION WITH THESE LEVELS STANDS SINCE THEN: whatever was known at the beginning leads to something known now between which its thread entered, and has not left. So all that was seen since its entry is one stay, and no event in it, of whatever thread, is a step of a collection. The header of each level is known

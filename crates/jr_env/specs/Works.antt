@@ -64,9 +64,10 @@ module _ {S : Type 0} (facts : S → Facts) where
     pub thread : (facts new).stands.thread ≡ (facts old).stands.thread
     pub config : (facts new).stands.config ≡ (facts old).stands.config
 
-  -- where the thread stood outside, a whole call was made, by at most so many operations beside its acts; and the next can be in any case
+  -- a whole call was made, by at most so many operations beside its acts, from where the thread stood outside, or from behind the exit from a stay that was left; and the next can be in any case
   pub record Completes {A : Type 0} (old new : S) (before after : Table) (silent : ℕ) (asked : State → Call A) (answer : Result A Fault) : Type 0 where
     pub call : (facts old).stands.role ≡ Outside → CallsWhole facts old new before.frames after.frames silent asked answer
+    pub left : (facts old).stands.role ≢ Outside → (mid : S) × Took facts old mid (Gate Leave ∷ []) anything lets_go × CallsWhole facts mid new before.frames after.frames silent asked answer
     pub ready : StandsReady facts Outside new after
 
 -- the same of the steps and frames that a thread holds together, as contracts say it

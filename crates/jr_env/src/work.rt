@@ -6,7 +6,7 @@ ghost use Rattle.jr_model.specs.declared.event.Role.TheVariants.{Outside};
 ghost use Rattle.jr_gate.specs.Stays.{IsOwnStay};
 ghost use Rattle.jr_elements.specs.Copies.{answer_in};
 ghost use Rattle.jr_env.specs.Calling.{CanCall};
-ghost use Rattle.jr_env.specs.OpenStays.{EndsAsOneStay, EntersOver, LeavesOver, PerformsOver, StaysOn, StaysSince};
+ghost use Rattle.jr_env.specs.OpenStays.{BehindExit, EndsAsOneStay, Enters, EntersOver, LeavesOver, PerformsOver, StaysOn, StaysSince};
 ghost use Rattle.jr_env.specs.Works.{CompletesOver, EndsStayOver};
 
 use jr_frames::{Frames, Held};
@@ -106,6 +106,7 @@ pub fn make<S: Steps, W: Work<S> + Drop>(held: &mut Held<S>, work: W) -> Result<
 pub fn go_inside<S: Steps>(held: &mut Held<S>) -> Result<Inside, Fault>
     requires { CanCall (S.facts held.old.steps).stands }
     ensures call { (S.facts held.old.steps).stands.role ≡ Outside → EntersOver held.old held.new (answer_in (λ i. tt) result) }
+    ensures left { BehindExit held.old (λ mid. Enters S.facts mid held.new.steps held.old.frames.frames (answer_in (λ i. tt) result)) }
     ensures frames { held.new.frames ≡ held.old.frames }
     ensures own { IfOk result (λ i. IsOwnStay i (S.facts held.new.steps).stands) }
     ensures since { IfOk result (λ i. (S.facts held.old.steps).stands.role ≡ Outside → StaysSince held.old held.new) }

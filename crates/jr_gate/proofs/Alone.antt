@@ -1,6 +1,7 @@
 -- One thread alone is never refused.
 use Rattle.std.proofs.Common.{◌≡◌, ◌≢◌, ℕ, ◌<◌, ◌≤◌, ⊎_elim, [], ◌∷◌, ◌++◌, cond, refl, sym, ap, subst, ◌∙◌, ne_eqb, arith}
 use Rattle.std.proofs.lemmas.Bool.{cases_lt}
+use Rattle.std.proofs.lemmas.List.{append-nil}
 use Rattle.std.proofs.Math.Logic.{∥∥₁_elim}
 use Rattle.std.specs.List.{AllByRecursion}
 use mathlib.Core.Logic.{dite}
@@ -16,7 +17,8 @@ use Rattle.jr_model.proofs.Histories.{legal_push}
 use Rattle.jr_model.proofs.Counts.{outside_beyond, nobody_knocks, nobody_is_busy}
 use Rattle.jr_model.proofs.Stays.{role_of_state}
 use Rattle.jr_steps.specs.declared.known.Known.{Known}
-use Rattle.jr_steps.specs.Knowing.{AreLone, AreOf, DidAll, Facts, Goes, IsLone, MayKnow, Standing, Took, anything}
+use Rattle.jr_steps.specs.Knowing.{AreLone, AreOf, Facts, Goes, IsLone, MayKnow, Standing, Took, anything}
+use Rattle.jr_steps.proofs.StepFacts.{none_between}
 
 -- what a step needed of the state before it
 needed : {k k' : Known} (a : Act) (g : Goes k (a ∷ []) k') → let before = k.seen ++ g.between in IsLegal k.config k.last before × Needs k.config k.last (state before) (by k.thread a)
@@ -45,11 +47,6 @@ one_outside c last es t one legal below u ne = ⊎_elim
     (λ (h : c.threads ≤ u). outside_beyond c last es legal u h)
     (cases_lt u c.threads)
 
--- the same of a beginning
-all_front : (t : ℕ) (xs ys : History) → AllByRecursion (λ e. e.thread ≡ t) (xs ++ ys) → AllByRecursion (λ e. e.thread ≡ t) xs
-all_front t [] ys all = tt
-all_front t (x ∷ xs) ys all = (all.0, all_front t xs ys all.1)
-
 module _ {S : Type 0} (facts : S → Facts) (fits : AreOf facts) (own : AreLone facts) where
   -- where a lone thread stands, all others are outside
   pub others_outside : (s : S) → IsLone (facts s).stands → (facts s).stands.thread < (facts s).stands.config.threads → (k : Known) → (facts s).knows k → OthersOutside k.seen k.thread
@@ -69,8 +66,8 @@ module _ {S : Type 0} {facts : S → Facts} (fits : AreOf facts) (own : AreLone 
       let before = k.seen ++ g.2.between in
       ⊎_elim
       (λ none.
-      let all : DidAll g.0 = own new g.0 (ap (λ (s : Standing). s.room) t.stands_is ∙ none) g.1 in
-      own_outside before k.thread (all_front k.thread before (by k.thread a ∷ []) (subst (λ (z : ℕ × History). AllByRecursion (λ e. e.thread ≡ z.0) z.1) (λ i. (g.2.thread i, g.2.seen i)) all)))
+      let nobody = none_between g.2 (own new g.0 (ap (λ (s : Standing). s.room) t.stands_is ∙ none) g.1) in
+      subst (λ es. OthersOutside es k.thread) (sym (ap (λ es. k.seen ++ es) nobody ∙ append-nil k.seen)) (own_outside k.seen k.thread (own old k none h)))
       (λ one.
       let n = needed a g.2 in one_outside k.config k.last before k.thread (ap (λ (c : Config). c.threads) (fits old k h).config ∙ one) n.0 n.1.0)
       lone

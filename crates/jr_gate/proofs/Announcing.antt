@@ -1,7 +1,6 @@
 -- What an announcement shows, and what a refusal of one does.
-use Rattle.std.proofs.Common.{◌≡◌, ◌≢◌, ◌<◌, ◌≤◌, ℕ, Bool, true, false, if◌then◌else◌, Err, inl, inr, List, [], ◌∷◌, refl, sym, ap, subst, ◌∙◌, arith}
+use Rattle.std.proofs.Common.{◌≡◌, ◌≢◌, ◌<◌, ℕ, true, if◌then◌else◌, Err, inl, inr, [], ◌∷◌, refl, sym, ap, subst, ◌∙◌}
 use Rattle.std.proofs.Math.Logic.{∥∥₁_elim}
-use mathlib.Core.List.{IsPrefix}
 use Rattle.jr_word.specs.declared.config.Config.{Config}
 use Rattle.jr_word.specs.declared.fault.Fault.{Fault}
 use Rattle.jr_word.specs.declared.fault.Fault.TheVariants.{Busy, Moved}
@@ -13,7 +12,7 @@ use Rattle.jr_model.specs.declared.event.Act.TheVariants.{Gate, ShutBusy, Meet}
 use Rattle.jr_model.specs.declared.event.GateAct.TheVariants.{Announce}
 use Rattle.jr_model.specs.State.{is_inside}
 use Rattle.jr_model.specs.History.{PassView, state, Did}
-use Rattle.jr_model.specs.Refusals.{IsOpenWith, Sometime, GateHasMoved}
+use Rattle.jr_model.specs.Refusals.{IsOpenWith, GateHasMoved}
 use Rattle.jr_model.specs.Windows.{IsWindow}
 use Rattle.jr_model.proofs.Counts.{count_all_false}
 use Rattle.jr_model.proofs.Moments.{prefix_self}
@@ -25,7 +24,7 @@ use Rattle.jr_steps.specs.Acts.{act_of_gate_load, act_of_announcement, all_count
 use Rattle.jr_steps.specs.Knowing.{AreLone, AreOf, Facts, Goes, IsLone, MayKnow, ShowsAnnounced, ShowsGate, Standing, Took, anything, keeps, lets_go, standing_after, view}
 use Rattle.jr_steps.proofs.GateFacts.{nobody_closes, somebody_closes}
 use Rattle.jr_steps.proofs.StepFacts.{goes_did, goes_stepped, took_less}
-use Rattle.jr_gate.specs.Acting.{ActedTo, KeepsInTwo}
+use Rattle.jr_gate.specs.Acting.{ActedTo}
 use Rattle.jr_gate.specs.Announcing.{AnnouncesInTwo, FindsClosed, WasNotAnnounced}
 use Rattle.jr_gate.proofs.Alone.{all_outside, others_outside, never_busy}
 use Rattle.jr_gate.proofs.Closing.{busy_counts}
@@ -55,7 +54,7 @@ announcing_window {old} d = record { from = prefix_self old.seen; to = d.begins;
 
 module _ {S : Type 0} {facts : S → Facts} where
   -- a look that found the gate closed
-  pub look_closed : {a b : S} (p : GateParts) → is_closed p.state ≡ true → Took facts a b (act_of_gate_load gate.Busy p ∷ []) anything (λ j k. ShowsGate p k × keeps j k) → Took facts a b (ShutBusy (all_counted p) ∷ []) anything FindsClosed
+  pub look_closed : {a b : S} (p : GateParts) → is_closed p.state ≡ true → Took facts a b (act_of_gate_load gate.Busy p ∷ []) anything (λ j k. ShowsGate p k × keeps j k) → Took facts a b (ShutBusy (all_counted p) ∷ []) anything (FindsClosed keeps)
   look_closed {a} {b} p closed t = took_less (λ j k s. (s.1, somebody_closes s.0 closed))
       (subst (λ (x : Act). Took facts a b (x ∷ []) anything (λ j k. ShowsGate p k × keeps j k)) (ap (λ z. if z then ShutBusy (all_counted p) else Meet) closed) t)
 

@@ -28,4 +28,4 @@ module _ {S : Type 0} {facts : S → Facts} {old new : S} (some : MayKnow facts 
 
 module _ {S : Type 0} {facts : S → Facts} {old new : S} where
   pub shut_shows : Took facts old new (Gate Shut ∷ []) anything lets_go → Took facts old new (Gate Shut ∷ []) anything (λ j k. IsClosedNow k × lets_go j k)
-  shut_shows t = record { stands_is = t.stands_is; hint_is = t.hint_is; goes = λ k s m. let g = t.goes k s m in (g.0, g.1, g.2, (shut_closed g.2, g.3)); alone = λ e k s m. t.alone e k s m }
+  shut_shows t = record { stands_is = t.stands_is; hint_is = t.hint_is; goes = λ k s m. let g = t.goes k s m in (g.0, g.1, g.2, (shut_closed g.2, g.3)) }

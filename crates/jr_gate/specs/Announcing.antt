@@ -15,18 +15,18 @@ use Rattle.jr_gate.specs.Acting.{ActedTo, KeepsInTwo, LetsGoInTwo}
 abbrev pub AnnouncesInTwo : Known → Known → Type 0
 AnnouncesInTwo j k = LetsGoInTwo j k × IsLastSeen (view k) (Gate Announce)
 
--- a thread keeps the gate closed then, and the pass holds what it held
-abbrev pub FindsClosed : Known → Known → Type 0
-FindsClosed j k = keeps j k × SomebodyCloses (state_of k)
+-- this, and a thread keeps the gate closed then
+abbrev pub FindsClosed : (Known → Known → Type 0) → Known → Known → Type 0
+FindsClosed shows j k = shows j k × SomebodyCloses (state_of k)
 
 module _ {S : Type 0} (facts : S → Facts) (old new : S) (e : Fault) where
   -- the look found the gate closed, by another thread
   abbrev pub WasClosed : Type 0
-  WasClosed = (n : ℕ) × (e ≡ Busy n) × (1 ≤ n) × Took facts old new (ShutBusy n ∷ []) anything FindsClosed
+  WasClosed = (n : ℕ) × (e ≡ Busy n) × (1 ≤ n) × Took facts old new (ShutBusy n ∷ []) anything (FindsClosed keeps)
 
   -- the look found it open, and another thread closed it before the exchange
   abbrev pub WasClosedBetween : Type 0
-  WasClosedBetween = (n : ℕ) × (e ≡ Busy n) × (1 ≤ n) × ActedTo facts old new (Meet ∷ ShutBusy n ∷ []) anything (λ j k. KeepsInTwo j k × SomebodyCloses (state_of k))
+  WasClosedBetween = (n : ℕ) × (e ≡ Busy n) × (1 ≤ n) × ActedTo facts old new (Meet ∷ ShutBusy n ∷ []) anything (FindsClosed KeepsInTwo)
 
   -- both found it open, with one count and with another
   abbrev pub WasMovedBetween : Type 0

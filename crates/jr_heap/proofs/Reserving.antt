@@ -23,8 +23,8 @@ use Rattle.jr_steps.specs.declared.known.Holdings.{Holdings}
 use Rattle.jr_steps.specs.declared.loads.TopLoad.TheVariants as top
 use Rattle.jr_steps.specs.Acts.{acts_of_top_load}
 use Rattle.jr_steps.specs.Holdings.{words_at, with_range}
-use Rattle.jr_steps.specs.Knowing.{AreOf, Facts, Standing, MayKnow, view, anything, keeps, ShowsUsed, WasUsed, ShowsRange, Took, Takes}
-use Rattle.jr_steps.proofs.StepFacts.{goes_did, used_now, may_then}
+use Rattle.jr_steps.specs.Knowing.{AreLone, AreOf, Facts, Standing, MayKnow, view, anything, keeps, ShowsUsed, WasUsed, ShowsRange, Took, Takes}
+use Rattle.jr_steps.proofs.StepFacts.{goes_did, none_between, used_now, may_then}
 use Rattle.jr_heap.specs.Heap.{Called, by_steps, reserve_steps, IsOwn, Gains}
 use Rattle.jr_heap.proofs.Calling.{no_step, called_by, called_none}
 
@@ -114,18 +114,18 @@ module _ {S : Type 0} {facts : S → Facts} {a b : S} (fits : AreOf facts) (insi
             did = d;
             is = lost n u found some;
             window = window_act (ReserveLost n u found) d tt tt;
-            grounds = raced k.seen n u found (sometime_last j.2.begins j.3) (goes_did g.2) room_here;
+            grounds = (n, raced k.seen n u found (sometime_last j.2.begins j.3) (goes_did g.2) room_here);
             shows = (e, two_steps k j.0 g.0 j.5 g.2.taken);
           },
         ))
 
     -- where nobody else does anything, the reservation is not lost
-    pub never_lost : {c : S} (found : ℕ) → (facts a).stands.room ≡ None → MayKnow facts a anything → Took facts b c (ReserveLost n u found ∷ []) (WasUsed u) (ShowsRange u n (Err found)) → ⊥
-    never_lost found none some t =
+    pub never_lost : AreLone facts → {c : S} (found : ℕ) → (facts a).stands.room ≡ None → MayKnow facts a anything → Took facts b c (ReserveLost n u found ∷ []) (WasUsed u) (ShowsRange u n (Err found)) → ⊥
+    never_lost own {c} found none some t =
         let each : ((k : Known) × (facts a).knows k × anything k) → ⊥ = λ k.
         let j = first k.0 k.1 in
         let g = t.goes j.0 j.1 (was_used k.0 k.1) in
-        let nobody : g.2.between ≡ [] = t.alone (ap (λ (z : Standing). z.room) looked.stands_is ∙ none) j.0 j.1 (was_used k.0 k.1) in
+        let nobody : g.2.between ≡ [] = none_between g.2 (own c g.0 (ap (λ (z : Standing). z.room) t.stands_is ∙ (ap (λ (z : Standing). z.room) looked.stands_is ∙ none)) g.1) in
         let before : History = j.0.seen ++ g.2.between in
         let needs = ((legal_push j.0.config j.0.last before (by j.0.thread (ReserveLost n u found))).0 (subst (IsLegal j.0.config j.0.last) g.2.seen g.2.legal)).1.1 in
         let same : state before ≡ state j.0.seen = ap state (ap (λ l. j.0.seen ++ l) nobody ∙ append-nil j.0.seen) in

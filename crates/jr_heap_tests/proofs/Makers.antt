@@ -12,7 +12,7 @@ use Rattle.jr_model.specs.State.{Contents, State}
 use Rattle.jr_model.specs.Frames.{Frames}
 use Rattle.jr_model.specs.Calls.{Call, ◌>>◌, act, some_act, refuse_if}
 use Rattle.jr_model.specs.History.{role_of, Did}
-use Rattle.jr_model.specs.Parts.{publish, read_element, write_element}
+use Rattle.jr_model.specs.Parts.{header, publish, read_element, write_element}
 use Rattle.jr_model.specs.Checks.{is_plain, is_text, is_value}
 use Rattle.jr_steps.specs.declared.known.Known.{Known}
 use Rattle.jr_steps.specs.Knowing.{AreOf, Facts, MayKnow, view, state_of, HasObject}
@@ -69,6 +69,12 @@ module _ {S : Type 0} (facts : S → Facts) (fits : AreOf facts) (a : S) (o : �
   may_be_written v named may = ∥∥₁_map may (λ k. (k.0, k.1, (kind_present o kind k.0 k.2, kind_of_some k.0 o kind v k.2 (named k.0))))
 
   module _ (b : S) (w : (facts a).stands.role ≡ Within) where
+    pub kind_looked_up : {shows : Known → Known → Type 0} (answer : Result (Kind × ℕ) Fault) → Called facts a b (HasObject o) (λ j k. header (state_of k) o) answer shows → MayKnow facts a (HasKind o kind) → MayKnow facts b (HasKind o kind)
+    kind_looked_up answer c may = ∥∥₁_map may (λ k.
+        let r = c.ran k.0 k.1 (kind_present o kind k.0 k.2) in
+        let f = r.2 (record { frames = []; given = [] }) in
+        (r.0, r.1, kind_later k.0 r.0 f.acts o kind f.did ((fits a k.0 k.1).role ∙ w) (subst NoLeave (sym (f.is.2.0)) tt) k.2))
+
     pub kind_read : {shows : Known → Known → Type 0} (i : ℕ) (answer : Result ℕ Fault) → Called facts a b (HasObject o) (λ j k. read_element (state_of k) o i) answer shows → MayKnow facts a (HasKind o kind) → MayKnow facts b (HasKind o kind)
     kind_read i answer c may = ∥∥₁_map may (λ k.
         let r = c.ran k.0 k.1 (kind_present o kind k.0 k.2) in

@@ -3,15 +3,21 @@ ghost use Rattle.std.specs.Prelude.{◌≡◌, IfOk};
 ghost use Rattle.jr_model.specs.declared.event.Role.TheVariants.{Outside};
 ghost use Rattle.jr_gate.specs.Stays.{IsOwnAnnouncement};
 
-use crate::gate::{THREE, enters, gate_is, is_busy, knocks};
+use crate::gate::{enters, gate_is, is_busy, is_kept_out};
 use crate::plain::{self, FirstWord, alone, first_word_is};
-use crate::rooms::NOTHING;
-use crate::shared::{self, in_a_room};
+use crate::rooms::{NOTHING, last_of, leaves, steps_of_last};
 use jr_gate::{Announced, announce, enter};
+use jr_rule::{Room, RoomSteps};
 use jr_steps::Steps;
 use jr_word::{Config, Fault};
 use std::process::Abort;
 use std::test::Fail;
+
+/// A room of three threads with one slot and one object.
+const THREE: Config = Config {
+    threads: 3,
+    ..Config::LEAST
+};
 
 /// Announces that the gate will be shut, which nobody keeps it from.
 fn announces<S: Steps>(rt: &impl Abort, steps: &mut S) -> Announced
@@ -58,16 +64,6 @@ fn waits<S: Steps>(rt: &impl Abort, steps: &mut S, announced: Announced, count: 
             announced
         }
     }
-}
-
-/// A thread knocks in vain, by the step and by `enter`: what the word of the gate is between knock and withdrawal, and what it is afterwards.
-fn is_kept_out<S: Steps>(rt: &impl Abort, steps: &mut S, between: u64, after: u64)
-    requires { (S.facts steps.old).stands.role ≡ Outside }
-    ensures { (S.facts steps.new).stands ≡ (S.facts steps.old).stands }
-{
-    knocks(rt, steps, between, after);
-    enters(rt, steps, Some(Fault::Barred));
-    gate_is(rt, steps, after);
 }
 
 /// Thread 0 is inside, so that thread 2 can't collect. Thread 1 announces. From then on thread 2 is not let in, and finds both where it would shut the gate; thread 1 finds thread 0 alone, and waits. Thread 0 leaves, and thread 2, which would announce too, finds thread 1.
@@ -149,7 +145,7 @@ fn takes_it_back<S: Steps>(rt: &impl Abort, first: &mut S, second: &mut S)
 }
 
 /// Three threads at one gate, with the word of the gate after each of their calls.
-pub(crate) fn is_closed_before_it_is_empty<S: Steps>(
+fn is_closed_before_it_is_empty<S: Steps>(
     rt: &impl Abort,
     first: &mut S,
     second: &mut S,
@@ -168,8 +164,16 @@ pub(crate) fn is_closed_before_it_is_empty<S: Steps>(
 
 #[test]
 fn a_gate_is_closed_to_entries_before_it_is_empty(rt: HostRuntime) -> Result<(), Fail> {
-    let case = shared::Case::ClosedBeforeEmpty;
-    in_a_room(&rt, rt.alloc(), THREE, case, NOTHING)
+    let (room, mut passes) = Room::<2>::open(rt.alloc(), THREE)?;
+    let third = last_of(&room, &mut passes)?;
+    let mut third = RoomSteps::new(&room, third);
+    let mut second = steps_of_last(&room, &mut passes)?;
+    let mut first = steps_of_last(&room, &mut passes)?;
+    is_closed_before_it_is_empty(&rt, &mut first, &mut second, &mut third)?;
+    let (_first, _second) = (first.into_pass(), second.into_pass());
+    let third = third.into_pass();
+    leaves(&rt, room, third, NOTHING);
+    Ok(())
 }
 
 /// An announcement is a bit of the word, until the gate is shut.

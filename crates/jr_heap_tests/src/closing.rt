@@ -1,16 +1,12 @@
-//! Rooms that are not closed, since a thread is inside or announces, and then are.
-ghost use Rattle.std.specs.Prelude.{◌≡◌, length, IfOk};
-ghost use Rattle.jr_model.specs.declared.event.Role.TheVariants.{Outside};
-ghost use Rattle.jr_steps.specs.Knowing.{CanReopen, MayKnow};
-ghost use Rattle.jr_gate.specs.Stays.{IsOwnCollection};
+//! Rooms that are not closed, since a thread is inside, announces or collects, and then are.
+ghost use Rattle.std.specs.Prelude.{IfOk};
 ghost use Rattle.jr_rule.specs.Rooms.{IsOfRoom};
 
+use crate::gate::{gate_is, keep_each_other_out};
 use crate::passes::{Deed, did, opened};
 use crate::rooms::{NOTHING, last_of, leaves, stays_open};
-use jr_gate::{Shut, shut_gate};
 use jr_model::Role;
 use jr_rule::{AllLeft, Left, Pass, Room, RoomSteps};
-use jr_steps::Steps;
 use jr_word::{Config, Fault};
 use std::alloc::Global;
 use std::process::Abort;
@@ -83,31 +79,20 @@ fn a_room_is_handed_back_while_a_thread_announces(rt: HostRuntime) -> Result<(),
     Ok(())
 }
 
-/// Shuts the gate, which nobody keeps this thread from.
-fn shuts<S: Steps>(steps: &mut S) -> Result<Shut, Fail>
-    requires { (S.facts steps.old).stands.role ≡ Outside }
-    ensures own { IfOk result (λ s. IsOwnCollection s (S.facts steps.new).stands) }
-    ensures room { IfOk result (λ _. (S.facts steps.new).stands.room ≡ (S.facts steps.old).stands.room) }
-    ensures config { IfOk result (λ _. (S.facts steps.new).stands.config ≡ (S.facts steps.old).stands.config) }
-    ensures last { IfOk result (λ _. (S.facts steps.new).stands.last ≡ (S.facts steps.old).stands.last) }
-    ensures closed { IfOk result (λ _. MayKnow S.facts steps.new CanReopen) }
-{
-    let Ok(collection) = shut_gate(steps) else {
-        return Err("nobody is inside")?;
-    };
-    Ok(collection)
-}
-
-/// A thread that collects is counted. Its collection goes on, and ends.
+/// While a thread is inside another doesn't collect, and while that one collects nobody comes in, nobody else collects, and the room is not closed.
 #[test]
-fn a_room_is_handed_back_while_a_thread_collects(rt: HostRuntime) -> Result<(), Fail> {
-    let (room, first, second, _third) = opened(rt.alloc())?;
+fn a_stay_and_a_collection_keep_each_other_out(rt: HostRuntime) -> Result<(), Fail> {
+    let (room, mut passes) = Room::<2>::open(rt.alloc(), PAIR)?;
+    let second = last_of(&room, &mut passes)?;
+    let first = last_of(&room, &mut passes)?;
     let mut second = RoomSteps::new(&room, second);
-    let collection = shuts(&mut second)?;
-    let second = second.into_pass();
+    let mut first = RoomSteps::new(&room, first);
+    let collection = keep_each_other_out(&rt, &mut first, &mut second)?;
+    let (first, second) = (first.into_pass(), second.into_pass());
     let (room, first) = stays_open(&rt, room, first, 1);
     let mut second = RoomSteps::new(&room, second);
     collection.reopen(&mut second);
+    gate_is(&rt, &mut second, 0);
     let _second = second.into_pass();
     leaves(&rt, room, first, NOTHING);
     Ok(())

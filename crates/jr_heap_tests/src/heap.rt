@@ -32,9 +32,9 @@ const LARGE: Config = Config {
     ..Config::LEAST
 };
 
-/// A room of three threads for ten objects and 20 words.
+/// A room of two threads for ten objects and 20 words.
 const SHARED: Config = Config {
-    threads: 3,
+    threads: 2,
     slots: 1,
     objects: 10,
     words: 20,
@@ -42,7 +42,7 @@ const SHARED: Config = Config {
 };
 
 /// Comes in, and looks for free numbers from the first one on.
-fn comes_in<S: Steps>(steps: &mut S) -> Result<Numbers, Fail>
+pub(crate) fn comes_in<S: Steps>(steps: &mut S) -> Result<Numbers, Fail>
     requires { (S.facts steps.old).stands.role ≡ Outside }
     ensures { IfOk result (λ _. (S.facts steps.new).stands.role ≡ Within) }
 {
@@ -53,7 +53,7 @@ fn comes_in<S: Steps>(steps: &mut S) -> Result<Numbers, Fail>
 }
 
 /// A new object with so many elements, each of which is the word.
-fn made<S: Steps>(
+pub(crate) fn made<S: Steps>(
     steps: &mut S,
     numbers: &mut Numbers,
     kind: Kind,
@@ -99,7 +99,7 @@ fn put<S: Steps>(
 }
 
 /// Reading the element at an index of an object of the kind answers what is wanted.
-fn read_answers<S: Steps>(
+pub(crate) fn read_answers<S: Steps>(
     rt: &impl Abort,
     steps: &mut S,
     object: u16,
@@ -116,7 +116,7 @@ fn read_answers<S: Steps>(
 }
 
 /// Writing the element at an index of an object of the kind answers what is wanted.
-fn write_answers<S: Steps>(
+pub(crate) fn write_answers<S: Steps>(
     rt: &impl Abort,
     steps: &mut S,
     object: u16,
@@ -135,7 +135,7 @@ fn write_answers<S: Steps>(
 }
 
 /// A new plain object.
-fn made_plain<S: Steps>(steps: &mut S, numbers: &mut Numbers) -> Result<u16, Fault>
+pub(crate) fn made_plain<S: Steps>(steps: &mut S, numbers: &mut Numbers) -> Result<u16, Fault>
     requires { (S.facts steps.old).stands.role ≡ Within }
     ensures stands { (S.facts steps.new).stands ≡ (S.facts steps.old).stands }
     ensures object { IfOk result (λ o. MayKnow S.facts steps.new (HasKind o Plain)) }
@@ -310,6 +310,7 @@ pub(crate) fn serve_in_stays<S: Steps>(
 ) -> Result<(), Fail>
     requires first { (S.facts first.old).stands.role ≡ Outside }
     requires second { (S.facts second.old).stands.role ≡ Outside }
+    ensures { IfOk result (λ _. (S.facts second.new).stands ≡ (S.facts second.old).stands) }
 {
     let mut numbers = comes_in(first)?;
     assert!(rt; second.go_in());
@@ -320,7 +321,7 @@ pub(crate) fn serve_in_stays<S: Steps>(
 }
 
 /// Checks that no further word is reserved, since so many are used.
-fn is_full(rt: &impl Abort, answer: Result<Range, Fault>, used: u32) {
+pub(crate) fn is_full(rt: &impl Abort, answer: Result<Range, Fault>, used: u32) {
     assert!(rt; answer.err() == Some(Fault::SpaceFull(used)));
 }
 

@@ -10,6 +10,8 @@ mod gate;
 #[cfg(test)]
 mod heap;
 #[cfg(test)]
+mod last_words;
+#[cfg(test)]
 mod passes;
 #[cfg(test)]
 mod plain;

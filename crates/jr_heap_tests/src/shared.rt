@@ -1,9 +1,10 @@
-//! What is shown of three threads that share a room: each case has a room of its own, which is made and closed here alone.
-ghost use Rattle.std.specs.Prelude.{◌≡◌};
+//! What is shown of two threads that share a room: each case has a room of its own, which is made and closed here alone.
+ghost use Rattle.std.specs.Prelude.{◌≡◌, IfOk};
 ghost use Rattle.jr_model.specs.declared.event.Role.TheVariants.{Outside};
 
-use crate::announced::is_closed_before_it_is_empty;
+use crate::gate::is_counted_until_it_withdraws;
 use crate::heap::serve_in_stays;
+use crate::last_words::share_what_is_left;
 use crate::rooms::{last_of, leaves, steps_of_last};
 use jr_model::Summary;
 use jr_rule::{Room, RoomSteps};
@@ -16,30 +17,25 @@ use std::test::Fail;
 /// What is shown: the function of like name says it.
 #[derive(Clone, Copy)]
 pub(crate) enum Case {
-    ClosedBeforeEmpty,
+    CountedUntilItWithdraws,
     ServeInStays,
+    ShareWhatIsLeft,
 }
 
-/// Shows a case over the steps of three threads that are outside.
-fn shows<S: Steps>(
-    rt: &impl Abort,
-    first: &mut S,
-    second: &mut S,
-    third: &mut S,
-    case: Case,
-) -> Result<(), Fail>
+/// Shows a case over the steps of two threads that are outside.
+fn shows<S: Steps>(rt: &impl Abort, first: &mut S, second: &mut S, case: Case) -> Result<(), Fail>
     requires first { (S.facts first.old).stands.role ≡ Outside }
     requires second { (S.facts second.old).stands.role ≡ Outside }
-    requires third { (S.facts third.old).stands.role ≡ Outside }
-    ensures { (S.facts third.new).stands ≡ (S.facts third.old).stands }
+    ensures { IfOk result (λ _. (S.facts second.new).stands ≡ (S.facts second.old).stands) }
 {
     match case {
-        Case::ClosedBeforeEmpty => is_closed_before_it_is_empty(rt, first, second, third),
+        Case::CountedUntilItWithdraws => is_counted_until_it_withdraws(rt, first, second),
         Case::ServeInStays => serve_in_stays(rt, first, second),
+        Case::ShareWhatIsLeft => share_what_is_left(rt, first, second),
     }
 }
 
-/// Shows a case in a room of these sizes, which has three threads, and what is left in it.
+/// Shows a case in a room of these sizes, which has two threads, and what is left in it.
 pub(crate) fn in_a_room(
     rt: &impl Abort,
     alloc: Global,
@@ -48,13 +44,12 @@ pub(crate) fn in_a_room(
     left: Summary,
 ) -> Result<(), Fail> {
     let (room, mut passes) = Room::<2>::open(alloc, config)?;
-    let third = last_of(&room, &mut passes)?;
-    let mut third = RoomSteps::new(&room, third);
-    let mut second = steps_of_last(&room, &mut passes)?;
+    let second = last_of(&room, &mut passes)?;
+    let mut second = RoomSteps::new(&room, second);
     let mut first = steps_of_last(&room, &mut passes)?;
-    shows(rt, &mut first, &mut second, &mut third, case)?;
-    let (_first, _second) = (first.into_pass(), second.into_pass());
-    let third = third.into_pass();
-    leaves(rt, room, third, left);
+    shows(rt, &mut first, &mut second, case)?;
+    let _first = first.into_pass();
+    let second = second.into_pass();
+    leaves(rt, room, second, left);
     Ok(())
 }

@@ -283,81 +283,81 @@ fn answers_as_handles(rt: HostRuntime) {
     );
 }
 
-/// Each refusal, in the order of the numbers, and what it prints.
+/// Each refusal, in the order of the numbers, and what it says in words.
 const REFUSALS: [(Fault, &str); 23] = [
     (
         Fault::Null,
-        "E1: NULL or a cleared weak reference, where an object is needed",
+        "NULL or a cleared weak reference, where an object is needed",
     ),
-    (Fault::Stale, "E2: no reference of this word stands"),
-    (Fault::Foreign, "E3: a local reference of another thread"),
+    (Fault::Stale, "no reference of this word stands"),
+    (Fault::Foreign, "a local reference of another thread"),
     (
         Fault::WrongKind,
-        "E4: a reference of another kind, or an object that is no string",
+        "a reference of another kind, or an object that is no string",
     ),
     (
         Fault::NotArray,
-        "E5: no array, where an array is needed, or a write to a string",
+        "no array, where an array is needed, or a write to a string",
     ),
     (
         Fault::WrongElement,
-        "E6: an array of another element kind, or of objects in a critical call",
+        "an array of another element kind, or of objects in a critical call",
     ),
     (
         Fault::Range,
-        "E7: an index or a part outside of the array, string or copy",
+        "an index or a part outside of the array, string or copy",
     ),
     (
         Fault::RowFull,
-        "E8: each slot was occupied when the search came to it, or a moment later",
+        "each slot was occupied when the search came to it, or a moment later",
     ),
     (
         Fault::LocalsFull,
-        "E9: no local place is left, or fewer than asked for, or 256 frames are open",
+        "no local place is left, or fewer than asked for, or 256 frames are open",
     ),
     (
         Fault::SpaceFull(7),
-        "E10: the request doesn't fit beside the words in use: 7",
+        "the request doesn't fit beside the words in use",
     ),
-    (Fault::ObjectsFull, "E11: every object number is present"),
+    (Fault::ObjectsFull, "every object number is present"),
     (
         Fault::Raced(7, 8),
-        "E12: another thread reserved words meanwhile: 7 were in use, and then 8",
+        "another thread reserved words meanwhile",
     ),
     (
         Fault::Barred,
-        "E13: a thread collects, or has announced that it will",
+        "a thread collects, or has announced that it will",
     ),
     (
         Fault::Busy(7),
-        "E14: so many threads are inside, knocking, announcing or collecting: 7",
+        "threads are inside, knocking, announcing or collecting",
     ),
-    (Fault::NoFrame, "E15: the base frame can't be popped"),
+    (Fault::NoFrame, "the base frame can't be popped"),
     (
         Fault::Memory,
-        "E16: memory was refused, or a thread could not be started",
+        "memory was refused, or a thread could not be started",
     ),
     (
         Fault::Size,
-        "E17: sizes outside of the limits, or a seventeenth level",
+        "sizes outside of the limits, or a seventeenth level",
     ),
     (
         Fault::Value,
-        "E18: a word that is none of the array's element kind",
+        "a word that is none of the array's element kind",
     ),
     (
         Fault::InCritical,
-        "E19: a command that a critical region forbids, or that needs one",
+        "a command that a critical region forbids, or that needs one",
     ),
-    (Fault::Turns, "E20: the turns ran out"),
-    (Fault::NotFresh, "E21: the pass had an env already"),
+    (Fault::Turns, "the turns ran out"),
+    (Fault::NotFresh, "the pass had an env already"),
     (
         Fault::LeftInside(7),
-        "E22: so many threads were inside, knocking, announcing or collecting at the close: 7",
+        "threads were inside, knocking, announcing or collecting at the close",
     ),
     (
         Fault::Moved(7, 8),
-        "E23: a thread went in or out before the announcement: 7 were inside or knocking, and then 8",
+        "a thread went in or out before the announcement",
     ),
 ];
 
@@ -384,7 +384,9 @@ fn has_number(rt: &impl Abort, fault: Fault, number: usize) {
 #[test]
 fn faults(rt: HostRuntime) -> Result<(), Fail> {
     for (i, (fault, text)) in REFUSALS.iter().enumerate() {
-        assert_eq!(rt; shown(rt.alloc(), *fault)?.as_str(), *text);
+        let wanted = format!(in rt.alloc(); "E{}", i + 1)?;
+        assert_eq!(rt; shown(rt.alloc(), *fault)?.as_str(), wanted.as_str());
+        assert_eq!(rt; fault.meaning(), *text);
         has_number(&rt, *fault, i + 1);
     }
     Ok(())

@@ -1,5 +1,5 @@
 -- What holds while an announcement stands.
-use Rattle.std.proofs.Common.{◌≡◌, ◌≢◌, ◌⊎◌, inl, inr, ⊎_elim, ℕ, zero, suc, ◌+◌, ◌==◌, Bool, true, false, not, if◌then◌else◌, List, [], ◌∷◌, ◌++◌, refl, sym, ap, subst, ◌∙◌, arith, append_assoc}
+use Rattle.std.proofs.Common.{◌≡◌, ◌≢◌, ◌↔◌, ◌⊎◌, inl, inr, ⊎_elim, ℕ, Bool, true, false, if◌then◌else◌, List, [], ◌∷◌, ◌++◌, refl, sym, ap, subst, ◌∙◌, arith, append_assoc}
 use Rattle.std.proofs.lemmas.List.{append-nil}
 use Rattle.std.specs.List.{AllByRecursion}
 use Rattle.jr_word.specs.declared.config.Config.{Config}
@@ -11,13 +11,13 @@ use Rattle.jr_model.specs.declared.event.Act.TheVariants.{Gate, ShutBusy}
 use Rattle.jr_model.specs.declared.event.GateAct.{GateAct}
 use Rattle.jr_model.specs.declared.event.GateAct.TheVariants.{Enter, Knock, Leave, Withdraw, Announce, Cancel, Shut, Reopen}
 use Rattle.jr_model.specs.Maps.{count_below}
-use Rattle.jr_model.specs.State.{State, is_barring, is_inside, is_outside, not_outside}
-use Rattle.jr_model.specs.Steps.{Needs, ActNeeds, role_behind, act_after, after}
+use Rattle.jr_model.specs.State.{State, is_barring, is_inside, is_outside}
+use Rattle.jr_model.specs.Steps.{ActNeeds, role_behind, act_after, after}
 use Rattle.jr_model.specs.History.{History, by, state_from, state, mine, IsLegalFrom, IsLegal, PassView, Did}
-use Rattle.jr_model.specs.Announcements.{AnnouncedUntil, IsAnnouncement, NobodyEnters, WithinOnlyLeave, AnnouncerCounts}
+use Rattle.jr_model.specs.Announcements.{AnnouncedUntil, AreInTheWay, IsAnnouncement, IsInTheWay, NobodyEnters, WithinOnlyLeave, AnnouncerCounts}
 use Rattle.jr_model.specs.Windows.{IsLastSeen, Stepped}
 use Rattle.jr_model.proofs.Counts.{count_single, not_outside_split, not_true}
-use Rattle.jr_model.proofs.Gates.{IsApart, apart_after, apart_state, legal_inside}
+use Rattle.jr_model.proofs.Gates.{IsApart, apart_after, apart_state, legal_inside, stay_act}
 use Rattle.jr_model.proofs.Histories.{legal_append, mine_append, shown_along, state_append}
 use Rattle.jr_model.proofs.Stays.{mine_did, never}
 use Rattle.jr_model.proofs.Updates.{at_number, at_number_self}
@@ -92,6 +92,14 @@ within_along s (e ∷ es) u q w =
     let here = within_before s e.thread e.act u q.0 later.0 in
     (here.0, (here.1, later.1))
 
+-- who is inside is within or knocks
+inside_by : {P : Type 0} (r : Role) → is_inside r ≡ true → (r ≡ Within → P) → (r ≡ Knocking → P) → P
+inside_by Outside e w k = absurd cc
+inside_by Within e w k = w refl
+inside_by Knocking e w k = k refl
+inside_by Announcing e w k = absurd cc
+inside_by Collecting e w k = absurd cc
+
 all_behind : (P : Event → Type 0) (xs ys : History) → AllByRecursion P (xs ++ ys) → AllByRecursion P ys
 all_behind P [] ys h = h
 all_behind P (x ∷ xs) ys h = all_behind P xs ys h.1
@@ -103,6 +111,29 @@ module _ (c : Config) (last : ℕ) where
       let none = all_behind (λ e. e.act ≢ Gate Enter) earlier since (nobody_enters c last t es before (earlier ++ since) rest l k) in
       let same : state (before ++ by t (Gate Announce) ∷ earlier ++ since) ≡ state_from (state front) since = state_append front since in
       within_along (state front) since u none (sym (ap (λ (s : State). s.role u) same) ∙ w)
+
+  -- an announcement is no leave
+  no_leave : (t u : ℕ) → by t (Gate Announce) ≢ by u (Gate Leave)
+  no_leave t u e = let same = ap (λ (f : Event). f.act) e in cc
+
+  -- who is within stays so until it leaves
+  within_still : (u : ℕ) (s : State) (es : History) → IsApart s.role → s.role u ≡ Within → AllByRecursion (λ e. e ≢ by u (Gate Leave)) es → IsLegalFrom c last s es → (state_from s es).role u ≡ Within
+  within_still u s [] i w q l = w
+  within_still u s (e ∷ es) i w q l = within_still u (after s e) es (apart_after c last s e i l.0) (stay_act c last u s e.thread e.act i w q.0 l.0.1).0 q.1 l.1
+
+  -- who is inside is in the way, and who is in the way is inside
+  in_the_way : (t u : ℕ) (before inside : History) → IsLegal c last before → IsLegalFrom c last (state before) (by t (Gate Announce) ∷ inside) → AllByRecursion (λ e. e.act ≢ Gate Enter) inside
+      → is_inside ((state (before ++ by t (Gate Announce) ∷ inside)).role u) ≡ true ↔ IsInTheWay t u before inside
+  in_the_way t u before inside l m none =
+      let here = before ++ by t (Gate Announce) ∷ inside in
+      let same : state here ≡ state_from (state before) (by t (Gate Announce) ∷ inside) = state_append before (by t (Gate Announce) ∷ inside) in (
+        λ is. inside_by ((state here).role u) is
+            (λ (w : (state here).role u ≡ Within). let was = within_along (state before) (by t (Gate Announce) ∷ inside) u ((λ e. cc), none) (sym (ap (λ (s : State). s.role u) same) ∙ w) in inl (was.0, was.1.1))
+            (λ (k : (state here).role u ≡ Knocking). inr k),
+        ⊎_elim
+            (λ (w : ((state before).role u ≡ Within) × AllByRecursion (λ e. e ≢ by u (Gate Leave)) inside). ap is_inside (ap (λ (s : State). s.role u) same ∙ within_still u (state before) (by t (Gate Announce) ∷ inside) (apart_state c last before l) w.0 (no_leave t u, w.1) m))
+            (λ (k : (state here).role u ≡ Knocking). ap is_inside k),
+      )
 
   pub announcer_counts : AnnouncerCounts c last
   announcer_counts t n es before inside rest l k =
@@ -123,7 +154,10 @@ module _ (c : Config) (last : ℕ) where
       let others = needs.1.1 in
       let one : count_below c.threads (λ u. is_barring (s.role u)) ≡ 1 = count_single c.threads (λ u. is_barring (s.role u)) t needs.0 closing (λ j ne. not_true (is_barring (s.role j)) (λ e. ne (one_closes apart t j closing e))) in
       let split = not_outside_split c s in
-      omega (arith, own, others, one, split)
+      record {
+        counted = omega (arith, own, others, one, split);
+        each = λ u. in_the_way t u before inside p.0 p.1 (nobody_enters c last t es before inside (by t (ShutBusy n) ∷ rest) l k);
+      }
 
 all_both : {A : Type 0} (P Q : A → Type 0) (xs : List A) → AllByRecursion P xs → AllByRecursion Q xs → AllByRecursion (λ x. P x × Q x) xs
 all_both P Q [] p q = tt
@@ -172,6 +206,6 @@ announced_until {q} {r} {s} acts end cancels reopens first d step =
       own = own;
       nobody_enters = nobody_enters r.config r.last t s.seen first.before inside rest step.did.legal stands;
       only_leave = λ earlier since u is w. within_only_leave r.config r.last t u s.seen first.before earlier since rest step.did.legal (subst (λ l. IsAnnouncement t s.seen first.before l rest) is stands) w;
-      counts = λ earlier since n is. subst (λ (c : Config). n ≡ count_below c.threads (λ u. is_inside ((state (first.before ++ by t (Gate Announce) ∷ earlier)).role u))) (sym step.did.config)
+      counts = λ earlier since n is. subst (λ (c : Config). AreInTheWay c.threads t first.before earlier n) (sym step.did.config)
           (announcer_counts r.config r.last t n s.seen first.before earlier (since ++ rest) step.did.legal (cut earlier since n (subst (λ l. IsAnnouncement t s.seen first.before l rest) is stands)));
     }

@@ -1,5 +1,5 @@
 -- A collection clears and drops exactly what is to be.
-use Rattle.std.proofs.Common.{◌≡◌, ◌≢◌, ℕ, ◌==◌, Bool, true, false, cond, Option, Some, None, IsSome, List, [], ◌∷◌, ◌++◌, map, nat_eq, refl, sym, ap, subst, ◌∙◌, append_assoc}
+use Rattle.std.proofs.Common.{◌≡◌, ◌≢◌, ℕ, zero, suc, ◌==◌, Bool, true, false, cond, Option, Some, None, IsSome, List, [], ◌∷◌, ◌++◌, map, Contains, nat_eq, refl, sym, ap, subst, ◌∙◌, arith, append_assoc}
 use Rattle.std.specs.List.{AllByRecursion, IsDistinct}
 use Rattle.jr_word.specs.declared.config.Config.{Config}
 use Rattle.jr_model.specs.declared.event.Role.TheVariants.{Collecting}
@@ -8,7 +8,7 @@ use Rattle.jr_model.specs.declared.event.Event.{Event}
 use Rattle.jr_model.specs.declared.event.Act.{Act}
 use Rattle.jr_model.specs.declared.event.Act.TheVariants.{Gate, Create, Delete, Clear, New, Write, Drop, Settle}
 use Rattle.jr_model.specs.declared.event.GateAct.TheVariants.{Shut, Reopen}
-use Rattle.jr_model.specs.State.{Handle, same_handle, Contents, State, present_words}
+use Rattle.jr_model.specs.State.{Handle, same_handle, Contents, State, IsReached, present_words}
 use Rattle.jr_model.specs.Steps.{Needs, ActNeeds, act_after, after}
 use Rattle.jr_model.specs.History.{History, by, state, state_from, IsLegal, IsLegalFrom, mine, PassView, Did}
 use Rattle.jr_model.specs.CollectionCalls.{IsToClear, IsToDrop, IsWhole, IsExact, KeepsReached, sweeping_acts, collection_acts, CollectionIn, Collects}
@@ -208,8 +208,32 @@ module _ (c : Config) (last : ℕ) (t : ℕ) where
           (map Clear cleared) dropped (Settle used ∷ []) s es w goes_on l (own ∙ append_assoc (map Clear cleared) (map Drop dropped) (Settle used ∷ []));
     }
 
-    pub keeps : KeepsReached c S (state_from s es) used
-    keeps =
+    -- a dropped object is present no more
+    dropped_gone : (front : List Act) (o : ℕ) (rest : List Act) → mine es t ≡ front ++ Drop o ∷ rest → (state_from s es).objects o ≡ None
+    dropped_gone front o rest is =
+        let k = own_cut t front (Drop o) rest es is in
+        let both = (legal_from_append c last s k.before (by t (Drop o) ∷ k.since)).0 (subst (IsLegalFrom c last s) k.parts l) in
+        let on = all_append _ k.before (by t (Drop o) ∷ k.since) (subst (AllByRecursion (λ e. e ≢ by t (Gate Reopen))) k.parts goes_on) in
+        let here = kept_along (λ z. Unit {0}) (λ z u a w n i. tt) s k.before w on.0 tt both.0 in
+        let taken = state_from s k.before in
+        let there = sweeping_after taken (by t (Drop o)) here.0 on.1.0 both.1.0 in
+        let end = kept_along (λ z. z.objects o ≡ None) (dropped_act o) (after taken (by t (Drop o))) k.since there on.1.1 (at_number_self taken.objects o None) both.1.1 in
+        ap (λ (z : State). z.objects o) (ap (state_from s) k.parts ∙ state_from_append s k.before (by t (Drop o) ∷ k.since)) ∙ end.1
+
+    -- so is each that was to be dropped
+    listed_gone : (front : List Act) (os : List ℕ) (rest : List Act) (o : ℕ) → mine es t ≡ front ++ (map Drop os ++ rest) → Contains os o → (state_from s es).objects o ≡ None
+    listed_gone front [] rest o is (i, few, at) = absurd (omega arith)
+    listed_gone front (p ∷ os) rest o is (zero, few, at) = ap (state_from s es).objects (sym at) ∙ dropped_gone front p (map Drop os ++ rest) is
+    listed_gone front (p ∷ os) rest o is (suc i, few, at) = listed_gone (front ++ Drop p ∷ []) os rest o (is ∙ sym (append_assoc front (Drop p ∷ []) (map Drop os ++ rest))) (i, omega arith, at)
+
+    all_gone : IsWhole S cleared dropped → (o : ℕ) → ¬ (IsReached S o) → (z : Option Contents) → (state_from s es).objects o ≡ z → (state_from s es).objects o ≡ None
+    all_gone whole o unreached None e = e
+    all_gone whole o unreached (Some x) e =
+        let end = kept_along (IsSwept S) (swept_act S) s es w goes_on swept l in
+        listed_gone (map Clear cleared) dropped (Settle used ∷ []) o (own ∙ append_assoc (map Clear cleared) (map Drop dropped) (Settle used ∷ [])) (whole.drops o (subst IsSome (sym (end.1.objects o x e)) refl, unreached))
+
+    pub keeps : IsWhole S cleared dropped → KeepsReached c S (state_from s es) used
+    keeps whole =
         let end = kept_along (IsSwept S) (swept_act S) s es w goes_on swept l in
         let k = own_cut t (map Clear cleared ++ map Drop dropped) (Settle used) [] es own in
         let both = (legal_from_append c last s k.before (by t (Settle used) ∷ k.since)).0 (subst (IsLegalFrom c last s) k.parts l) in
@@ -221,6 +245,7 @@ module _ (c : Config) (last : ℕ) (t : ℕ) where
         let last_state : state_from s es ≡ state_from settled k.since = ap (state_from s) k.parts ∙ state_from_append s k.before (by t (Settle used) ∷ k.since) in
         record {
           objects = end.1.reach.forth.objects;
+          gone = λ o unreached. all_gone whole o unreached ((state_from s es).objects o) refl;
           used_is = ap (λ (z : State). z.used) last_state ∙ tables.used;
           words_are = ap (present_words c) last_state ∙ (words_same (state_from settled k.since) (state_from s k.before) tables.objects ∙ sym both.1.0.1.1);
         }
@@ -244,7 +269,7 @@ module _ (c : Config) (last : ℕ) where
         objects = λ o x e. e;
       } in (
         exact c last t (state before) s swept inside cleared dropped used w both.1.1 own whole,
-        subst (λ z. KeepsReached c (state before) z used) (sym (state_append before (by t (Gate Shut) ∷ inside))) (keeps c last t (state before) s swept inside cleared dropped used w both.1.1 own),
+        subst (λ z. KeepsReached c (state before) z used) (sym (state_append before (by t (Gate Shut) ∷ inside))) (keeps c last t (state before) s swept inside cleared dropped used w both.1.1 own whole),
       )
 
 -- a collection that a thread did lies in what it has seen

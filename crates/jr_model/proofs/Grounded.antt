@@ -1,44 +1,26 @@
 -- What a refused creation tells of the room is so, and calls are their stays.
-use Rattle.std.proofs.Common.{◌≡◌, ◌⊎◌, ⊎_elim, inl, inr, ℕ, Bool, ◌<◌, List, [], ◌∷◌, ◌++◌, Some, None, Result, Ok, Err, ap, refl, sym, subst, ◌∙◌}
-use mathlib.Core.List.{IsPrefix}
+use Rattle.std.proofs.Common.{◌≡◌, ◌⊎◌, ⊎_elim, inl, inr, ℕ, Bool, ◌<◌, List, ◌∷◌, ◌++◌, Some, None, Result, Ok, Err, ap, refl, sym, subst, ◌∙◌}
 use Rattle.std.proofs.lemmas.List.{append-nil}
 use Rattle.jr_word.specs.declared.config.Config.{Config}
-use Rattle.jr_word.specs.declared.handle.RefKind.{RefKind}
 use Rattle.jr_word.specs.declared.fault.Fault.{Fault}
 use Rattle.jr_word.specs.declared.fault.Fault.TheVariants.{RowFull, Barred}
 use Rattle.jr_model.specs.declared.event.Act.{Act}
 use Rattle.jr_model.specs.declared.event.Act.TheVariants.{Gate, Probe}
 use Rattle.jr_model.specs.declared.event.GateAct.TheVariants.{Enter, Knock, Leave, Withdraw}
 use Rattle.jr_model.specs.declared.frames.Mode.TheVariants.{Copy, Commit, Abort}
-use Rattle.jr_model.specs.State.{IsOccupied}
 use Rattle.jr_model.specs.History.{History, by, state, PassView}
 use Rattle.jr_model.specs.Frames.{Frames}
 use Rattle.jr_model.specs.Windows.{IsBehind, IsLastSeen, Begins, Ends}
 use Rattle.jr_model.specs.Refusals.{RowWasFull}
 use Rattle.jr_model.specs.Calls.{Call, Ran, done, entered, ◌>>◌}
 use Rattle.jr_model.specs.Objects.{copying_back}
-use Rattle.jr_model.specs.Parts.{create}
 use Rattle.jr_model.specs.AllCalls.{CallOf}
-use Rattle.jr_model.specs.Grounded.{FreeIndexIsFound, RefusedInItsStay, EachIsProbed, IsItsStay, CallsAreTheirStays}
+use Rattle.jr_model.specs.Grounded.{RefusedInItsStay, EachIsProbed, IsItsStay, CallsAreTheirStays}
 use Rattle.jr_model.proofs.Moments.{prefix_trans}
 use Rattle.jr_model.proofs.OwnActs.{seen_among}
 use Rattle.jr_model.proofs.Windows.{ends_last}
 
 module _ (old new : PassView) (f g : Frames) where
-  -- where an index was free since its probes, none of them was of a refused creation
-  found_free : (slots : ℕ) (k : RefKind) (o i : ℕ) → i < old.config.slots
-      → ((before since moment : History) (found : Bool) → IsPrefix old.seen before → new.seen ≡ before ++ by old.thread (Probe i found) ∷ since
-      → IsPrefix (before ++ by old.thread (Probe i found) ∷ []) moment → IsPrefix moment new.seen → ¬ (IsOccupied old.last (state moment) i))
-      → ¬ (Ran old new f g (create slots k o) (Err RowFull))
-  found_free slots k o i l free r =
-      let w = r.grounds i (subst (λ c. i < c.slots) (sym r.did.config) l) in
-      let m = w.occupied in
-      free w.before w.since m.moment w.found (prefix_trans old.seen r.begun w.before r.window.from w.own)
-      (subst (λ t. new.seen ≡ w.before ++ by t (Probe i w.found) ∷ w.since) r.did.thread w.probed)
-      (subst (λ t. IsPrefix (w.before ++ by t (Probe i w.found) ∷ []) m.moment) r.did.thread m.from)
-      m.to
-      (subst (λ n. IsOccupied n (state m.moment) i) r.did.last m.met)
-
   -- the entry and the exit of work in a stay that begins and ends with its own acts
   stay_by : {A : Type 0} (work : Call A) (acts : List Act) (begun : History) → Begins old acts begun → Ends old new acts → (answer : Result A Fault) (h : Frames) → entered work f acts answer h
       → ((answer ≡ Err Barred) × IsBehind old (Gate Knock) begun × IsLastSeen new (Gate Withdraw)) ⊎ (IsBehind old (Gate Enter) begun × IsLastSeen new (Gate Leave))
@@ -75,9 +57,6 @@ module _ (old new : PassView) (f g : Frames) where
       let among = seen_among (Probe i w.found) w.before w.since (prefix_trans old.seen r.begun w.before r.window.from w.own)
       (subst (λ t. new.seen ≡ w.before ++ by t (Probe i w.found) ∷ w.since) r.did.thread w.probed) r.acts r.did in
       (among.0, among.1, w.found, among.2)
-
-pub free_index_is_found : FreeIndexIsFound
-free_index_is_found old new f g slots k o i l free r = found_free old new f g slots k o i l free r
 
 pub refused_in_its_stay : RefusedInItsStay
 refused_in_its_stay old new f g k a r = refused_inside old new f g _ r

@@ -11,7 +11,7 @@ use Rattle.jr_model.specs.declared.event.Act.TheVariants.{Probe, ReserveLost}
 use Rattle.jr_model.specs.State.{State, IsPresent, IsOccupied}
 use Rattle.jr_model.specs.Steps.{Needs}
 use Rattle.jr_model.specs.History.{History, by, state, IsLegal, mine, PassView, Did}
-use Rattle.jr_model.specs.Refusals.{Sometime, WasOccupied, ObjectsWereFull, WasRaced, IsOpenWith, GateHasMoved, Grounds}
+use Rattle.jr_model.specs.Refusals.{Sometime, WasOccupied, ObjectsWereFull, LostSpace, IsOpenWith, GateHasMoved, Grounds}
 use Rattle.jr_model.proofs.Updates.{eq_true}
 use Rattle.jr_model.proofs.Histories.{legal_append, state_push}
 use Rattle.jr_model.proofs.Stays.{mine_did}
@@ -96,16 +96,16 @@ probed_occupied {old} {new} i d =
     }
 
 -- a lost reservation, after a moment of the call at which so many words were used
-pub raced : (old : History) {mid new : PassView} (n looked found : ℕ) → Sometime (λ s. s.used ≡ looked) old mid.seen → Did mid new (ReserveLost n looked found ∷ []) → looked + n ≤ new.config.words → WasRaced old new looked found
+pub raced : (old : History) {mid new : PassView} (n looked found : ℕ) → Sometime (λ s. s.used ≡ looked) old mid.seen → Did mid new (ReserveLost n looked found ∷ []) → looked + n ≤ new.config.words → LostSpace n old new looked found
 raced old {mid} {new} n looked found m d room =
     let o = one_act (ReserveLost n looked found) d in
     record {
-      words = n;
       before = o.before;
       since = o.since;
       lost = subst (λ u. new.seen ≡ o.before ++ by u (ReserveLost n looked found) ∷ o.since) (sym d.thread) o.parts;
       room = room;
       looked_at = sometime_wider (prefix_self old) o.from m;
+      found_then = (o.needs.1.1, o.needs.1.2);
     }
 
 module _ {r s : PassView} (acts : List Act) (d : Did r s acts) where
@@ -130,14 +130,14 @@ module _ {begun first : History} (earlier : IsPrefix first begun) {r s : PassVie
   objects_wider : ObjectsWereFull begun r → ObjectsWereFull first s
   objects_wider w = subst (λ (c : Config). Sometime (λ z. (o : ℕ) → 1 ≤ o → o ≤ c.objects → IsPresent z o) first s.seen) (sym d.config) (sometime_wider earlier d.begins w)
 
-  raced_wider : (l f : ℕ) → WasRaced begun r l f → WasRaced first s l f
-  raced_wider l f w = record {
-    words = w.words;
+  lost_wider : (n l f : ℕ) → LostSpace n begun r l f → LostSpace n first s l f
+  lost_wider n l f w = record {
     before = w.before;
     since = w.since ++ d.begins.0;
-    lost = seen_later acts d w.before w.since (ReserveLost w.words l f) w.lost;
-    room = subst (λ (c : Config). l + w.words ≤ c.words) (sym d.config) w.room;
+    lost = seen_later acts d w.before w.since (ReserveLost n l f) w.lost;
+    room = subst (λ (c : Config). l + n ≤ c.words) (sym d.config) w.room;
     looked_at = sometime_wider earlier (prefix_self w.before) w.looked_at;
+    found_then = w.found_then;
   }
 
   moved_wider : (l f : ℕ) → GateHasMoved begun r l f → GateHasMoved first s l f
@@ -171,7 +171,7 @@ module _ (begun first : History) (earlier : IsPrefix first begun) {r s : PassVie
   grounds_wider : (e : Fault) → Grounds begun r e → Grounds first s e
   grounds_wider RowFull g = λ i l. occupied_wider earlier acts d i (g i (subst (λ (c : Config). i < c.slots) d.config l))
   grounds_wider ObjectsFull g = objects_wider earlier acts d g
-  grounds_wider (Raced l f) g = raced_wider earlier acts d l f g
+  grounds_wider (Raced l f) g = (g.0, lost_wider earlier acts d g.0 l f g.1)
   grounds_wider (Moved l f) g = moved_wider earlier acts d l f g
   grounds_wider _ g = tt
 

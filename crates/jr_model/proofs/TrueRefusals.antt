@@ -1,8 +1,8 @@
 -- What the refusals of calls say of the shared room was so.
-use Rattle.std.proofs.Common.{◌≡◌, if◌then◌else◌, ℕ, ◌≤◌, ◌+◌, List, [], ◌∷◌, ◌++◌, refl, ap, subst, arith}
+use Rattle.std.proofs.Common.{◌≡◌, if◌then◌else◌, ℕ, List, [], ◌∷◌, ◌++◌, refl, ap, subst, arith}
 use mathlib.Core.List.{IsPrefix}
 use Rattle.jr_word.specs.declared.fault.Fault.{Fault}
-use Rattle.jr_word.specs.declared.fault.Fault.TheVariants.{RowFull, SpaceFull, ObjectsFull, Raced, Barred, Busy, Moved}
+use Rattle.jr_word.specs.declared.fault.Fault.TheVariants.{SpaceFull, Raced, Barred, Busy}
 use Rattle.jr_word.specs.declared.config.Config.{Config}
 use Rattle.jr_model.specs.declared.event.Role.TheVariants.{Outside}
 use Rattle.jr_model.specs.declared.event.Act.{Act}
@@ -10,11 +10,11 @@ use Rattle.jr_model.specs.declared.event.Act.TheVariants.{Gate, ShutBusy, Reserv
 use Rattle.jr_model.specs.declared.event.GateAct.TheVariants.{Knock}
 use Rattle.jr_model.specs.State.{State, AreOthers, is_outside, not_outside}
 use Rattle.jr_model.specs.History.{History, by, state, PassView, Did}
-use Rattle.jr_model.specs.Refusals.{Grounds, WasRaced}
+use Rattle.jr_model.specs.Refusals.{Grounds, LostSpace}
 use Rattle.jr_model.specs.Calls.{Call}
-use Rattle.jr_model.specs.TrueRefusals.{TookWhere, LostSpace, WasSo, RefusesTruly}
+use Rattle.jr_model.specs.TrueRefusals.{TookWhere, WasSo, RefusesTruly}
 use Rattle.jr_model.proofs.Moments.{OneAct, prefix_trans}
-use Rattle.jr_model.proofs.OwnActs.{act_among, needed_there, seen_among}
+use Rattle.jr_model.proofs.OwnActs.{act_among, seen_among}
 use Rattle.jr_model.proofs.ShownRefusals.{LosesOnly, LoseOnly, IsShown}
 use Rattle.jr_model.proofs.Lawful.{IsLawful}
 
@@ -35,36 +35,21 @@ lose_among asked a acts (b ∷ front) rest is l = lose_among asked a (front ++ a
 
 module _ (asked : ℕ) (old new : PassView) (begun : History) (acts : List Act) (d : Did old new acts) (from : IsPrefix old.seen begun) where
   -- the reservation that was lost is the one that was asked for
-  lost_so : (looked found : ℕ) → WasRaced begun new looked found → LoseOnly asked acts → LostSpace asked begun old new looked found
-  lost_so looked found w l =
-      let m = w.looked_at in
-      let to : IsPrefix old.seen w.before = prefix_trans old.seen begun w.before from (prefix_trans begun m.moment w.before m.from m.to) in
-      let seen : new.seen ≡ w.before ++ by old.thread (ReserveLost w.words looked found) ∷ w.since = subst (λ t. new.seen ≡ w.before ++ by t (ReserveLost w.words looked found) ∷ w.since) d.thread w.lost in
-      let among = seen_among (ReserveLost w.words looked found) w.before w.since to seen acts d in
-      let same : w.words ≡ asked = lose_among asked (ReserveLost w.words looked found) acts among.0 among.1 among.2 l in
-      let there = needed_there old.config old.last new.seen w.before w.since old.thread (ReserveLost w.words looked found) seen d.legal in
-      record {
-        room = subst (λ (c : Config). looked + asked ≤ c.words) d.config (subst (λ n. looked + n ≤ new.config.words) same w.room);
-        other = there.1.1.2;
-        lost = record {
-          before = w.before;
-          since = w.since;
-          took = subst (λ n. new.seen ≡ w.before ++ by old.thread (ReserveLost n looked found) ∷ w.since) same seen;
-          from = to;
-          met = there.1.1.1;
-        };
-        looked_at = m;
-      }
+  lost_so : (looked found : ℕ) → ((n : ℕ) × LostSpace n begun new looked found) → LoseOnly asked acts → LostSpace asked begun new looked found
+  lost_so looked found w only =
+      let l = w.1 in
+      let m = l.looked_at in
+      let to : IsPrefix old.seen l.before = prefix_trans old.seen begun l.before from (prefix_trans begun m.moment l.before m.from m.to) in
+      let seen = subst (λ t. new.seen ≡ l.before ++ by t (ReserveLost w.0 looked found) ∷ l.since) d.thread l.lost in
+      let among = seen_among (ReserveLost w.0 looked found) l.before l.since to seen acts d in
+      subst (λ n. LostSpace n begun new looked found) (lose_among asked (ReserveLost w.0 looked found) acts among.0 among.1 among.2 only) l
 
   was_so : (e : Fault) → Grounds begun new e → IsShown asked e acts → WasSo asked begun old new e
-  was_so RowFull g s = g
   was_so (SpaceFull used) g s = let o = act_among (ReserveFull asked used) acts s.0 d in taken o (o.needs.1.1, o.needs.1.2)
-  was_so ObjectsFull g s = g
   was_so (Raced looked found) g s = lost_so looked found g s.1
   was_so Barred g s = let o = act_among (Gate Knock) acts s.0 d in taken o o.needs.1.1
   was_so (Busy n) g s = let o = act_among (ShutBusy n) acts s.0 d in taken o (o.needs.1.1, all_others old.config (state o.before) old.thread n o.needs.1.1, o.needs.1.2)
-  was_so (Moved looked found) g s = g
-  was_so _ g s = tt
+  was_so _ g s = g
 
 -- a lawful call refuses truly
 pub truly : {asked last thread : ℕ} {A : Type 0} {call : Call A} → IsLawful asked last thread call → RefusesTruly asked call

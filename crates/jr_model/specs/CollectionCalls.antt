@@ -1,5 +1,5 @@
 -- A collection as a whole: what it clears and drops, and what it keeps.
-use Rattle.std.specs.Prelude.{◌≡◌, ℕ, Some, List, [], ◌∷◌, ◌++◌, map, nat_eq}
+use Rattle.std.specs.Prelude.{◌≡◌, ℕ, Some, None, List, [], ◌∷◌, ◌++◌, map, nat_eq}
 use Rattle.std.specs.List.{AllByRecursion, Contains, IsDistinct}
 use mathlib.Core.List.{IsPrefix}
 use Rattle.jr_word.specs.declared.config.Config.{Config}
@@ -32,9 +32,10 @@ pub record IsExact (s : State) (cleared : List Handle) (dropped : List ℕ) : Ty
   pub drops_only : AllByRecursion (IsToDrop s) dropped
   pub drops_once : IsDistinct nat_eq dropped
 
--- from s to s' what is reached keeps its kind and elements, and so many words are used as the present objects have
+-- from s to s' what is reached keeps its kind and elements, no other object is present any more, and so many words are used as the present objects have
 pub record KeepsReached (c : Config) (s s' : State) (used : ℕ) : Type 0 where
   pub objects : (o : ℕ) (x : Contents) → IsReached s o → s.objects o ≡ Some x → s'.objects o ≡ Some x
+  pub gone : (o : ℕ) → ¬ (IsReached s o) → s'.objects o ≡ None
   pub used_is : s'.used ≡ used
   pub words_are : present_words c s' ≡ used
 

@@ -1,6 +1,5 @@
 -- What a refused creation tells of the room, and which calls are stays of their own.
-use Rattle.std.specs.Prelude.{◌≡◌, ◌⊎◌, ◌<◌, ℕ, Bool, true, Result, Err, List, [], ◌∷◌, ◌++◌}
-use mathlib.Core.List.{IsPrefix}
+use Rattle.std.specs.Prelude.{◌≡◌, ◌⊎◌, ◌<◌, ℕ, Bool, true, Result, Err, List, ◌∷◌, ◌++◌}
 use Rattle.jr_word.specs.declared.config.Config.{Config}
 use Rattle.jr_word.specs.declared.handle.RefKind.{RefKind}
 use Rattle.jr_word.specs.declared.fault.Fault.{Fault}
@@ -8,23 +7,14 @@ use Rattle.jr_word.specs.declared.fault.Fault.TheVariants.{RowFull, Barred}
 use Rattle.jr_model.specs.declared.event.Act.{Act}
 use Rattle.jr_model.specs.declared.event.Act.TheVariants.{Gate, Probe}
 use Rattle.jr_model.specs.declared.event.GateAct.TheVariants.{Enter, Knock, Leave, Withdraw}
-use Rattle.jr_model.specs.State.{IsOccupied}
-use Rattle.jr_model.specs.History.{History, by, state, PassView}
+use Rattle.jr_model.specs.History.{History, state, PassView}
 use Rattle.jr_model.specs.Frames.{Frames}
 use Rattle.jr_model.specs.Windows.{IsBehind, IsLastSeen}
 use Rattle.jr_model.specs.Refusals.{RowWasFull}
 use Rattle.jr_model.specs.Calls.{Call, Ran}
 use Rattle.jr_model.specs.Checks.{Word}
-use Rattle.jr_model.specs.Parts.{create}
 use Rattle.jr_model.specs.References.{new_reference}
 use Rattle.jr_model.specs.AllCalls.{AnswerKind, CallOf, has_own_stay, means}
-
--- a creation is not refused where an index was free all the time from each of its own probes on
-abbrev pub FreeIndexIsFound : Type 0
-FreeIndexIsFound = (old new : PassView) (f g : Frames) (slots : ℕ) (k : RefKind) (o i : ℕ) → i < old.config.slots
-    → ((before since moment : History) (found : Bool) → IsPrefix old.seen before → new.seen ≡ before ++ by old.thread (Probe i found) ∷ since
-    → IsPrefix (before ++ by old.thread (Probe i found) ∷ []) moment → IsPrefix moment new.seen → ¬ (IsOccupied old.last (state moment) i))
-    → ¬ (Ran old new f g (create slots k o) (Err RowFull))
 
 -- the call is its stay: it begins right behind its own Enter, or its own Knock where it is barred, and ends with its own Leave or Withdraw
 abbrev pub IsItsStay : {A : Type 0} → PassView → PassView → Call A → Type 0

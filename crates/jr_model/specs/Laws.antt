@@ -49,6 +49,14 @@ abbrev pub OneAnIndex : Config → ℕ → Type 0
 OneAnIndex c last = (es : History) (g h : Handle) → IsLegal c last es
     → (state es).refs g ≢ Stale → (state es).refs h ≢ Stale → g.index ≡ h.index → g ≡ h
 
+-- WHAT THE LAWS SAY OF A HISTORY: each handle is created at most once, and at each moment at most one reference of an index stands; once a handle is deleted each look at it is stale, and it is not created again; and no step of a collection lies in a stay
+pub record KeepsTheLaws (es : History) : Type 0 where
+  pub once : (h : Handle) (t u o p : ℕ) (before between rest : History) → ¬ (es ≡ before ++ by t (Create h o) ∷ between ++ by u (Create h p) ∷ rest)
+  pub one : (g h : Handle) (before rest : History) → es ≡ before ++ rest → (state before).refs g ≢ Stale → (state before).refs h ≢ Stale → g.index ≡ h.index → g ≡ h
+  pub stale : (h : Handle) (t u : ℕ) (r : Found) (before between rest : History) → es ≡ before ++ by t (Delete h) ∷ between ++ by u (Look h r) ∷ rest → r ≡ Stale
+  pub not_again : (h : Handle) (t u o : ℕ) (before between rest : History) → ¬ (es ≡ before ++ by t (Delete h) ∷ between ++ by u (Create h o) ∷ rest)
+  pub apart : (t : ℕ) (before inside rest : History) → IsStay t es before inside rest → AllByRecursion (λ e. is_collection_step e.act ≡ false) inside
+
 -- no collection step lies in a stay
 abbrev pub NoCollectionInside : Config → ℕ → Type 0
 NoCollectionInside c last = (t : ℕ) (es before inside rest : History) → IsLegal c last es
@@ -134,7 +142,7 @@ FramesStayAgreed = (old new : PassView) (f g : Frames) (acts : List Act) → Are
 abbrev pub HandleIsAtPlace : Type 0
 HandleIsAtPlace = (f : Frames) (h : Handle) (o : ℕ) → AreSound f → object_of f h ≡ Some o → object_at f h.index ≡ Some o
 
--- a collection that leaves nothing out clears and drops exactly what is to be, each once, and keeps what is reached
+-- a collection that leaves nothing out clears and drops exactly what is to be, each once, and keeps what is reached and nothing else
 abbrev pub CollectionIsExact : Config → ℕ → Type 0
 CollectionIsExact c last = (t : ℕ) (before inside rest : History) (cleared : List Handle) (dropped : List ℕ) (used : ℕ)
     → IsLegal c last (before ++ by t (Gate Shut) ∷ inside ++ by t (Gate Reopen) ∷ rest)

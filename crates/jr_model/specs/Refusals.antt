@@ -33,14 +33,14 @@ RowWasFull begun new = (i : ℕ) → i < new.config.slots → WasOccupied begun 
 abbrev pub ObjectsWereFull : History → PassView → Type 0
 ObjectsWereFull begun new = Sometime (EachPresent new.config) begun new.seen
 
--- the call lost a reservation, for which there was room beside what it had looked at; and so many words were used at an earlier moment of the call
-pub record WasRaced (begun : History) (new : PassView) (looked found : ℕ) : Type 0 where
-  pub words : ℕ
+-- what was asked for fitted beside so many words, and these were used at a moment of the call; at a later one, when the call would take its own, others were
+pub record LostSpace (asked : ℕ) (begun : History) (new : PassView) (looked found : ℕ) : Type 0 where
   pub before : History
   pub since : History
-  pub lost : new.seen ≡ before ++ by new.thread (ReserveLost words looked found) ∷ since
-  pub room : looked + words ≤ new.config.words
+  pub lost : new.seen ≡ before ++ by new.thread (ReserveLost asked looked found) ∷ since
+  pub room : looked + asked ≤ new.config.words
   pub looked_at : Sometime (λ s. s.used ≡ looked) begun before
+  pub found_then : (found ≡ (state before).used) × (found ≢ looked)
 
 -- the gate is open, and so many threads are within or knock
 abbrev pub IsOpenWith : Config → ℕ → State → Type 0
@@ -56,8 +56,8 @@ pub record GateHasMoved (begun : History) (new : PassView) (looked found : ℕ) 
 
 -- THE GROUNDS of a refusal in a call that began at this moment, beside what the acts of the call show
 abbrev pub Grounds : History → PassView → Fault → Type 0
-Grounds begun new RowFull = RowWasFull begun new
-Grounds begun new ObjectsFull = ObjectsWereFull begun new
-Grounds begun new (Raced looked found) = WasRaced begun new looked found
-Grounds begun new (Moved looked found) = GateHasMoved begun new looked found
+Grounds begun new RowFull = RowWasFull begun new  -- each index was occupied, behind a probe of its own
+Grounds begun new ObjectsFull = ObjectsWereFull begun new  -- each object number was present at one moment
+Grounds begun new (Raced looked found) = (asked : ℕ) × LostSpace asked begun new looked found  -- what is asked for fitted, and another thread was faster
+Grounds begun new (Moved looked found) = GateHasMoved begun new looked found  -- the gate was open at two moments, with two counts
 Grounds begun new _ = Unit {0}

@@ -1,17 +1,17 @@
 -- What the refusals of each call say of the room that all threads share, and at which moment of the call it was so.
-use Rattle.std.specs.Prelude.{◌≡◌, ◌≢◌, ◌+◌, ◌<◌, ◌≤◌, ℕ, Err, ◌∷◌, ◌++◌}
+use Rattle.std.specs.Prelude.{◌≡◌, ◌+◌, ◌<◌, ◌≤◌, ℕ, Err, ◌∷◌, ◌++◌}
 use mathlib.Core.List.{IsPrefix}
 use Rattle.jr_word.specs.declared.config.Config.{Config}
 use Rattle.jr_word.specs.declared.fault.Fault.{Fault}
-use Rattle.jr_word.specs.declared.fault.Fault.TheVariants.{RowFull, SpaceFull, ObjectsFull, Raced, Barred, Busy, Moved}
+use Rattle.jr_word.specs.declared.fault.Fault.TheVariants.{SpaceFull, Raced, Barred, Busy}
 use Rattle.jr_model.specs.declared.event.Role.TheVariants.{Outside}
 use Rattle.jr_model.specs.declared.event.Act.{Act}
-use Rattle.jr_model.specs.declared.event.Act.TheVariants.{Gate, ShutBusy, ReserveFull, ReserveLost}
+use Rattle.jr_model.specs.declared.event.Act.TheVariants.{Gate, ShutBusy, ReserveFull}
 use Rattle.jr_model.specs.declared.event.GateAct.TheVariants.{Knock}
 use Rattle.jr_model.specs.State.{State, SomebodyCloses, AreOthers, not_outside}
 use Rattle.jr_model.specs.History.{History, by, state, PassView}
 use Rattle.jr_model.specs.Frames.{Frames}
-use Rattle.jr_model.specs.Refusals.{Sometime, RowWasFull, ObjectsWereFull, GateHasMoved}
+use Rattle.jr_model.specs.Refusals.{LostSpace, Grounds}
 use Rattle.jr_model.specs.Calls.{Call, Ran}
 use Rattle.jr_model.specs.AllCalls.{AnswerKind, CallOf, PartOf, words_asked, words_asked_by_part, means, part_means}
 
@@ -31,23 +31,13 @@ AreBusy c thread n s = AreOthers c s thread n × (s.role thread ≡ Outside → 
 abbrev pub DoesNotFit : Config → ℕ → ℕ → State → Type 0
 DoesNotFit c asked used s = (used ≡ s.used) × (c.words < used + asked)
 
--- what was asked for fitted beside so many words, and these were used at a moment of the call; at a later one, when the call would take its own, others were
-pub record LostSpace (asked : ℕ) (begun : History) (old new : PassView) (looked found : ℕ) : Type 0 where
-  pub room : looked + asked ≤ old.config.words
-  pub other : found ≢ looked
-  pub lost : TookWhere (λ s. found ≡ s.used) old new (ReserveLost asked looked found)
-  pub looked_at : Sometime (λ s. s.used ≡ looked) begun lost.before
-
 -- WHAT A REFUSAL SAYS OF THE ROOM, in a call that asks for so many words of space and whose window begins there. Each moment is one of the call: that of an act of its own, or one in its window. Every other refusal speaks of what was handed in, of the thread's own frames or levels, or of memory; what it says of a reference the acts of its call show
 abbrev pub WasSo : ℕ → History → PassView → PassView → Fault → Type 0
-WasSo asked begun old new RowFull = RowWasFull begun new  -- each index was occupied, behind a probe of its own
 WasSo asked begun old new (SpaceFull used) = TookWhere (DoesNotFit old.config asked used) old new (ReserveFull asked used)  -- what is asked for did not fit
-WasSo asked begun old new ObjectsFull = ObjectsWereFull begun new  -- each object number was present at one moment
-WasSo asked begun old new (Raced looked found) = LostSpace asked begun old new looked found  -- what is asked for fitted, and another thread was faster
+WasSo asked begun old new (Raced looked found) = LostSpace asked begun new looked found  -- what is asked for fitted, and another thread was faster
 WasSo asked begun old new Barred = TookWhere SomebodyCloses old new (Gate Knock)  -- at its entry somebody collected, or had announced that it would
 WasSo asked begun old new (Busy n) = TookWhere (AreBusy old.config old.thread n) old new (ShutBusy n)  -- so many were in the way of its shut
-WasSo asked begun old new (Moved looked found) = GateHasMoved begun new looked found  -- the gate was open at two moments, with two counts
-WasSo asked begun old new _ = Unit {0}
+WasSo asked begun old new e = Grounds begun new e  -- of every other, its grounds
 
 -- A CALL THAT ASKS FOR SO MANY WORDS REFUSES TRULY: whatever it is refused for, and whatever the other threads did, what the refusal says of the room was so in the call
 abbrev pub RefusesTruly : {A : Type 0} → ℕ → Call A → Type 0

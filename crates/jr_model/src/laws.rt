@@ -2,10 +2,9 @@ ghost use Rattle.std.specs.Prelude.{ℕ};
 ghost use Rattle.jr_word.specs.declared.config.Config.{Config};
 ghost use Rattle.jr_model.specs.State.{State};
 ghost use Rattle.jr_model.specs.History.{PassView};
-ghost use Rattle.jr_model.specs.StayCalls.{NoCollectionInOpenStay, NoCollectionUpToExit};
-ghost use Rattle.jr_model.specs.CriticalRegions.{NoCollectionInRegion, NoCollectionUpToRelease};
+ghost use Rattle.jr_model.specs.OpenStays.{GoesOnWithItsActs, NoCollectionInOpenStay, NoCollectionUpToExit};
 ghost use Rattle.jr_model.specs.Announcements.{NobodyEnters, WithinOnlyLeave, AnnouncerCounts};
-ghost use Rattle.jr_model.specs.Grounded.{FreeIndexIsFound, RefusedInItsStay, EachIsProbed, CallsAreTheirStays};
+ghost use Rattle.jr_model.specs.Grounded.{RefusedInItsStay, EachIsProbed, CallsAreTheirStays};
 ghost use Rattle.jr_model.specs.TrueRefusals.{CallsRefuseTruly, PartsRefuseTruly};
 ghost use Rattle.jr_model.specs.Moves.{CallsMoveFrames};
 ghost use Rattle.jr_model.specs.RefusedCalls.{RefusalsChangeNothing, RefusedPartsChangeNothing, HarmlessChangesNothing};
@@ -66,14 +65,9 @@ pub fn stays_exclude_collections()
     ensures collection { (c : Config) (last : ℕ) → OthersWait c last }
 {}
 
-/// No collection step lies between the opening of a critical region and the release of its first level, whatever calls of the region come between, and whatever the other threads do.
-pub fn regions_exclude_collections()
-    ensures stands { NoCollectionInRegion }
-    ensures released { NoCollectionUpToRelease }
-{}
-
-/// From the entry of a stay that goes on from call to call to its exit, no step of a collection comes, of whatever thread; and all between is one stay of the thread.
+/// From the entry of a stay that goes on from call to call, or of a critical region, to its exit, no step of a collection comes, of whatever thread; and all between is one stay of the thread, with its acts and no others.
 pub fn open_stays_exclude_collections()
+    ensures goes { GoesOnWithItsActs }
     ensures stands { NoCollectionInOpenStay }
     ensures left { NoCollectionUpToExit }
 {}
@@ -140,7 +134,7 @@ pub fn references_stand_until_deleted()
     ensures cleared { (c : Config) (last : ℕ) → ClearedUntilDeleted c last }
 {}
 
-/// A collection that leaves nothing out clears and drops exactly what is to be, each once. What is reached keeps its kind and elements, and so many words are used as the present objects have.
+/// A collection that leaves nothing out clears and drops exactly what is to be, each once. What is reached keeps its kind and elements, no other object is present any more, and so many words are used as the present objects have.
 pub fn collections_are_exact()
     ensures { (c : Config) (last : ℕ) → CollectionIsExact c last }
 {}
@@ -157,11 +151,10 @@ pub fn refusals_change_nothing()
     ensures acts { HarmlessChangesNothing }
 {}
 
-/// What a refusal of any call says of the shared room was so at a moment of that call: E10, E13 and E14 at the very act that they tell of, E11 at one moment, E12 and E23 at two, and E8 for each index at a moment of its own. So a creation is E8 only where no index was free all the time since it was probed, and a new reference for what was so within its own stay alone.
+/// What a refusal of any call says of the shared room was so at a moment of that call: E10, E13 and E14 at the very act that they tell of, E11 at one moment, E12 and E23 at two, and E8 for each index at a moment of its own, behind a probe of it. A new reference is E8 for what was so within its own stay alone, in which it probed each index.
 pub fn refusals_are_true()
     ensures calls { (c : Config) (last thread : ℕ) (s : State) → CallsRefuseTruly c last thread s }
     ensures parts { (c : Config) (last thread : ℕ) (s : State) → PartsRefuseTruly c last thread s }
-    ensures row { FreeIndexIsFound }
     ensures stay { RefusedInItsStay }
     ensures probes { EachIsProbed }
 {}
@@ -181,7 +174,7 @@ pub fn announced_gates_only_empty()
     ensures { (c : Config) (last : ℕ) → WithinOnlyLeave c last }
 {}
 
-/// A refused shut of the thread that announced it counts just the threads that are within or knock.
+/// A refused shut of the thread that announced it counts just the threads that are in its way: each was within at the announcement and has not left since, or knocks then.
 pub fn announcers_count_who_is_inside()
     ensures { (c : Config) (last : ℕ) → AnnouncerCounts c last }
 {}

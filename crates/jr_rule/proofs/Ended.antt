@@ -11,6 +11,7 @@ use Rattle.jr_rule.specs.declared.rule.View.{View}
 use Rattle.jr_rule.specs.declared.rule.Sizes.{Sizes}
 use Rattle.jr_rule.specs.Image.{IsImage}
 use Rattle.std.specs.List.{AllByRecursion}
+use Rattle.jr_model.proofs.KeptLaws.{lawful}
 use Rattle.jr_steps.specs.declared.known.Known.{Known}
 use Rattle.jr_steps.specs.declared.known.Holdings.{Holdings}
 use Rattle.jr_rule.specs.Passes.{SumsUp, EndsAll, IsSeenIn, HasEachPass, HasNoOthers}
@@ -28,7 +29,7 @@ kept_shows c last key r words is kept same =
     let k = subst (λ (z : Sizes). Kept z.last z.config r) is kept in
     subst (HasHistory c) same ∣ (last, k.log, record { few = k.sized.serials; legal = k.legal; held = k.held; image = k.image }) ∣₁
 
-seen_in : (c : Config) (last : ℕ) (log : History) (held : ℕ → Holdings) (ks : List Known) → EachFits c last log held ks → AllByRecursion (IsSeenIn log) ks
+pub seen_in : (c : Config) (last : ℕ) (log : History) (held : ℕ → Holdings) (ks : List Known) → EachFits c last log held ks → AllByRecursion (IsSeenIn log) ks
 seen_in c last log held [] fit = tt
 seen_in c last log held (k ∷ ks) fit = (record { begins = (fit.0).begins; own = (fit.0).own }, seen_in c last log held ks fit.1)
 
@@ -47,6 +48,7 @@ ends_all c last key r words j v k ks s is kept same at all room serial counted =
         let fits : EachFits c last kept.log kept.held (k ∷ ks) = subst (λ (w : View). EachFits c last kept.log kept.held w.passes) all (kept.each j v at) in record {
           whole = kept.log;
           legal = subst (λ (z : Config × ℕ). IsLegal z.0 z.1 kept.log) (λ i. (sym room i, sym serial i)) kept.legal;
+          lawful = lawful c last kept.log kept.legal;
           first = record { begins = (fits.0).begins; own = (fits.0).own };
           others = seen_in c last kept.log kept.held ks fits.1;
           alone = λ each. no_others c last opening kept.log (k ∷ ks) kept.legal (λ t l. each t (subst (λ (d : Config). t < d.threads) (sym room) l));
@@ -56,4 +58,4 @@ ends_all c last key r words j v k ks s is kept same at all room serial counted =
 
 -- and of one pass alone
 pub ends_one : {k : Known} {ks : List Known} {s : Summary} → EndsAll k ks s → SumsUp k s
-ends_one e = record { whole = e.whole; legal = e.legal; begins = e.first.begins; own = e.first.own; is = e.is }
+ends_one e = record { whole = e.whole; legal = e.legal; lawful = e.lawful; begins = e.first.begins; own = e.first.own; is = e.is }

@@ -35,4 +35,5 @@ pub mod Gathered
 pub mod StepTaken
 pub mod SeatStepped
 pub mod LookTaken
+pub mod Parted
 pub mod PassOver

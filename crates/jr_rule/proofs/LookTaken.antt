@@ -43,7 +43,6 @@ module _ {acts : List Act} (h : Holder) (x : RoomCells) (table : x.seat.table_id
     stands_is = λ i. record (stepped.first i) { role = same_role i; fresh = same_fresh i };
     hint_is = refl;
     goes = leads_next stepped left refl reads;
-    alone = λ nobody k s m. absurd cc;
   }
 
   -- and what the pass has seen is what this made of what it had

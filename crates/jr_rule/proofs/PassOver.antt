@@ -50,7 +50,7 @@ still_of r p q e c l h = record { row = table e ∙ h.row; config = c ∙ h.conf
 -- a step that was taken over what a pass is made of is one of the pass
 pub took_there : {S : Type 0} (holder : S → Holder) {a b : S} {h h' : Holder} {acts : List Act} {met : Known → Type 0} {shows : Known → Known → Type 0} → holder a ≡ h → holder b ≡ h' → Took (λ s. facts_of (holder s)) a b acts met shows → Took facts_of h h' acts met shows
 took_there holder {a} {b} {acts = acts} {met} {shows} first last t =
-    let there : Took facts_of (holder a) (holder b) acts met shows = record { stands_is = t.stands_is; hint_is = t.hint_is; goes = t.goes; alone = t.alone } in
+    let there : Took facts_of (holder a) (holder b) acts met shows = record { stands_is = t.stands_is; hint_is = t.hint_is; goes = t.goes } in
     subst (λ (z : Holder × Holder). Took facts_of z.0 z.1 acts met shows) (λ i. (first i, last i)) there
 
 -- and a pass of whose room the steps were is of that room then

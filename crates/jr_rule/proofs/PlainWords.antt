@@ -94,7 +94,6 @@ module _ {c : Config} {last : ℕ} {words words' : List ℕ} {met : Known → Ty
           taken = refl;
         };
         says = subst (λ z. told k z made.acts after) (sym is) made.says;
-        alone = λ e. refl;
       }
 
   pub stepped : HasStepped (sight_of_words c last words) (sight_of_words c last words') met told n

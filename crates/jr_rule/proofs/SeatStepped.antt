@@ -1,5 +1,5 @@
 -- One operation on a room's words: what it tells of the seat is what it makes of what the thread knows.
-use Rattle.std.proofs.Common.{◌≡◌, ◌<◌, ℕ, true, Some, None, List, [], ◌∷◌, refl, sym, ap, subst, ◌∙◌}
+use Rattle.std.proofs.Common.{◌≡◌, ◌<◌, ℕ, true, Some, List, [], ◌∷◌, refl, sym, ap, subst, ◌∙◌}
 use mathlib.Core.Logic.{∥∥₁_map}
 use Rattle.std.proofs.Math.Logic.{∥∥₁_elim}
 use Rattle.std.proofs.Props.{props}
@@ -53,9 +53,6 @@ module _ {told : Known → ℕ → List Act → Known → Type 0} {m m' : SeatSt
     space = subst (λ (k : Known). InSpace k.config k.holdings) new_is (subst (λ (c : Config). InSpace c (t.new).holdings) (sym t.goes.config) t.space);
   }
 
-  in_a_room : {id : TableId} → Some id ≡ None → ⊥
-  in_a_room e = cc
-
   -- and the step was taken
   pub seat_stepped : {id id' : TableId} {met : Known → Type 0} → id' ≡ id → HasStepped (sight_of_seat id m) (sight_of_seat id' m') met told n
   seat_stepped e = record {
@@ -67,7 +64,6 @@ module _ {told : Known → ℕ → List Act → Known → Type 0} {m m' : SeatSt
           is = record { is = new_is; config = ap (λ (z : Known). z.config) new_is; last = ap (λ (z : Known). z.last) new_is; thread = ap (λ (z : Known). z.thread) new_is };
           goes = subst (λ z. Goes z t.acts t.new) (sym h.is) g;
           says = subst (λ z. told z n t.acts t.new) (sym h.is) t.says;
-          alone = λ none. absurd (in_a_room none);
         };
   }
 

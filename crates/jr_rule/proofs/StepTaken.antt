@@ -136,7 +136,6 @@ module _ {C P : Type 0} {G : Ghosts C P} (old new : StepsOver C P G) {r : Role} 
         stands_is = λ i. record (t.first i) { role = role_is i; fresh = fresh_is i };
         hint_is = hint_is;
         goes = leads_next t left is reads;
-        alone = λ nobody k h m. (t.makes k (among_of (G.sight old.cells) old.role old.fresh k h) (h.1.role ∙ is, m)).alone nobody;
       }
 
   -- with acts that are the same whatever was known

@@ -43,14 +43,13 @@ pub record IsOwed (z : Sight) (met : Known → Type 0) (i : ℕ) (f : ℕ → �
   pub may : May z met
   pub owes : OwesThere z met i f told
 
--- WHAT A STEP TELLS of what was known: it has made something known of it, by these acts, none or one, and this holds of the number that it found; and nobody else did anything in between where the words are of no room
+-- WHAT A STEP TELLS of what was known: it has made something known of it, by these acts, none or one, and this holds of the number that it found
 pub record StepsTo (z z' : Sight) (told : Known → ℕ → List Act → Known → Type 0) (n : ℕ) (k : Known) : Type 0 where
   pub new : Known
   pub acts : List Act
   pub is : IsAmong z' new
   pub goes : Goes k acts new
   pub says : told k n acts new
-  pub alone : z.first.room ≡ None → goes.between ≡ []
 
 pub record HasStepped (z z' : Sight) (met : Known → Type 0) (told : Known → ℕ → List Act → Known → Type 0) (n : ℕ) : Type 0 where
   pub first : z'.first ≡ z.first

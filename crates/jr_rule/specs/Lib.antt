@@ -8,3 +8,4 @@ pub mod Sights
 pub mod Over
 pub mod Slots
 pub mod RowHistories
+pub mod Parting

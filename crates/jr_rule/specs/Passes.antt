@@ -1,17 +1,17 @@
 -- What a pass shows, and what a room gives.
-use Rattle.std.specs.Prelude.{◌≡◌, ◌⊎◌, ◌<◌, ℕ, zero, suc, Bool, true, false, List, [], ◌∷◌, ◌++◌, map}
+use Rattle.std.specs.Prelude.{◌≡◌, ◌⊎◌, ◌<◌, ℕ, zero, suc, Bool, true, List, [], ◌∷◌, ◌++◌, map}
 use Rattle.std.specs.List.{All, AllByRecursion}
 use mathlib.Core.List.{IsPrefix}
 use Rattle.atomic_table.specs.declared.shared.Seat.{Seat}
+use Rattle.atomic_table.specs.Seated.{TableId}
 use Rattle.jr_word.specs.declared.config.Config.{Config}
 use Rattle.jr_model.specs.declared.event.Role.{Role}
 use Rattle.jr_model.specs.declared.event.Role.TheVariants.{Outside}
-use Rattle.jr_model.specs.declared.event.Act.TheVariants.{Create, Look, Delete, Meet}
-use Rattle.jr_model.specs.declared.event.Found.{Found}
-use Rattle.jr_model.specs.declared.event.Found.TheVariants.{Stale}
+use Rattle.jr_model.specs.declared.event.Act.TheVariants.{Meet}
 use Rattle.jr_model.specs.declared.summary.Summary.{Summary}
-use Rattle.jr_model.specs.State.{Handle, not_outside, summary}
-use Rattle.jr_model.specs.History.{History, by, state, mine, is_collection_step, IsLegal, IsStay}
+use Rattle.jr_model.specs.State.{not_outside, summary}
+use Rattle.jr_model.specs.History.{History, state, mine, IsLegal}
+use Rattle.jr_model.specs.Laws.{KeepsTheLaws}
 use Rattle.jr_steps.specs.declared.known.Known.{Known}
 use Rattle.jr_rule.specs.declared.pass.Pass.{Pass}
 use Rattle.jr_rule.specs.declared.row.Row.{Row}
@@ -77,10 +77,23 @@ pub record IsSame (old new : Pass) : Type 0 where
   pub fresh : new.fresh ≡ old.fresh
   pub hint : new.hint ≡ old.hint
 
--- AT THE END the summary is that of one legal history, which begins with all that the pass has seen and has no more of its events
+-- HOW A PASS STANDS: its room, what it knows, its thread and role, whether it is fresh, and where its next search begins
+pub record PassStands : Type 0 where
+  pub room : TableId
+  pub knows : Known
+  pub thread : ℕ
+  pub role : Role
+  pub fresh : Bool
+  pub hint : ℕ
+
+abbrev pub stands_of : Pass → PassStands
+stands_of p = record { room = p.seat.table_id; knows = known_of p; thread = p.thread; role = p.role; fresh = p.fresh; hint = p.hint }
+
+-- AT THE END the summary is that of one legal history, which keeps the laws, begins with all that the pass has seen and has no more of its events
 pub record SumsUp (k : Known) (s : Summary) : Type 0 where
   pub whole : History
   pub legal : IsLegal k.config k.last whole
+  pub lawful : KeepsTheLaws whole
   pub begins : IsPrefix k.seen whole
   pub own : mine whole k.thread ≡ mine k.seen k.thread
   pub is : s ≡ summary k.config k.last (state whole)
@@ -110,10 +123,11 @@ HasEachPass c ks = (t : ℕ) → t < c.threads → HasPass ks t
 abbrev pub HasNoOthers : History → List Known → Type 0
 HasNoOthers es ks = AllByRecursion (λ e. HasPass ks e.thread) es
 
--- AT THE END OF ALL PASSES the summary is that of one legal history, which begins with all that each of them has seen and has no more of their events; and where each thread of the room has its pass among them, it has no others
+-- AT THE END OF ALL PASSES the summary is that of one legal history, which keeps the laws, begins with all that each of them has seen and has no more of their events; and where each thread of the room has its pass among them, it has no others
 pub record EndsAll (k : Known) (ks : List Known) (s : Summary) : Type 0 where
   pub whole : History
   pub legal : IsLegal k.config k.last whole
+  pub lawful : KeepsTheLaws whole
   pub first : IsSeenIn whole k
   pub others : AllByRecursion (IsSeenIn whole) ks
   pub alone : HasEachPass k.config (k ∷ ks) → HasNoOthers whole (k ∷ ks)
@@ -126,13 +140,7 @@ pub record ClosesAll (k : Known) (ks : List Known) (s : Summary) : Type 0 where
   pub nobody : not_outside k.config (state_of met) ≡ 0
   pub ends : EndsAll met ks s
 
--- what the laws say of a history: once a handle is deleted each look at it is stale, and it is not created again; and no step of a collection lies in a stay
-pub record KeepsTheLaws (es : History) : Type 0 where
-  pub stale : (h : Handle) (t u : ℕ) (r : Found) (before between rest : History) → es ≡ before ++ by t (Delete h) ∷ between ++ by u (Look h r) ∷ rest → r ≡ Stale
-  pub not_again : (h : Handle) (t u o : ℕ) (before between rest : History) → ¬ (es ≡ before ++ by t (Delete h) ∷ between ++ by u (Create h o) ∷ rest)
-  pub apart : (t : ℕ) (before inside rest : History) → IsStay t es before inside rest → AllByRecursion (λ e. is_collection_step e.act ≡ false) inside
-
--- ALL THESE PASSES SAW ONE HISTORY: the first looked at the gate, and there is a legal history that begins with all that each of them has seen and has no more of their events; and where each thread of the room has its pass among them, it has no others. What the laws say is so of it
+-- ALL THESE PASSES SAW ONE HISTORY: the first looked at the gate, and there is a legal history that keeps the laws, begins with all that each of them has seen and has no more of their events; and where each thread of the room has its pass among them, it has no others
 pub record SawOneHistory (k : Known) (ks : List Known) : Type 0 where
   pub met : Known
   pub goes : Goes k (Meet ∷ []) met

@@ -1,9 +1,11 @@
 -- What a room gives, and what it tells when it closes.
-use Rattle.std.specs.Prelude.{◌≡◌, ◌≤◌, ℕ, List, [], ◌∷◌, Some}
+use Rattle.std.specs.Prelude.{◌≡◌, ◌≤◌, ℕ, List, [], ◌∷◌, Some, map}
+use Rattle.std.specs.List.{All, AllByRecursion}
 use mathlib.Core.List.{IsPrefix}
 use Rattle.jr_word.specs.declared.config.Config.{Config}
 use Rattle.jr_word.specs.declared.fault.Fault.TheVariants.{LeftInside}
 use Rattle.jr_model.specs.declared.event.Act.TheVariants.{Meet}
+use Rattle.jr_model.specs.declared.event.Role.TheVariants.{Outside}
 use Rattle.jr_model.specs.State.{not_outside}
 use Rattle.jr_model.specs.History.{History}
 use Rattle.jr_rule.specs.declared.closing.Left.{Left}
@@ -17,7 +19,7 @@ use Rattle.jr_steps.specs.Knowing.{anything, keeps, state_of, Goes, Took}
 use Rattle.jr_rule.specs.declared.cells.Cells.{Ghosts}
 use Rattle.jr_rule.specs.declared.over.StepsOver.{StepsOver}
 use Rattle.jr_rule.specs.declared.row.RoomCells.{RoomCells}
-use Rattle.jr_rule.specs.Passes.{Holder, facts_of, holder_of, known_of, IsAt, AreOpened}
+use Rattle.jr_rule.specs.Passes.{Holder, facts_of, holder_of, known_of, stands_of, HasEachPass, IsAt, IsSeenIn, AreOpened}
 use Rattle.jr_rule.specs.Rule.{noted_pass, stepping_pass}
 
 -- THE PASS IS ONE OF THE ROOM'S OWN
@@ -93,10 +95,13 @@ pub record IsLeft {LAST : ℕ} (r : Room LAST) (p : Pass) (l : Left LAST) : Type
   pub of_room : IsAt r.row l.pass
   pub took : Took facts_of (holder_of p) (holder_of l.pass) (Meet ∷ []) anything keeps
 
--- a room is not closed, and the other passes are handed back as they are
+-- A ROOM IS NOT CLOSED WITH ALL THESE PASSES, of which the first looked at the gate: the others stand as they did and are of the room; what the look saw begins with all that each of them has seen, and has no more of their events; and where each thread of the room has its pass among all these, some pass is not outside
 pub record AreLeft {LAST : ℕ} (r : Room LAST) (p : Pass) (others : List Pass) (l : AllLeft LAST) : Type 0 where
   pub left : IsLeft r p l.left
-  pub same_others : l.others.items ≡ others
+  pub same_others : map stands_of l.others.items ≡ map stands_of others
+  pub of_room : All (λ q. IsAt r.row q) l.others.items
+  pub seen : AllByRecursion (IsSeenIn (known_of l.left.pass).seen) (map known_of others)
+  pub somebody : HasEachPass r.row.config (map known_of (p ∷ others)) → ¬ (AllByRecursion (λ q. q.role ≡ Outside) (p ∷ others))
 
 -- THE PASS LOOKED AT THE GATE: it knows what it had, what others did since, and its look, and that so many threads are inside, knocking, announcing or collecting
 pub record CountsInside (k k' : Known) (count : ℕ) : Type 0 where

@@ -6,8 +6,12 @@ use lib.ListN.{get_elem?}
 use Rattle.atomic_table.specs.Table.{State as Table, Me}
 use Rattle.jr_word.specs.declared.config.Config.{Config}
 use Rattle.jr_word.specs.Config.{in_limits, IsLimited}
+use Rattle.jr_word.specs.declared.gate.GateParts.{GateParts}
+use Rattle.jr_word.specs.Gate.{gate_word, IsGate}
 use Rattle.jr_model.specs.declared.event.Act.{Act}
+use Rattle.jr_model.specs.declared.event.Act.TheVariants.{Meet}
 use Rattle.jr_model.specs.declared.event.Role.{Role}
+use Rattle.jr_model.specs.State.{not_outside}
 use Rattle.jr_model.specs.History.{History, by, state, IsLegal, mine, role_of}
 use Rattle.jr_steps.specs.declared.known.Known.{Known}
 use Rattle.jr_rule.specs.declared.rule.View.{View}
@@ -15,7 +19,7 @@ use Rattle.jr_rule.specs.declared.rule.Sizes.{Sizes}
 use Rattle.jr_steps.specs.declared.known.Holdings.{Holdings}
 use Rattle.jr_steps.specs.Holdings.{InSpace, empty, hold}
 use Rattle.jr_rule.specs.Image.{IsImage}
-use Rattle.jr_steps.specs.Knowing.{Goes, view, keeps, HasNoLocals}
+use Rattle.jr_steps.specs.Knowing.{Goes, ShowsGate, view, keeps, HasNoLocals, state_of}
 
 abbrev pub sizes : Config → ℕ → Sizes
 sizes c last = record { config = c; last = last }
@@ -145,6 +149,24 @@ LookedBy acts k n done k' = (done ≡ acts) × keeps k k'
 
 abbrev pub LooksBy : List Act → SeatState → SeatState → Type 0
 LooksBy acts m m' = (n : ℕ) × Tells (LookedBy acts) m n m'
+
+-- a pass has looked at the gate beside others with which it closes its room, and holds what it held: it found the word of a gate that says this
+abbrev pub CountedBy : Known → ℕ → List Act → Known → Type 0
+CountedBy k n acts k' = (p : GateParts) × IsGate p × (n ≡ gate_word p) × (acts ≡ Meet ∷ []) × ShowsGate p k' × keeps k k'
+
+-- PASSES AT ONE SEAT COUNTED the threads inside, knocking, announcing or collecting, by one look at the gate
+pub record HasCounted (m m' : SeatState) (count : ℕ) : Type 0 where
+  pub found : ℕ
+  pub tells : Tells CountedBy m found m'
+  pub is : count ≡ not_outside (stepping_pass m').config (state_of (stepping_pass m'))
+
+-- a seat has passes alone, without a note and without slots
+abbrev pub IsCrowd : SeatState → Type 0
+IsCrowd m = m ≡ (view_of m.0.passes, [])
+
+-- the seat of a pass, of more passes, and of those of another seat
+abbrev pub crowd_of : SeatState → List Known → SeatState → SeatState
+crowd_of first ks rest = (view_of (stepping_pass first ∷ (ks ++ rest.0.passes)), [])
 
 -- HOW A SEAT IS CUT: the first pass alone, and the others
 abbrev pub first_alone : View → View

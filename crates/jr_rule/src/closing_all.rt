@@ -28,11 +28,11 @@ impl<const LAST: u32> Room<LAST> {
     ///
     /// E22 with how many threads were inside, knocking, announcing or collecting at its one look, at least 1.
     ///
-    /// The room and the other passes are handed back as they were, and the first pass, which has looked at the gate. They can be closed again.
+    /// Where each thread of the room has its pass among these, and all of them are outside, it is not answered. The room and the other passes are handed back as they were, and the first pass, which has looked at the gate. They can be closed again.
     ///
     /// # Operations
     ///
-    /// One, the look at the gate. The other passes join the first, each by a load of the gate that no clause counts; then no thread shares the words any more.
+    /// One, the look at the gate. Beside it, and counted by no clause: a load of the gate for each other pass and two more, by which they come together, and where the room is not closed one for each other pass and one more, by which they part. Else no thread shares the words any more.
     pub fn close_all(self, pass: Pass, others: Vec<Pass>) -> Result<Summary, AllLeft<LAST>>
         requires pass { IsOfRoom self pass }
         requires others { All (λ p. IsOfRoom self p) others.items }
@@ -41,16 +41,36 @@ impl<const LAST: u32> Room<LAST> {
         ensures exact { IfOk result (λ s. HasSeenAll (known_of pass) (map known_of others.items) → s ≡ summary_of (known_of pass).config (known_of pass).last (state_of (known_of pass))) }
         ensures err { IfErr result (λ l. AreLeft self.entry pass others.items l) }
     {
-        let (inside, pass) = self.look(pass);
-        if inside != 0 {
-            let left = Left {
-                room: self,
-                pass,
-                fault: Fault::LeftInside(inside),
-            };
-            return Err(AllLeft { left, others });
+        let Pass {
+            seat,
+            thread,
+            role,
+            fresh,
+            hint,
+        } = pass;
+        match self.row.count_beside(seat, others) {
+            Ok(seat) => {
+                let Room { row } = self;
+                Ok(row.end(seat))
+            }
+            Err(parted) => {
+                let pass = Pass {
+                    seat: parted.first,
+                    thread,
+                    role,
+                    fresh,
+                    hint,
+                };
+                let left = Left {
+                    room: self,
+                    pass,
+                    fault: Fault::LeftInside(parted.inside),
+                };
+                Err(AllLeft {
+                    left,
+                    others: parted.others,
+                })
+            }
         }
-        let Room { row } = self;
-        Ok(row.close_all(pass, others))
     }
 }

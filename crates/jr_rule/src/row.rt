@@ -30,24 +30,26 @@
 //! A COLLECTION: while the gate is shut, all other words are the collector's alone. It loads slots, local words, headers and elements, clears weak references to what nothing reaches, stores 0 in the headers of such objects, moves an object's elements down, from the first on, and then stores its header with the new place, sets the top to the sum of the lengths, and opens the gate. No thread knows a header from before: each was outside in between.
 //!
 //! What always holds of the words is `specs/Rule.antt`, with what each word says in `specs/Image.antt`; `docs/STEP.md` tells how one step is proved.
-ghost use Rattle.std.specs.Prelude.{◌≡◌, ◌<◌, [], ◌∷◌, IfOk, true};
+ghost use Rattle.std.specs.Prelude.{◌≡◌, ◌<◌, [], ◌∷◌, IfOk, IfErr, true};
 ghost use Rattle.jr_word.specs.Config.{in_limits, row_words};
 ghost use Rattle.jr_model.specs.declared.event.Role.TheVariants.{Outside};
 ghost use Rattle.jr_steps.specs.Holdings.{empty};
 ghost use Rattle.jr_rule.specs.Image.{header_at as place_of_header, element_at as place_of_element};
 ghost use Rattle.jr_rule.specs.Sights.{IsSeatOf};
-ghost use Rattle.jr_rule.specs.Rule.{IsNote, IsSeated, IsSized, stepping_pass, sizes, known, view_of, newcomers, others_of};
+ghost use Rattle.jr_rule.specs.Rule.{crowd_of, HasCounted, IsAlone, IsCrowd, IsNote, IsSeated, IsSized, stepping_pass, sizes, known, view_of, newcomers, others_of};
 
 use crate::cells::{Cells, StepKind};
 use crate::closing::ClosedWords;
 use crate::pass::Pass;
 use crate::room::Room;
-use crate::rule::{Again, Deal, Gather, Jot, Learning, Meeting, Part, Rule, Sizes, Tell, View};
+use crate::rule::{
+    Again, Counting, Deal, Gather, Jot, Learning, Meeting, Part, Rule, Sizes, Tell, View,
+};
 use crate::summing::summary;
-use crate::words::{GATE, first_element, first_header};
+use crate::words::{GATE, all_counted, first_element, first_header};
 use atomic_table::{Seat, Table};
 use jr_model::{Role, Summary};
-use jr_word::Config;
+use jr_word::{Config, GateWord};
 use std::alloc::{AllocError, Global};
 
 /// One row of atomic words, which the holders of its passes share.
@@ -69,8 +71,9 @@ pub struct Row {
 }
 
 impl Row {
-    ghost use Rattle.std.specs.Prelude.{◌++◌, map, All};
+    ghost use Rattle.std.specs.Prelude.{map, vec_capacity, vec_len, All};
     ghost use Rattle.jr_rule.specs.Passes.{AreOpened, IsOpened, IsAt, SumsUp, EndsAll, known_of};
+    ghost use Rattle.jr_rule.specs.Parting.{HaveParted, IsParted, no_seat};
 
     /// A row of zeros, with one pass a thread, from thread 0 upward.
     pub(crate) fn open(
@@ -138,7 +141,7 @@ impl Row {
     }
 
     /// What stands at the end of all passes of the seat.
-    fn end(self, seat: Seat<(), View>) -> Summary
+    pub(crate) fn end(self, seat: Seat<(), View>) -> Summary
         requires room { seat.table_id ≡ self.table.shared.table_id }
         requires seated { IsSeated seat.me }
         requires first { ((stepping_pass seat.me).config ≡ self.config) × ((stepping_pass seat.me).last ≡ self.last) }
@@ -175,43 +178,102 @@ impl Row {
         self.end(seat)
     }
 
-    /// The seats of the passes join this one.
-    fn gather(&self, seat: &mut Seat<(), View>, mut others: Vec<Pass>)
-        requires room { seat.old.table_id ≡ self.now.table.shared.table_id }
-        requires slots { seat.old.me.1 ≡ [] }
-        requires notes { seat.old.me.0.notes ≡ [] }
-        requires others { All (λ p. IsAt self.now p) others.items }
-        ensures room { seat.new.table_id ≡ seat.old.table_id }
-        ensures all { seat.new.me ≡ (view_of (seat.old.me.0.passes ++ map known_of others.items), []) }
+    /// The pass at the first seat and those at the rest look at the gate together, at the first seat: how many threads are inside, knocking, announcing or collecting.
+    fn count(&self, first: &mut Seat<(), View>, rest: Seat<(), View>) -> u32
+        requires room { first.old.table_id ≡ self.now.table.shared.table_id }
+        requires same { rest.table_id ≡ first.old.table_id }
+        requires first { IsAlone first.old.me }
+        requires rest { IsCrowd rest.me }
+        ensures room { first.new.table_id ≡ first.old.table_id }
+        ensures counts { HasCounted (crowd_of first.old.me [] rest.me) first.new.me result }
     {
-        while !others.is_empty() {
-            let Pass {
-                seat: other,
-                thread: _,
-                role: _,
-                fresh: _,
-                hint: _,
-            } = others.remove(0);
-            self.table.shared.join_seat::<Gather>(seat, other);
-        }
+        let shared = &self.table.shared;
+        shared.join_seat::<Gather>(first, rest);
+        let found = shared.load::<Counting>(first, GATE);
+        all_counted(GateWord::parts(found).unwrap())
     }
 
-    /// What stands at the end of all these passes.
-    pub(crate) fn close_all(self, pass: Pass, others: Vec<Pass>) -> Summary
-        requires pass { IsAt self pass }
-        requires others { All (λ p. IsAt self p) others.items }
-        ensures { EndsAll (known_of pass) (map known_of others.items) result }
+    /// The pass at the seat and these look at the gate together, and stay at one seat where nobody is inside. Else they part again.
+    pub(crate) fn count_beside(
+        &self,
+        mut seat: Seat<(), View>,
+        others: Vec<Pass>,
+    ) -> Result<Seat<(), View>, Parted>
+        requires room { seat.table_id ≡ self.now.table.shared.table_id }
+        requires first { IsAlone seat.me }
+        requires others { All (λ p. IsAt self.now p) others.items }
+        ensures ok { IfOk result (λ s. (s.table_id ≡ seat.table_id) × HasCounted (crowd_of seat.me (map known_of others.items) no_seat) s.me 0) }
+        ensures err { IfErr result (λ p. IsParted seat others.items p) }
     {
+        let none = self.table.shared.split_seat::<Part>(&mut seat);
+        self.count_all(seat, none, others)
+    }
+
+    /// The same, where more passes sit at the rest.
+    fn count_all(
+        &self,
+        mut first: Seat<(), View>,
+        rest: Seat<(), View>,
+        mut others: Vec<Pass>,
+    ) -> Result<Seat<(), View>, Parted>
+        requires room { first.table_id ≡ self.now.table.shared.table_id }
+        requires same { rest.table_id ≡ first.table_id }
+        requires first { IsAlone first.me }
+        requires rest { IsCrowd rest.me }
+        requires others { All (λ p. IsAt self.now p) others.items }
+        ensures ok { IfOk result (λ s. (s.table_id ≡ first.table_id) × HasCounted (crowd_of first.me (map known_of others.items) rest.me) s.me 0) }
+        ensures err { IfErr result (λ p. HaveParted first rest others.items (vec_len others) (vec_capacity others) p) }
+    {
+        let shared = &self.table.shared;
+        let Some(pass) = others.pop() else {
+            let inside = self.count(&mut first, rest);
+            if inside == 0 {
+                return Ok(first);
+            }
+            let rest = shared.split_seat::<Part>(&mut first);
+            return Err(Parted {
+                inside,
+                first,
+                rest,
+                others,
+            });
+        };
         let Pass {
             mut seat,
-            thread: _,
-            role: _,
-            fresh: _,
-            hint: _,
+            thread,
+            role,
+            fresh,
+            hint,
         } = pass;
-        self.gather(&mut seat, others);
-        self.end(seat)
+        shared.join_seat::<Gather>(&mut seat, rest);
+        match self.count_all(first, seat, others) {
+            Ok(joined) => Ok(joined),
+            Err(mut parted) => {
+                let seat = shared.split_seat::<Deal>(&mut parted.rest);
+                parted.others.push_reserved(Pass {
+                    seat,
+                    thread,
+                    role,
+                    fresh,
+                    hint,
+                });
+                Err(parted)
+            }
+        }
     }
+}
+
+/// Passes that looked at the gate together and have parted again.
+#[derive(Drop)]
+pub(crate) struct Parted {
+    /// How many threads are inside, knocking, announcing or collecting.
+    pub(crate) inside: u32,
+    /// The seat of the first pass, which looked.
+    pub(crate) first: Seat<(), View>,
+    /// That of those which were not among the others.
+    pub(crate) rest: Seat<(), View>,
+    /// The others, as they stood.
+    pub(crate) others: Vec<Pass>,
 }
 
 /// A seat at the words of a room, on which other threads step too.

@@ -66,6 +66,15 @@ impl Play<(), View> for Learning {
     ghost then = { λ s m n m'. Tells (LookedBy []) m n m' };
 }
 
+/// The look at the gate of passes that close their room together.
+pub struct Counting;
+
+impl Play<(), View> for Counting {
+    ghost use Rattle.jr_rule.specs.Rule.{CountedBy, Tells};
+
+    ghost then = { λ s m n m'. Tells CountedBy m n m' };
+}
+
 /// The first pass leaves the seat.
 pub struct Deal;
 

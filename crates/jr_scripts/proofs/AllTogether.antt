@@ -1,5 +1,5 @@
 -- What all threads of a script did, in one history.
-use Rattle.std.proofs.Common.{◌≡◌, Option, ◌+◌, ◌<◌, ◌++◌, ℕ, zero, suc, true, false, List, [], ◌∷◌, map, length, Result, Ok, refl, sym, ap, subst, ◌∙◌, arith}
+use Rattle.std.proofs.Common.{◌≡◌, inl, inr, Option, ◌+◌, ◌<◌, ◌≤◌, ◌++◌, ℕ, zero, suc, true, false, List, [], ◌∷◌, map, length, Result, Ok, refl, sym, ap, subst, ◌∙◌, arith}
 use Rattle.std.proofs.lemmas.List.{append-nil}
 use Rattle.std.specs.List.{All, AllZip, AllByRecursion}
 use Rattle.std.proofs.lemmas.List.Elements.{recursion_from_All, All-from_recursion, All-head, All-tail}
@@ -7,6 +7,10 @@ use Rattle.jr_word.specs.declared.config.Config.{Config}
 use Rattle.jr_word.specs.declared.fault.Fault.{Fault}
 use Rattle.jr_word.specs.Config.{in_limits}
 use Rattle.jr_model.specs.declared.event.Act.TheVariants.{Meet}
+use Rattle.jr_model.specs.declared.event.Role.TheVariants.{Outside}
+use Rattle.jr_model.specs.Laws.{KeepsTheLaws}
+use mathlib.Core.Logic.{dite}
+use native.Mathlib.Decide.{ℕ_discrete}
 use Rattle.jr_model.specs.declared.summary.Summary.{Summary}
 use Rattle.jr_model.specs.State.{summary}
 use Rattle.jr_model.specs.History.{History, state, mine, IsLegal, Did}
@@ -22,7 +26,7 @@ use Rattle.jr_steps.specs.Holdings.{empty}
 use Rattle.jr_steps.specs.Knowing.{Standing, view, Holds}
 use Rattle.jr_rule.specs.Rule.{known}
 use Rattle.jr_rule.proofs.PassOver.{still_of}
-use Rattle.jr_rule.specs.Passes.{facts_of, holder_of, known_of, standing_of, IsAt, IsOpened, AreOpened, numbers_below, IsSeenIn, ClosesAll}
+use Rattle.jr_rule.specs.Passes.{facts_of, holder_of, known_of, standing_of, IsAt, IsOpened, AreOpened, numbers_below, HasEachPass, HasPass, IsSeenIn, ClosesAll}
 use Rattle.jr_steps.proofs.StepFacts.{goes_did}
 use Rattle.jr_scripts.specs.declared.part.Job.{Job}
 use Rattle.jr_scripts.specs.declared.told.Site.{Ghosts}
@@ -212,6 +216,34 @@ ends_at r (q ∷ qs) (j ∷ js) (x ∷ xs) (e ∷ ends) text for ran told =
     let spent = ((ran.0).spends).stands_is in
     (subst (IsAt r) told.1 (still_of r j.pass x.pass (s.room ∙ ap (λ (z : Standing). z.room) spent) (s.config ∙ ap (λ (z : Standing). z.config) spent) (s.last ∙ ap (λ (z : Standing). z.last) spent) ((for.0).opened).row), ends_at r qs js xs ends told.2 for.1 ran.1 told.4)
 
+-- and stand outside, each of the thread whose pass was given
+ends_out : {Q : Type 0} {G : Ghosts Q} (r : Row) (turns line : ℕ) (ps : List Pass) (qs : List ThreadPart) (js : List Job) (xs : List (ThreadRun Q G)) (ends : List Pass) (text : List ℕ) → AreJobsOf turns line ps qs js → AllByRecursion (IsFor r) js → AllZip HasRun js xs → AreTold qs xs ends text
+    → AllByRecursion (λ (p : Pass). p.role ≡ Outside) ends × (map (λ (k : Known). k.thread) (map known_of ends) ≡ map (λ (p : Pass). p.thread) ps)
+ends_out r turns line [] [] [] xs [] text jobs for ran told = (tt, refl)
+ends_out r turns line [] [] [] [] (e ∷ ends) text jobs for ran told = absurd told
+ends_out r turns line [] [] [] (x ∷ xs) (e ∷ ends) text jobs for ran told = absurd told
+ends_out r turns line [] [] (j ∷ js) xs ends text jobs for ran told = absurd jobs
+ends_out r turns line [] (q ∷ qs) js xs ends text jobs for ran told = absurd jobs
+ends_out r turns line (p ∷ ps) [] js xs ends text jobs for ran told = absurd jobs
+ends_out r turns line (p ∷ ps) (q ∷ qs) [] xs ends text jobs for ran told = absurd jobs
+ends_out r turns line (p ∷ ps) (q ∷ qs) (j ∷ js) [] ends text jobs for ran told = absurd ran
+ends_out r turns line (p ∷ ps) (q ∷ qs) (j ∷ js) (x ∷ xs) [] text jobs for ran told = absurd told
+ends_out r turns line (p ∷ ps) (q ∷ qs) (j ∷ js) (x ∷ xs) (e ∷ ends) text jobs for ran told =
+    let s = ((ran.0).ran).stands_is in
+    let spent = ((ran.0).spends).stands_is in
+    let rest = ends_out r turns (line + 1 + length q.commands) ps qs js xs ends told.2 jobs.1 for.1 ran.1 told.4 in
+    let out : e.role ≡ Outside = ap (λ (z : Pass). z.role) (sym told.1) ∙ (s.role ∙ (ap (λ (z : Standing). z.role) spent ∙ ((for.0).opened).role)) in
+    let thread : (known_of e).thread ≡ p.thread = ap (λ (z : Pass). (known_of z).thread) (sym told.1) ∙ (s.thread ∙ (ap (λ (z : Standing). z.thread) spent ∙ (j.pass.held.thread_is ∙ ap (λ (z : Pass). z.thread) (jobs.0).pass))) in
+    ((out, rest.0), (λ i. thread i ∷ rest.1 i))
+
+-- passes of the threads of so many numbers from a on
+has_counted : (a n t : ℕ) → a ≤ t → t < a + n → (ks : List Known) → map (λ (k : Known). k.thread) ks ≡ counted a n → HasPass ks t
+has_counted a zero t low high ks e = absurd (omega arith)
+has_counted a (suc n) t low high [] e = absurd cc
+has_counted a (suc n) t low high (k ∷ ks) e = dite (ℕ_discrete a t)
+    (λ same. inl (head_is k.thread a _ _ e ∙ same))
+    (λ other. inr (has_counted (suc a) n t (omega arith) (omega arith) ks (tail_is k.thread a _ _ e)))
+
 module _ {Q : Type 0} {G : Ghosts Q} (c : Config) (last : ℕ) (r : Row) (turns line : ℕ) (ps : List Pass) (qs : List ThreadPart) (js : List Job) (xs : List (ThreadRun Q G)) (ends : List Pass) (text : List ℕ) (q : Pass) (others : List Pass)
     (o : AreOpened c last r ps) (jobs : AreJobsOf turns line ps qs js) (ran : AllZip HasRun js xs) (told : AreTold qs xs ends text) (is : ends ≡ q ∷ others) where
   all_at : All (IsAt r) (q ∷ others)
@@ -223,10 +255,20 @@ module _ {Q : Type 0} {G : Ghosts Q} (c : Config) (last : ℕ) (r : Row) (turns 
   pub others_at : All (IsAt r) others
   others_at = All-tail (IsAt r) q others all_at
 
+  all_out : AllByRecursion (λ (p : Pass). p.role ≡ Outside) ends × (map (λ (k : Known). k.thread) (map known_of ends) ≡ map (λ (p : Pass). p.thread) ps)
+  all_out = ends_out r turns line ps qs js xs ends text jobs (jobs_for r turns line ps qs js (recursion_from_All (IsOpened r) ps o.each) jobs) ran told
+
+  pub each_out : AllByRecursion (λ (p : Pass). p.role ≡ Outside) (q ∷ others)
+  each_out = subst (AllByRecursion (λ (p : Pass). p.role ≡ Outside)) is all_out.0
+
+  pub each_has : HasEachPass r.config (map known_of (q ∷ others))
+  each_has t l = has_counted 0 c.threads t (omega arith) (subst (λ (d : Config). t < d.threads) o.same_config l) (map known_of (q ∷ others))
+      (ap (λ zs. map (λ (k : Known). k.thread) (map known_of zs)) (sym is) ∙ (all_out.1 ∙ (o.threads ∙ numbers_counted c.threads)))
+
 module _ (board : List ℕ → Option (ℕ × History)) (rank : List ℕ → ℕ) (turns last : ℕ) (c : Config) (r : Row) (config_is : r.config ≡ c) (last_is : r.last ≡ last) where
   all_parts : {Q : Type 0} {G : Ghosts Q} (n : ℕ) (ps : List Pass) (qs : List ThreadPart) (js : List Job) (xs : List (ThreadRun Q G)) (e : Pass) (ends : List Pass) (text : List ℕ) (s : Summary) → map (λ (p : Pass). p.thread) ps ≡ counted 0 n
       → AllByRecursion (IsOpened r) ps → AreJobsOf turns 2 ps qs js → AllZip (HasSaid board rank) js xs → AreTold qs xs (e ∷ ends) text → ClosesAll (known_of e) (map known_of ends) s
-      → (whole : History) × IsLegal c last whole × ArePartsOf board rank turns last c whole 0 2 qs (lines_of xs) × (s ≡ summary c last (state whole))
+      → (whole : History) × IsLegal c last whole × KeepsTheLaws whole × ArePartsOf board rank turns last c whole 0 2 qs (lines_of xs) × (s ≡ summary c last (state whole))
   all_parts n [] [] js [] e ends text s are o jobs ran told closes = absurd told
   all_parts n [] [] js (x ∷ xs) e ends text s are o jobs ran told closes = absurd told
   all_parts n [] (q ∷ qs) js xs e ends text s are o jobs ran told closes = absurd jobs
@@ -244,6 +286,7 @@ module _ (board : List ℕ → Option (ℕ × History)) (rank : List ℕ → ℕ
       let met_last : met.last ≡ last = d.last ∙ here.same_last in (
         end.whole,
         subst (λ (z : Config × ℕ). IsLegal z.0 z.1 end.whole) (λ i. (met_config i, met_last i)) end.legal,
+        end.lawful,
         (
           part_of_first board rank turns last c end.whole (2 + 1) q x.text.items (known_of e) met here d end.first,
           parts_of_others board rank turns last c r config_is last_is end.whole 1 n (2 + 1 + length q.commands) ps qs js xs ends told.2 (omega arith) (tail_is p.thread 0 _ _ are) o.1 jobs.1 ran.1 told.4 end.others,
@@ -269,11 +312,12 @@ together board rank turns last script r ps js xs passes e ends text whole s righ
     record {
       whole = x.0;
       legal = x.1;
+      lawful = x.2;
       lines = lines_of xs;
       board = board;
       rank = rank;
       posted = posted;
       right = right;
-      parts = x.2;
-      text_is = whole_is ∙ (ap (λ t. t ++ ending s) (text_told script.threads xs (e ∷ ends) text told') ∙ ap (λ v. text_of_parts script.threads (lines_of xs) ++ ending v) x.3);
+      parts = x.3;
+      text_is = whole_is ∙ (ap (λ t. t ++ ending s) (text_told script.threads xs (e ∷ ends) text told') ∙ ap (λ v. text_of_parts script.threads (lines_of xs) ++ ending v) x.4);
     }

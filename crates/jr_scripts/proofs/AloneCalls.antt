@@ -90,7 +90,7 @@ module _ {A : Type 0} (old new : PassView) (f g : Frames) (work : Call A) (alone
       short.lacks new.config (state new.seen) (subst (λ c. IsShort c (state new.seen) used short.words) (sym r.did.config) is)
 
   never_raced : (looked found : ℕ) → ChangesNothing work → Ran old new f g work (Err (Raced looked found)) → ⊥
-  never_raced looked found changes r = never_lost old.config old.last old.seen r.begun new looked found r.did.begins r.did.legal (refused_since (Raced looked found) changes r) r.window.from r.grounds
+  never_raced looked found changes r = never_lost old.seen r.begun new looked found r.did.begins (refused_since (Raced looked found) changes r) r.window.from r.grounds
 
   -- a refusal of a call that no other thread causes
   fault_alone : (turns : ℕ) (command : Asked) (e : Fault) → ChangesNothing work → (r : Ran old new f g work (Err e)) → IsUncontendedFault (state new.seen) new.last command r.acts g e → IsCommandFault turns command.0 command.1 new g e

@@ -15,7 +15,7 @@ use Rattle.jr_steps.specs.Knowing.{Facts}
 use Rattle.jr_scripts.specs.declared.reply.Reply.{Reply}
 use Rattle.jr_scripts.specs.declared.reply.Reply.TheVariants as replies
 use Rattle.jr_frames.specs.Reading.{IsReadAs}
-use Rattle.jr_env.specs.Deeds.{Deed, DoesDeed, decided, done, answered_by, kind_of, get_array_region, set_array_region, ◌>>=◌, ◌>>◌}
+use Rattle.jr_env.specs.Deeds.{Deed, DoesDeed, DoesOutside, decided, done, answered_by, kind_of, get_array_region, set_array_region, ◌>>=◌, ◌>>◌}
 use Rattle.jr_scripts.specs.declared.number.NumberKind.{NumberKind}
 use Rattle.jr_scripts.specs.declared.number.NumberKind.TheVariants as number
 use Rattle.jr_scripts.specs.declared.number.Element.{Element}
@@ -98,13 +98,13 @@ module _ {S : Type 0} {facts : S → Facts} where
   does_command {a} {b} {f} {g} {answer} turns names c d is = subst (λ x. DoesDeed facts a b f g (deed turns names x) answer) (sym is)
 
   -- the number of an element, by the call of a kind that is known
-  pub does_number_of : {a b : S} {f g : Frames} {answer : Result ℤ Fault} (w i : ℕ) (n m : NumberKind) → n ≡ m → DoesDeed facts a b f g (answered_by (λ words. first_number (kind_numbered m) words) (get_array_region (kind_numbered m) w i 1)) answer
-      → DoesDeed facts a b f g (answered_by (λ words. first_number (kind_numbered n) words) (get_array_region (kind_numbered n) w i 1)) answer
-  does_number_of {a} {b} {f} {g} {answer} w i n m is = subst (λ x. DoesDeed facts a b f g (answered_by (λ words. first_number (kind_numbered x) words) (get_array_region (kind_numbered x) w i 1)) answer) (sym is)
+  pub does_number_of : {a b : S} {f g : Frames} {answer : Result ℤ Fault} (w i : ℕ) (n m : NumberKind) → n ≡ m → DoesOutside facts a b f g (answered_by (λ words. first_number (kind_numbered m) words) (get_array_region (kind_numbered m) w i 1)) answer
+      → DoesOutside facts a b f g (answered_by (λ words. first_number (kind_numbered n) words) (get_array_region (kind_numbered n) w i 1)) answer
+  does_number_of {a} {b} {f} {g} {answer} w i n m is = subst (λ x. DoesOutside facts a b f g (answered_by (λ words. first_number (kind_numbered x) words) (get_array_region (kind_numbered x) w i 1)) answer) (sym is)
 
   -- a part of one element was read
-  pub does_read_one : {a b : S} {f g : Frames} {answer : Result (List ℕ) Fault} (k : Kind) (w i n : ℕ) → n ≡ 1 → DoesDeed facts a b f g (get_array_region k w i n) answer → DoesDeed facts a b f g (get_array_region k w i 1) answer
-  does_read_one {a} {b} {f} {g} {answer} k w i n one = subst (λ m. DoesDeed facts a b f g (get_array_region k w i m) answer) one
+  pub does_read_one : {a b : S} {f g : Frames} {answer : Result (List ℕ) Fault} (k : Kind) (w i n : ℕ) → n ≡ 1 → DoesOutside facts a b f g (get_array_region k w i n) answer → DoesOutside facts a b f g (get_array_region k w i 1) answer
+  does_read_one {a} {b} {f} {g} {answer} k w i n one = subst (λ m. DoesOutside facts a b f g (get_array_region k w i m) answer) one
 
   -- the same number is stored
   pub does_stored_as : {a b : S} {f g : Frames} {answer : Result Reply Fault} (turns w i : ℕ) (v x : ℤ) → DoesDeed facts a b f g (storing turns w i v) answer → v ≡ x → DoesDeed facts a b f g (storing turns w i x) answer

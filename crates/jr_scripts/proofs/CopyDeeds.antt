@@ -10,8 +10,9 @@ use Rattle.jr_model.specs.declared.frames.Mode.TheVariants.{Copy, Commit, Abort}
 use Rattle.jr_model.specs.Frames.{Frames}
 use Rattle.jr_steps.specs.Knowing.{Facts}
 use Rattle.jr_elements.specs.Copies.{answer_in, kept}
-use Rattle.jr_env.specs.Deeds.{Deed, DoesDeed, answered_by, decided, done, release_answer, release_array_elements, get_array_elements, kind_of, ◌>>◌, ◌>>=◌}
+use Rattle.jr_env.specs.Deeds.{Deed, DoesDeed, DoesOutside, answered_by, decided, done, release_answer, release_array_elements, get_array_elements, kind_of, ◌>>◌, ◌>>=◌}
 use Rattle.jr_env.proofs.Carrying.{did_answer, did_more, did_refuse, does_nothing}
+use Rattle.jr_env.proofs.EnvCalls.{does_answer, does_refuse}
 use Rattle.jr_syntax.specs.declared.command.Command.TheVariants as commands
 use Rattle.jr_syntax.specs.declared.verb.OnNameAt.{OnNameAt}
 use Rattle.jr_syntax.specs.declared.verb.OnNameAt.TheVariants as on_name_at
@@ -44,15 +45,15 @@ module _ {S : Type 0} {facts : S → Facts} where
       (does_tried_form turns (λ words. copy_of (kind_numbered n) words) (λ x. replies.Copied x) (get_array_elements (kind_numbered n) w) more)
 
   module _ {a b : S} {f g : Frames} (w : ℕ) (n m : NumberKind) (is : n ≡ m) where
-    same_kind : (answer : Result Copied Fault) → DoesDeed facts a b f g (answered_by (λ words. copy_of (kind_numbered m) words) (get_array_elements (kind_numbered m) w)) answer → DoesDeed facts a b f g (answered_by (λ words. copy_of (kind_numbered n) words) (get_array_elements (kind_numbered n) w)) answer
-    same_kind answer = subst (λ (x : NumberKind). DoesDeed facts a b f g (answered_by (λ words. copy_of (kind_numbered x) words) (get_array_elements (kind_numbered x) w)) answer) (sym is)
+    same_kind : (answer : Result Copied Fault) → DoesOutside facts a b f g (answered_by (λ words. copy_of (kind_numbered m) words) (get_array_elements (kind_numbered m) w)) answer → DoesOutside facts a b f g (answered_by (λ words. copy_of (kind_numbered n) words) (get_array_elements (kind_numbered n) w)) answer
+    same_kind answer = subst (λ (x : NumberKind). DoesOutside facts a b f g (answered_by (λ words. copy_of (kind_numbered x) words) (get_array_elements (kind_numbered x) w)) answer) (sym is)
 
     -- a copy by the call of a kind that is known
-    pub does_copied : (words : List ℕ) (copied : Copied) → copied ≡ copy_of (kind_numbered m) words → DoesDeed facts a b f g (get_array_elements (kind_numbered m) w) (Ok words) → DoesDeed facts a b f g (answered_by (λ words. copy_of (kind_numbered n) words) (get_array_elements (kind_numbered n) w)) (Ok copied)
-    does_copied words copied made d = same_kind (Ok copied) (did_answer (λ words. copy_of (kind_numbered m) words) made d)
+    pub does_copied : (words : List ℕ) (copied : Copied) → copied ≡ copy_of (kind_numbered m) words → DoesOutside facts a b f g (get_array_elements (kind_numbered m) w) (Ok words) → DoesOutside facts a b f g (answered_by (λ words. copy_of (kind_numbered n) words) (get_array_elements (kind_numbered n) w)) (Ok copied)
+    does_copied words copied made d = same_kind (Ok copied) (does_answer (λ words. copy_of (kind_numbered m) words) made d)
 
-    pub does_not_copy : (e : Fault) (answer : Result Copied Fault) → IsErrAnd answer (λ y. y ≡ e) → DoesDeed facts a b f g (get_array_elements (kind_numbered m) w) (Err e) → DoesDeed facts a b f g (answered_by (λ words. copy_of (kind_numbered n) words) (get_array_elements (kind_numbered n) w)) answer
-    does_not_copy e answer refused d = same_kind answer (did_refuse (λ words. copy_of (kind_numbered m) words) answer refused d)
+    pub does_not_copy : (e : Fault) (answer : Result Copied Fault) → IsErrAnd answer (λ y. y ≡ e) → DoesOutside facts a b f g (get_array_elements (kind_numbered m) w) (Err e) → DoesOutside facts a b f g (answered_by (λ words. copy_of (kind_numbered n) words) (get_array_elements (kind_numbered n) w)) answer
+    does_not_copy e answer refused d = same_kind answer (does_refuse (λ words. copy_of (kind_numbered m) words) answer refused d)
 
 -- elements that a release leaves
 pub some_left : {V : Type 0} (k : Kind) (word_of : V → ℕ) (mode : Mode) (answer : Result Reply Fault) (values left : List V) (b : Copied) → copied_as k word_of values ≡ b → Some left ≡ elements_left mode answer values → Buffer (copied_as k word_of left) ≡ left_by mode answer (Buffer b)
@@ -93,8 +94,12 @@ module _ {S : Type 0} {facts : S → Facts} where
       go p q (Err e) is t = inr (e, is, t)
 
   -- the answer of a call is what was read of it
-  pub does_read : {A : Type 0} {a b : S} {f g : Frames} {deed : Deed A} (x y : A) → y ≡ x → DoesDeed facts a b f g deed (Ok x) → DoesDeed facts a b f g deed (Ok y)
-  does_read {A} {a} {b} {f} {g} {deed} x y is = subst (λ z. DoesDeed facts a b f g deed (Ok z)) (sym is)
+  pub does_read : {A : Type 0} {a b : S} {f g : Frames} {deed : Deed A} (x y : A) → y ≡ x → DoesOutside facts a b f g deed (Ok x) → DoesOutside facts a b f g deed (Ok y)
+  does_read {A} {a} {b} {f} {g} {deed} x y is = subst (λ z. DoesOutside facts a b f g deed (Ok z)) (sym is)
+
+  -- its refusal is handed on
+  pub does_not_read : {A : Type 0} {a b : S} {f g : Frames} {deed : Deed A} (e : Fault) (answer : Result A Fault) → IsErrAnd answer (λ y. y ≡ e) → DoesOutside facts a b f g deed (Err e) → DoesOutside facts a b f g deed answer
+  does_not_read {A} {a} {b} {f} {g} {deed} e answer refused = let why = err_from_is_err_and answer refused in subst (λ z. DoesOutside facts a b f g deed z) (sym (why.1 ∙ ap (λ (v : Fault). Err v) why.2))
 
   -- what was decided without a call, and is answered
   pub does_decide : {A B : Type 0} {a : S} {f : Frames} (r : Result A Fault) (form : A → B) (answer : Result B Fault) → answer ≡ answer_in form r → DoesDeed facts a a f f (decided r >>= (λ x. done (form x))) answer

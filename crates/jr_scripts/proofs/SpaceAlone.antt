@@ -9,7 +9,7 @@ use Rattle.jr_model.specs.declared.event.Act.TheVariants.{ReserveFull, ReserveLo
 use Rattle.jr_model.specs.State.{State}
 use Rattle.jr_model.specs.Steps.{ActNeeds, after}
 use Rattle.jr_model.specs.History.{History, by, mine, state, state_from, IsLegal, IsLegalFrom, PassView}
-use Rattle.jr_model.specs.Refusals.{WasRaced}
+use Rattle.jr_model.specs.Refusals.{LostSpace}
 use Rattle.jr_model.specs.RefusedCalls.{is_harmless}
 use Rattle.jr_model.proofs.Histories.{legal_append, state_append}
 use Rattle.jr_model.proofs.Moments.{prefix_trans}
@@ -48,16 +48,15 @@ module _ (c : Config) (last : ℕ) where
       let since = ((legal_append c last old begins.0).0 (subst (IsLegal c last) (sym begins.1) legal)).1 in
       subst (λ s. IsShort c s used n) (sym (state_append old begins.0) ∙ ap (λ es. state es) begins.1) (short_from n used t (state old) begins.0 since all found)
 
-  -- where nothing else happened between look and exchange, no reservation is lost
-  pub never_lost : (old begun : History) (new : PassView) (looked found : ℕ) (begins : IsPrefix old new.seen) → IsLegal c last new.seen → AllHarmless begins.0 → IsPrefix old begun → WasRaced begun new looked found → ⊥
-  never_lost old begun new looked found begins legal all from w =
-      let e : Event = by new.thread (ReserveLost w.words looked found) in
-      let whole : IsLegal c last (w.before ++ e ∷ w.since) = subst (IsLegal c last) w.lost legal in
-      let needs = ((legal_append c last w.before (e ∷ w.since)).0 whole).1.0.1 in
-      let m = w.looked_at in
-      let front : IsPrefix old w.before = prefix_trans old begun w.before from (prefix_trans begun m.moment w.before m.from m.to) in
-      let cut : old ++ (front.0 ++ e ∷ w.since) ≡ old ++ begins.0 = sym (append_assoc old front.0 (e ∷ w.since)) ∙ (ap (λ es. es ++ e ∷ w.since) front.1 ∙ (sym w.lost ∙ sym begins.1)) in
-      let same : begins.0 ≡ front.0 ++ e ∷ w.since = sym (append_cancel old (front.0 ++ e ∷ w.since) begins.0 cut) in
-      let before = all_front (λ (x : Event). is_harmless x.act ≡ true) front.0 (e ∷ w.since) (subst AllHarmless same all) in
-      let used = still_so (λ x. is_harmless x.act ≡ true) (λ s. s.used ≡ looked) (λ s x h is. used_stays s x h ∙ is) old begun w.before front before from m in
-      needs.2 (needs.1 ∙ used)
+-- where nothing else happened between look and exchange, no reservation is lost
+pub never_lost : (old begun : History) (new : PassView) (looked found : ℕ) (begins : IsPrefix old new.seen) → AllHarmless begins.0 → IsPrefix old begun → ((n : ℕ) × LostSpace n begun new looked found) → ⊥
+never_lost old begun new looked found begins all from w =
+    let l = w.1 in
+    let m = l.looked_at in
+    let e : Event = by new.thread (ReserveLost w.0 looked found) in
+    let front : IsPrefix old l.before = prefix_trans old begun l.before from (prefix_trans begun m.moment l.before m.from m.to) in
+    let cut : old ++ (front.0 ++ e ∷ l.since) ≡ old ++ begins.0 = sym (append_assoc old front.0 (e ∷ l.since)) ∙ (ap (λ es. es ++ e ∷ l.since) front.1 ∙ (sym l.lost ∙ sym begins.1)) in
+    let same : begins.0 ≡ front.0 ++ e ∷ l.since = sym (append_cancel old (front.0 ++ e ∷ l.since) begins.0 cut) in
+    let before = all_front (λ (x : Event). is_harmless x.act ≡ true) front.0 (e ∷ l.since) (subst AllHarmless same all) in
+    let used = still_so (λ x. is_harmless x.act ≡ true) (λ s. s.used ≡ looked) (λ s x h is. used_stays s x h ∙ is) old begun l.before front before from m in
+    l.found_then.1 (l.found_then.0 ∙ used)

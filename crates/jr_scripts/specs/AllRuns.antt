@@ -3,12 +3,12 @@ use Rattle.std.specs.Prelude.{◌≡◌, Option, ◌+◌, ◌<◌, ◌≤◌, �
 use mathlib.Core.List.{IsPrefix}
 use Rattle.jr_word.specs.declared.config.Config.{Config}
 use Rattle.jr_word.specs.declared.fault.Fault.{Fault}
-use Rattle.jr_word.specs.declared.fault.Fault.TheVariants.{LeftInside}
 use Rattle.jr_word.specs.Config.{in_limits}
 use Rattle.jr_model.specs.declared.event.Act.{Act}
 use Rattle.jr_model.specs.declared.event.Act.TheVariants.{Meet}
 use Rattle.jr_model.specs.State.{summary}
 use Rattle.jr_model.specs.History.{History, state, mine, IsLegal, PassView}
+use Rattle.jr_model.specs.Laws.{KeepsTheLaws}
 use Rattle.jr_model.specs.Frames.{Frames, fresh_frames}
 use Rattle.jr_syntax.specs.declared.command.Command.{Command}
 use Rattle.jr_syntax.specs.declared.thread.ThreadPart.{ThreadPart}
@@ -76,19 +76,16 @@ pub record CanBeRun (s : Script) : Type 0 where
   pub once : all_apart (posts_of s.threads) ≡ true
   pub numbered : 2 + lines_of_parts s.threads < 2 ^ 64
 
--- so many threads were left inside, knocking, announcing or collecting, one at least
-abbrev pub IsLeftInside : Fault → Type 0
-IsLeftInside e = (n : ℕ) × (e ≡ LeftInside n) × (1 ≤ n)
-
 -- what the threads print, one after the other
 abbrev pub text_of_parts : List ThreadPart → List (List ℕ) → List ℕ
 text_of_parts (p ∷ ps) (lines ∷ rest) = heading p.name ++ lines ++ text_of_parts ps rest
 text_of_parts _ _ = []
 
--- A RUN OF ALL: the script can be run, and there is one legal history, with the events of the threads' calls and of their ends and no others, but for the look as the room closes, that explains each thread's part of the text; there is one board, with words only under names that a line posts, each with what its poster had seen, of which each post of whichever thread has the word and just what the thread had seen, and each wait has the word, and all that the poster had seen is seen behind it; each name has a rank, and no post hangs on one of no lower rank; and the last lines tell of the last state
+-- A RUN OF ALL: the script can be run, and there is one legal history, which keeps the laws, with the events of the threads' calls and of their ends and no others, but for the look as the room closes, that explains each thread's part of the text; there is one board, with words only under names that a line posts, each with what its poster had seen, of which each post of whichever thread has the word and just what the thread had seen, and each wait has the word, and all that the poster had seen is seen behind it; each name has a rank, and no post hangs on one of no lower rank; and the last lines tell of the last state
 pub record IsRunOfAll (turns last : ℕ) (s : Script) (text : List ℕ) : Type 0 where
   pub whole : History
   pub legal : IsLegal s.config last whole
+  pub lawful : KeepsTheLaws whole
   pub lines : List (List ℕ)
   pub board : List ℕ → Option (ℕ × History)
   pub rank : List ℕ → ℕ

@@ -1,10 +1,12 @@
 //! Runs scripts of several threads, each in a thread of its own, in one room.
 
-ghost use Rattle.std.specs.Prelude.{◌≡◌, ◌⊎◌, ◌↔◌, ◌+◌, ◌<◌, ◌^◌, [], Some, All, Err, length, map, IfOk, IfErr, OnOk, OnErr};
-ghost use Rattle.jr_rule.specs.Passes.{known_of, ClosesAll};
+ghost use Rattle.std.specs.Prelude.{◌≡◌, ◌⊎◌, ◌↔◌, ◌+◌, ◌<◌, ◌^◌, [], ◌∷◌, Some, All, Err, length, map, IfOk, IfErr, OnOk, OnErr};
+ghost use Rattle.std.specs.List.{AllByRecursion};
+ghost use Rattle.jr_model.specs.declared.event.Role.TheVariants.{Outside};
+ghost use Rattle.jr_rule.specs.Passes.{known_of, ClosesAll, HasEachPass};
 ghost use Rattle.jr_rule.specs.Rooms.{IsOfRoom, IsOpening};
 ghost use Rattle.jr_word.specs.declared.fault.Fault.TheVariants.{Memory, Size};
-ghost use Rattle.jr_scripts.specs.AllRuns.{CanBeRun, lines_of_parts, IsLeftInside, IsRunOfAll, RunsAll};
+ghost use Rattle.jr_scripts.specs.AllRuns.{CanBeRun, lines_of_parts, IsRunOfAll, RunsAll};
 ghost use Rattle.jr_scripts.specs.Jobs.{AreJobsOf};
 ghost use Rattle.jr_scripts.specs.Posted.{AddsPosted, commands_of};
 
@@ -30,17 +32,18 @@ fn out_of_memory(_: AllocError) -> Fault
     Fault::Memory
 }
 
-/// Closes the room with the passes of all its threads.
-fn closed(room: Room<LAST_SERIAL>, first: Pass, others: Vec<Pass>) -> Result<Summary, Fault>
+/// Closes the room with the passes of all its threads, which are outside.
+fn closed(room: Room<LAST_SERIAL>, first: Pass, others: Vec<Pass>) -> Summary
     requires first { IsOfRoom room first }
     requires others { All (λ p. IsOfRoom room p) others.items }
-    ensures ok { IfOk result (λ s. ClosesAll (known_of first) (map known_of others.items) s) }
-    ensures err { IfErr result IsLeftInside }
+    requires each { HasEachPass room.row.config (map known_of (first ∷ others.items)) }
+    requires outside { AllByRecursion (λ p. p.role ≡ Outside) (first ∷ others.items) }
+    ensures { ClosesAll (known_of first) (map known_of others.items) result }
 {
-    match room.close_all(first, others) {
-        Ok(summary) => Ok(summary),
-        Err(refused) => Err(refused.left.fault),
-    }
+    let Ok(summary) = room.close_all(first, others) else {
+        unreachable!();
+    };
+    summary
 }
 
 /// What the threads of the parts are given.
@@ -101,15 +104,14 @@ fn text_in_room<Q: Site + Send + Sync, R: Threads + Wait, H: Hold + Sync>(
     requires opened { IsOpening 4294967295 script.now.config room passes.items }
     requires site { Some room.row.table.shared.table_id ≡ Q.room }
     ensures ok { IfOk result (λ text. IsRunOfAll turns 4294967295 script.now text.items) }
-    ensures err { IfErr result (λ e. (e ≡ Memory) ⊎ IsLeftInside e) }
+    ensures err { IfErr result (λ e. e ≡ Memory) }
 {
     let parts = script.threads.as_slice();
     let jobs = jobs_of(alloc, parts, passes, turns)?;
     let board = board_of::<Q>(alloc, parts)?;
     let (mut passes, mut text) = run_threads(rt, alloc, &room, &board, hold, parts, jobs)?;
     let first = passes.remove(0);
-    let summary = closed(room, first, passes)?;
-    let end = ending(alloc, summary).map_err(out_of_memory)?;
+    let end = ending(alloc, closed(room, first, passes)).map_err(out_of_memory)?;
     text.extend_from_slice(&end).map_err(out_of_memory)?;
     Ok(text)
 }
@@ -124,7 +126,7 @@ fn text_of_all<R: Threads + Wait, H: Hold + Sync>(
 ) -> Result<Vec<u8>, Fault>
     requires { CanBeRun script.now }
     ensures ok { IfOk result (λ text. IsRunOfAll turns 4294967295 script.now text.items) }
-    ensures err { IfErr result (λ e. (e ≡ Memory) ⊎ IsLeftInside e) }
+    ensures err { IfErr result (λ e. e ≡ Memory) }
 {
     let (room, passes) = Room::<LAST_SERIAL>::open(alloc, script.config)?;
     text_in_room::<Brand, R, H>(rt, alloc, script, hold, turns, room, passes)
@@ -134,7 +136,7 @@ fn text_of_all<R: Threads + Wait, H: Hold + Sync>(
 ///
 /// # Errors
 ///
-/// E17 exactly where the script has not one part a thread, sizes outside the limits, a name that is posted twice, or lines without a number of 64 bits; E16 where memory was refused, or a thread could not be started; E22 with how many threads are left inside, at least 1.
+/// E17 exactly where the script has not one part a thread, sizes outside the limits, a name that is posted twice, or lines without a number of 64 bits; E16 where memory was refused, or a thread could not be started.
 ///
 /// The output is as it was.
 pub fn run_all<R: Threads + Wait, H: Hold + Sync>(
@@ -146,7 +148,7 @@ pub fn run_all<R: Threads + Wait, H: Hold + Sync>(
     out: &mut Vec<u8>,
 ) -> Result<(), Fault>
     ensures size { (result ≡ Err Size) ↔ (¬ (CanBeRun script.now)) }
-    ensures refused { IfErr result (λ e. (e ≡ Size) ⊎ (e ≡ Memory) ⊎ IsLeftInside e) }
+    ensures refused { IfErr result (λ e. (e ≡ Size) ⊎ (e ≡ Memory)) }
     ensures ok { OnOk result (RunsAll turns 4294967295 script.now out.old.items out.new.items) }
     ensures err { OnErr result (out.new.items ≡ out.old.items) }
 {

@@ -23,7 +23,7 @@ use Rattle.jr_steps.specs.declared.known.Known.{Known}
 use Rattle.jr_steps.specs.declared.known.Holdings.{Holdings}
 use Rattle.jr_steps.specs.Acts.{act_of_reservation}
 use Rattle.jr_steps.specs.Holdings.{words_at}
-use Rattle.jr_steps.specs.Knowing.{Facts, Standing, IsOf, MayKnow, keeps, ShowsUsed, IsClosedNow, view, anything, state_of, Goes, HasObject, HasLooked, WasUsed, ShowsPublished, ShowsRange, HasWord, Took, TookWith}
+use Rattle.jr_steps.specs.Knowing.{Facts, Standing, IsOf, MayKnow, DidAll, keeps, ShowsUsed, IsClosedNow, view, anything, state_of, Goes, HasObject, HasLooked, WasUsed, ShowsPublished, ShowsRange, HasWord, Took, TookWith}
 
 -- a step is what the thread did
 pub goes_did : {k k' : Known} {acts : List Act} → Goes k acts k' → Did (view k) (view k') acts
@@ -41,6 +41,16 @@ none_mine (f ∷ es) t e = go (f.thread == t) refl (none_mine es t)
     go : (b : Bool) → (f.thread == t) ≡ b → (mine es t ≡ [] → AllByRecursion (λ (g : Event). g.thread ≢ t) es) → AllByRecursion (λ (g : Event). g.thread ≢ t) (f ∷ es)
     go true q rest = let here : mine (f ∷ es) t ≡ f.act ∷ mine es t = ap (λ b. cond b (f.act ∷ mine es t) (mine es t)) q in absurd (let z = sym here ∙ e in cc)
     go false q rest = let here : mine (f ∷ es) t ≡ mine es t = ap (λ b. cond b (f.act ∷ mine es t) (mine es t)) q in (eq_false f.thread t q, rest (sym here ∙ e))
+
+-- where the thread itself did all that was seen, nobody did anything in between
+pub none_between : {k k' : Known} {acts : List Act} (g : Goes k acts k') → DidAll k' → g.between ≡ []
+none_between {k} {k'} {acts} g all =
+    go k.seen g.between _ (subst (λ (z : ℕ × History). AllByRecursion (λ e. e.thread ≡ z.0) z.1) (λ i. (g.thread i, g.seen i)) all) (none_mine g.between k.thread g.others)
+  where
+    go : (xs es ys : History) → AllByRecursion (λ e. e.thread ≡ k.thread) ((xs ++ es) ++ ys) → AllByRecursion (λ e. e.thread ≢ k.thread) es → es ≡ []
+    go (x ∷ xs) es ys own none = go xs es ys own.1 none
+    go [] [] ys own none = refl
+    go [] (e ∷ es) ys own none = absurd (none.0 own.0)
 
 -- a look finds what the reference names in the state after it
 pub looked_refs : {k k' : Known} (h : Handle) (r : Found) → Goes k (Look h r ∷ []) k' → (state_of k').refs h ≡ r
@@ -126,7 +136,7 @@ shown_published o h false k k' shown = shown.0
 module _ {S : Type 0} {facts : S → Facts} where
   -- a step shows less, too
   pub took_less : {old new : S} {acts : Known → List Act} {stood : Standing} {met : Known → Type 0} {shows shows' : Known → Known → Type 0} → ((k k' : Known) → shows k k' → shows' k k') → TookWith facts old new acts stood met shows → TookWith facts old new acts stood met shows'
-  took_less less t = record { stands_is = t.stands_is; hint_is = t.hint_is; goes = λ k s m. let g = t.goes k s m in (g.0, g.1, g.2, less k g.0 g.3); alone = λ e k s m. t.alone e k s m }
+  took_less less t = record { stands_is = t.stands_is; hint_is = t.hint_is; goes = λ k s m. let g = t.goes k s m in (g.0, g.1, g.2, less k g.0 g.3) }
 
   -- what may be known after a step
   pub may_then : {old new : S} {acts : Known → List Act} {stood : Standing} {met : Known → Type 0} {shows : Known → Known → Type 0} {was is : Known → Type 0} → TookWith facts old new acts stood met shows → ((k : Known) → (facts old).knows k → was k → met k) → MayKnow facts old was

@@ -261,12 +261,11 @@ ReadsInTurn o i [] k k' = k' ≡ k
 ReadsInTurn o i (v ∷ vs) k k' = (next : Known) × Goes k (Read o i v ∷ []) next × keeps k next × ReadsInTurn o (i + 1) vs next k'
 
 module _ {S : Type 0} (facts : S → Facts) where
-  -- ONE STEP WAS TAKEN, with acts that may depend on what was known: it leaves the pass standing so, leaves the hint as it was, and shows this; and nobody else did anything in between where the pass is of no room
+  -- ONE STEP WAS TAKEN, with acts that may depend on what was known: it leaves the pass standing so, leaves the hint as it was, and shows this
   pub record TookWith (old new : S) (acts : Known → List Act) (stood : Standing) (met : Known → Type 0) (shows : Known → Known → Type 0) : Type 0 where
     pub stands_is : (facts new).stands ≡ stood
     pub hint_is : (facts new).hint ≡ (facts old).hint
     pub goes : Leads facts old new met (λ k k'. Goes k (acts k) k') shows
-    pub alone : (facts old).stands.room ≡ None → (k : Known) (s : (facts old).knows k) (m : met k) → (goes k s m).2.between ≡ []
 
   -- the same, with these acts whatever was known
   abbrev pub Took : S → S → List Act → (Known → Type 0) → (Known → Known → Type 0) → Type 0

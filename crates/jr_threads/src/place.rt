@@ -1,5 +1,5 @@
-//! The words of one room, by a type that no other room has.
-ghost use Rattle.std.specs.Prelude.{Option, None};
+//! The words of one room, for one of its threads, by a type that no other thread has.
+ghost use Rattle.std.specs.Prelude.{ℕ, Option, None};
 ghost use Rattle.atomic_table.specs.Seated.{TableId};
 ghost use Rattle.jr_word.specs.declared.config.Config.{Config as Sizes};
 ghost use Rattle.jr_threads.specs.Sites.{no_sizes};
@@ -12,21 +12,25 @@ use std::marker::{Brand, PhantomData};
 /// The last serial: a slot or a local place gives as many handles, and one more.
 pub(crate) const LAST: u32 = LAST_SERIAL;
 
-/// One room: a type stands for it, which its opening picks.
+/// One thread of one room: a type stands for it, which the thread's start picks.
 pub trait Site: Send + Sync {
     ghost room: { Option TableId };
 
     ghost sizes: { Sizes };
+
+    ghost thread: { ℕ };
 }
 
-/// The opening picks both.
+/// The start picks all three.
 impl Site for Brand {
     ghost room = { None };
 
     ghost sizes = { no_sizes };
+
+    ghost thread = { 0 };
 }
 
-/// Where the words of the site's room are.
+/// Where the words of the site's room are, for its thread.
 pub struct InRoom<'r, Q: Site> {
     pub(crate) room: &'r Room<LAST>,
     pub(crate) site: PhantomData<Q>,
@@ -57,7 +61,7 @@ impl<'r, Q: Site> Cells<InRoom<'r, Q>> for RoomCells {
 
     ghost goes = { λ s t acts. Goes (stepping_pass s.seat.me) acts (stepping_pass t.seat.me) };
 
-    ghost are_at = { λ s place. IsAtSite Q.room Q.sizes s place.room.now };
+    ghost are_at = { λ s place. IsAtSite Q.room Q.sizes Q.thread s place.room.now };
 
     ghost one = { λ s place. site_one };
 

@@ -1,7 +1,8 @@
 -- A collection that was announced is the model's, and so is one that was given up.
-use Rattle.std.proofs.Common.{◌≡◌, ◌≢◌, ◌+◌, ℕ, List, [], ◌∷◌, ◌++◌, map, length, sym, ap, subst, ◌∙◌, arith, append_assoc}
+use Rattle.std.proofs.Common.{◌≡◌, ◌≢◌, ◌+◌, ℕ, inl, inr, List, [], ◌∷◌, ◌++◌, map, length, refl, sym, ap, subst, ◌∙◌, arith, append_assoc}
 use Rattle.std.proofs.lemmas.List.{length-append, length-map}
 use Rattle.std.specs.List.{AllByRecursion}
+use Rattle.jr_word.specs.declared.config.Config.{Config}
 use Rattle.jr_word.specs.declared.fault.Fault.{Fault}
 use Rattle.jr_model.specs.declared.event.Role.TheVariants.{Outside}
 use Rattle.jr_model.specs.declared.event.Act.{Act}
@@ -14,14 +15,16 @@ use Rattle.jr_model.specs.Windows.{IsLastSeen, IsWindow}
 use Rattle.jr_model.proofs.Announcements.{announced_until}
 use Rattle.jr_model.proofs.Moments.{prefix_self}
 use Rattle.jr_model.proofs.Stays.{did_then}
-use Rattle.jr_model.proofs.Windows.{ends_behind, stepped_last}
+use Rattle.jr_model.proofs.Windows.{ends_behind, stepped_last, window_act, window_some}
 use Rattle.jr_steps.specs.declared.known.Holdings.{Holdings}
 use Rattle.jr_steps.specs.declared.known.Known.{Known}
 use Rattle.jr_steps.specs.Knowing.{Facts, Takes, anything, standing_after, view}
 use Rattle.jr_steps.proofs.StepFacts.{goes_did, goes_stepped}
 use Rattle.jr_gate.specs.Acting.{ActedTo}
-use Rattle.jr_gate.specs.Announcing.{AnnouncesInTwo}
-use Rattle.jr_weak.specs.Collecting.{CollectsFrom, Finishes, GivesUp, MakesAnnouncedCollection}
+use Rattle.jr_gate.specs.Announcing.{AnnouncesInTwo, WasNotAnnounced}
+use Rattle.jr_compact.specs.Counting.{TakesWithin}
+use Rattle.jr_weak.specs.Counting.{collection_steps}
+use Rattle.jr_weak.specs.Collecting.{Finishes, GivesUp, MakesAnnouncedCollection, closed_at_look, closed_at_exchange, moved_at_exchange, taken_back}
 use Rattle.jr_weak.specs.Waiting.{CancelsAfter, ShutsAfter}
 use Rattle.jr_weak.proofs.Collects.{collects_since, within_since}
 use Rattle.jr_weak.proofs.Tries.{one_more}
@@ -65,6 +68,55 @@ sweeping_spares x clear drop settle (h ∷ cleared) dropped used = (clear h, swe
 announcing_takes : (refused : List ℕ) (j k l : Known) → Takes 2 j k → Takes (length refused) k l → Takes (length (announcing_acts refused)) j l
 announcing_takes refused j k l a b = let long : length (map ShutBusy refused) ≡ length refused = length-map refused ShutBusy in omega (arith, a, b, long)
 
+-- and then no more than these from the shut on
+then_within : (n m : ℕ) (j k l : Known) → Takes n j k → TakesWithin m k l → TakesWithin (n + m) j l
+then_within n m j k l a b = omega arith
+
+-- one for each act up to the cancel
+cancel_long : (refused : List ℕ) (n : ℕ) → length (announcing_acts refused ++ ShutBusy n ∷ Gate Cancel ∷ []) ≡ length refused + 4
+cancel_long refused n =
+    let both : length (map ShutBusy refused ++ ShutBusy n ∷ Gate Cancel ∷ []) ≡ length (map ShutBusy refused) + 2 = length-append (map ShutBusy refused) (ShutBusy n ∷ Gate Cancel ∷ []) in
+    let long : length (map ShutBusy refused) ≡ length refused = length-map refused ShutBusy in
+    omega arith
+
+-- IT WAS NOT ANNOUNCED, and so it was given up
+pub not_announced : {S : Type 0} (facts : S → Facts) {a b : S} (tries : ℕ) (e : Fault) → WasNotAnnounced facts a b e → GivesUp facts a b tries e
+not_announced facts tries e (inl z) = record {
+  acts = ShutBusy z.0 ∷ [];
+  went = record {
+    stands_is = (z.3).stands_is;
+    hint_is = (z.3).hint_is;
+    leads = λ k s m.
+        let y = (z.3).goes k s tt in
+        let did = goes_did y.2 in
+        let one = (y.2).taken in
+        (y.0, y.1, did, (closed_at_look z.0 refl z.1 z.2 y.3.1 y.3.0, omega arith, window_act (ShutBusy z.0) did tt tt));
+  };
+}
+not_announced facts tries e (inr (inl z)) = record {
+  acts = Meet ∷ ShutBusy z.0 ∷ [];
+  went = record {
+    stands_is = (z.3).stands_is;
+    hint_is = (z.3).hint_is;
+    leads = λ k s m.
+        let y = (z.3).leads k s tt in
+        let two = y.3.0.0.1 in
+        (y.0, y.1, y.2, (closed_at_exchange z.0 refl z.1 z.2 y.3.0.1 y.3.0.0.0, omega arith, window_some Meet (ShutBusy z.0 ∷ []) y.2 (refl, (refl, tt))));
+  };
+}
+not_announced facts tries e (inr (inr z)) = record {
+  acts = Meet ∷ Meet ∷ [];
+  went = record {
+    stands_is = (z.4).stands_is;
+    hint_is = (z.4).hint_is;
+    leads = λ k s m.
+        let y = (z.4).leads k s tt in
+        let shown = y.3.0 in
+        let two = shown.1.1 in
+        (y.0, y.1, y.2, (moved_at_exchange z.0 z.1 refl z.2 shown.0 shown.1.0, omega arith, window_some Meet (Meet ∷ []) y.2 (refl, (refl, tt))));
+  };
+}
+
 module _ {S : Type 0} (facts : S → Facts) {a b : S} (tries : ℕ) (outside : (facts a).stands.role ≡ Outside) (announced : ActedTo facts a b (Meet ∷ Gate Announce ∷ []) anything AnnouncesInTwo) where
   pub makes_announced : {d z : S} {cleared_count dropped_count used : ℕ} → ShutsAfter facts b d tries → Finishes facts d z cleared_count dropped_count used → MakesAnnouncedCollection facts a z tries cleared_count dropped_count used
   makes_announced {used = used} sh rest = record {
@@ -92,19 +144,25 @@ module _ {S : Type 0} (facts : S → Facts) {a b : S} (tries : ℕ) (outside : (
           let did = did_then (announcing_acts sh.refused) (collection_acts rest.cleared rest.dropped used) waiting since.collects.did in (
             kz.0,
             kz.1,
-            record { shutting = kc.0; announced = waiting; taken = announcing_takes sh.refused k kb.0 kc.0 kb.3.0.0.1 kc.3.1; collects = since.collects; finished = within_since kz.0 kd.2 (kz.2).taken; announcement = announced_until (map ShutBusy sh.refused ++ Gate Shut ∷ acts) Reopen (shut_spares (Gate Cancel) (λ n e. cc) (λ e. cc) sh.refused acts (sweeping_spares (Gate Cancel) (λ h e. cc) (λ o e. cc) (λ n e. cc) rest.cleared rest.dropped used)) (shut_spares (Gate Reopen) (λ n e. cc) (λ e. cc) sh.refused acts (sweeping_spares (Gate Reopen) (λ h e. cc) (λ o e. cc) (λ n e. cc) rest.cleared rest.dropped used)) kb.3.0.1 swept (goes_stepped (kz.2).opened) },
-            (kz.3, (k.seen, collection_window sh.refused rest.cleared rest.dropped used did (stepped_last (goes_stepped (kz.2).opened)))),
+            record {
+              shutting = view kc.0;
+              announced = waiting;
+              collects = since.collects;
+              until = announced_until (map ShutBusy sh.refused ++ Gate Shut ∷ acts) Reopen (shut_spares (Gate Cancel) (λ n e. cc) (λ e. cc) sh.refused acts (sweeping_spares (Gate Cancel) (λ h e. cc) (λ o e. cc) (λ n e. cc) rest.cleared rest.dropped used)) (shut_spares (Gate Reopen) (λ n e. cc) (λ e. cc) sh.refused acts (sweeping_spares (Gate Reopen) (λ h e. cc) (λ o e. cc) (λ n e. cc) rest.cleared rest.dropped used)) kb.3.0.1 swept (goes_stepped (kz.2).opened);
+            },
+            (
+              kz.3,
+              (k.seen, collection_window sh.refused rest.cleared rest.dropped used did (stepped_last (goes_stepped (kz.2).opened))),
+              then_within (length (announcing_acts sh.refused)) (collection_steps k.config) k kc.0 kz.0 (announcing_takes sh.refused k kb.0 kc.0 kb.3.0.0.1 kc.3.1)
+                  (subst (λ (c : Config). TakesWithin (collection_steps c) kc.0 kz.0) waiting.config (within_since kz.0 kd.2 (kz.2).taken)),
+            ),
           );
     };
   }
 
   pub gives_up : {z : S} (e : Fault) → CancelsAfter facts b z tries e → GivesUp facts a z tries e
   gives_up e u = record {
-    refused = u.refused;
-    count = u.count;
-    busy = u.busy;
-    some = u.some;
-    all = u.all;
+    acts = announcing_acts u.refused ++ ShutBusy u.count ∷ Gate Cancel ∷ [];
     went = record {
       stands_is = u.cancelled.stands_is ∙ (ap (λ s. standing_after s (Gate Cancel ∷ [])) (u.waited.went.stands_is ∙ announced.stands_is) ∙ ap (λ r. record ((facts a).stands) { role = r }) (sym outside));
       hint_is = u.cancelled.hint_is ∙ (u.waited.went.hint_is ∙ announced.hint_is);
@@ -122,6 +180,7 @@ module _ {S : Type 0} (facts : S → Facts) {a b : S} (tries : ℕ) (outside : (
           let then' = kc.3.1 in
           let last = (kz.2).taken in
           let until = announced_until acts Cancel (busy_spares (Gate Cancel) (λ n e. cc) u.refused u.count) (busy_spares (Gate Reopen) (λ n e. cc) u.refused u.count) kb.3.0.1 waiting (goes_stepped kz.2) in
-          (kz.0, kz.1, did, (kz.3, omega arith, until, (k.seen, cancel_window u.refused u.count did (stepped_last (goes_stepped kz.2)))));
+          let all = cancel_long u.refused u.count in
+          (kz.0, kz.1, did, (taken_back u.refused u.count refl u.busy u.some u.all until kz.3, omega arith, cancel_window u.refused u.count did (stepped_last (goes_stepped kz.2))));
     };
   }

@@ -1,10 +1,9 @@
 //! A whole collection.
-ghost use Rattle.std.specs.Prelude.{◌≡◌, ◌≤◌, ◌⊎◌, ℕ, [], ◌∷◌, IsOk, IfOk, IfErr, OnErr};
+ghost use Rattle.std.specs.Prelude.{◌≡◌, ◌≤◌, ℕ, [], ◌∷◌, IsOk, IfOk, IfErr, OnErr};
 ghost use Rattle.jr_word.specs.declared.fault.Fault.TheVariants.{Busy};
 ghost use Rattle.jr_model.specs.declared.event.Role.TheVariants.{Outside};
 ghost use Rattle.jr_model.specs.declared.event.Act.TheVariants.{ShutBusy};
 ghost use Rattle.jr_steps.specs.Knowing.{anything, keeps, CanReopen, IsLone, MayKnow, Took};
-ghost use Rattle.jr_gate.specs.Announcing.{WasNotAnnounced};
 ghost use Rattle.jr_gate.specs.Stays.{IsOwnCollection};
 ghost use Rattle.jr_weak.specs.Markers.{room_of};
 ghost use Rattle.jr_weak.specs.Collecting.{Finishes, GivesUp, MakesAnnouncedCollection, MakesCollection};
@@ -71,7 +70,7 @@ pub fn collect_announced<S: Steps>(
     requires tries { 1 ≤ tries }
     ensures room { room_of marker.new ≡ room_of marker.old }
     ensures ok { IfOk result (λ c. MakesAnnouncedCollection S.facts steps.old steps.new tries c.cleared c.dropped c.used) }
-    ensures err { IfErr result (λ e. WasNotAnnounced S.facts steps.old steps.new e ⊎ GivesUp S.facts steps.old steps.new tries e) }
+    ensures err { IfErr result (λ e. GivesUp S.facts steps.old steps.new tries e) }
     ensures kept { OnErr result (marker.new ≡ marker.old) }
     ensures alone { IsLone (S.facts steps.old).stands → IsOk result }
 {

@@ -8,117 +8,117 @@ pub enum Fault {
     /// NULL or a cleared weak reference, where an object is needed.
     ///
     /// Hand in a reference to an object. Any collection may clear a weak one: make a local or global one of it first, and see whether that is NULL.
-    #[error("E1: NULL or a cleared weak reference, where an object is needed")]
+    #[error("E1")]
     Null,
     /// A malformed handle, an index past the row, an owner past the threads, or a handle that is not valid now.
     ///
     /// Let go of the handle. One that was deleted never stands again.
-    #[error("E2: no reference of this word stands")]
+    #[error("E2")]
     Stale,
     /// A local handle of another thread of the room.
     ///
     /// Make a global reference in the thread that owns it, and hand that over.
-    #[error("E3: a local reference of another thread")]
+    #[error("E3")]
     Foreign,
     /// A delete call was given another kind of reference; a string call an object that is no string.
     ///
     /// Delete by the call for the kind, which `get_object_ref_type` tells. Ask `kind_of` what an object is.
-    #[error("E4: a reference of another kind, or an object that is no string")]
+    #[error("E4")]
     WrongKind,
     /// A plain object or a string where an array is needed; a write to a string.
     ///
     /// Ask `kind_of` what an object is. Make another string in place of writing to one.
-    #[error("E5: no array, where an array is needed, or a write to a string")]
+    #[error("E5")]
     NotArray,
     /// An array whose element kind is not the one asked for; an object array in a critical call.
     ///
     /// Ask `kind_of` for the kind, and make the call with its elements.
-    #[error("E6: an array of another element kind, or of objects in a critical call")]
+    #[error("E6")]
     WrongElement,
     /// An index or part outside the array, string or buffer; a buffer whose length is not the array's.
     ///
     /// Ask for the length, which an object keeps while it is present.
-    #[error("E7: an index or a part outside of the array, string or copy")]
+    #[error("E7")]
     Range,
     /// Each slot was occupied when the search came to it, or a moment later.
     ///
     /// Delete global or weak references that are not needed, and make the call again. Slots that gave their last handle never come back: a room that lasts needs more of them.
-    #[error("E8: each slot was occupied when the search came to it, or a moment later")]
+    #[error("E8")]
     RowFull,
     /// No local place left, too few for a frame or a capacity, or 256 frames open.
     ///
     /// Delete local references, pop a frame, or return from the native method. JNI's status for it is JNI_ENOMEM.
-    #[error("E9: no local place is left, or fewer than asked for, or 256 frames are open")]
+    #[error("E9")]
     LocalsFull,
     /// So many words are reserved, and the request does not fit beside them.
     ///
     /// Collect, and make the call again. Where it is refused then too, let go of arrays, or open rooms with more words.
-    #[error("E10: the request doesn't fit beside the words in use: {0}")]
+    #[error("E10")]
     SpaceFull(u32),
     /// Every object number is present.
     ///
     /// Collect, and make the call again. Where it is refused then too, let go of objects, or open rooms with more of them.
-    #[error("E11: every object number is present")]
+    #[error("E11")]
     ObjectsFull,
     /// Another thread reserved space between the look and the exchange: what was looked at, and what was found.
     ///
     /// Make the call again.
-    #[error("E12: another thread reserved words meanwhile: {0} were in use, and then {1}")]
+    #[error("E12")]
     Raced(u32, u32),
     /// The entry found the gate shut, or that it was announced to be.
     ///
     /// Make the call again, and let other threads run in between. That it is ever let in is not promised.
-    #[error("E13: a thread collects, or has announced that it will")]
+    #[error("E13")]
     Barred,
     /// The shut step found so many threads inside, knocking, announcing or collecting: at least 1.
     ///
     /// Make the call again, once threads have left their calls and critical regions. That a collection is ever let in is not promised.
-    #[error("E14: so many threads are inside, knocking, announcing or collecting: {0}")]
+    #[error("E14")]
     Busy(u32),
     /// Pop of the base frame.
     ///
     /// Pop only frames that were pushed.
-    #[error("E15: the base frame can't be popped")]
+    #[error("E15")]
     NoFrame,
     /// A growth was refused, or a thread could not be started.
     ///
     /// Give memory back, and make the call again. JNI's status for it is JNI_ENOMEM.
-    #[error("E16: memory was refused, or a thread could not be started")]
+    #[error("E16")]
     Memory,
     /// A configuration outside the limits, a seventeenth level, or a script of several threads where one is asked for.
     ///
     /// Keep to the limits of `Config` and to sixteen levels. Scripts of several threads are for `run_all`.
-    #[error("E17: sizes outside of the limits, or a seventeenth level")]
+    #[error("E17")]
     Size,
     /// A word that is not of the array's element kind.
     ///
     /// Give a word of the kind. No call of `Env` or `Region` is refused by it, since these take elements by their type.
-    #[error("E18: a word that is none of the array's element kind")]
+    #[error("E18")]
     Value,
     /// A JNI command in a critical region, or a region command outside one.
     ///
     /// Scripts alone meet it: end the region first, or open one. In Rust no such call compiles while a `Region` stands.
-    #[error("E19: a command that a critical region forbids, or that needs one")]
+    #[error("E19")]
     InCritical,
     /// The turns ran out.
     ///
     /// Scripts alone meet it: run them with more turns, and see that what they wait for is posted.
-    #[error("E20: the turns ran out")]
+    #[error("E20")]
     Turns,
     /// An env is asked for over a pass that is not fresh.
     ///
     /// Make one env of each pass. A pass that was spent still serves to meet and to close.
-    #[error("E21: the pass had an env already")]
+    #[error("E21")]
     NotFresh,
     /// The room was closed with so many threads inside, knocking, announcing or collecting.
     ///
     /// Let them leave, and close the room that was handed back.
-    #[error("E22: so many threads were inside, knocking, announcing or collecting at the close: {0}")]
+    #[error("E22")]
     LeftInside(u32),
     /// Another thread went in or out between the look at the gate and the exchange that announces: the threads inside or knocking that were looked at, and those that were found.
     ///
     /// Make the call again.
-    #[error("E23: a thread went in or out before the announcement: {0} were inside or knocking, and then {1}")]
+    #[error("E23")]
     Moved(u32, u32),
 }
 
@@ -157,6 +157,43 @@ impl Fault {
             Fault::NotFresh => 21,
             Fault::LeftInside(_) => 22,
             Fault::Moved(_, _) => 23,
+        }
+    }
+
+    /// What the refusal says, in words. The numbers that it carries are fields of its variant.
+    pub fn meaning(self) -> &'static str {
+        match self {
+            Fault::Null => "NULL or a cleared weak reference, where an object is needed",
+            Fault::Stale => "no reference of this word stands",
+            Fault::Foreign => "a local reference of another thread",
+            Fault::WrongKind => "a reference of another kind, or an object that is no string",
+            Fault::NotArray => "no array, where an array is needed, or a write to a string",
+            Fault::WrongElement => {
+                "an array of another element kind, or of objects in a critical call"
+            }
+            Fault::Range => "an index or a part outside of the array, string or copy",
+            Fault::RowFull => {
+                "each slot was occupied when the search came to it, or a moment later"
+            }
+            Fault::LocalsFull => {
+                "no local place is left, or fewer than asked for, or 256 frames are open"
+            }
+            Fault::SpaceFull(_) => "the request doesn't fit beside the words in use",
+            Fault::ObjectsFull => "every object number is present",
+            Fault::Raced(_, _) => "another thread reserved words meanwhile",
+            Fault::Barred => "a thread collects, or has announced that it will",
+            Fault::Busy(_) => "threads are inside, knocking, announcing or collecting",
+            Fault::NoFrame => "the base frame can't be popped",
+            Fault::Memory => "memory was refused, or a thread could not be started",
+            Fault::Size => "sizes outside of the limits, or a seventeenth level",
+            Fault::Value => "a word that is none of the array's element kind",
+            Fault::InCritical => "a command that a critical region forbids, or that needs one",
+            Fault::Turns => "the turns ran out",
+            Fault::NotFresh => "the pass had an env already",
+            Fault::LeftInside(_) => {
+                "threads were inside, knocking, announcing or collecting at the close"
+            }
+            Fault::Moved(_, _) => "a thread went in or out before the announcement",
         }
     }
 

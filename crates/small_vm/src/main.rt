@@ -78,7 +78,7 @@ fn main(rt: HostRuntime) -> Result<(), Trouble> {
     for answer in ran.answers {
         print_done(&rt, answer?)?;
     }
-    print_left(&rt, ran.summary?)?;
+    print_left(&rt, ran.summary)?;
     Ok(())
 }
 

@@ -23,6 +23,7 @@ impl<const LAST: u32> Env<RoomSteps<'_, LAST>> {
         ensures met { HasMet (view (known_of pass)) (view (stepping_pass self.new.held.steps.cells.seat.me)) }
         ensures other { IsOfRoom self.old.held.steps.place.now result × IsSame pass result }
         ensures frames { self.new.held.frames ≡ self.old.held.frames }
+        ensures numbers { self.new.numbers ≡ self.old.numbers }
     {
         let held = &mut self.held;
         held.steps.meet(pass)
@@ -40,6 +41,7 @@ impl<const LAST: u32> Env<RoomSteps<'_, LAST>> {
         ensures met { HasMet (view (stepping_pass other.old.held.steps.cells.seat.me)) (view (stepping_pass self.new.held.steps.cells.seat.me)) }
         ensures other { AreAsBefore other.old.held.steps other.new.held.steps × (other.new.held.frames ≡ other.old.held.frames) × (other.new.numbers ≡ other.old.numbers) }
         ensures frames { self.new.held.frames ≡ self.old.held.frames }
+        ensures numbers { self.new.numbers ≡ self.old.numbers }
     {
         let held = &mut self.held;
         let theirs = &mut other.held;
@@ -74,6 +76,7 @@ impl<const LAST: u32> Env<RoomSteps<'_, LAST>> {
         ensures seen { Goes (stepping_pass self.old.held.steps.cells.seat.me) [] (stepping_pass self.new.held.steps.cells.seat.me) }
         ensures learned { Learned note self.new.held.steps }
         ensures frames { self.new.held.frames ≡ self.old.held.frames }
+        ensures numbers { self.new.numbers ≡ self.old.numbers }
     {
         let held = &mut self.held;
         held.steps.learn(note);

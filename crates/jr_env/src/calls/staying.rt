@@ -13,7 +13,7 @@ impl<S: Steps> Env<S> {
     ghost use Rattle.jr_elements.specs.Copies.{answer_in};
     ghost use Rattle.jr_gate.specs.Stays.{IsOwnStay};
     ghost use Rattle.jr_env.specs.Envs.{IsOutside};
-    ghost use Rattle.jr_env.specs.OpenStays.{EntersOver, StaysSince};
+    ghost use Rattle.jr_env.specs.OpenStays.{BehindExit, Enters, EntersOver, StaysSince};
     ghost use Rattle.jr_env.specs.LentStays.{env_in, rests_within, WasEntered};
 
     /// Enters a stay, in which calls are made without an entry and an exit of their own. The thread is within until it is ended, so that collections are kept out.
@@ -41,6 +41,7 @@ impl<S: Steps> Env<S> {
     #[inline(always)]
     fn enter_stay(&mut self) -> Result<Inside, Fault>
         ensures call { IsOutside self.old → EntersOver self.old.held self.new.held (answer_in (λ i. tt) result) }
+        ensures left { BehindExit self.old.held (λ mid. Enters S.facts mid self.new.held.steps self.old.held.frames.frames (answer_in (λ i. tt) result)) }
         ensures frames { self.new.held.frames ≡ self.old.held.frames }
         ensures own { IfOk result (λ i. IsOwnStay i (S.facts self.new.held.steps).stands) }
         ensures since { IfOk result (λ i. IsOutside self.old → StaysSince self.old.held self.new.held) }

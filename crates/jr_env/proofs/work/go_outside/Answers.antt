@@ -1,8 +1,8 @@
 use Rattle.std.proofs.Common.{refl}
 use Rattle.jr_model.specs.declared.event.Role.TheVariants.{Within}
 use Rattle.jr_frames.specs.Ready.{StandsReady}
-use Rattle.jr_env.proofs.EndedStays.{can_call}
-use Rattle.jr_env.proofs.OpenStays.{ends_as_one, leaves, ready_left}
+use Rattle.jr_env.proofs.EndedStays.{can_call, leaves}
+use Rattle.jr_env.proofs.OpenStays.{ends_as_one, ready_left}
 use Rattle.jr_env.proofs.work.go_outside.Goals as goal
 
 pub invariant_of-held : goal.invariant_of-held
@@ -11,7 +11,7 @@ invariant_of-held g c =
     record { own = (ready_left g.S.Steps.facts c.args.held.now.steps c.leave.new.steps c.args.held.now.frames ready c.leave.ensures).own }
 
 pub returns-clause-call : goal.returns-clause-call
-returns-clause-call g c = leaves g.S.Steps.facts c.args.held.now.steps c.leave.new.steps c.args.held.now.frames c.leave.ensures
+returns-clause-call g c = leaves g.S.Steps.facts c.args.held.now.steps c.leave.new.steps c.args.held.now.frames.frames c.leave.ensures
 
 pub returns-clause-one : goal.returns-clause-one
 returns-clause-one g c =

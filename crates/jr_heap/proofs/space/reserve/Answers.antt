@@ -34,4 +34,4 @@ pub returns-then-words-from-clause-alone : goal.returns-then-words-from-clause-a
 returns-then-words-from-clause-alone g c = λ none looked found e. cc
 
 pub returns-in-Err-clause-alone : goal.returns-in-Err-clause-alone
-returns-in-Err-clause-alone g c = λ none. absurd (never_lost g.met.S.Steps.fits c.requires.role c.args.words c.see_top-used.result (g.S.Steps.facts c.args.steps.now).stands.config.words (search) c.see_top-used.ensures (within c.see_top-used.result c.from.ensures c.saturating_sub.ensures (ap (λ (z : Config). z.words) c.config-space.ensures) (search) c.if-words-from.false) c.in-Err.found none (g.met.S.Steps.some_known c.args.steps.now) c.in-Err.ensures)
+returns-in-Err-clause-alone g c = λ none. absurd (never_lost g.met.S.Steps.fits c.requires.role c.args.words c.see_top-used.result (g.S.Steps.facts c.args.steps.now).stands.config.words (search) c.see_top-used.ensures (within c.see_top-used.result c.from.ensures c.saturating_sub.ensures (ap (λ (z : Config). z.words) c.config-space.ensures) (search) c.if-words-from.false) g.met.S.Steps.lone c.in-Err.found none (g.met.S.Steps.some_known c.args.steps.now) c.in-Err.ensures)

@@ -1,4 +1,4 @@
-use Rattle.jr_model.proofs.Grounded.{free_index_is_found, refused_in_its_stay, each_is_probed}
+use Rattle.jr_model.proofs.Grounded.{refused_in_its_stay, each_is_probed}
 use Rattle.jr_model.proofs.EachCall.{calls_refuse_truly, parts_refuse_truly}
 use Rattle.jr_model.proofs.laws.refusals_are_true.Goals as goal
 
@@ -7,9 +7,6 @@ returns-clause-calls c = calls_refuse_truly
 
 pub returns-clause-parts : goal.returns-clause-parts
 returns-clause-parts c = parts_refuse_truly
-
-pub returns-clause-row : goal.returns-clause-row
-returns-clause-row c = free_index_is_found
 
 pub returns-clause-stay : goal.returns-clause-stay
 returns-clause-stay c = refused_in_its_stay

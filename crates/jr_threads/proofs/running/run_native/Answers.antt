@@ -1,6 +1,11 @@
-use Rattle.std.proofs.Common.{◌≡◌, ◌≤◌, rules, subst, sym, length}
-use Rattle.jr_threads.proofs.Passes.{passes_long, some_thread}
+use Rattle.std.proofs.Common.{◌≡◌, ◌≤◌, ℕ, rules, subst, sym, length}
+use Rattle.jr_word.specs.declared.config.Config.{Config}
+use Rattle.jr_threads.specs.Sites.{IsClosedBehind}
+use Rattle.jr_threads.proofs.Passes.{opened_so, passes_long, some_thread}
 use Rattle.jr_threads.proofs.running.run_native.Goals as goal
+
+pub run_in-requires-clause-opened : goal.run_in-requires-clause-opened
+run_in-requires-clause-opened g c κs lives = opened_so c.in_ok-room.ensures.opened
 
 pub run_in-requires-clause-some : goal.run_in-requires-clause-some
 run_in-requires-clause-some g c κs lives =

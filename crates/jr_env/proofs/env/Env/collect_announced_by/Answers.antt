@@ -22,7 +22,7 @@ returns-clause-call g c =
 pub returns-clause-refused : goal.returns-clause-refused
 returns-clause-refused g c =
     let x = c.collect_announced in
-    no_turn g.S.Steps.facts c.outside.new.held.steps x.new.steps c.args.tries x.result (announces_or g.S.Steps.facts c.outside.new.held.steps x.new.steps c.args.tries x.result x.ensures.ok x.ensures.err)
+    no_turn g.S.Steps.facts c.outside.new.held.steps x.new.steps c.args.tries x.result (g.met.S.Steps.some_known c.outside.new.held.steps) (announces_or g.S.Steps.facts c.outside.new.held.steps x.new.steps c.args.tries x.result x.ensures.ok x.ensures.err)
 
 pub returns-clause-alone : goal.returns-clause-alone
 returns-clause-alone g c one = c.collect_announced.ensures.alone (inr (ap (λ (z : Config). z.threads) c.outside.ensures.config ∙ one))

@@ -2,7 +2,7 @@ use Rattle.std.proofs.Common.{Err, Ok, map, rules, sym, subst, ap, ◌∙◌, �
 use Rattle.jr_model.specs.declared.frames.Mode.TheVariants.{Abort}
 use Rattle.jr_frames.specs.Reading.{word_of}
 use Rattle.jr_env.specs.Deeds.{DoesOutside, release_answer, release_array_elements}
-use Rattle.jr_env.proofs.ReleasedElements.{kept_words, releases}
+use Rattle.jr_env.proofs.ReleasedElements.{aborts, kept_words, releases}
 use Rattle.jr_env.proofs.env.Env.release_array_elements.Goals as goal
 
 pub returns-in-Ok-clause-call : goal.returns-in-Ok-clause-call
@@ -19,3 +19,7 @@ pub returns-in-Err-clause-call : goal.returns-in-Err-clause-call
 returns-in-Err-clause-call g c =
     let writes : c.args.mode ≢ Abort = search rules in
     releases g.met.S.Steps.fits g.E.Elem.KIND c.args.array.0 (word_of c.of-array.result) c.of-array.ensures.reads (map g.E.Elem.word_of c.args.elements) c.args.mode writes (Err c.in-Err.fault) c.in-Err.ensures.call
+
+pub returns-then-not-copies_back-clause-call : goal.returns-then-not-copies_back-clause-call
+returns-then-not-copies_back-clause-call g c =
+    aborts g.E.Elem.KIND c.args.array.0 (map g.E.Elem.word_of c.args.elements) c.outside.ensures c.args.mode (λ writes. let copies = c.copies_back.ensures.1 writes in let not = c.if-not-copies_back.true in cc)

@@ -13,4 +13,4 @@ pub element_at-at-requires-clause-index : goal.element_at-at-requires-clause-ind
 element_at-at-requires-clause-index g c = let s = c.args.self.now in known_few (g.met.C.Cells.sound s.cells s.place s.at) (may_in (g.C.Cells.sight s.cells) c.requires.role c.requires.known) c.args.object c.args.header c.args.index (λ k h. h) c.requires.index
 
 pub returns : goal.returns
-returns g c = let t = c.see_element_at.ensures.step in record { stands_is = t.stands_is; hint_is = t.hint_is; goes = t.goes; alone = t.alone }
+returns g c = let t = c.see_element_at.ensures.step in record { stands_is = t.stands_is; hint_is = t.hint_is; goes = t.goes }

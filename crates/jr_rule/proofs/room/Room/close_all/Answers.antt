@@ -1,54 +1,85 @@
-use Rattle.std.proofs.Common.{◌≢◌, ◌≤◌, ℕ, refl, sym, ap, subst, ◌∙◌, map, arith}
-use Rattle.jr_word.specs.declared.config.Config.{Config}
+use Rattle.std.proofs.Common.{◌≡◌, map, refl, sym, ap, subst, ◌∙◌}
+use Rattle.std.proofs.lemmas.List.{append-nil}
+use Rattle.std.specs.List.{AllByRecursion}
 use Rattle.jr_model.specs.State.{not_outside}
-use Rattle.jr_model.specs.History.{History, IsLegal}
-use Rattle.jr_model.proofs.Gates.{no_collection_inside}
-use Rattle.jr_model.proofs.References.{deleted_is_stale, deleted_is_not_created}
+use Rattle.jr_steps.specs.declared.known.Known.{Known}
 use Rattle.jr_steps.specs.Knowing.{state_of}
-use Rattle.jr_rule.specs.Passes.{known_of, KeepsTheLaws}
+use Rattle.jr_rule.specs.Parting.{no_seat}
+use Rattle.jr_rule.specs.declared.row.RoomCells.{RoomCells}
+use Rattle.jr_rule.specs.Passes.{holder_of, known_of, EndsAll, IsSeenIn}
+use Rattle.jr_rule.specs.Rule.{stepping_pass}
 use Rattle.jr_rule.proofs.Gathered.{exactly}
+use Rattle.jr_rule.proofs.LookTaken.{look_stands, look_took}
+use Rattle.jr_rule.proofs.Parted.{all_at, all_seen, counted_seated, looked_alone, met_goes, nobody_counted, others_are, seat_of, some_not_none}
+use Rattle.jr_rule.proofs.PassOver.{held_of_standing, standing_of_held, stays_of}
+use Rattle.jr_rule.proofs.SeatStepped.{seat_next}
 use Rattle.jr_rule.proofs.room.Room.close_all.Goals as goal
 
-some_more : (n : ℕ) → n ≢ 0 → 1 ≤ n
-some_more n some = grind arith
+pub end-requires : goal.end-requires
+end-requires g c =
+    let p = c.args.pass in
+    let ks = map known_of c.args.others.items in
+    let counts = (c.in-Ok.ensures.ok).1 in
+    let goes = met_goes p.seat.me no_seat c.in-Ok.seat.me ks 0 counts in record {
+      room = (c.in-Ok.ensures.ok).0 ∙ c.requires.pass.row;
+      seated = counted_seated p.seat.me no_seat c.in-Ok.seat.me ks 0 counts;
+      first = (goes.config ∙ c.requires.pass.config, goes.last ∙ c.requires.pass.last);
+    }
 
-pub returns-then-inside-ne0-clause-err : goal.returns-then-inside-ne0-clause-err
-returns-then-inside-ne0-clause-err g c =
-    let seen = c.look-inside.ensures.seen in record {
+pub returns-in-Ok-clause-ok : goal.returns-in-Ok-clause-ok
+returns-in-Ok-clause-ok g c =
+    let p = c.args.pass in
+    let ks = map known_of c.args.others.items in
+    let m = c.in-Ok.seat.me in
+    let counts = (c.in-Ok.ensures.ok).1 in
+    let goes = met_goes p.seat.me no_seat m ks 0 counts in record {
+      met = stepping_pass m;
+      goes = goes;
+      nobody = ap (λ d. not_outside d (state_of (stepping_pass m))) (sym goes.config) ∙ sym counts.is;
+      ends = subst (λ ls. EndsAll (stepping_pass m) ls c.end.result) (others_are p.seat.me no_seat m ks 0 counts ∙ append-nil ks) c.end.ensures;
+    }
+
+pub returns-in-Ok-clause-seen : goal.returns-in-Ok-clause-seen
+returns-in-Ok-clause-seen g c =
+    let all = returns-in-Ok-clause-ok g c in
+    let ends = all.ends in record { met = all.met; goes = all.goes; whole = ends.whole; legal = ends.legal; lawful = ends.lawful; each = (ends.first, ends.others); alone = ends.alone }
+
+pub returns-in-Ok-clause-exact : goal.returns-in-Ok-clause-exact
+returns-in-Ok-clause-exact g c all = exactly (known_of c.args.pass) (map known_of c.args.others.items) c.end.result (returns-in-Ok-clause-ok g c) all
+
+pub invariant_of-pass-in-Err : goal.invariant_of-pass-in-Err
+invariant_of-pass-in-Err g c =
+    let p = c.args.pass in
+    let h = c.in-Err.ensures.err in
+    let told = looked_alone p.seat.me no_seat h.together (map known_of c.args.others.items) c.in-Err.parted.inside h.counts p.held.alone c.in-Err.parted.first.me h.alone in
+    let x : RoomCells = record { seat = c.in-Err.parted.first; thread = p.thread } in
+    let at = seat_next told h.room (seat_of c.args.self.row p c.requires.pass) in
+    record { held = held_of_standing at (look_stands (holder_of p) x h.room (h.counts.found, told) refl refl at (standing_of_held p.held)) }
+
+pub returns-in-Err-clause-err : goal.returns-in-Err-clause-err
+returns-in-Err-clause-err g c =
+    let p = c.args.pass in
+    let others = c.args.others.items in
+    let ks = map known_of others in
+    let inside = c.in-Err.parted.inside in
+    let h = c.in-Err.ensures.err in
+    let told = looked_alone p.seat.me no_seat h.together ks inside h.counts p.held.alone c.in-Err.parted.first.me h.alone in
+    let x : RoomCells = record { seat = c.in-Err.parted.first; thread = p.thread } in
+    let took = look_took (holder_of p) x h.room (h.counts.found, told) refl refl in
+    let first : stepping_pass c.in-Err.parted.first.me ≡ stepping_pass h.together = ap stepping_pass h.alone in
+    let seen = all_seen p.seat.me no_seat h.together ks inside h.counts refl in
+    let goes = met_goes p.seat.me no_seat h.together ks inside h.counts in record {
       left = record {
-        count = c.look-inside.result.0;
+        count = inside;
         fault = refl;
-        some = some_more c.look-inside.result.0 c.if-inside-ne0.true;
-        is = seen.is;
+        some = h.some;
+        is = h.counts.is ∙ ap (λ (k : Known). not_outside k.config (state_of k)) (sym first);
         same = refl;
-        of_room = c.look-inside.ensures.room;
-        took = c.look-inside.ensures.step;
+        of_room = stays_of c.args.self.row p _ took c.requires.pass;
+        took = took;
       };
-      same_others = refl;
+      same_others = h.same_others;
+      of_room = all_at c.args.self.row others c.in-Err.parted.others.items h.same_others c.requires.others;
+      seen = subst (λ (k : Known). AllByRecursion (IsSeenIn k.seen) ks) (sym first) seen;
+      somebody = λ each out. some_not_none inside h.some (h.counts.is ∙ (ap (λ d. not_outside d (state_of (stepping_pass h.together))) (goes.config ∙ c.requires.pass.config) ∙ nobody_counted c.args.self.row.config p others (stepping_pass h.together) goes seen each out));
     }
-
-pub returns-clause-ok : goal.returns-clause-ok
-returns-clause-ok g c =
-    let seen = c.look-inside.ensures.seen in
-    let met = known_of c.look-inside.result.1 in record {
-      met = met;
-      goes = seen.goes;
-      nobody = ap (λ (d : Config). not_outside d (state_of met)) (sym seen.goes.config) ∙ (sym (seen.is) ∙ c.if-inside-ne0.false);
-      ends = c.close_all.ensures;
-    }
-
--- a legal history keeps the laws
-lawful : (c : Config) (last : ℕ) (es : History) → IsLegal c last es → KeepsTheLaws es
-lawful c last es l = record {
-  stale = λ h t u r before between rest is. deleted_is_stale c last h t u r before between rest (subst (IsLegal c last) is l);
-  not_again = λ h t u o before between rest is. deleted_is_not_created c last h t u o before between rest (subst (IsLegal c last) is l);
-  apart = λ t before inside rest stay. no_collection_inside c last t es before inside rest l stay;
-}
-
-pub returns-clause-seen : goal.returns-clause-seen
-returns-clause-seen g c =
-    let all = returns-clause-ok g c in
-    let ends = all.ends in record { met = all.met; goes = all.goes; whole = ends.whole; legal = ends.legal; lawful = lawful all.met.config all.met.last ends.whole ends.legal; each = (ends.first, ends.others); alone = ends.alone }
-
-pub returns-clause-exact : goal.returns-clause-exact
-returns-clause-exact g c all = exactly (known_of c.args.pass) (map known_of c.args.others.items) c.close_all.result (returns-clause-ok g c) all

@@ -1,4 +1,4 @@
--- A critical region is one stay.
+-- A stay that stands is one stay of its history, without a step of a collection.
 use Rattle.std.proofs.Common.{◌≡◌, ◌≢◌, inl, inr, ℕ, List, [], ◌∷◌, ◌++◌, Result, Ok, refl, sym, ap, subst, ◌∙◌, append_assoc}
 use Rattle.std.proofs.lemmas.List.{append-nil}
 use Rattle.std.specs.List.{AllByRecursion}
@@ -10,20 +10,19 @@ use Rattle.jr_model.specs.declared.event.GateAct.TheVariants.{Enter, Leave}
 use Rattle.jr_model.specs.State.{State}
 use Rattle.jr_model.specs.Frames.{Frames}
 use Rattle.jr_model.specs.History.{History, by, mine, IsLegal, IsStay, PassView, Did}
-use Rattle.jr_model.specs.Windows.{IsLastSeen, Ends}
-use Rattle.jr_model.specs.Calls.{Call, Ran, opened}
+use Rattle.jr_model.specs.Windows.{IsLastSeen}
+use Rattle.jr_model.specs.Calls.{Call}
 use Rattle.jr_model.specs.Checks.{Word}
 use Rattle.jr_model.specs.Objects.{level_array, level_string}
-use Rattle.jr_model.specs.CriticalRegions.{IsOneStay, IsRegion, IsRegionCall, opened_at_array, opened_at_string, goes_on, nests_array, nests_string, gets, sets, tells_kind, tells_length, gives_up_level, NoCollectionInRegion, NoCollectionUpToRelease}
-use Rattle.jr_model.proofs.Composed.{object_gives}
+use Rattle.jr_model.specs.OpenStays.{GoesOnWithItsActs, HasStayed, IsOneStay, NoneLeaves, NoCollectionInOpenStay, NoCollectionUpToExit}
 use Rattle.jr_model.proofs.Lawful.{NoLeave, prelude, work_stays}
-use Rattle.jr_model.proofs.EachCall.{get_work, nest_array_work, nest_string_work, set_work}
-use Rattle.jr_model.proofs.Preludes.{done_prelude, level_array_prelude, level_string_prelude}
+use Rattle.jr_model.proofs.Preludes.{level_array_prelude, level_string_prelude}
 use Rattle.jr_model.proofs.Exactly.{append_all}
 use Rattle.jr_model.proofs.Gates.{no_collection_inside}
 use Rattle.jr_model.proofs.Histories.{mine_append, mine_push}
 use Rattle.jr_model.proofs.Moments.{FirstAct, first_act}
 use Rattle.jr_model.proofs.Stays.{did_then, mine_did, never}
+use Rattle.jr_model.proofs.Windows.{stepped_last}
 
 -- NO LEAVE
 
@@ -38,43 +37,13 @@ module _ (c : Config) (last thread : ℕ) (s : State) where
   pub level_string_stays : (levels : ℕ) (a : Word) → Stays (level_string c last thread s levels a)
   level_string_stays levels a = work_stays (prelude {asked = 0} {last = last} {thread = thread} (level_string_prelude c last thread s levels a))
 
-  -- no call of a region that goes on leaves the gate
-  call_stays : (f g : Frames) (acts : List Act) → IsRegionCall c last thread s f acts g → NoLeave acts
-  call_stays f g acts (nests_array levels a answer is) = work_stays (nest_array_work {asked = 0} c last thread s levels a) f g acts answer is
-  call_stays f g acts (nests_string levels a answer is) = work_stays (nest_string_work {asked = 0} c last thread s levels a) f g acts answer is
-  call_stays f g acts (gets k o i answer is) = work_stays (get_work {asked = 0} c last thread s k o i) f g acts answer is
-  call_stays f g acts (sets k o i v answer is) = work_stays (set_work {asked = 0} c last thread s k o i v) f g acts answer is
-  call_stays f g acts (tells_kind o answer is) = work_stays {asked = 0} {last = last} {thread = thread} (object_gives s o (λ k n. prelude (done_prelude k))) f g acts answer is
-  call_stays f g acts (tells_length o answer is) = work_stays {asked = 0} {last = last} {thread = thread} (object_gives s o (λ k n. prelude (done_prelude n))) f g acts answer is
-  call_stays f g acts (gives_up_level n answer is) = subst NoLeave (sym is.0) tt
+-- WHAT A STAY DID
 
--- WHAT A REGION DID
-
--- its thread entered, and did not leave since
-pub record Stands (old mid : PassView) : Type 0 where
-  pub acts : List Act
-  pub did : Did old mid (Gate Enter ∷ acts)
-  pub stays : NoLeave acts
-
-opened_stands : {old mid : PassView} {f g : Frames} {o : ℕ} (work : Call ℕ) → Stays work → Ran old mid f g (opened work) (Ok o) → Stands old mid
-opened_stands {old} {mid} {f} {g} {o} work stays r = go r.is
-  where
-    go : opened work f r.acts (Ok o) g → Stands old mid
-    go (inl bad) = absurd (let e = bad.1 in cc)
-    go (inr is) = record { acts = is.0; did = subst (Did old mid) is.1.0 r.did; stays = stays f g is.0 (Ok o) is.1.1 }
-
-stands : {old : PassView} {f : Frames} {mid : PassView} {g : Frames} → IsRegion old f mid g → Stands old mid
-stands {old} (opened_at_array s a o r) = opened_stands (level_array old.config old.last old.thread s 0 a) (level_array_stays old.config old.last old.thread s 0 a) r
-stands {old} (opened_at_string s a o r) = opened_stands (level_string old.config old.last old.thread s 0 a) (level_string_stays old.config old.last old.thread s 0 a) r
-stands {old} (goes_on {g = g} {h = h} s acts before d is) =
-    let p = stands before in
-    record { acts = p.acts ++ acts; did = did_then (Gate Enter ∷ p.acts) acts p.did d; stays = append_all (λ a. a ≢ Gate Leave) p.acts acts p.stays (call_stays old.config old.last old.thread s g h acts is) }
-
--- what was seen since the moment before the region, cut at its entry
-abbrev since : {old mid : PassView} (p : Stands old mid) → FirstAct old.thread (Gate Enter) p.acts p.did.begins.0
+-- what was seen since the moment before the stay, cut at its entry
+abbrev since : {old mid : PassView} (p : HasStayed old mid) → FirstAct old.thread (Gate Enter) p.acts p.did.begins.0
 since {old} {mid} p = first_act old.thread (Gate Enter) p.acts p.did.begins.0 (mine_did (Gate Enter ∷ p.acts) p.did)
 
-module _ {old mid : PassView} (p : Stands old mid) where
+module _ {old mid : PassView} (p : HasStayed old mid) where
   abbrev front : History
   front = old.seen ++ (since p).before
 
@@ -88,7 +57,7 @@ module _ {old mid : PassView} (p : Stands old mid) where
   inside_stays = never (Gate Leave) (since p).since old.thread (subst NoLeave (sym (since p).rest) p.stays)
 
 -- all that was seen since is one stay
-pub one_stay : {old mid : PassView} → Stands old mid → IsOneStay old mid []
+pub one_stay : {old mid : PassView} → HasStayed old mid → IsOneStay old mid []
 one_stay {old} {mid} p =
     let stay : IsStay old.thread mid.seen (front p) (since p).since [] = record { parts = parts p ∙ sym (append-nil (front p ++ by old.thread (Gate Enter) ∷ (since p).since)); stays = inside_stays p; ends = tt } in
     record {
@@ -100,10 +69,7 @@ one_stay {old} {mid} p =
       clear = no_collection_inside old.config old.last old.thread mid.seen (front p) (since p).since [] p.did.legal stay;
     }
 
-pub no_collection_in_region : NoCollectionInRegion
-no_collection_in_region old mid f g r = one_stay (stands r)
-
--- THE RELEASE
+-- THE EXIT
 
 -- a list that isn't empty has a last element
 record Ended {A : Type 0} (xs : List A) : Type 0 where
@@ -147,7 +113,7 @@ left_last t before (e ∷ es) ends own is =
     nothing_before (x ∷ y ∷ xs) a e = absurd cc
 
 -- up to the exit all that was seen is one stay
-pub one_stay_left : {old mid new : PassView} → Stands old mid → Did mid new (Gate Leave ∷ []) → IsLastSeen new (Gate Leave) → IsOneStay old new (by old.thread (Gate Leave) ∷ [])
+pub one_stay_left : {old mid new : PassView} → HasStayed old mid → Did mid new (Gate Leave ∷ []) → IsLastSeen new (Gate Leave) → IsOneStay old new (by old.thread (Gate Leave) ∷ [])
 one_stay_left {old} {mid} {new} p d seen =
     let thread : new.thread ≡ old.thread = d.thread ∙ p.did.thread in
     let own : mine d.begins.0 old.thread ≡ Gate Leave ∷ [] = subst (λ t. mine d.begins.0 t ≡ Gate Leave ∷ []) p.did.thread (mine_did (Gate Leave ∷ []) d) in
@@ -171,5 +137,18 @@ one_stay_left {old} {mid} {new} p d seen =
       clear = no_collection_inside old.config old.last old.thread new.seen (front p) inside (by old.thread (Gate Leave) ∷ []) legal stay;
     }
 
-pub no_collection_up_to_release : NoCollectionUpToRelease
-no_collection_up_to_release old mid new f g h r release = one_stay_left (stands r) (subst (Did mid new) release.is.0 release.did) (subst (Ends mid new) release.is.0 release.window.last refl)
+-- THE LAWS
+
+-- what goes on without an exit stays
+pub stays_more : {old mid new : PassView} → HasStayed old mid → (acts : List Act) → Did mid new acts → NoneLeaves acts → HasStayed old new
+stays_more p acts did none = record { acts = p.acts ++ acts; did = did_then (Gate Enter ∷ p.acts) acts p.did did; stays = append_all (λ a. a ≢ Gate Leave) p.acts acts p.stays none }
+
+pub goes_on_with_its_acts : GoesOnWithItsActs
+unfolding stays_more
+goes_on_with_its_acts old mid new stayed acts did none = (stays_more stayed acts did none, refl)
+
+pub no_collection_in_open_stay : NoCollectionInOpenStay
+no_collection_in_open_stay old new stayed = one_stay stayed
+
+pub no_collection_up_to_exit : NoCollectionUpToExit
+no_collection_up_to_exit old mid new stayed step = one_stay_left stayed step.did (stepped_last step)
