@@ -39,7 +39,7 @@ use Rattle.jr_scripts.specs.Commands.{awaited, deed}
 use Rattle.jr_scripts.specs.RegionCommands.{deed_at, deed_within}
 use Rattle.jr_scripts.specs.Places.{Place, by_region, is_speaking, levels_after, objects_after}
 use Rattle.jr_scripts.specs.Text.{buffers_after}
-use Rattle.jr_scripts.specs.Posting.{Account, Awaits, HasLookedFor, HasPosted, HasSpoken, HasWaited, IsAnswered, LooksInVain, Keeps, SaysSo, Speech, WasInVain, Words, one_more, reply_to_wait, speaks, talk_of, word_under, words_after, words_found, words_with}
+use Rattle.jr_scripts.specs.Posting.{Account, Awaits, HasLookedFor, HasPosted, HasSpoken, HasWaited, IsAnswered, LearnsOf, LooksInVain, Keeps, SaysSo, Speech, WasInVain, Words, one_more, reply_to_wait, speaks, talk_of, word_under, words_after, words_found, words_with}
 use Rattle.jr_scripts.specs.Explains.{Explains, IsCutOff, LeavesText, nothing, then, unwritten, written}
 use Rattle.jr_scripts.specs.Advancing.{KnowsWith, StandsWith, deed_spoken, place_with, role_with}
 use mathlib.Core.List.{IsPrefix}
@@ -162,6 +162,10 @@ module _ {S : Type 0} (facts : S → Facts) where
   pub has_waited : {a b : S} (account : Account) (n : List ℕ) (vain : Type 0) (known : Option ℕ) (found : Option ℕ) (answer : Result Reply Fault) → known ≡ None → answer ≡ reply_to_wait found → HasLookedFor facts a b account n found → IfNone found vain → HasWaited facts a b account vain n known answer
   has_waited account n vain known found answer none says l no_word = waits account n vain known found answer none says l no_word
 
+  -- a thread that did nothing learns nothing
+  pub learns_nothing : AreOf facts → (a : S) (k : Known) → (facts a).knows k → LearnsOf k k
+  learns_nothing fits a k s = record { did = did_nothing (view k) (fits a k s).legal; held = refl; without = 0; most = omega arith; taken = omega arith }
+
   -- one for a name that has a word, by that
   pub has_known : AreOf facts → (a : S) (n : List ℕ) (account : Account) (vain : Type 0) (known : Option ℕ) (w : ℕ) (answer : Result Reply Fault) → known ≡ Some w → answer ≡ reply_to_wait (Some w) → HasWaited facts a a account vain n known answer
   has_known fits a n account vain known w answer is says = record {
@@ -170,7 +174,7 @@ module _ {S : Type 0} (facts : S → Facts) where
     leads = λ k s m. (
       k,
       s,
-      inl (record { 0 = w }, says, record { did = did_nothing (view k) (fits a k s).legal; held = refl; without = 0; most = omega arith; taken = omega arith }),
+      inl (record { 0 = w }, says, learns_nothing fits a k s),
       subst (λ o. IsAnswered o (λ v. account.heard n v k.seen) vain answer) (sym is) says,
     );
   }

@@ -1,4 +1,4 @@
-use Rattle.std.proofs.Common.{◌≡◌, rules, true, ap, refl, inr}
+use Rattle.std.proofs.Common.{◌≡◌, arith, rules, true, ap, refl, inr}
 use Rattle.jr_scripts.specs.declared.board.Posts.{Posts}
 use Rattle.jr_scripts.specs.Layouts.{layout_of}
 use Rattle.jr_scripts.specs.Telling.{account_told, have_seen}
