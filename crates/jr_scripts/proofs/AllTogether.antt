@@ -38,21 +38,22 @@ use Rattle.jr_scripts.specs.Posting.{said}
 use Rattle.jr_scripts.specs.Explains.{Explained}
 use Rattle.jr_scripts.specs.Text.{heading, ending}
 use Rattle.jr_scripts.specs.Runs.{IsFreed, running_to_end}
-use Rattle.jr_scripts.specs.AllRuns.{RanPass, seeing_as, opening_of, IsPartOf, ArePartsOf, text_of_parts, IsRunOfAll}
+use Rattle.jr_scripts.specs.AllRuns.{RanPass, seeing_as, opening_of, CanBeRun, IsPartOf, ArePartsOf, text_of_parts, IsRunOfAll}
 use Rattle.jr_scripts.proofs.OneOfAll.{pass_still}
-use Rattle.jr_scripts.specs.Jobs.{HasRun, HasSaid, IsToldBy, talk_in, IsFor, IsJobOf, AreJobsOf, IsDone, AreTold}
+use Rattle.jr_scripts.proofs.Speaking.{carried}
+use Rattle.jr_scripts.specs.Jobs.{HasRun, HasSaid, IsToldBy, account_in, IsFor, IsJobOf, AreJobsOf, IsDone, AreTold}
 
 -- a pass that was opened knows what it shows
 opened_knows : (r : Row) (p : Pass) → IsOpened r p → (facts_of (holder_of p)).knows (known_of p)
 opened_knows r p o = (refl, record { config = refl; last = refl; thread = refl; role = p.held.role_is; legal = subst (λ (k : Known). IsLegal k.config k.last k.seen) (sym o.knows) tt })
 
 -- what a thread did since its pass was opened
-record Played (board : List ℕ → Option (ℕ × History)) (turns last : ℕ) (c : Config) (t first : ℕ) (commands : List Command) (lines : List ℕ) (k : Known) : Type 0 where
+record Played (board : List ℕ → Option (ℕ × History)) (rank : List ℕ → ℕ) (turns last : ℕ) (c : Config) (t first : ℕ) (commands : List Command) (lines : List ℕ) (k : Known) : Type 0 where
   pub same_config : k.config ≡ c
   pub same_last : k.last ≡ last
   pub is_of : k.thread ≡ t
   pub told : ThreadState
-  pub explained : Explained (said board) turns first (opening_of c last t) commands lines told
+  pub explained : Explained (said board rank) turns first (opening_of c last t) commands lines told
   pub left : ThreadState
   pub freed : IsFreed turns told left
   pub saw : left.pass ≡ seeing_as c last t k.seen
@@ -60,17 +61,17 @@ record Played (board : List ℕ → Option (ℕ × History)) (turns last : ℕ) 
 view_is : (c : Config) (last t : ℕ) (k : Known) → k.config ≡ c → k.last ≡ last → k.thread ≡ t → view k ≡ seeing_as c last t k.seen
 view_is c last t k a b d = λ i. record { config = a i; last = b i; thread = d i; seen = k.seen }
 
-played : (board : List ℕ → Option (ℕ × History)) (turns last : ℕ) (c : Config) (r : Row) (p q : Pass) (first : ℕ) (commands : List Command) (answer : Result (Unit {0}) Fault) (lines : List ℕ) → r.config ≡ c → r.last ≡ last → IsOpened r p → RanPass (said board) turns first commands p q answer lines → answer ≡ Ok tt
-    → Played board turns last c p.thread first commands lines (known_of q)
-played board turns last c r p q first commands answer lines config_is last_is o x done =
+played : (board : List ℕ → Option (ℕ × History)) (rank : List ℕ → ℕ) (turns last : ℕ) (c : Config) (r : Row) (p q : Pass) (first : ℕ) (commands : List Command) (answer : Result (Unit {0}) Fault) (lines : List ℕ) → r.config ≡ c → r.last ≡ last → IsOpened r p → RanPass (said board rank) turns first commands p q answer lines → answer ≡ Ok tt
+    → Played board rank turns last c p.thread first commands lines (known_of q)
+played board rank turns last c r p q first commands answer lines config_is last_is o x done =
     let t = p.thread in
     let k0 : Known = known c last t [] empty 0 in
     let knows0 : known_of p ≡ k0 = o.knows ∙ (λ i. known (config_is i) (last_is i) t [] empty 0) in
     let fresh : fresh_frames (standing_of p).config.locals ≡ fresh_frames c.locals = ap (λ (k : Known). fresh_frames k.config.locals) knows0 in
     let spent : (facts_of x.spent).stands ≡ record (standing_of p) { fresh = false } = (x.spends).stands_is in
-    let ran : DoesDeed facts_of x.spent (holder_of q) (fresh_frames c.locals) x.frames (running_to_end (said board) turns first commands lines) (Ok tt)
-    = subst (λ a. DoesDeed facts_of x.spent (holder_of q) (fresh_frames c.locals) x.frames (running_to_end (said board) turns first commands lines) a) done
-    (subst (λ f. DoesDeed facts_of x.spent (holder_of q) f x.frames (running_to_end (said board) turns first commands lines) answer) fresh x.ran) in
+    let ran : DoesDeed facts_of x.spent (holder_of q) (fresh_frames c.locals) x.frames (running_to_end (said board rank) turns first commands lines) (Ok tt)
+    = subst (λ a. DoesDeed facts_of x.spent (holder_of q) (fresh_frames c.locals) x.frames (running_to_end (said board rank) turns first commands lines) a) done
+    (subst (λ f. DoesDeed facts_of x.spent (holder_of q) f x.frames (running_to_end (said board rank) turns first commands lines) answer) fresh x.ran) in
     let holds0 : Holds (fresh_frames c.locals) k0 = λ place. refl in
     let y = ran.did (known_of p) (((x.spends).same (known_of p)).0 (opened_knows r p o)) (subst (Holds (fresh_frames c.locals)) (sym knows0) holds0) in
     let is : y.0 ≡ known_of q = (y.1).0 in
@@ -81,10 +82,10 @@ played board turns last c r p q first commands answer lines config_is last_is o 
     let first_hint : (x.spent).hint ≡ 0 = (x.spends).hint_is ∙ o.hint in
     let end : Known → ThreadState = λ k. thread_state (facts_of (holder_of q)) k x.frames in
     let told = y.3.0 in
-    let from : Explained (said board) turns first (opening_of c last t) commands lines told
-    = subst (λ i. Explained (said board) turns first (thread_state_with false i k0 (fresh_frames c.locals)) commands lines told) first_hint
-    (subst (λ b. Explained (said board) turns first (thread_state_with b (x.spent).hint k0 (fresh_frames c.locals)) commands lines told) (ap (λ (z : Standing). z.fresh) spent)
-    (subst (λ (k : Known). Explained (said board) turns first (thread_state (facts_of x.spent) k (fresh_frames c.locals)) commands lines told) knows0 y.3.1)) in
+    let from : Explained (said board rank) turns first (opening_of c last t) commands lines told
+    = subst (λ i. Explained (said board rank) turns first (thread_state_with false i k0 (fresh_frames c.locals)) commands lines told) first_hint
+    (subst (λ b. Explained (said board rank) turns first (thread_state_with b (x.spent).hint k0 (fresh_frames c.locals)) commands lines told) (ap (λ (z : Standing). z.fresh) spent)
+    (subst (λ (k : Known). Explained (said board rank) turns first (thread_state (facts_of x.spent) k (fresh_frames c.locals)) commands lines told) knows0 y.3.1)) in
     record {
       same_config = same_config;
       same_last = same_last;
@@ -97,20 +98,20 @@ played board turns last c r p q first commands answer lines config_is last_is o 
     }
 
 -- the same of a job
-job_played : {Q : Type 0} {G : Ghosts Q} (board : List ℕ → Option (ℕ × History)) (turns last : ℕ) (c : Config) (r : Row) (line : ℕ) (p p' : Pass) (q : ThreadPart) (j : Job) (x : ThreadRun Q G) → r.config ≡ c → r.last ≡ last → IsOpened r p → IsJobOf turns line p q j → HasSaid board j x → IsDone x → x.pass ≡ p'
-    → Played board turns last c p.thread (line + 1) q.commands x.text.items (known_of p')
-job_played board turns last c r line p p' q j x config_is last_is o i ran done is =
-    let one : RanPass (said board) j.turns j.first j.part.now.commands p x.pass x.answer x.text.items = subst (λ z. RanPass (said board) j.turns j.first j.part.now.commands z x.pass x.answer x.text.items) i.pass ran in
-    let two : RanPass (said board) j.turns j.first q.commands p x.pass x.answer x.text.items = subst (λ (z : ThreadPart). RanPass (said board) j.turns j.first z.commands p x.pass x.answer x.text.items) i.part one in
-    let three : RanPass (said board) j.turns (line + 1) q.commands p x.pass x.answer x.text.items = subst (λ n. RanPass (said board) j.turns n q.commands p x.pass x.answer x.text.items) i.line_is two in
-    let four : RanPass (said board) turns (line + 1) q.commands p x.pass x.answer x.text.items = subst (λ n. RanPass (said board) n (line + 1) q.commands p x.pass x.answer x.text.items) i.same_turns three in
-    let five : RanPass (said board) turns (line + 1) q.commands p p' x.answer x.text.items = subst (λ z. RanPass (said board) turns (line + 1) q.commands p z x.answer x.text.items) is four in
-    played board turns last c r p p' (line + 1) q.commands x.answer x.text.items config_is last_is o five done
+job_played : {Q : Type 0} {G : Ghosts Q} (board : List ℕ → Option (ℕ × History)) (rank : List ℕ → ℕ) (turns last : ℕ) (c : Config) (r : Row) (line : ℕ) (p p' : Pass) (q : ThreadPart) (j : Job) (x : ThreadRun Q G) → r.config ≡ c → r.last ≡ last → IsOpened r p → IsJobOf turns line p q j → HasSaid board rank j x → IsDone x → x.pass ≡ p'
+    → Played board rank turns last c p.thread (line + 1) q.commands x.text.items (known_of p')
+job_played board rank turns last c r line p p' q j x config_is last_is o i ran done is =
+    let one : RanPass (said board rank) j.turns j.first j.part.now.commands p x.pass x.answer x.text.items = subst (λ z. RanPass (said board rank) j.turns j.first j.part.now.commands z x.pass x.answer x.text.items) i.pass ran in
+    let two : RanPass (said board rank) j.turns j.first q.commands p x.pass x.answer x.text.items = subst (λ (z : ThreadPart). RanPass (said board rank) j.turns j.first z.commands p x.pass x.answer x.text.items) i.part one in
+    let three : RanPass (said board rank) j.turns (line + 1) q.commands p x.pass x.answer x.text.items = subst (λ n. RanPass (said board rank) j.turns n q.commands p x.pass x.answer x.text.items) i.line_is two in
+    let four : RanPass (said board rank) turns (line + 1) q.commands p x.pass x.answer x.text.items = subst (λ n. RanPass (said board rank) n (line + 1) q.commands p x.pass x.answer x.text.items) i.same_turns three in
+    let five : RanPass (said board rank) turns (line + 1) q.commands p p' x.answer x.text.items = subst (λ z. RanPass (said board rank) turns (line + 1) q.commands p z x.answer x.text.items) is four in
+    played board rank turns last c r p p' (line + 1) q.commands x.answer x.text.items config_is last_is o five done
 
 -- the part of a thread that is not the first
-part_of_other : (board : List ℕ → Option (ℕ × History)) (turns last : ℕ) (c : Config) (whole : History) (t first : ℕ) (part : ThreadPart) (lines : List ℕ) (k : Known) → 0 < t → Played board turns last c t first part.commands lines k → IsSeenIn whole k → IsPartOf board turns last c whole t first part lines
-part_of_other board turns last c whole zero first part lines k some p s = absurd (omega arith)
-part_of_other board turns last c whole (suc t) first part lines k some p s = record {
+part_of_other : (board : List ℕ → Option (ℕ × History)) (rank : List ℕ → ℕ) (turns last : ℕ) (c : Config) (whole : History) (t first : ℕ) (part : ThreadPart) (lines : List ℕ) (k : Known) → 0 < t → Played board rank turns last c t first part.commands lines k → IsSeenIn whole k → IsPartOf board rank turns last c whole t first part lines
+part_of_other board rank turns last c whole zero first part lines k some p s = absurd (omega arith)
+part_of_other board rank turns last c whole (suc t) first part lines k some p s = record {
   told = p.told;
   explained = p.explained;
   left = p.left;
@@ -122,8 +123,8 @@ part_of_other board turns last c whole (suc t) first part lines k some p s = rec
 }
 
 -- the part of the first, which looks at the gate at the end
-part_of_first : (board : List ℕ → Option (ℕ × History)) (turns last : ℕ) (c : Config) (whole : History) (first : ℕ) (part : ThreadPart) (lines : List ℕ) (k met : Known) → Played board turns last c 0 first part.commands lines k → Did (view k) (view met) (Meet ∷ []) → IsSeenIn whole met → IsPartOf board turns last c whole 0 first part lines
-part_of_first board turns last c whole first part lines k met p d s = record {
+part_of_first : (board : List ℕ → Option (ℕ × History)) (rank : List ℕ → ℕ) (turns last : ℕ) (c : Config) (whole : History) (first : ℕ) (part : ThreadPart) (lines : List ℕ) (k met : Known) → Played board rank turns last c 0 first part.commands lines k → Did (view k) (view met) (Meet ∷ []) → IsSeenIn whole met → IsPartOf board rank turns last c whole 0 first part lines
+part_of_first board rank turns last c whole first part lines k met p d s = record {
   told = p.told;
   explained = p.explained;
   left = p.left;
@@ -158,9 +159,9 @@ abbrev lines_of : {Q : Type 0} {G : Ghosts Q} → List (ThreadRun Q G) → List 
 lines_of [] = []
 lines_of (x ∷ xs) = x.text.items ∷ lines_of xs
 
-module _ (board : List ℕ → Option (ℕ × History)) (turns last : ℕ) (c : Config) (r : Row) (config_is : r.config ≡ c) (last_is : r.last ≡ last) (whole : History) where
+module _ (board : List ℕ → Option (ℕ × History)) (rank : List ℕ → ℕ) (turns last : ℕ) (c : Config) (r : Row) (config_is : r.config ≡ c) (last_is : r.last ≡ last) (whole : History) where
   parts_of_others : {Q : Type 0} {G : Ghosts Q} (a n line : ℕ) (ps : List Pass) (qs : List ThreadPart) (js : List Job) (xs : List (ThreadRun Q G)) (ends : List Pass) (text : List ℕ) → 0 < a → map (λ (p : Pass). p.thread) ps ≡ counted a n
-      → AllByRecursion (IsOpened r) ps → AreJobsOf turns line ps qs js → AllZip (HasSaid board) js xs → AreTold qs xs ends text → AllByRecursion (IsSeenIn whole) (map known_of ends) → ArePartsOf board turns last c whole a line qs (lines_of xs)
+      → AllByRecursion (IsOpened r) ps → AreJobsOf turns line ps qs js → AllZip (HasSaid board rank) js xs → AreTold qs xs ends text → AllByRecursion (IsSeenIn whole) (map known_of ends) → ArePartsOf board rank turns last c whole a line qs (lines_of xs)
   parts_of_others a n line [] [] [] [] ends text some are o jobs ran told seen = tt
   parts_of_others a n line [] [] [] (x ∷ xs) ends text some are o jobs ran told seen = absurd ran
   parts_of_others a n line [] [] (j ∷ js) xs ends text some are o jobs ran told seen = absurd jobs
@@ -171,9 +172,9 @@ module _ (board : List ℕ → Option (ℕ × History)) (turns last : ℕ) (c : 
   parts_of_others a n line (p ∷ ps) (q ∷ qs) (j ∷ js) (x ∷ xs) [] text some are o jobs ran told seen = absurd told
   parts_of_others a zero line (p ∷ ps) (q ∷ qs) (j ∷ js) (x ∷ xs) (e ∷ ends) text some are o jobs ran told seen = absurd cc
   parts_of_others a (suc n) line (p ∷ ps) (q ∷ qs) (j ∷ js) (x ∷ xs) (e ∷ ends) text some are o jobs ran told seen = (
-    part_of_other board turns last c whole a (line + 1) q x.text.items (known_of e) some
-        (subst (λ t. Played board turns last c t (line + 1) q.commands x.text.items (known_of e)) (head_is p.thread a _ _ are)
-        (job_played board turns last c r line p e q j x config_is last_is o.0 jobs.0 ran.0 told.0 told.1)) seen.0,
+    part_of_other board rank turns last c whole a (line + 1) q x.text.items (known_of e) some
+        (subst (λ t. Played board rank turns last c t (line + 1) q.commands x.text.items (known_of e)) (head_is p.thread a _ _ are)
+        (job_played board rank turns last c r line p e q j x config_is last_is o.0 jobs.0 ran.0 told.0 told.1)) seen.0,
     parts_of_others (suc a) n (line + 1 + length q.commands) ps qs js xs ends told.2 (omega arith) (tail_is p.thread a _ _ are) o.1 jobs.1 ran.1 told.4 seen.1,
   )
 
@@ -264,10 +265,10 @@ module _ {Q : Type 0} {G : Ghosts Q} (c : Config) (last : ℕ) (r : Row) (turns 
   each_has t l = has_counted 0 c.threads t (omega arith) (subst (λ (d : Config). t < d.threads) o.same_config l) (map known_of (q ∷ others))
       (ap (λ zs. map (λ (k : Known). k.thread) (map known_of zs)) (sym is) ∙ (all_out.1 ∙ (o.threads ∙ numbers_counted c.threads)))
 
-module _ (board : List ℕ → Option (ℕ × History)) (turns last : ℕ) (c : Config) (r : Row) (config_is : r.config ≡ c) (last_is : r.last ≡ last) where
+module _ (board : List ℕ → Option (ℕ × History)) (rank : List ℕ → ℕ) (turns last : ℕ) (c : Config) (r : Row) (config_is : r.config ≡ c) (last_is : r.last ≡ last) where
   all_parts : {Q : Type 0} {G : Ghosts Q} (n : ℕ) (ps : List Pass) (qs : List ThreadPart) (js : List Job) (xs : List (ThreadRun Q G)) (e : Pass) (ends : List Pass) (text : List ℕ) (s : Summary) → map (λ (p : Pass). p.thread) ps ≡ counted 0 n
-      → AllByRecursion (IsOpened r) ps → AreJobsOf turns 2 ps qs js → AllZip (HasSaid board) js xs → AreTold qs xs (e ∷ ends) text → ClosesAll (known_of e) (map known_of ends) s
-      → (whole : History) × IsLegal c last whole × KeepsTheLaws whole × ArePartsOf board turns last c whole 0 2 qs (lines_of xs) × (s ≡ summary c last (state whole))
+      → AllByRecursion (IsOpened r) ps → AreJobsOf turns 2 ps qs js → AllZip (HasSaid board rank) js xs → AreTold qs xs (e ∷ ends) text → ClosesAll (known_of e) (map known_of ends) s
+      → (whole : History) × IsLegal c last whole × KeepsTheLaws whole × ArePartsOf board rank turns last c whole 0 2 qs (lines_of xs) × (s ≡ summary c last (state whole))
   all_parts n [] [] js [] e ends text s are o jobs ran told closes = absurd told
   all_parts n [] [] js (x ∷ xs) e ends text s are o jobs ran told closes = absurd told
   all_parts n [] (q ∷ qs) js xs e ends text s are o jobs ran told closes = absurd jobs
@@ -276,8 +277,8 @@ module _ (board : List ℕ → Option (ℕ × History)) (turns last : ℕ) (c : 
   all_parts n (p ∷ ps) (q ∷ qs) (j ∷ js) [] e ends text s are o jobs ran told closes = absurd ran
   all_parts zero (p ∷ ps) (q ∷ qs) (j ∷ js) (x ∷ xs) e ends text s are o jobs ran told closes = absurd cc
   all_parts (suc n) (p ∷ ps) (q ∷ qs) (j ∷ js) (x ∷ xs) e ends text s are o jobs ran told closes =
-      let here : Played board turns last c 0 (2 + 1) q.commands x.text.items (known_of e)
-      = subst (λ t. Played board turns last c t (2 + 1) q.commands x.text.items (known_of e)) (head_is p.thread 0 _ _ are) (job_played board turns last c r 2 p e q j x config_is last_is o.0 jobs.0 ran.0 told.0 told.1) in
+      let here : Played board rank turns last c 0 (2 + 1) q.commands x.text.items (known_of e)
+      = subst (λ t. Played board rank turns last c t (2 + 1) q.commands x.text.items (known_of e)) (head_is p.thread 0 _ _ are) (job_played board rank turns last c r 2 p e q j x config_is last_is o.0 jobs.0 ran.0 told.0 told.1) in
       let d = goes_did closes.goes in
       let end = closes.ends in
       let met = closes.met in
@@ -287,36 +288,36 @@ module _ (board : List ℕ → Option (ℕ × History)) (turns last : ℕ) (c : 
         subst (λ (z : Config × ℕ). IsLegal z.0 z.1 end.whole) (λ i. (met_config i, met_last i)) end.legal,
         end.lawful,
         (
-          part_of_first board turns last c end.whole (2 + 1) q x.text.items (known_of e) met here d end.first,
-          parts_of_others board turns last c r config_is last_is end.whole 1 n (2 + 1 + length q.commands) ps qs js xs ends told.2 (omega arith) (tail_is p.thread 0 _ _ are) o.1 jobs.1 ran.1 told.4 end.others,
+          part_of_first board rank turns last c end.whole (2 + 1) q x.text.items (known_of e) met here d end.first,
+          parts_of_others board rank turns last c r config_is last_is end.whole 1 n (2 + 1 + length q.commands) ps qs js xs ends told.2 (omega arith) (tail_is p.thread 0 _ _ are) o.1 jobs.1 ran.1 told.4 end.others,
         ),
         end.is ∙ ap (λ (z : Config × ℕ). summary z.0 z.1 (state end.whole)) (λ i. (met_config i, met_last i)),
       )
 
 -- what each thread's notes tell is what one board has
-pub all_said : {Q : Type 0} {G : Ghosts Q} (board : List ℕ → Option (ℕ × History)) (js : List Job) (xs : List (ThreadRun Q G)) → AllZip HasRun js xs → AllByRecursion (IsToldBy board) xs → AllZip (HasSaid board) js xs
-all_said board [] [] ran told = tt
-all_said board [] (x ∷ xs) ran told = absurd ran
-all_said board (j ∷ js) [] ran told = absurd ran
-all_said board (j ∷ js) (x ∷ xs) ran told = (pass_still {t = talk_in x} {u = said board} (record { posted = (told.0).posted; heard = (told.0).heard; in_vain = λ n v. tt }) j.turns j.first j.part.now.commands j.pass x.pass x.answer x.text.items ran.0, all_said board js xs ran.1 told.1)
+pub all_said : {Q : Type 0} {G : Ghosts Q} (board : List ℕ → Option (ℕ × History)) (rank : List ℕ → ℕ) (js : List Job) (xs : List (ThreadRun Q G)) → AllZip HasRun js xs → AllByRecursion (IsToldBy board rank) xs → AllZip (HasSaid board rank) js xs
+all_said board rank [] [] ran told = tt
+all_said board rank [] (x ∷ xs) ran told = absurd ran
+all_said board rank (j ∷ js) [] ran told = absurd ran
+all_said board rank (j ∷ js) (x ∷ xs) ran told = (pass_still {u = said board rank} (carried (account_in x).posted _ (account_in x).heard _ _ _ (told.0).posted (told.0).heard (λ n v. tt)) j.turns j.first j.part.now.commands j.pass x.pass x.answer x.text.items ran.0, all_said board rank js xs ran.1 told.1)
 
 -- ALL TOGETHER
-pub together : {Q : Type 0} {G : Ghosts Q} (board : List ℕ → Option (ℕ × History)) (turns last : ℕ) (script : Script) (r : Row) (ps : List Pass) (js : List Job) (xs : List (ThreadRun Q G)) (passes : List Pass) (e : Pass) (ends : List Pass) (text whole : List ℕ) (s : Summary)
-    → in_limits script.config ≡ true → length script.threads ≡ script.config.threads → AreOpened script.config last r ps → AreJobsOf turns 2 ps script.threads js → AllZip (HasSaid board) js xs → IsOfPosts (commands_of script.threads) board → AreTold script.threads xs passes text → passes ≡ e ∷ ends
+pub together : {Q : Type 0} {G : Ghosts Q} (board : List ℕ → Option (ℕ × History)) (rank : List ℕ → ℕ) (turns last : ℕ) (script : Script) (r : Row) (ps : List Pass) (js : List Job) (xs : List (ThreadRun Q G)) (passes : List Pass) (e : Pass) (ends : List Pass) (text whole : List ℕ) (s : Summary)
+    → CanBeRun script → AreOpened script.config last r ps → AreJobsOf turns 2 ps script.threads js → AllZip (HasSaid board rank) js xs → IsOfPosts (commands_of script.threads) board → AreTold script.threads xs passes text → passes ≡ e ∷ ends
     → ClosesAll (known_of e) (map known_of ends) s → whole ≡ text ++ ending s → IsRunOfAll turns last script whole
-together board turns last script r ps js xs passes e ends text whole s limits long o jobs ran posted told is closes whole_is =
+together board rank turns last script r ps js xs passes e ends text whole s right o jobs ran posted told is closes whole_is =
     let c = script.config in
     let told' : AreTold script.threads xs (e ∷ ends) text = subst (λ z. AreTold script.threads xs z text) is told in
-    let x = all_parts board turns last c r o.same_config o.same_last c.threads ps script.threads js xs e ends text s (o.threads ∙ numbers_counted c.threads) (recursion_from_All (IsOpened r) ps o.each) jobs ran told' closes in
+    let x = all_parts board rank turns last c r o.same_config o.same_last c.threads ps script.threads js xs e ends text s (o.threads ∙ numbers_counted c.threads) (recursion_from_All (IsOpened r) ps o.each) jobs ran told' closes in
     record {
       whole = x.0;
       legal = x.1;
       lawful = x.2;
       lines = lines_of xs;
       board = board;
+      rank = rank;
       posted = posted;
-      limits = limits;
-      one_each = long;
+      right = right;
       parts = x.3;
       text_is = whole_is ∙ (ap (λ t. t ++ ending s) (text_told script.threads xs (e ∷ ends) text told') ∙ ap (λ v. text_of_parts script.threads (lines_of xs) ++ ending v) x.4);
     }

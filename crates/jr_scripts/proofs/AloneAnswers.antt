@@ -19,7 +19,7 @@ use Rattle.jr_scripts.specs.Places.{Place, by_region}
 use Rattle.jr_scripts.specs.Commands.{collecting, deed}
 use Rattle.jr_scripts.specs.RegionCommands.{deed_at, deed_within, giving_up_all}
 use Rattle.jr_gate.specs.Performing.{ThreadState}
-use Rattle.jr_scripts.specs.Posting.{Talk}
+use Rattle.jr_scripts.specs.Posting.{Speech, Words}
 use Rattle.jr_scripts.specs.Explains.{Explains, nothing, then}
 use Rattle.jr_scripts.specs.AloneAnswers.{AnswersAlone, IsAloneFault, IsCommandFault, IsFaultOutside, IsFaultWithin}
 use Rattle.jr_scripts.specs.Runs.{IsUnbarred}
@@ -77,16 +77,16 @@ given_up_alone [] old new answer alone d = (done_by {P = λ s e. ⊥} {Q = λ m.
 given_up_alone (o ∷ os) old new answer alone d = (giving_up_by {P = λ s e. ⊥} 1).led old new answer tt alone d
 
 -- each answer is a lone thread's, and no reservation was lost
-pub record WentAlone {talk : Talk} {turns first : ℕ} {old new : ThreadState} {commands : List Command} {text : List ℕ} {place : Place} (e : Explains talk turns first old commands text new place) : Type 0 where
+pub record WentAlone {talk : Speech} {turns first : ℕ} {old new : ThreadState} {commands : List Command} {text : List ℕ} {place : Place} {words : Words} (e : Explains talk turns first old commands text new place words) : Type 0 where
   pub answers : AnswersAlone e
   pub uncontended : AllUncontended old.pass.seen → AllUncontended new.pass.seen
 
 -- where all that was seen in the end is the thread's own, the commands went so
-pub went_alone : {talk : Talk} (turns first : ℕ) (old new : ThreadState) (commands : List Command) (text : List ℕ) (place : Place) (e : Explains talk turns first old commands text new place) → IsAlone new.pass → WentAlone e
-went_alone turns first old new commands text place nothing alone = record { answers = tt; uncontended = λ m. m }
-went_alone turns first old new commands text place (then {before = done} {text = lines} {mid = mid} {place = stood} c answer before did said) alone =
+pub went_alone : {talk : Speech} (turns first : ℕ) (old new : ThreadState) (commands : List Command) (text : List ℕ) (place : Place) (words : Words) (e : Explains talk turns first old commands text new place words) → IsAlone new.pass → WentAlone e
+went_alone turns first old new commands text place words nothing alone = record { answers = tt; uncontended = λ m. m }
+went_alone turns first old new commands text place words (then {before = done} {text = lines} {mid = mid} {place = stood} {words = had} c answer before did said) alone =
     let y = place_alone turns stood c mid new answer alone did in
-    let x = went_alone turns first old mid done lines stood before (led_alone y alone) in
+    let x = went_alone turns first old mid done lines stood had before (led_alone y alone) in
     record { answers = (x.answers, y.fault); uncontended = λ m. y.uncontended (x.uncontended m) }
 
 -- a lone pass of thread 0 in a room of one thread

@@ -13,7 +13,7 @@ use Rattle.jr_env.specs.Deeds.{free_locals}
 use Rattle.jr_env.specs.Tries.{is_tried_again}
 use Rattle.jr_scripts.specs.Tries.{Tried, answered, again, gave_up}
 use Rattle.jr_scripts.specs.Names.{no_names}
-use Rattle.jr_scripts.specs.Posting.{Talk}
+use Rattle.jr_scripts.specs.Posting.{Speech}
 use Rattle.jr_scripts.specs.Explains.{Explained}
 use Rattle.jr_scripts.specs.AloneAnswers.{AnswersAlone}
 use Rattle.jr_scripts.specs.Runs.{IsFreed}
@@ -46,15 +46,15 @@ freed_all (suc n) old new answer alone (again {mid = mid} {once = once} d more r
 freed_all zero old new answer alone gave_up some = absurd (some refl)
 
 -- A LONE THREAD's commands, and its end
-pub record EndedAlone {talk : Talk} {turns first : ℕ} {opening told left : ThreadState} {commands : List Command} {text : List ℕ} (e : Explained talk turns first opening commands text told) (f : IsFreed turns told left) : Type 0 where
+pub record EndedAlone {talk : Speech} {turns first : ℕ} {opening told left : ThreadState} {commands : List Command} {text : List ℕ} (e : Explained talk turns first opening commands text told) (f : IsFreed turns told left) : Type 0 where
   pub answers : AnswersAlone e.explains
   pub all : turns ≢ 0 → f.answer ≡ Ok tt
   pub uncontended : AllUncontended opening.pass.seen → AllUncontended left.pass.seen
 
-pub ended_alone : {talk : Talk} (turns first : ℕ) (opening told left : ThreadState) (commands : List Command) (text : List ℕ) (e : Explained talk turns first opening commands text told) (f : IsFreed turns told left) → IsAlone left.pass → EndedAlone e f
+pub ended_alone : {talk : Speech} (turns first : ℕ) (opening told left : ThreadState) (commands : List Command) (text : List ℕ) (e : Explained talk turns first opening commands text told) (f : IsFreed turns told left) → IsAlone left.pass → EndedAlone e f
 ended_alone turns first opening told left commands text e f alone =
     let y = tries_alone plainly free_alone turns told left f.answer alone f.tries in
     let here = was_alone y alone in
     let g = given_up_alone e.place.objects e.done told (Ok tt) here e.ended in
-    let x = went_alone turns first opening e.done commands text e.place e.explains (led_alone g here) in
+    let x = went_alone turns first opening e.done commands text e.place e.words e.explains (led_alone g here) in
     record { answers = x.answers; all = freed_all turns told left f.answer alone f.tries; uncontended = λ m. y.uncontended (g.uncontended (x.uncontended m)) }

@@ -14,7 +14,8 @@ use Rattle.jr_scripts.specs.declared.told.Told.{Told}
 use Rattle.jr_scripts.specs.Layouts.{layout_of}
 use Rattle.jr_scripts.specs.AllRuns.{RanPass}
 use Rattle.jr_scripts.specs.Given.{IsGiven}
-use Rattle.jr_scripts.specs.Jobs.{HasRun, IsOver, talk_in}
+use Rattle.jr_scripts.specs.Jobs.{HasRun, IsOver}
+use Rattle.jr_scripts.specs.Telling.{talk_told}
 
 abbrev pub Thread : {Q : Type 0} → Ghosts Q → Type 0
 Thread {Q} G = PromisedHandle (ThreadRun Q G) (Doing Q G)
@@ -32,7 +33,7 @@ given_more hs hs' h js js' all j more is given so =
 
 -- what a thread promised
 abbrev DidIt : {Q : Type 0} {G : Ghosts Q} → Doing Q G → ThreadRun Q G → Type 0
-DidIt d r = RanPass (talk_in r) d.turns d.first d.part.now.commands d.pass.value r.pass r.answer r.text.items
+DidIt d r = RanPass (talk_told r.notes.is_lost r.notes.posts.now.numbers.entries r.notes.notes.items) d.turns d.first d.part.now.commands d.pass.value r.pass r.answer r.text.items
 
 kept_each : {Q : Type 0} {G : Ghosts Q} (kept : Doing Q G → ThreadRun Q G → Type 0) → ((p : Doing Q G) (r : ThreadRun Q G) → kept p r → DidIt p r) → (hs : List (Thread G)) (rs : List (ThreadRun Q G)) → length rs ≡ length hs
     → ((i : ℕ) (d : ThreadRun Q G) → i < length hs → (h : Thread G) × (h ≡ slice_index_or hs i h) × kept h.promise (slice_index_or rs i d)) → AllZip HasRun (map given_to hs) rs

@@ -12,11 +12,10 @@ use Rattle.jr_model.proofs.Histories.{legal_append, state_append}
 use Rattle.jr_model.proofs.Stays.{mine_did}
 use Rattle.jr_syntax.specs.declared.thread.ThreadPart.{ThreadPart}
 use Rattle.jr_syntax.specs.declared.script.Script.{Script}
-use Rattle.jr_syntax.specs.declared.command.Command.{Command}
-use Rattle.jr_scripts.specs.Posted.{IsOfPosts, IsPosted, commands_of}
-use Rattle.jr_scripts.specs.Posting.{said, said_words}
+use Rattle.jr_scripts.specs.Posted.{IsOfPosts, commands_of}
+use Rattle.jr_scripts.specs.Posting.{said_alone}
 use Rattle.jr_scripts.specs.Explains.{Explained}
-use Rattle.jr_scripts.proofs.Speaking.{Carries, leaves_still}
+use Rattle.jr_scripts.proofs.LoneWords.{heard_alone, on_board}
 use Rattle.jr_scripts.specs.Text.{heading, ending}
 use Rattle.jr_scripts.specs.Runs.{IsRun, RunsSingle, seeing, opening_moment}
 use Rattle.jr_scripts.specs.AllRuns.{IsPartOf, ArePartsOf, text_of_parts, IsRunOfAll}
@@ -39,27 +38,8 @@ meets_change_nothing : (s : State) (es : History) → AllByRecursion (λ e. e.ac
 meets_change_nothing s [] all = refl
 meets_change_nothing s (e ∷ es) all = ap (λ x. state_from x es) (meet_changes_nothing s e all.0) ∙ meets_change_nothing s es all.1
 
--- the word of an entry
-abbrev word_in : Option (ℕ × History) → Option ℕ
-word_in (Some x) = Some x.0
-word_in None = None
-
--- the words of a board, and what was posted and heard of there
-abbrev words_of : (List ℕ → Option (ℕ × History)) → List ℕ → Option ℕ
-words_of board n = word_in (board n)
-
-words_said : (board : List ℕ → Option (ℕ × History)) → Carries (said board) (said_words (words_of board))
-words_said board = record { posted = λ n w h is. ap word_in is; heard = λ n w h x. ap word_in x.1; in_vain = λ n v. v }
-
-words_posted : (cs : List Command) (board : List ℕ → Option (ℕ × History)) → IsOfPosts cs board → IsOfPosts cs (words_of board)
-words_posted cs board posted n w is = go (board n) refl is
-  where
-    go : (o : Option (ℕ × History)) → board n ≡ o → word_in o ≡ Some w → IsPosted cs n
-    go (Some x) here e = posted n x here
-    go None here e = absurd cc
-
-module _ (board : List ℕ → Option (ℕ × History)) (turns last : ℕ) (c : Config) (one : c.threads ≡ 1) (whole : History) (legal : IsLegal c last whole) where
-  module _ (part : ThreadPart) (lines : List ℕ) (p : IsPartOf board turns last c whole 0 3 part lines) where
+module _ (board : List ℕ → Option (ℕ × History)) (rank : List ℕ → ℕ) (turns last : ℕ) (c : Config) (one : c.threads ≡ 1) (whole : History) (legal : IsLegal c last whole) where
+  module _ (part : ThreadPart) (lines : List ℕ) (p : IsPartOf board rank turns last c whole 0 3 part lines) where
     -- behind what the thread has seen stands its look at the gate alone
     same_state : state whole ≡ state p.seen
     same_state =
@@ -75,13 +55,12 @@ module _ (board : List ℕ → Option (ℕ × History)) (turns last : ℕ) (c : 
         let legal_seen : IsLegal c last p.seen = ((legal_append c last p.seen p.begins.0).0 (subst (IsLegal c last) (sym p.begins.1) legal)).0 in
         let all = undisturbed c last one p.seen legal_seen in
         let lone : IsAlone (p.left).pass = subst IsAlone (sym p.saw) (lone_pass (seeing c last p.seen) one refl all) in
-        let explained : Explained (said_words (words_of board)) turns 3 (opening_moment c last) part.commands lines p.told = leaves_still (words_said board) turns 3 (opening_moment c last) part.commands lines p.told (Ok tt) p.explained in
+        let x = p.explained in
+        let explained : Explained said_alone turns 3 (opening_moment c last) part.commands lines p.told = record { place = x.place; words = x.words; done = x.done; explains = heard_alone x.explains (λ n has. let there = on_board x.explains n has in posted n there.0 there.1); ended = x.ended } in
         let ended = ended_alone turns 3 (opening_moment c last) p.told p.left part.commands lines explained p.freed lone in
         record {
           seen = p.seen;
           lines = lines;
-          board = words_of board;
-          posted = words_posted part.commands board posted;
           legal = legal_seen;
           alone = unbarred p.seen all (ap-seen ended.uncontended);
           told = p.told;
@@ -97,7 +76,7 @@ module _ (board : List ℕ → Option (ℕ × History)) (turns last : ℕ) (c : 
         ap-seen : (AllUncontended [] → AllUncontended (p.left).pass.seen) → AllUncontended p.seen
         ap-seen f = subst (λ v. AllUncontended v.seen) p.saw (f tt)
 
-  parts_alone : (part : ThreadPart) (lines : List (List ℕ)) → ArePartsOf board turns last c whole 0 2 (part ∷ []) lines → (text : List ℕ) → IsOfPosts part.commands board → text ≡ text_of_parts (part ∷ []) lines ++ ending (summary c last (state whole)) → IsRun turns last c part text
+  parts_alone : (part : ThreadPart) (lines : List (List ℕ)) → ArePartsOf board rank turns last c whole 0 2 (part ∷ []) lines → (text : List ℕ) → IsOfPosts part.commands board → text ≡ text_of_parts (part ∷ []) lines ++ ending (summary c last (state whole)) → IsRun turns last c part text
   parts_alone part [] parts text posted is = absurd parts
   parts_alone part (l ∷ []) parts text posted is = part_alone part l parts.0 text posted (is ∙ ap (λ t. t ++ ending (summary c last (state whole))) (append-nil (heading part.name ++ l)))
   parts_alone part (l ∷ m ∷ ls) parts text posted is = absurd parts.1
@@ -105,12 +84,12 @@ module _ (board : List ℕ → Option (ℕ × History)) (turns last : ℕ) (c : 
 -- a script of one thread, run by whoever runs all threads of a script
 pub lone_run : (turns last : ℕ) (s : Script) (old new text : List ℕ) → new ≡ old ++ text → IsRunOfAll turns last s text → s.config.threads ≡ 1 → RunsSingle turns last s old new
 lone_run turns last s old new text grew r one =
-    let q = one_part s.threads (r.one_each ∙ one) in
+    let q = one_part s.threads (r.right.one_each ∙ one) in
     record {
       part = q.0;
-      has = record { part_is = q.1; one = one; limits = r.limits };
+      has = record { part_is = q.1; one = one; limits = r.right.limits; once = r.right.once };
       text = text;
       grew = grew;
-      run = parts_alone r.board turns last s.config one r.whole r.legal q.0 r.lines (subst (λ ps. ArePartsOf r.board turns last s.config r.whole 0 2 ps r.lines) q.1 r.parts) text (subst (λ cs. IsOfPosts cs r.board) (ap commands_of q.1 ∙ append-nil (q.0).commands) r.posted)
+      run = parts_alone r.board r.rank turns last s.config one r.whole r.legal q.0 r.lines (subst (λ ps. ArePartsOf r.board r.rank turns last s.config r.whole 0 2 ps r.lines) q.1 r.parts) text (subst (λ cs. IsOfPosts cs r.board) (ap commands_of q.1 ∙ append-nil (q.0).commands) r.posted)
           (r.text_is ∙ ap (λ ps. text_of_parts ps r.lines ++ ending (summary s.config last (state r.whole))) q.1);
     }

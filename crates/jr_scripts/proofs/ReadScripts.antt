@@ -27,5 +27,6 @@ can_be_run s is =
     record {
       one_each = is.threads;
       limits = is.config;
+      once = is.posts;
       numbered = few (length (script_lines s.config s.threads)) (lines_of_parts s.threads) (ap suc (parts_long s.threads) ∙ one) is.lines;
     }

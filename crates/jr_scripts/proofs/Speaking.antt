@@ -1,12 +1,14 @@
 -- What commands say and hear of a board, and what else may be told in its place.
-use Rattle.std.proofs.Common.{◌≡◌, ◌∙◌, ℕ, suc, true, false, Option, Some, None, List, Result, Ok, Err, inl, inr, refl, sym, ap, subst, arith, ◌+◌, ◌∷◌, []}
+use Rattle.std.proofs.Common.{◌≡◌, ◌∙◌, ℕ, suc, true, false, Option, Some, None, List, Result, Ok, Err, inl, inr, refl, sym, ap, subst, arith, ◌+◌, ◌∷◌, [], ◌++◌}
 use Rattle.std.specs.Prelude.{IfNone}
+use Rattle.std.specs.Prelude.{cond, is_some}
 use mathlib.Core.Logic.{∥∥₁_map}
 use Rattle.jr_word.specs.declared.fault.Fault.{Fault}
 use Rattle.jr_model.specs.declared.event.Role.{Role}
 use Rattle.jr_model.specs.declared.event.Role.TheVariants.{Within}
 use Rattle.jr_model.specs.Frames.{Frames}
 use Rattle.jr_model.specs.History.{History, role_of}
+use Rattle.jr_model.proofs.Stays.{did_nothing}
 use Rattle.jr_steps.specs.declared.steps.Steps.{Ghosts}
 use Rattle.jr_steps.specs.declared.known.Known.{Known}
 use Rattle.jr_steps.specs.Knowing.{AreOf, Facts, Holds, MayKnow, Standing, Went, anything, view, IsOf}
@@ -37,7 +39,7 @@ use Rattle.jr_scripts.specs.Commands.{awaited, deed}
 use Rattle.jr_scripts.specs.RegionCommands.{deed_at, deed_within}
 use Rattle.jr_scripts.specs.Places.{Place, by_region, is_speaking, levels_after, objects_after}
 use Rattle.jr_scripts.specs.Text.{buffers_after}
-use Rattle.jr_scripts.specs.Posting.{Account, Awaits, HasLookedFor, HasPosted, HasSpoken, HasWaited, IsHeard, LooksInVain, Keeps, SaysSo, Speaks, Talk, one_more, reply_to_wait, talk_of}
+use Rattle.jr_scripts.specs.Posting.{Account, Awaits, HasLookedFor, HasPosted, HasSpoken, HasWaited, IsAnswered, LearnsOf, LooksInVain, Keeps, SaysSo, Speech, WasInVain, Words, one_more, reply_to_wait, speaks, talk_of, word_under, words_after, words_found, words_with}
 use Rattle.jr_scripts.specs.Explains.{Explains, IsCutOff, LeavesText, nothing, then, unwritten, written}
 use Rattle.jr_scripts.specs.Advancing.{KnowsWith, StandsWith, deed_spoken, place_with, role_with}
 use mathlib.Core.List.{IsPrefix}
@@ -52,39 +54,65 @@ use Rattle.jr_scripts.specs.Pinned.{WasHeard}
 
 -- two boards, and then another that tells more
 pub still_more : {B : Type 0} (layout : B → Layout) (tells : B → Account) {old mid new : B} → Keeps layout tells old mid → Keeps layout tells mid new → Keeps layout tells old new
-still_more layout tells a b = record { same = b.same ∙ a.same; serves = λ room s. b.serves room (a.serves room s); posted = λ n w h t. b.posted n w h (a.posted n w h t); heard = λ n w h t. b.heard n w h (a.heard n w h t) }
+still_more layout tells a b = record { same = b.same ∙ a.same; serves = λ room s. b.serves room (a.serves room s); posted = λ words n w h t. b.posted words n w h (a.posted words n w h t); heard = λ n w h t. b.heard n w h (a.heard n w h t) }
 
 pub keeps_all : {B : Type 0} {layout : B → Layout} {tells : B → Account} {old : B} → Keeps layout tells old old
-keeps_all = record { same = refl; serves = λ room s. s; posted = λ n w h t. t; heard = λ n w h t. t }
+keeps_all = record { same = refl; serves = λ room s. s; posted = λ words n w h t. t; heard = λ n w h t. t }
 
 -- whatever the one says, the other says too
-pub record Carries (t u : Talk) : Type 0 where
-  pub posted : (n : List ℕ) (w : ℕ) (h : History) → t.posted n w h → u.posted n w h
-  pub heard : (n : List ℕ) (w : ℕ) (h : History) → t.heard n w h → u.heard n w h
-  pub in_vain : (n : List ℕ) → t.in_vain n → u.in_vain n
+pub record Carries (t u : Speech) : Type 0 where
+  pub still : (names : Names) (words : Words) (c : Command) (before : History) (answer : Result Reply Fault) (after : History) → t names words c before answer after → u names words c before answer after
+
+answered_still : (known : Option ℕ) (heard heard' : ℕ → Type 0) (vain vain' : Type 0) (answer : Result Reply Fault) → ((w : ℕ) → heard w → heard' w) → (vain → vain') → IsAnswered known heard vain answer → IsAnswered known heard' vain' answer
+answered_still (Some w) heard heard' vain vain' answer more none x = x
+answered_still None heard heard' vain vain' answer more none (Some w, is, x) = (Some w, is, more w x)
+answered_still None heard heard' vain vain' answer more none (None, is, x) = (None, is, none x)
+
+-- whoever says it by these says it by those that follow from them
+pub carried : (posted posted' : Words → List ℕ → ℕ → History → Type 0) (heard heard' : List ℕ → ℕ → History → Type 0) (vain vain' : List ℕ → Type 0)
+    → ((words : Words) (n : List ℕ) (w : ℕ) (h : History) → posted words n w h → posted' words n w h) → ((n : List ℕ) (w : ℕ) (h : History) → heard n w h → heard' n w h) → ((n : List ℕ) → vain n → vain' n) → Carries (speaks posted heard vain) (speaks posted' heard' vain')
+carried posted posted' heard heard' vain vain' p h v = record { still = λ names words c before answer after x. go names words c before answer after x }
+  where
+    go : (names : Names) (words : Words) (c : Command) (before : History) (answer : Result Reply Fault) (after : History) → speaks posted heard vain names words c before answer after → speaks posted' heard' vain' names words c before answer after
+    go names words (commands.OnName v n) before answer after x = p words n (word_posted names n) before x
+    go names words (commands.Make make.Wait n) before answer after x = answered_still (word_under words n) (λ w. heard n w after) (λ w. heard' n w after) (vain n) (vain' n) answer (λ w y. h n w after y) (v n) x
+    go names words _ before answer after x = tt
 
 -- a board that tells more
 pub carries_on : {B : Type 0} (layout : B → Layout) (tells : B → Account) (looked : B → List ℕ → Option ℕ → B → Type 0) (turns : ℕ) (old new : B) → Keeps layout tells old new → Carries (talk_of tells looked turns old) (talk_of tells looked turns new)
-carries_on layout tells looked turns old new keeps = record { posted = keeps.posted; heard = keeps.heard; in_vain = λ n v. v }
-
-heard_still : (t u : Talk) → Carries t u → (n : List ℕ) (answer : Result Reply Fault) (h : History) → IsHeard t n answer h → IsHeard u n answer h
-heard_still t u s n answer h (inl x) = inl (x.0, x.1, s.heard n (x.0).0 h x.2)
-heard_still t u s n answer h (inr x) = inr (x.0, s.in_vain n x.1)
-
-pub speaks_still : (t u : Talk) → Carries t u → (names : Names) (c : Command) (before : History) (answer : Result Reply Fault) (after : History) → Speaks t names c before answer after → Speaks u names c before answer after
-speaks_still t u s names (commands.OnName v n) before answer after x = s.posted n (word_posted names n) before x
-speaks_still t u s names (commands.Make make.Wait n) before answer after x = heard_still t u s n answer after x
-speaks_still t u s names _ before answer after x = tt
+carries_on layout tells looked turns old new keeps = carried (tells old).posted (tells new).posted (tells old).heard (tells new).heard (WasInVain looked turns) (WasInVain looked turns) keeps.posted keeps.heard (λ n v. v)
 
 -- a command that is none of those by which threads hand each other something
-silent : (t : Talk) (names : Names) (c : Command) (before : History) (answer : Result Reply Fault) (after : History) → is_speaking c ≡ false → Speaks t names c before answer after
-silent t names (commands.OnName v n) before answer after is = absurd cc
-silent t names (commands.Make make.Wait n) before answer after is = absurd cc
-silent t names _ before answer after is = tt
+silent : (posted : Words → List ℕ → ℕ → History → Type 0) (heard : List ℕ → ℕ → History → Type 0) (vain : List ℕ → Type 0) (names : Names) (words : Words) (c : Command) (before : History) (answer : Result Reply Fault) (after : History) → is_speaking c ≡ false → speaks posted heard vain names words c before answer after
+silent posted heard vain names words (commands.OnName v n) before answer after is = absurd cc
+silent posted heard vain names words (commands.Make make.Wait n) before answer after is = absurd cc
+silent posted heard vain names words _ before answer after is = tt
 
 -- so it does, with what it says, what it does
-pub did_silent : {S : Type 0} {facts : S → Facts} {a b : S} {f g : Frames} {met shown : Known → Type 0} {role : Role} {answer : Result Reply Fault} (talk : Talk) (turns : ℕ) (p : Place) (c : Command) → is_speaking c ≡ false → CarriedOut facts a b f g role met shown (deed_at turns p c) answer → CarriedOut facts a b f g role met shown (deed_spoken talk turns p c) answer
-did_silent {answer = answer} talk turns p c is = did_more (λ old new d. (d, silent talk p.names c old.pass.seen answer new.pass.seen is))
+pub did_silent : {S B : Type 0} {facts : S → Facts} {a b : S} {f g : Frames} {met shown : Known → Type 0} {role : Role} {answer : Result Reply Fault} (tells : B → Account) (looked : B → List ℕ → Option ℕ → B → Type 0) (board : B) (turns : ℕ) (p : Place) (words : Words) (c : Command) → is_speaking c ≡ false
+    → CarriedOut facts a b f g role met shown (deed_at turns p c) answer → CarriedOut facts a b f g role met shown (deed_spoken (talk_of tells looked turns board) turns p words c) answer
+did_silent {answer = answer} tells looked board turns p words c is = did_more (λ old new d. (d, silent (tells board).posted (tells board).heard (WasInVain looked turns) p.names words c old.pass.seen answer new.pass.seen is))
+
+-- and the thread has the words that it had
+pub silent_words : (names : Names) (c : Command) (answer : Result Reply Fault) (words : Words) → is_speaking c ≡ false → words ≡ words_after names c answer words
+silent_words names (commands.OnName v n) answer words is = absurd cc
+silent_words names (commands.Make make.Wait n) answer words is = absurd cc
+silent_words names _ answer words is = refl
+
+-- what a command sets besides is no matter for the word that it posts or hears
+pub words_same : (names between : Names) (c : Command) (answer : Result Reply Fault) (words : Words) → between ≡ buffers_after c answer names → words_after between c answer words ≡ words_after names c answer words
+words_same names between (commands.OnName v n) answer words is = ap (λ (z : Names). words_with words n (word_posted z n)) is
+words_same names between (commands.Make make.Wait n) answer words is = ap (λ (z : Names). words_after z (commands.Make make.Wait n) answer words) is
+words_same names between _ answer words is = refl
+
+-- a wait that found this has these words behind it
+pub found_words : (names : Names) (n : List ℕ) (found : Option ℕ) (answer : Result Reply Fault) (words : Words) → answer ≡ reply_to_wait found → words_after names (commands.Make make.Wait n) answer words ≡ words_found n found words
+found_words names n (Some w) answer words is = ap (λ (z : Result Reply Fault). words_after names (commands.Make make.Wait n) z words) is
+found_words names n None answer words is = ap (λ (z : Result Reply Fault). words_after names (commands.Make make.Wait n) z words) is
+
+-- a word that the thread has is no more
+pub known_words : (n : List ℕ) (w : ℕ) (words : Words) → word_under words n ≡ Some w → words ≡ words_found n (Some w) words
+known_words n w words is = sym (ap (λ o. cond (is_some o) words (words ++ (n, w) ∷ [])) is)
 
 pub only_plain : (v : Make) (n : List ℕ) → is_speaking (commands.Make v n) ≡ false → v ≡ make.Plain
 only_plain make.Plain n is = refl
@@ -126,24 +154,42 @@ module _ {S : Type 0} (facts : S → Facts) where
 
   -- WHAT THE COMMANDS DO
 
-  waits : {a b : S} (account : Account) {n : List ℕ} (talk : Talk) (found : Option ℕ) (answer : Result Reply Fault) → ((n : List ℕ) (w : ℕ) (h : History) → account.heard n w h → talk.heard n w h) → answer ≡ reply_to_wait found → HasLookedFor facts a b account n found → IfNone found (talk.in_vain n) → HasWaited facts a b talk n answer
-  waits account talk (Some w) answer says is l vain = record { stands_is = l.stands_is; hint_is = l.hint_is; leads = λ k s m. let x = l.leads k s tt in (x.0, x.1, inl (record { 0 = w }, is, x.2), inl (record { 0 = w }, is, says _ w _ x.3)) }
-  waits account talk None answer says is l vain = record { stands_is = l.stands_is; hint_is = l.hint_is; leads = λ k s m. let x = l.leads k s tt in (x.0, x.1, inr (is, x.2), inr (is, vain)) }
+  waits : {a b : S} (account : Account) (n : List ℕ) (vain : Type 0) (known : Option ℕ) (found : Option ℕ) (answer : Result Reply Fault) → known ≡ None → answer ≡ reply_to_wait found → HasLookedFor facts a b account n found → IfNone found vain → HasWaited facts a b account vain n known answer
+  waits account n vain known (Some w) answer none says l no_word = record { stands_is = l.stands_is; hint_is = l.hint_is; leads = λ k s m. let x = l.leads k s tt in (x.0, x.1, inl (record { 0 = w }, says, x.2), subst (λ o. IsAnswered o (λ w. account.heard n w (x.0).seen) vain answer) (sym none) (Some w, says, x.3)) }
+  waits account n vain known None answer none says l no_word = record { stands_is = l.stands_is; hint_is = l.hint_is; leads = λ k s m. let x = l.leads k s tt in (x.0, x.1, inr (says, x.2), subst (λ o. IsAnswered o (λ w. account.heard n w (x.0).seen) vain answer) (sym none) (None, says, no_word)) }
 
-  -- a wait is answered by what was found
-  pub has_waited : {B : Type 0} {a b : S} {n : List ℕ} (tells : B → Account) (looked : B → List ℕ → Option ℕ → B → Type 0) (turns : ℕ) (board : B) (found : Option ℕ) (answer : Result Reply Fault) → answer ≡ reply_to_wait found → HasLookedFor facts a b (tells board) n found → IfNone found ((talk_of tells looked turns board).in_vain n) → HasWaited facts a b (talk_of tells looked turns board) n answer
-  has_waited tells looked turns board found answer is l vain = waits (tells board) (talk_of tells looked turns board) found answer (λ n w h x. x) is l vain
+  -- a wait for a name without a word is answered by what was found
+  pub has_waited : {a b : S} (account : Account) (n : List ℕ) (vain : Type 0) (known : Option ℕ) (found : Option ℕ) (answer : Result Reply Fault) → known ≡ None → answer ≡ reply_to_wait found → HasLookedFor facts a b account n found → IfNone found vain → HasWaited facts a b account vain n known answer
+  has_waited account n vain known found answer none says l no_word = waits account n vain known found answer none says l no_word
+
+  -- a thread that did nothing learns nothing
+  pub learns_nothing : AreOf facts → (a : S) (k : Known) → (facts a).knows k → LearnsOf k k
+  learns_nothing fits a k s = record { did = did_nothing (view k) (fits a k s).legal; held = refl; without = 0; most = omega arith; taken = omega arith }
+
+  -- one for a name that has a word, by that
+  pub has_known : AreOf facts → (a : S) (n : List ℕ) (account : Account) (vain : Type 0) (known : Option ℕ) (w : ℕ) (answer : Result Reply Fault) → known ≡ Some w → answer ≡ reply_to_wait (Some w) → HasWaited facts a a account vain n known answer
+  has_known fits a n account vain known w answer is says = record {
+    stands_is = refl;
+    hint_is = refl;
+    leads = λ k s m. (
+      k,
+      s,
+      inl (record { 0 = w }, says, learns_nothing fits a k s),
+      subst (λ o. IsAnswered o (λ v. account.heard n v k.seen) vain answer) (sym is) says,
+    );
+  }
 
   -- a wait is a command by which threads hand each other something
-  pub spoke_waiting : {a b : S} {n : List ℕ} (talk : Talk) (names : Names) (c : Command) (v : Make) (answer : Result Reply Fault) → c ≡ commands.Make v n → is_speaking c ≡ true → HasWaited facts a b talk n answer → HasSpoken facts a b talk names c answer
-  spoke_waiting {a} {b} {n} talk names c make.Plain answer is speaks w = let bad : is_speaking (commands.Make make.Plain n) ≡ true = subst (λ d. is_speaking d ≡ true) is speaks in absurd cc
-  spoke_waiting {a} {b} {n} talk names c make.Wait answer is speaks w = subst (λ d. HasSpoken facts a b talk names d answer) (sym is) (record { stands_is = w.stands_is; hint_is = w.hint_is; leads = w.leads })
+  pub spoke_waiting : {B : Type 0} {a b : S} {n : List ℕ} (tells : B → Account) (looked : B → List ℕ → Option ℕ → B → Type 0) (turns : ℕ) (board : B) (names : Names) (words : Words) (c : Command) (v : Make) (answer : Result Reply Fault) → c ≡ commands.Make v n → is_speaking c ≡ true
+      → HasWaited facts a b (tells board) (WasInVain looked turns n) n (word_under words n) answer → HasSpoken facts a b (talk_of tells looked turns board) names words c answer
+  spoke_waiting {B} {a} {b} {n} tells looked turns board names words c make.Plain answer is speaks w = let bad : is_speaking (commands.Make make.Plain n) ≡ true = subst (λ d. is_speaking d ≡ true) is speaks in absurd cc
+  spoke_waiting {B} {a} {b} {n} tells looked turns board names words c make.Wait answer is speaks w = subst (λ d. HasSpoken facts a b (talk_of tells looked turns board) names words d answer) (sym is) (record { stands_is = w.stands_is; hint_is = w.hint_is; leads = w.leads })
 
   -- and so is a post
-  pub spoke_posting : {B : Type 0} {a b : S} {n : List ℕ} {w : ℕ} (tells : B → Account) (looked : B → List ℕ → Option ℕ → B → Type 0) (turns : ℕ) (board : B) (names : Names) (c : Command) (v : OnName) → c ≡ commands.OnName v n → w ≡ word_posted names n → HasPosted facts a b (tells board) n w → HasSpoken facts a b (talk_of tells looked turns board) names c (Ok replies.Done)
-  spoke_posting {a = a} {b = b} {n = n} tells looked turns board names c v is word p =
-      subst (λ d. HasSpoken facts a b (talk_of tells looked turns board) names d (Ok replies.Done)) (sym is)
-      (record { stands_is = p.stands_is; hint_is = p.hint_is; leads = λ k s m. let x = p.leads k s tt in (x.0, x.1, (refl, x.2), subst (λ z. (tells board).posted n z k.seen) word x.3) })
+  pub spoke_posting : {B : Type 0} {a b : S} {n : List ℕ} {w : ℕ} (tells : B → Account) (looked : B → List ℕ → Option ℕ → B → Type 0) (turns : ℕ) (board : B) (names : Names) (words : Words) (c : Command) (v : OnName) → c ≡ commands.OnName v n → w ≡ word_posted names n → HasPosted facts a b (tells board) words n w → HasSpoken facts a b (talk_of tells looked turns board) names words c (Ok replies.Done)
+  spoke_posting {a = a} {b = b} {n = n} tells looked turns board names words c v is word p =
+      subst (λ d. HasSpoken facts a b (talk_of tells looked turns board) names words d (Ok replies.Done)) (sym is)
+      (record { stands_is = p.stands_is; hint_is = p.hint_is; leads = λ k s m. let x = p.leads k s tt in (x.0, x.1, (refl, x.2), subst (λ z. (tells board).posted words n z k.seen) word x.3) })
 
   -- WHAT THEY LEAVE AS IT IS
 
@@ -185,8 +231,8 @@ module _ {S : Type 0} (facts : S → Facts) where
       go os _ x = absurd x
 
   -- the frames are the thread's own still
-  pub own_said : {a b : S} {t : Table} (talk : Talk) (names : Names) (c : Command) (answer : Result Reply Fault) → HasSpoken facts a b talk names c answer → AreOwn facts a t → AreOwn facts b t
-  own_said {t = t} talk names c answer w own = record {
+  pub own_said : {a b : S} {t : Table} (talk : Speech) (names : Names) (words : Words) (c : Command) (answer : Result Reply Fault) → HasSpoken facts a b talk names words c answer → AreOwn facts a t → AreOwn facts b t
+  own_said {t = t} talk names words c answer w own = record {
     owner = own.owner ∙ sym (ap (λ (z : Standing). z.thread) w.stands_is);
     last = own.last ∙ sym (ap (λ (z : Standing). z.last) w.stands_is);
     places = own.places ∙ sym (ap (λ (z : Standing). z.config.locals) w.stands_is);
@@ -200,26 +246,26 @@ module _ {S : Type 0} {G : Ghosts S} where
 
 module _ {S : Type 0} {G : Ghosts S} (fits : AreOf G.facts) where
   -- what such a command does, with what it says
-  pub did_speak : (talk : Talk) (turns : ℕ) (names : Names) (region : Option Region) (old new : Env S G) (c : Command) (answer : Result Reply Fault) → StandsWith region old → new.held.frames ≡ old.held.frames → HasSpoken G.facts old.held.steps new.held.steps talk names c answer
-      → CarriedOut G.facts old.held.steps new.held.steps old.held.frames.frames new.held.frames.frames (role_with region) (KnowsWith region old.held.frames.frames) (KnowsWith region new.held.frames.frames) (deed_spoken talk turns (place_with names region) c) answer
-  did_speak talk turns names region old new c answer stands frames w =
+  pub did_speak : (talk : Speech) (turns : ℕ) (names : Names) (words : Words) (region : Option Region) (old new : Env S G) (c : Command) (answer : Result Reply Fault) → StandsWith region old → new.held.frames ≡ old.held.frames → HasSpoken G.facts old.held.steps new.held.steps talk names words c answer
+      → CarriedOut G.facts old.held.steps new.held.steps old.held.frames.frames new.held.frames.frames (role_with region) (KnowsWith region old.held.frames.frames) (KnowsWith region new.held.frames.frames) (deed_spoken talk turns (place_with names region) words c) answer
+  did_speak talk turns names words region old new c answer stands frames w =
       let a = old.held.steps in
       let b = new.held.steps in
       let f = old.held.frames.frames in
       let role = stands_role region old stands in
-      subst (λ (t : Table). CarriedOut G.facts a b f t.frames (role_with region) (KnowsWith region f) (KnowsWith region t.frames) (deed_spoken talk turns (place_with names region) c) answer) (sym frames) (record {
+      subst (λ (t : Table). CarriedOut G.facts a b f t.frames (role_with region) (KnowsWith region f) (KnowsWith region t.frames) (deed_spoken talk turns (place_with names region) words c) answer) (sym frames) (record {
         stands_is = record { room = ap (λ (z : Standing). z.room) w.stands_is; config = ap (λ (z : Standing). z.config) w.stands_is; last = ap (λ (z : Standing). z.last) w.stands_is; thread = ap (λ (z : Standing). z.thread) w.stands_is; role = ap (λ (z : Standing). z.role) w.stands_is ∙ role };
         did = λ k s m. let x = w.leads k s tt in (x.0, x.1, knows_said G.facts region f c answer k x.0 x.2 ((fits a k s).role ∙ role) m, (said_at G.facts a b f turns (place_with names region) c answer k x.0 w.stands_is w.hint_is x.2, x.3));
       })
 
   -- where the thread stood it stands
-  pub stands_still : (talk : Talk) (names : Names) (region : Option Region) (old new : Env S G) (c : Command) (answer : Result Reply Fault) → StandsWith region old → new.held.frames ≡ old.held.frames → HasSpoken G.facts old.held.steps new.held.steps talk names c answer → StandsWith region new
-  stands_still talk names None old new c answer stands frames w = ap (λ (z : Standing). z.role) w.stands_is ∙ stands
-  stands_still talk names (Some r) old new c answer stands frames w =
+  pub stands_still : (talk : Speech) (names : Names) (words : Words) (region : Option Region) (old new : Env S G) (c : Command) (answer : Result Reply Fault) → StandsWith region old → new.held.frames ≡ old.held.frames → HasSpoken G.facts old.held.steps new.held.steps talk names words c answer → StandsWith region new
+  stands_still talk names words None old new c answer stands frames w = ap (λ (z : Standing). z.role) w.stands_is ∙ stands
+  stands_still talk names words (Some r) old new c answer stands frames w =
       let stand = stands.stand in
       let ready = stand.ready in
       let role = ready.role_is in
-      let own : AreOwn G.facts new.held.steps new.held.frames = subst (λ (t : Table). AreOwn G.facts new.held.steps t) (sym frames) (own_said G.facts talk names c answer w ready.own) in
+      let own : AreOwn G.facts new.held.steps new.held.frames = subst (λ (t : Table). AreOwn G.facts new.held.steps t) (sym frames) (own_said G.facts talk names words c answer w ready.own) in
       record {
         stand = record {
           stay = subst (λ (z : Standing). IsOwnStay r.levels.inside z) (sym w.stands_is) stand.stay;
@@ -248,17 +294,17 @@ said_buffers _ answer names said = absurd cc
 
 -- WHAT ELSE MAY BE TOLD
 
-module _ {t u : Talk} (s : Carries t u) {turns first : ℕ} {old : ThreadState} where
-  pub explains_still : {commands : List Command} {text : List ℕ} {new : ThreadState} {place : Place} → Explains t turns first old commands text new place → Explains u turns first old commands text new place
+module _ {t u : Speech} (s : Carries t u) {turns first : ℕ} {old : ThreadState} where
+  pub explains_still : {commands : List Command} {text : List ℕ} {new : ThreadState} {place : Place} {words : Words} → Explains t turns first old commands text new place words → Explains u turns first old commands text new place words
   explains_still nothing = nothing
-  explains_still (then {mid = mid} {new = new} {place = place} c answer before did said) = then c answer (explains_still before) did (speaks_still t u s place.names c mid.pass.seen answer new.pass.seen said)
+  explains_still (then {mid = mid} {new = new} {place = place} {words = words} c answer before did said) = then c answer (explains_still before) did (s.still place.names words c mid.pass.seen answer new.pass.seen said)
 
   cut_off_still : {commands : List Command} {text : List ℕ} {new : ThreadState} → IsCutOff t turns first old commands text new → IsCutOff u turns first old commands text new
-  cut_off_still (written before rest place done are e ended) = written before rest place done are (explains_still e) ended
-  cut_off_still (unwritten before last rest mid done place answer are e did said ended) = unwritten before last rest mid done place answer are (explains_still e) did (speaks_still t u s place.names last mid.pass.seen answer done.pass.seen said) ended
+  cut_off_still (written before rest place words done are e ended) = written before rest place words done are (explains_still e) ended
+  cut_off_still (unwritten before last rest mid done place words answer are e did said ended) = unwritten before last rest mid done place words answer are (explains_still e) did (s.still place.names words last mid.pass.seen answer done.pass.seen said) ended
 
-pub leaves_still : {t u : Talk} (s : Carries t u) (turns first : ℕ) (old : ThreadState) (commands : List Command) (text : List ℕ) (new : ThreadState) (answer : Result (Unit {0}) Fault) → LeavesText t turns first old commands answer text new → LeavesText u turns first old commands answer text new
-leaves_still s turns first old commands text new (Ok x) e = record { place = e.place; done = e.done; explains = explains_still s e.explains; ended = e.ended }
+pub leaves_still : {t u : Speech} (s : Carries t u) (turns first : ℕ) (old : ThreadState) (commands : List Command) (text : List ℕ) (new : ThreadState) (answer : Result (Unit {0}) Fault) → LeavesText t turns first old commands answer text new → LeavesText u turns first old commands answer text new
+leaves_still s turns first old commands text new (Ok x) e = record { place = e.place; words = e.words; done = e.done; explains = explains_still s e.explains; ended = e.ended }
 leaves_still s turns first old commands text new (Err f) e = (e.0, cut_off_still s e.1)
 
 -- IN A ROOM
@@ -279,8 +325,8 @@ module _ {P : Type 0} {G : CellGhosts RoomCells P} where
       }
 
   -- a word was posted with all that the thread has seen
-  pub room_posted : {s u : StepsOver RoomCells P G} (account : Account) (n : List ℕ) (w : ℕ) (p : PinnedNote) → AreAsBefore s u → WasPinned s p → ((h : History) → seen_by_pinned p ≡ h → account.posted n w h) → HasPosted (λ (x : StepsOver RoomCells P G). facts_of (holder_over x)) s u account n w
-  room_posted {s = s} account n w p a told posted =
+  pub room_posted : {s u : StepsOver RoomCells P G} (account : Account) (words : Words) (n : List ℕ) (w : ℕ) (p : PinnedNote) → AreAsBefore s u → WasPinned s p → ((h : History) → seen_by_pinned p ≡ h → account.posted words n w h) → HasPosted (λ (x : StepsOver RoomCells P G). facts_of (holder_over x)) s u account words n w
+  room_posted {s = s} account words n w p a told posted =
       let same = room_as_it_was a in
       record { stands_is = same.stands_is; hint_is = same.hint_is; leads = λ k knows m. (k, same.same k knows, refl, posted k.seen (told ∙ ap (λ (z : Known). z.seen) (sym knows.0))) }
 

@@ -11,18 +11,18 @@ use Rattle.jr_env.specs.Deeds.{DoesDeed, free_locals}
 use Rattle.jr_scripts.specs.Commands.{tried}
 use Rattle.jr_scripts.specs.Explains.{nothing, written}
 use Rattle.jr_scripts.specs.Places.{nowhere}
-use Rattle.jr_scripts.specs.Posting.{Talk}
+use Rattle.jr_scripts.specs.Posting.{Speech}
 use Rattle.jr_scripts.specs.Runs.{running, running_to_end}
 use Rattle.jr_scripts.proofs.Speaking.{Carries, leaves_still}
 
 -- no command was done, since memory was refused before the first
-pub not_begun : {S : Type 0} {facts : S → Facts} {a : S} {f : Frames} (talk : Talk) (turns first : ℕ) (commands : List Command) → DoesDeed facts a a f f (running talk turns first commands []) (Err fault.Memory)
+pub not_begun : {S : Type 0} {facts : S → Facts} {a : S} {f : Frames} (talk : Speech) (turns first : ℕ) (commands : List Command) → DoesDeed facts a a f f (running talk turns first commands []) (Err fault.Memory)
 not_begun {facts = facts} {a = a} {f = f} talk turns first commands = record {
   stands_is = nothing_changed;
-  did = λ k s m. let here = thread_state (facts a) k f in (k, s, m, (refl, written [] commands nowhere here refl nothing (refl, refl)));
+  did = λ k s m. let here = thread_state (facts a) k f in (k, s, m, (refl, written [] commands nowhere [] here refl nothing (refl, refl)));
 }
 
-pub ran_to_end : {S : Type 0} {facts : S → Facts} {a b c : S} {f g h : Frames} {talk : Talk} {turns first : ℕ} {commands : List Command} {answer freed : Result (Unit {0}) Fault} {text : List ℕ}
+pub ran_to_end : {S : Type 0} {facts : S → Facts} {a b c : S} {f g h : Frames} {talk : Speech} {turns first : ℕ} {commands : List Command} {answer freed : Result (Unit {0}) Fault} {text : List ℕ}
     → DoesDeed facts a b f g (running talk turns first commands text) answer → DoesDeed facts b c g h (tried turns free_locals) freed → DoesDeed facts a c f h (running_to_end talk turns first commands text) answer
 ran_to_end {facts = facts} {b = b} {g = g} {freed = freed} r d = record {
   stands_is = still_before r.stands_is d.stands_is;
@@ -33,7 +33,7 @@ ran_to_end {facts = facts} {b = b} {g = g} {freed = freed} r d = record {
 }
 
 -- what else may be told of it
-pub ran_still : {S : Type 0} {facts : S → Facts} {a b : S} {f g : Frames} {t u : Talk} (s : Carries t u) {turns first : ℕ} {commands : List Command} {answer : Result (Unit {0}) Fault} {text : List ℕ}
+pub ran_still : {S : Type 0} {facts : S → Facts} {a b : S} {f g : Frames} {t u : Speech} (s : Carries t u) {turns first : ℕ} {commands : List Command} {answer : Result (Unit {0}) Fault} {text : List ℕ}
     → DoesDeed facts a b f g (running_to_end t turns first commands text) answer → DoesDeed facts a b f g (running_to_end u turns first commands text) answer
 ran_still {facts = facts} {a = a} {f = f} s {turns = turns} {first = first} {commands = commands} {answer = answer} {text = text} d = record {
   stands_is = d.stands_is;

@@ -21,7 +21,7 @@ use Rattle.jr_syntax.specs.declared.verb.PutAt.TheVariants as put_at
 use Rattle.jr_scripts.specs.declared.region.Region.{Region}
 use Rattle.jr_scripts.specs.declared.reply.Reply.{Reply}
 use Rattle.jr_scripts.specs.Names.{Names}
-use Rattle.jr_scripts.specs.Posting.{Speaks, Talk}
+use Rattle.jr_scripts.specs.Posting.{Speech, Words}
 use Rattle.jr_scripts.specs.Places.{Place}
 use Rattle.jr_scripts.specs.RegionCommands.{deed_at}
 
@@ -36,8 +36,8 @@ put_by put_at.Put answer = answer
 put_by put_at.PutInLevel answer = Err fault.InCritical
 
 -- what a command does where the thread stands, with what it says and hears
-abbrev pub deed_spoken : Talk → ℕ → Place → Command → Deed Reply
-deed_spoken talk turns p c old answer new = deed_at turns p c old answer new × Speaks talk p.names c old.pass.seen answer new.pass.seen
+abbrev pub deed_spoken : Speech → ℕ → Place → Words → Command → Deed Reply
+deed_spoken speech turns p words c old answer new = deed_at turns p c old answer new × speech p.names words c old.pass.seen answer new.pass.seen
 
 -- the names of the levels of a region, the first first
 abbrev pub level_names : Option Region → List (List ℕ)

@@ -1,5 +1,6 @@
 -- For the crate's own functions: what the threads of a script are given, and what they give back.
 use Rattle.std.specs.List.{All, AllByRecursion, AllZip}
+use mathlib.Core.List.{IsPrefix}
 use Rattle.std.specs.Prelude.{◌≡◌, ◌+◌, ◌<◌, ◌^◌, ℕ, Option, Some, None, List, [], ◌∷◌, ◌++◌, length, Ok, IsSome}
 use Rattle.jr_model.specs.History.{History}
 use Rattle.jr_syntax.specs.declared.thread.ThreadPart.{ThreadPart}
@@ -10,7 +11,7 @@ use Rattle.jr_scripts.specs.declared.part.Job.{Job}
 use Rattle.jr_scripts.specs.declared.part.ThreadRun.{ThreadRun}
 use Rattle.jr_scripts.specs.Text.{heading}
 use Rattle.jr_scripts.specs.Layouts.{Layout, cell_number, layout_of}
-use Rattle.jr_scripts.specs.Posting.{Talk, said}
+use Rattle.jr_scripts.specs.Posting.{Account, Words, said}
 use Rattle.jr_scripts.specs.declared.board.Posts.{Posts}
 use Rattle.jr_scripts.specs.declared.note.Note.{Note}
 use Rattle.jr_scripts.specs.declared.note.Posted.{Posted}
@@ -18,26 +19,26 @@ use Rattle.jr_scripts.specs.declared.told.Site.{Ghosts}
 use Rattle.jr_scripts.specs.declared.told.Told.{Told}
 use Rattle.jr_scripts.specs.Noting.{posted_noted}
 use Rattle.jr_rule.specs.Rooms.{seen_by_pinned}
-use Rattle.jr_scripts.specs.Telling.{talk_told}
+use Rattle.jr_scripts.specs.Telling.{account_told, talk_told}
 use Rattle.jr_scripts.specs.AllRuns.{RanPass}
 
 module _ {Q : Type 0} {G : Ghosts Q} where
   -- what a thread's notes tell
-  abbrev pub talk_in : ThreadRun Q G → Talk
-  talk_in r = talk_told r.notes.is_lost r.notes.posts.now.numbers.entries r.notes.notes.items
+  abbrev pub account_in : ThreadRun Q G → Account
+  account_in r = account_told r.notes.is_lost r.notes.posts.now.numbers.entries r.notes.notes.items
 
   -- the thread did its job, with what its notes tell
   abbrev pub HasRun : Job → ThreadRun Q G → Type 0
-  HasRun j r = RanPass (talk_in r) j.turns j.first j.part.now.commands j.pass r.pass r.answer r.text.items
+  HasRun j r = RanPass (talk_told r.notes.is_lost r.notes.posts.now.numbers.entries r.notes.notes.items) j.turns j.first j.part.now.commands j.pass r.pass r.answer r.text.items
 
   -- the thread did its job, with what the board has
-  abbrev pub HasSaid : (List ℕ → Option (ℕ × History)) → Job → ThreadRun Q G → Type 0
-  HasSaid board j r = RanPass (said board) j.turns j.first j.part.now.commands j.pass r.pass r.answer r.text.items
+  abbrev pub HasSaid : (List ℕ → Option (ℕ × History)) → (List ℕ → ℕ) → Job → ThreadRun Q G → Type 0
+  HasSaid board rank j r = RanPass (said board rank) j.turns j.first j.part.now.commands j.pass r.pass r.answer r.text.items
 
   -- what the thread's notes tell is what the board has
-  pub record IsToldBy (board : List ℕ → Option (ℕ × History)) (r : ThreadRun Q G) : Type 0 where
-    pub posted : (n : List ℕ) (w : ℕ) (h : History) → (talk_in r).posted n w h → (said board).posted n w h
-    pub heard : (n : List ℕ) (w : ℕ) (h : History) → (talk_in r).heard n w h → (said board).heard n w h
+  pub record IsToldBy (board : List ℕ → Option (ℕ × History)) (rank : List ℕ → ℕ) (r : ThreadRun Q G) : Type 0 where
+    pub posted : (words : Words) (n : List ℕ) (w : ℕ) (h : History) → (account_in r).posted words n w h → (board n ≡ Some (w, h)) × AllByRecursion (λ x. rank x.0 < rank n) words
+    pub heard : (n : List ℕ) (w : ℕ) (h : History) → (account_in r).heard n w h → (begun : History) × (board n ≡ Some (w, begun)) × IsPrefix begun h
 
   -- the thread's notes are of this board
   abbrev pub IsOver : Layout → ThreadRun Q G → Type 0
@@ -71,6 +72,11 @@ AreJobsOf turns line [] [] [] = Unit {0}
 AreJobsOf turns line (p ∷ ps) (q ∷ qs) (j ∷ js) = IsJobOf turns line p q j × AreJobsOf turns (line + 1 + length q.commands) ps qs js
 AreJobsOf turns line _ _ _ = ⊥
 
+-- the stamp of what was posted
+abbrev pub stamp_of : {T : Type 0} → Option (Posted T) → ℕ
+stamp_of (Some p) = p.stamp
+stamp_of None = 0
+
 -- what was posted, and what its poster had seen
 abbrev pub entry_of : {Q : Type 0} {G : Ghosts Q} → Option (Posted (Told Q G)) → Option (ℕ × History)
 entry_of (Some p) = Some (p.word, seen_by_pinned p.told.pinned)
@@ -80,6 +86,10 @@ module _ {Q : Type 0} {G : Ghosts Q} where
   -- the board that is noted
   abbrev pub board_noted : List (List ℕ × ℕ) → List (Option (Note (Told Q G))) → List ℕ → Option (ℕ × History)
   board_noted numbers notes n = entry_of (posted_noted numbers notes n)
+
+  -- the rank of a name is the stamp that is noted
+  abbrev pub rank_noted : List (List ℕ × ℕ) → List (Option (Note (Told Q G))) → List ℕ → ℕ
+  rank_noted numbers notes n = stamp_of (posted_noted numbers notes n)
 
   -- the thread was not refused memory
   abbrev pub IsDone : ThreadRun Q G → Type 0
@@ -94,8 +104,9 @@ module _ {Q : Type 0} {G : Ghosts Q} where
   -- the same, and what each thread's notes tell is what one board has, in which only these names stand
   pub record AreToldAlike (numbers : List (List ℕ × ℕ)) (qs : List ThreadPart) (rs : List (ThreadRun Q G)) (ps : List Pass) (text : List ℕ) : Type 0 where
     pub board : List ℕ → Option (ℕ × History)
+    pub rank : List ℕ → ℕ
     pub told : AreTold qs rs ps text
-    pub noted : AllByRecursion (IsToldBy board) rs
+    pub noted : AllByRecursion (IsToldBy board rank) rs
     pub named : (n : List ℕ) (x : ℕ × History) → board n ≡ Some x → IsSome (cell_number numbers n)
 
   -- the threads of the parts did their jobs, with notes of this board, and this is what is told of them

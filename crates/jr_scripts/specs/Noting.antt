@@ -1,12 +1,13 @@
 -- What the notes of a thread say was posted.
-use Rattle.std.specs.Prelude.{◌≡◌, ◌⊎◌, ℕ, Bool, true, false, List, Option, Some, None, get_or}
+use Rattle.std.specs.Prelude.{◌≡◌, ◌⊎◌, ◌<◌, ℕ, suc, Bool, true, false, List, Option, Some, None, get_or}
+use Rattle.std.specs.List.{AllByRecursion}
 use Rattle.std.specs.Sync.OnceLock.{Named}
 use Rattle.atomic_table.specs.Seated.{TableId}
 use Rattle.jr_model.specs.History.{History}
 use Rattle.jr_scripts.specs.declared.note.Note.{Note}
 use Rattle.jr_scripts.specs.declared.note.Posted.{Posted}
 use Rattle.jr_scripts.specs.Layouts.{cell_number}
-use Rattle.jr_scripts.specs.Posting.{Account}
+use Rattle.jr_scripts.specs.Posting.{Account, Words}
 
 -- the cell at a number
 abbrev pub cell_at : List Named → ℕ → ℕ
@@ -34,11 +35,6 @@ posted_by_number notes None = None
 abbrev pub posted_noted : {T : Type 0} → List (List ℕ × ℕ) → List (Option (Note T)) → List ℕ → Option (Posted T)
 posted_noted numbers notes n = posted_by_number notes (cell_number numbers n)
 
--- the word of what was posted
-abbrev pub the_word : {T : Type 0} → Option (Posted T) → Option ℕ
-the_word (Some p) = Some p.word
-the_word None = None
-
 -- what was noted is noted still
 abbrev pub StaysNoted : {T : Type 0} → List (Option (Note T)) → List (Option (Note T)) → Type 0
 StaysNoted {T = T} old new = (i : ℕ) (p : Posted T) → posted_in (get_or old i None) ≡ Some p → posted_in (get_or new i None) ≡ Some p
@@ -48,17 +44,25 @@ pub record HasAllOf {T : Type 0} (ours : List (Option (Note T))) (lost : Bool) (
   pub safe : lost ≡ false
   pub kept : StaysNoted theirs ours
 
--- THE WORD IS NOTED under a name, and this is so of what was told with it
-pub record HasNoted {T : Type 0} (numbers : List (List ℕ × ℕ)) (notes : List (Option (Note T))) (n : List ℕ) (w : ℕ) (so : T → Type 0) : Type 0 where
+-- THE WORD IS NOTED under a name, and this is so of what was posted there
+pub record HasNoted {T : Type 0} (numbers : List (List ℕ × ℕ)) (notes : List (Option (Note T))) (n : List ℕ) (w : ℕ) (so : Posted T → Type 0) : Type 0 where
   pub posted : Posted T
   pub is : posted_noted numbers notes n ≡ Some posted
   pub word : posted.word ≡ w
-  pub says : so posted.told
+  pub says : so posted
+
+-- each of the words is noted under its name, with a stamp below this
+abbrev pub AreBelow : {T : Type 0} → List (List ℕ × ℕ) → List (Option (Note T)) → ℕ → Words → Type 0
+AreBelow {T = T} numbers notes stamp = AllByRecursion (λ x. (p : Posted T) × (posted_noted numbers notes x.0 ≡ Some p) × (p.stamp < stamp))
+
+-- THE WORDS ARE NOTED of a thread that has heard no stamp above this: anything where the notes were lost
+abbrev pub words_noted : {T : Type 0} → Bool → List (List ℕ × ℕ) → List (Option (Note T)) → ℕ → Words → Type 0
+words_noted lost numbers notes heard words = (lost ≡ true) ⊎ AreBelow numbers notes (suc heard) words
 
 -- WHAT A THREAD'S NOTES TELL, of a board that serves these, where what is told with a word says this of what its poster had seen, and this of what whoever heard it has: anything where they were lost
 abbrev pub account_noted : {T : Type 0} → (Option TableId → Type 0) → (T → History → Type 0) → (T → History → Type 0) → Bool → List (List ℕ × ℕ) → List (Option (Note T)) → Account
 account_noted serves says reaches lost numbers notes = record {
   serves = serves;
-  posted = λ n w seen. (lost ≡ true) ⊎ HasNoted numbers notes n w (λ t. says t seen);
-  heard = λ n w seen. (lost ≡ true) ⊎ HasNoted numbers notes n w (λ t. reaches t seen);
+  posted = λ words n w seen. (lost ≡ true) ⊎ HasNoted numbers notes n w (λ p. says p.told seen × AreBelow numbers notes p.stamp words);
+  heard = λ n w seen. (lost ≡ true) ⊎ HasNoted numbers notes n w (λ p. reaches p.told seen);
 }

@@ -14,6 +14,7 @@ use Rattle.jr_model.specs.Frames.{fresh_frames}
 use Rattle.jr_syntax.specs.declared.command.Command.{Command}
 use Rattle.jr_syntax.specs.declared.thread.ThreadPart.{ThreadPart}
 use Rattle.jr_syntax.specs.declared.script.Script.{Script}
+use Rattle.jr_syntax.specs.Script.{all_apart, posts_of}
 use Rattle.jr_steps.specs.declared.steps.Steps.{Ghosts}
 use Rattle.jr_steps.specs.Holdings.{empty}
 use Rattle.jr_gate.specs.Performing.{ThreadState}
@@ -22,16 +23,15 @@ use Rattle.jr_env.specs.Deeds.{Deed, free_locals}
 use Rattle.jr_env.specs.Envs.{WasDone}
 use Rattle.jr_scripts.specs.declared.reply.Reply.{Reply}
 use Rattle.jr_scripts.specs.Names.{Names}
-use Rattle.jr_scripts.specs.Posted.{IsOfPosts}
-use Rattle.jr_scripts.specs.Posting.{Talk, said_words}
+use Rattle.jr_scripts.specs.Posting.{Speech, Words, said_alone, words_after}
 use Rattle.jr_scripts.specs.Commands.{tried}
 use Rattle.jr_scripts.specs.Text.{printed, names_set, heading, ending}
 use Rattle.jr_scripts.specs.Explains.{Explained, LeavesText}
 use Rattle.jr_scripts.specs.AloneAnswers.{AnswersAlone}
 
 -- THE COMMANDS RUN, and add the text: from one moment to the other all of it is explained, or memory was refused
-abbrev pub running : Talk → ℕ → ℕ → List Command → List ℕ → Deed (Unit {0})
-running talk turns first commands text begun answer told = LeavesText talk turns first begun commands answer text told
+abbrev pub running : Speech → ℕ → ℕ → List Command → List ℕ → Deed (Unit {0})
+running speech turns first commands text begun answer told = LeavesText speech turns first begun commands answer text told
 
 -- A THREAD'S END: from one moment to the other its local references were freed, by a call that was made again where it was barred, up to so many in all, with this answer
 pub record IsFreed (turns : ℕ) (told left : ThreadState) : Type 0 where
@@ -39,22 +39,22 @@ pub record IsFreed (turns : ℕ) (told left : ThreadState) : Type 0 where
   pub tries : tried turns free_locals told answer left
 
 -- the commands run, and then the local references are freed: the text is explained up to a moment in between
-abbrev pub running_to_end : Talk → ℕ → ℕ → List Command → List ℕ → Deed (Unit {0})
-running_to_end talk turns first commands text begun answer left = (told : ThreadState) × LeavesText talk turns first begun commands answer text told × IsFreed turns told left
+abbrev pub running_to_end : Speech → ℕ → ℕ → List Command → List ℕ → Deed (Unit {0})
+running_to_end speech turns first commands text begun answer left = (told : ThreadState) × LeavesText speech turns first begun commands answer text told × IsFreed turns told left
 
 module _ {S : Type 0} {G : Ghosts S} where
   -- the commands were run
-  abbrev pub RanThread : Env S G → Env S G → Talk → ℕ → ℕ → List Command → Result (Unit {0}) Fault → List ℕ → Type 0
-  RanThread old new talk turns first commands answer text = WasDone old new (running talk turns first commands text) answer
+  abbrev pub RanThread : Env S G → Env S G → Speech → ℕ → ℕ → List Command → Result (Unit {0}) Fault → List ℕ → Type 0
+  RanThread old new speech turns first commands answer text = WasDone old new (running speech turns first commands text) answer
 
   -- the commands were run, and then the local references were freed
-  abbrev pub RanToEnd : Env S G → Env S G → Talk → ℕ → ℕ → List Command → Result (Unit {0}) Fault → List ℕ → Type 0
-  RanToEnd old new talk turns first commands answer text = WasDone old new (running_to_end talk turns first commands text) answer
+  abbrev pub RanToEnd : Env S G → Env S G → Speech → ℕ → ℕ → List Command → Result (Unit {0}) Fault → List ℕ → Type 0
+  RanToEnd old new speech turns first commands answer text = WasDone old new (running_to_end speech turns first commands text) answer
 
--- what is kept of a command that was done: its line is written and its name set, or memory was refused and nothing is written
-abbrev pub WritesDown : ℕ → Command → Result Reply Fault → Names → Names → Result (Unit {0}) AllocError → List ℕ → List ℕ → Type 0
-WritesDown number c answer names names' (Ok _) old new = (names' ≡ names_set c answer names) × (new ≡ old ++ printed number c answer)
-WritesDown number c answer names names' (Err _) old new = new ≡ old
+-- what is kept of a command that was done: its line is written, its name set, and its word kept, or memory was refused and nothing is written
+abbrev pub WritesDown : ℕ → Command → Result Reply Fault → Names → Names → Words → Words → Result (Unit {0}) AllocError → List ℕ → List ℕ → Type 0
+WritesDown number c answer names names' words words' (Ok _) old new = (names' ≡ names_set c answer names) × (words' ≡ words_after names c answer words) × (new ≡ old ++ printed number c answer)
+WritesDown number c answer names names' words words' (Err _) old new = new ≡ old
 
 -- a pass of thread 0 that has seen this
 abbrev pub seeing : Config → ℕ → History → PassView
@@ -71,16 +71,14 @@ pub record IsUnbarred (e : Event) : Type 0 where
   pub shuts : (n : ℕ) → e.act ≢ ShutBusy n
   pub reserves : (n looked found : ℕ) → e.act ≢ ReserveLost n looked found
 
--- A RUN of a script of one thread: there is a legal history of the sequential machine, with the events of its commands' calls and then of freeing its local references, and no others, that explains the text; no call was barred, refused a shut or raced, each answer that is a refusal is a lone thread's, and where there are turns the references were freed; there is a board, with words only under names that a command posts, of which each post and each wait has the word; and the last lines tell of the last state
+-- A RUN of a script of one thread: there is a legal history of the sequential machine, with the events of its commands' calls and then of freeing its local references, and no others, that explains the text; no call was barred, refused a shut or raced, each answer that is a refusal is a lone thread's, and where there are turns the references were freed; each wait has the word that an earlier line posted under its name, and is E20 where none did; and the last lines tell of the last state
 pub record IsRun (turns last : ℕ) (c : Config) (part : ThreadPart) (text : List ℕ) : Type 0 where
   pub seen : History
   pub lines : List ℕ
-  pub board : List ℕ → Option ℕ
-  pub posted : IsOfPosts part.commands board
   pub legal : IsLegal c last seen
   pub alone : AllByRecursion IsUnbarred seen
   pub told : ThreadState
-  pub explained : Explained (said_words board) turns 3 (opening_moment c last) part.commands lines told
+  pub explained : Explained said_alone turns 3 (opening_moment c last) part.commands lines told
   pub answers : AnswersAlone explained.explains
   pub left : ThreadState
   pub freed : IsFreed turns told left
@@ -88,11 +86,12 @@ pub record IsRun (turns last : ℕ) (c : Config) (part : ThreadPart) (text : Lis
   pub saw : left.pass ≡ seeing c last seen
   pub text_is : text ≡ heading part.name ++ lines ++ ending (summary c last (state seen))
 
--- the part of a script of one thread, whose sizes are within the limits
+-- the part of a script of one thread, whose sizes are within the limits, and which posts no name twice
 pub record HasPart (s : Script) (part : ThreadPart) : Type 0 where
   pub part_is : s.threads ≡ part ∷ []
   pub one : s.config.threads ≡ 1
   pub limits : in_limits s.config ≡ true
+  pub once : all_apart (posts_of s.threads) ≡ true
 
 abbrev pub IsSingle : Script → Type 0
 IsSingle s = (part : ThreadPart) × HasPart s part

@@ -6,7 +6,7 @@ use Rattle.jr_rule.specs.Rooms.{seen_by_pinned}
 use Rattle.jr_scripts.specs.declared.told.Site.{Ghosts}
 use Rattle.jr_scripts.specs.declared.told.Told.{Told}
 use Rattle.jr_scripts.specs.declared.note.Note.{Note}
-use Rattle.jr_scripts.specs.Posting.{Talk}
+use Rattle.jr_scripts.specs.Posting.{Account, Speech, speaks}
 use Rattle.jr_scripts.specs.Noting.{account_noted}
 
 module _ {Q : Type 0} {G : Ghosts Q} where
@@ -19,5 +19,9 @@ module _ {Q : Type 0} {G : Ghosts Q} where
   have_seen t seen = IsPrefix (seen_by_pinned t.pinned) seen
 
   -- what a thread's notes of a room's board tell
-  abbrev pub talk_told : Bool → List (List ℕ × ℕ) → List (Option (Note (Told Q G))) → Talk
-  talk_told lost numbers notes = let a = account_noted (λ room. room ≡ G.room) has_seen have_seen lost numbers notes in record { posted = a.posted; heard = a.heard; in_vain = λ n. Unit {0} }
+  abbrev pub account_told : Bool → List (List ℕ × ℕ) → List (Option (Note (Told Q G))) → Account
+  account_told = account_noted (λ room. room ≡ G.room) has_seen have_seen
+
+  -- what a thread said and heard by them
+  abbrev pub talk_told : Bool → List (List ℕ × ℕ) → List (Option (Note (Told Q G))) → Speech
+  talk_told lost numbers notes = speaks (account_told lost numbers notes).posted (account_told lost numbers notes).heard (λ n. Unit {0})

@@ -9,7 +9,7 @@ ghost use Rattle.jr_syntax.specs.declared.command.Command.TheVariants as command
 ghost use Rattle.jr_scripts.specs.Advancing.{deed_spoken, level_names, objects_in, place_with, DidOpen, DidWith, StandsIn, StandsWith};
 ghost use Rattle.jr_scripts.specs.Commands.{deed, opening_levels};
 ghost use Rattle.jr_scripts.specs.Places.{is_closing, is_speaking, levels_after, objects_after};
-ghost use Rattle.jr_scripts.specs.Posting.{talk_of, Keeps};
+ghost use Rattle.jr_scripts.specs.Posting.{talk_of, words_after, Keeps};
 ghost use Rattle.jr_scripts.specs.RegionCommands.{deed_at, deed_within};
 ghost use Rattle.jr_scripts.specs.Text.{buffers_after};
 
@@ -183,6 +183,7 @@ pub(crate) fn advance<S: Steps, B: Board<S>>(
     names: &mut Names,
     marker: &mut Marker,
     region: Option<Region>,
+    words: &[(Name, u64)],
     board: &mut B,
     turns: u64,
     command: &Command,
@@ -190,16 +191,18 @@ pub(crate) fn advance<S: Steps, B: Board<S>>(
     requires stand { StandsWith region env.old }
     requires room { FitsRoom marker.old env.old }
     requires there { (B.tells board.old).serves (S.facts env.old.held.steps).stands.room }
-    ensures does { DidWith env.old env.new region result.region (deed_spoken (talk_of B.tells B.looked turns board.new) turns (place_with names.old region) command.now) result.answer }
+    requires follows { B.follows board.old words.now }
+    ensures does { DidWith env.old env.new region result.region (deed_spoken (talk_of B.tells B.looked turns board.new) turns (place_with names.old region) words.now command.now) result.answer }
     ensures stand { StandsWith result.region env.new }
     ensures levels { level_names result.region ≡ levels_after command.now result.answer (level_names region) }
     ensures objects { objects_in result.region ≡ objects_after command.now result.answer (objects_in region) }
     ensures names { names.new ≡ buffers_after command.now result.answer names.old }
+    ensures follows { B.follows board.new (words_after names.old command.now result.answer words.now) }
     ensures kept { Keeps B.layout B.tells board.old board.new }
     ensures room { room_of marker.new ≡ room_of marker.old }
 {
     if hands_over(command) {
-        let answer = speak(board, env, names, turns, command);
+        let answer = speak(board, env, names, words, turns, command);
         return Left { region, answer };
     }
     call(alloc, env, names, marker, region, turns, command)

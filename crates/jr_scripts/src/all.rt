@@ -136,7 +136,7 @@ fn text_of_all<R: Threads + Wait, H: Hold + Sync>(
 ///
 /// # Errors
 ///
-/// E17 exactly where the script has not one part a thread, sizes outside the limits, or lines without a number of 64 bits; E16 where memory was refused, a thread could not be started, or a name was posted twice, which no script does that was read.
+/// E17 exactly where the script has not one part a thread, sizes outside the limits, a name that is posted twice, or lines without a number of 64 bits; E16 where memory was refused, or a thread could not be started.
 ///
 /// The output is as it was.
 pub fn run_all<R: Threads + Wait, H: Hold + Sync>(

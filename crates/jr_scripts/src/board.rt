@@ -11,13 +11,16 @@ use std::sync::OnceLock;
 pub trait Board<S: Steps> {
     ghost use Rattle.std.specs.Prelude.{ℕ, List, Option};
     ghost use Rattle.jr_scripts.specs.Layouts.{Layout};
-    ghost use Rattle.jr_scripts.specs.Posting.{Account, HasLookedFor, HasPosted, Keeps};
+    ghost use Rattle.jr_scripts.specs.Posting.{Account, Follows, HasLookedFor, HasPosted, Keeps, Words, words_found, words_with};
 
     /// How the board is laid out, which nothing changes.
     ghost layout: { Self → Layout };
 
     /// Whom the board serves, and which words were posted there and heard of, with what had been seen.
     ghost tells: { Self → Account };
+
+    /// The thread of the board has these words, which it posted and heard there.
+    ghost follows: { Self → Words → Type 0 };
 
     /// A look for this name found this, and left the board so.
     ghost looked: { Self → List ℕ → Option ℕ → Self → Type 0 };
@@ -29,7 +32,8 @@ pub trait Board<S: Steps> {
     /// None that a clause counts.
     fn post(&mut self, steps: &mut S, name: &Name, word: u64)
         requires { (tells self.old).serves (S.facts steps.old).stands.room }
-        ensures posted { HasPosted S.facts steps.old steps.new (tells self.new) name.now word }
+        ensures posted { (words : Words) → follows self.old words → HasPosted S.facts steps.old steps.new (tells self.new) words name.now word }
+        ensures follows { Follows follows self.old self.new (λ words. words_with words name.now word) }
         ensures kept { Keeps layout tells self.old self.new };
 
     /// The word that was posted under a name, if one is seen: then the thread learns what was told with it.
@@ -40,6 +44,7 @@ pub trait Board<S: Steps> {
     fn look(&mut self, steps: &mut S, name: &Name) -> Option<u64>
         requires { (tells self.old).serves (S.facts steps.old).stands.room }
         ensures found { HasLookedFor S.facts steps.old steps.new (tells self.new) name.now result }
+        ensures follows { Follows follows self.old self.new (words_found name.now result) }
         ensures once { looked self.old name.now result self.new }
         ensures kept { Keeps layout tells self.old self.new };
 }

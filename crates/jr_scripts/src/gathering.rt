@@ -3,7 +3,7 @@
 ghost use Rattle.std.specs.Prelude.{◌≡◌, All, length, IfOk, IfErr};
 ghost use Rattle.std.specs.List.{AllByRecursion};
 ghost use Rattle.jr_word.specs.declared.fault.Fault.TheVariants.{Memory};
-ghost use Rattle.jr_scripts.specs.Jobs.{board_noted, AreTold, AreToldAlike, IsOver, IsToldBy};
+ghost use Rattle.jr_scripts.specs.Jobs.{board_noted, rank_noted, AreTold, AreToldAlike, IsOver, IsToldBy};
 ghost use Rattle.jr_scripts.specs.Layouts.{layout_of};
 
 use crate::board::Posts;
@@ -33,7 +33,7 @@ fn told_by<'a, Q: Site>(
     requires long { length runs.items ≡ length parts.now }
     requires over { All (IsOver (layout_of all.now.posts.now)) runs.items }
     ensures ok { IfOk result (λ r. AreTold parts.now runs.entry.items r.0.items r.1.items) }
-    ensures noted { IfOk result (λ r. AllByRecursion (IsToldBy (board_noted all.now.posts.now.numbers.entries all.now.notes.items)) runs.entry.items) }
+    ensures noted { IfOk result (λ r. AllByRecursion (IsToldBy (board_noted all.now.posts.now.numbers.entries all.now.notes.items) (rank_noted all.now.posts.now.numbers.entries all.now.notes.items)) runs.entry.items) }
     ensures err { IfErr result (λ e. e ≡ Memory) }
 {
     let mut passes = Vec::new(alloc);

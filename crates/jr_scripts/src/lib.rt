@@ -14,6 +14,7 @@ mod gathering;
 mod hold;
 mod laws;
 mod names;
+mod nobody;
 mod note;
 mod notes;
 mod number;
@@ -31,6 +32,7 @@ mod single;
 mod starting;
 mod to_end;
 mod told;
+mod words;
 
 pub use all::run_all;
 pub use board::{Board, Posts};

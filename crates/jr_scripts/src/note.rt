@@ -4,11 +4,12 @@ ghost use Rattle.std.specs.Prelude.{◌≡◌};
 
 use std::sync::OnceToken;
 
-/// What was posted: a word, and what was told with it.
+/// What was posted: a word, what was told with it, and its stamp, above the stamps of all that its thread had posted and heard: so that no wait hears what hangs on it.
 #[derive(Drop)]
 pub(crate) struct Posted<T> {
     pub(crate) word: u64,
     pub(crate) told: T,
+    pub(crate) stamp: u64,
 }
 
 /// What shows that something stays where a thread posted it, or saw it.

@@ -1,7 +1,7 @@
 //! What one thread posts and sees on a board that it shares.
 
-ghost use Rattle.std.specs.Prelude.{◌≡◌, ◌⊎◌, ◌<◌, true, Some, None, get_or, length, IfOk, IfSome};
-ghost use Rattle.jr_scripts.specs.Noting.{account_noted, cell_at, posted_in, AreOfCells, HasAllOf, IsBlank, HasNoted, StaysNoted};
+ghost use Rattle.std.specs.Prelude.{◌≡◌, ◌⊎◌, ◌+◌, ◌≤◌, ◌<◌, suc, true, Some, None, get_or, length, IfOk, IfSome};
+ghost use Rattle.jr_scripts.specs.Noting.{account_noted, cell_at, posted_in, AreOfCells, HasAllOf, IsBlank, HasNoted, StaysNoted, words_noted};
 ghost use Rattle.jr_scripts.specs.Layouts.{cell_number, layout_of};
 
 use crate::board::{Board, Posts};
@@ -16,6 +16,7 @@ pub struct Notes<'a, T> {
     pub(crate) posts: &'a Posts<T>,
     pub(crate) notes: Vec<Option<Note<'a, T>>>,
     pub(crate) is_lost: bool,
+    pub(crate) heard: u64,
     ghost of: { AreOfCells posts.now.cells.items notes.items },
 }
 
@@ -34,13 +35,12 @@ fn blank<'a, T>(alloc: Global, count: usize) -> Result<Vec<Option<Note<'a, T>>>,
 fn posted<'a, T: Drop>(
     posts: &'a Posts<T>,
     number: usize,
-    word: u64,
-    told: T,
+    what: Posted<T>,
 ) -> Option<Note<'a, T>>
     requires { number < length posts.now.cells.items }
-    ensures { IfSome result (λ note. (note.token.of ≡ cell_at posts.now.cells.items number) × (note.token.value.word ≡ word) × (note.token.value.told ≡ told)) }
+    ensures { IfSome result (λ note. (note.token.of ≡ cell_at posts.now.cells.items number) × (note.token.value ≡ what)) }
 {
-    match posts.cells[number].try_set(Posted { word, told }) {
+    match posts.cells[number].try_set(what) {
         Ok(token) => Some(Note { token }),
         Err(_) => None,
     }
@@ -93,11 +93,13 @@ impl<'a, T: Drop> Notes<'a, T> {
                 posts,
                 notes,
                 is_lost: false,
+                heard: 0,
             },
             Err(_) => Notes {
                 posts,
                 notes: Vec::new(alloc),
                 is_lost: true,
+                heard: 0,
             },
         }
     }
@@ -122,6 +124,7 @@ impl<'a, T: Drop> Notes<'a, T> {
         ensures noted { (self.new.is_lost ≡ true) ⊎ (posted_in (get_or self.new.notes.items number None) ≡ Some note.entry.token.value) }
         ensures kept { StaysNoted self.old.notes.items self.new.notes.items }
         ensures lost { self.old.is_lost ≡ true → self.new.is_lost ≡ true }
+        ensures heard { self.new.heard ≡ self.old.heard }
     {
         if number >= self.notes.len() {
             self.is_lost = true;
@@ -129,6 +132,20 @@ impl<'a, T: Drop> Notes<'a, T> {
         }
         has_same(&self.notes[number], &note);
         self.notes[number] = Some(note);
+    }
+
+    /// The same of a word that was posted or heard, with its stamp.
+    pub(crate) fn hear(&mut self, number: usize, note: Note<'a, T>, stamp: u64)
+        requires { note.token.of ≡ cell_at self.old.posts.now.cells.items number }
+        ensures same { self.new.posts.now ≡ self.old.posts.now }
+        ensures noted { (self.new.is_lost ≡ true) ⊎ (posted_in (get_or self.new.notes.items number None) ≡ Some note.entry.token.value) }
+        ensures kept { StaysNoted self.old.notes.items self.new.notes.items }
+        ensures lost { self.old.is_lost ≡ true → self.new.is_lost ≡ true }
+        ensures heard { self.old.heard ≤ self.new.heard }
+        ensures stamp { stamp ≤ self.new.heard }
+    {
+        self.keep(number, note);
+        self.heard = self.heard.max(stamp);
     }
 
     /// Whether all that another thread noted, on the same board, is noted here too. It never is where the other's notes were lost.
@@ -147,19 +164,24 @@ impl<'a, T: Drop> Notes<'a, T> {
         true
     }
 
-    /// Posts a word under a name, with what is told.
+    /// Posts a word under a name, with what is told, and with the least stamp above all that its thread has heard.
     pub(crate) fn put(&mut self, name: &Name, word: u64, told: T)
         ensures same { self.new.posts.now ≡ self.old.posts.now }
-        ensures noted { (self.new.is_lost ≡ true) ⊎ HasNoted self.old.posts.now.numbers.entries self.new.notes.items name.now word (λ t. t ≡ told) }
+        ensures noted { (self.new.is_lost ≡ true) ⊎ HasNoted self.old.posts.now.numbers.entries self.new.notes.items name.now word (λ p. (p.told ≡ told) × (p.stamp ≡ suc self.old.heard)) }
         ensures kept { StaysNoted self.old.notes.items self.new.notes.items }
         ensures lost { self.old.is_lost ≡ true → self.new.is_lost ≡ true }
+        ensures heard { (self.new.is_lost ≡ true) ⊎ (suc self.old.heard ≤ self.new.heard) }
     {
+        let Some(stamp) = self.heard.checked_add(1) else {
+            self.is_lost = true;
+            return;
+        };
         let Some(number) = self.posts.number(name) else {
             self.is_lost = true;
             return;
         };
-        match posted(self.posts, number, word, told) {
-            Some(note) => self.keep(number, note),
+        match posted(self.posts, number, Posted { word, told, stamp }) {
+            Some(note) => self.hear(number, note, stamp),
             None => self.is_lost = true,
         }
     }
@@ -191,6 +213,8 @@ impl<S: Steps> Board<S> for Notes<'_, ()> {
 
     ghost tells = { λ board. account_noted (λ room. Unit {0}) (λ t seen. Unit {0}) (λ t seen. Unit {0}) board.is_lost board.posts.now.numbers.entries board.notes.items };
 
+    ghost follows = { λ board words. words_noted board.is_lost board.posts.now.numbers.entries board.notes.items board.heard words };
+
     ghost looked = { λ first n found last. Unit {0} };
 
     fn post(&mut self, _steps: &mut S, name: &Name, word: u64) {
@@ -199,8 +223,8 @@ impl<S: Steps> Board<S> for Notes<'_, ()> {
 
     fn look(&mut self, _steps: &mut S, name: &Name) -> Option<u64> {
         let (number, note) = self.find(name)?;
-        let word = self.posted(number, &note).word;
-        self.keep(number, note);
-        Some(word)
+        let posted = self.posted(number, &note);
+        self.hear(number, note, posted.stamp);
+        Some(posted.word)
     }
 }

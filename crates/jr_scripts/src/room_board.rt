@@ -2,8 +2,8 @@
 
 ghost use Rattle.std.specs.Prelude.{◌≡◌};
 ghost use Rattle.jr_scripts.specs.Layouts.{layout_of};
-ghost use Rattle.jr_scripts.specs.Noting.{account_noted};
-ghost use Rattle.jr_scripts.specs.Telling.{has_seen, have_seen};
+ghost use Rattle.jr_scripts.specs.Noting.{words_noted};
+ghost use Rattle.jr_scripts.specs.Telling.{account_told};
 
 use crate::board::Board;
 use crate::notes::Notes;
@@ -15,7 +15,9 @@ use jr_syntax::Name;
 impl<Q: Site, const LAST: u32> Board<RoomSteps<'_, LAST>> for Notes<'_, Told<Q>> {
     ghost layout = { λ board. layout_of board.posts.now };
 
-    ghost tells = { λ board. account_noted (λ room. room ≡ Q.room) has_seen have_seen board.is_lost board.posts.now.numbers.entries board.notes.items };
+    ghost tells = { λ board. account_told board.is_lost board.posts.now.numbers.entries board.notes.items };
+
+    ghost follows = { λ board words. words_noted board.is_lost board.posts.now.numbers.entries board.notes.items board.heard words };
 
     ghost looked = { λ first n found last. Unit {0} };
 
@@ -30,7 +32,7 @@ impl<Q: Site, const LAST: u32> Board<RoomSteps<'_, LAST>> for Notes<'_, Told<Q>>
         if !posted.told.heard(steps) {
             return None;
         }
-        self.keep(number, note);
+        self.hear(number, note, posted.stamp);
         Some(posted.word)
     }
 }

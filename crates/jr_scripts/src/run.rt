@@ -1,6 +1,6 @@
 //! Runs the commands of a thread.
 
-ghost use Rattle.std.specs.Prelude.{◌≡◌, ◌++◌, ◌+◌, ◌<◌, ◌^◌, List, ℕ, IfErr, OnOk, MatchOption, Some, None, length};
+ghost use Rattle.std.specs.Prelude.{◌≡◌, ◌++◌, ◌+◌, ◌<◌, ◌^◌, List, ℕ, [], IfErr, OnOk, MatchOption, Some, None, length};
 ghost use Rattle.jr_word.specs.declared.fault.Fault.TheVariants.{Memory};
 ghost use Rattle.jr_weak.specs.Markers.{room_of};
 ghost use Rattle.jr_env.specs.Collections.{FitsRoom};
@@ -17,6 +17,7 @@ use crate::hold::Hold;
 use crate::names::Names;
 use crate::printed::printed;
 use crate::reply::Reply;
+use crate::words::keep_word;
 use jr_env::Env;
 use jr_steps::Steps;
 use jr_syntax::{Command, Name};
@@ -70,18 +71,20 @@ fn settle(
     names.set(name, binding)
 }
 
-/// Writes the line of a command, and sets its name.
+/// Writes the line of a command, keeps its word, and sets its name.
 fn record(
     alloc: Global,
     names: &mut Names,
+    words: &mut Vec<(Name, u64)>,
     line: usize,
     command: &Command,
     answer: Result<Reply, Fault>,
     out: &mut Vec<u8>,
 ) -> Result<(), AllocError>
-    ensures { WritesDown line command.now answer names.old names.new result out.old.items out.new.items }
+    ensures { WritesDown line command.now answer names.old names.new words.old.items words.new.items result out.old.items out.new.items }
 {
     let text = printed(alloc, line, command, &answer)?;
+    keep_word(words, names, command, &answer)?;
     settle(names, command, answer)?;
     out.extend_from_slice(&text)?;
     Ok(())
@@ -109,6 +112,7 @@ pub fn run_thread<S: Steps, B: Board<S>, H: Hold>(
     requires outside { IsOutside env.old }
     requires room { FitsRoom marker.old env.old }
     requires there { (B.tells board.old).serves (S.facts env.old.held.steps).stands.room }
+    requires follows { B.follows board.old [] }
     ensures explained { (text : List ℕ) × (out.new.items ≡ out.old.items ++ text) × RanThread env.old env.new (talk_of B.tells B.looked turns board.new) turns first commands.now result text }
     ensures kept { Keeps B.layout B.tells board.old board.new }
     ensures outside { IsOutside env.new }
@@ -116,12 +120,21 @@ pub fn run_thread<S: Steps, B: Board<S>, H: Hold>(
     ensures room { room_of marker.new ≡ room_of marker.old }
 {
     let mut names = Names::new(alloc);
+    let mut words = Vec::new(alloc);
     let mut region = None;
     for (i, command) in commands.iter().enumerate() {
         let line = first + i;
         hold.before(env.held.steps.thread(), line);
         let left = advance(
-            alloc, env, &mut names, marker, region, board, turns, command,
+            alloc,
+            env,
+            &mut names,
+            marker,
+            region,
+            words.as_slice(),
+            board,
+            turns,
+            command,
         );
         hold.after(env.held.steps.thread(), line);
         let Left {
@@ -129,7 +142,7 @@ pub fn run_thread<S: Steps, B: Board<S>, H: Hold>(
             answer,
         } = left;
         region = stands;
-        let Ok(()) = record(alloc, &mut names, line, command, answer, out) else {
+        let Ok(()) = record(alloc, &mut names, &mut words, line, command, answer, out) else {
             end(env, region);
             return Err(Fault::Memory);
         };

@@ -38,5 +38,6 @@ pub(crate) fn can_be_run(script: &Script) -> bool
     let parts = script.threads.as_slice();
     parts.len() == script.config.threads as usize
         && script.config.in_limits()
+        && script.posts_once()
         && are_numbered(parts)
 }

@@ -5,9 +5,8 @@ ghost use Rattle.jr_word.specs.declared.fault.Fault.TheVariants.{Memory, Size};
 ghost use Rattle.jr_word.specs.Config.{in_limits};
 ghost use Rattle.jr_scripts.specs.Runs.{IsRun, IsSingle, RunsSingle};
 
-use crate::board::Posts;
 use crate::hold::NoHold;
-use crate::notes::Notes;
+use crate::nobody::Nobody;
 use crate::opening::opened_env;
 use crate::printed::{ending, heading};
 use crate::to_end::run_to_end;
@@ -37,24 +36,16 @@ fn run_part(alloc: Global, config: Config, part: &ThreadPart, turns: u64) -> Res
     let steps = PlainSteps::<LAST_SERIAL>::new(alloc, config)?;
     let mut env = opened_env(steps);
     let commands = part.commands.as_slice();
-    let mut posts = Posts::<()>::new(alloc);
-    let Ok(()) = posts.add(commands) else {
-        return Err(Fault::Memory);
-    };
-    let mut notes = Notes::new(alloc, &posts);
     run_to_end(
         alloc,
         &mut env,
         FIRST_COMMAND,
         commands,
-        &mut notes,
+        &mut Nobody,
         &NoHold,
         turns,
         &mut text,
     )?;
-    if notes.is_lost {
-        return Err(Fault::Memory);
-    }
     let summary = env.held.steps.summary();
     let end = ending(alloc, summary).map_err(out_of_memory)?;
     text.extend_from_slice(&end).map_err(out_of_memory)?;
@@ -65,7 +56,7 @@ fn run_part(alloc: Global, config: Config, part: &ThreadPart, turns: u64) -> Res
 ///
 /// # Errors
 ///
-/// E17 exactly where the script has not one thread, or sizes outside the limits; E16 where memory was refused, or a name was posted twice, which no script does that was read.
+/// E17 exactly where the script has not one thread, sizes outside the limits, or a name that is posted twice; E16 where memory was refused.
 ///
 /// The output is as it was.
 pub fn run_one(alloc: Global, script: &Script, turns: u64, out: &mut Vec<u8>) -> Result<(), Fault>
@@ -78,7 +69,7 @@ pub fn run_one(alloc: Global, script: &Script, turns: u64, out: &mut Vec<u8>) ->
         return Err(Fault::Size);
     };
     let config = script.config;
-    if config.threads != 1 || !config.in_limits() {
+    if config.threads != 1 || !config.in_limits() || !script.posts_once() {
         return Err(Fault::Size);
     }
     let text = run_part(alloc, config, part, turns)?;

@@ -1,6 +1,6 @@
 //! Runs the commands of a thread, and what comes at its end.
 
-ghost use Rattle.std.specs.Prelude.{◌≡◌, ◌++◌, ◌+◌, ◌<◌, ◌^◌, List, ℕ, IfErr, length};
+ghost use Rattle.std.specs.Prelude.{◌≡◌, ◌++◌, ◌+◌, ◌<◌, ◌^◌, List, ℕ, [], IfErr, length};
 ghost use Rattle.jr_word.specs.declared.fault.Fault.TheVariants.{Memory};
 ghost use Rattle.jr_env.specs.Envs.{IsOutside};
 ghost use Rattle.jr_scripts.specs.Posting.{talk_of, Keeps};
@@ -32,6 +32,7 @@ fn run_with_marker<S: Steps, B: Board<S>, H: Hold>(
     requires lines { first + length commands.now < 2 ^ 64 }
     requires outside { IsOutside env.old }
     requires there { (B.tells board.old).serves (S.facts env.old.held.steps).stands.room }
+    requires follows { B.follows board.old [] }
     ensures explained { (text : List ℕ) × (out.new.items ≡ out.old.items ++ text) × RanThread env.old env.new (talk_of B.tells B.looked turns board.new) turns first commands.now result text }
     ensures kept { Keeps B.layout B.tells board.old board.new }
     ensures outside { IsOutside env.new }
@@ -73,6 +74,7 @@ pub fn run_to_end<S: Steps, B: Board<S>, H: Hold>(
     requires lines { first + length commands.now < 2 ^ 64 }
     requires outside { IsOutside env.old }
     requires there { (B.tells board.old).serves (S.facts env.old.held.steps).stands.room }
+    requires follows { B.follows board.old [] }
     ensures ended { (text : List ℕ) × (out.new.items ≡ out.old.items ++ text) × RanToEnd env.old env.new (talk_of B.tells B.looked turns board.new) turns first commands.now result text }
     ensures kept { Keeps B.layout B.tells board.old board.new }
     ensures outside { IsOutside env.new }

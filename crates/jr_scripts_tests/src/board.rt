@@ -102,13 +102,13 @@ fn posting_twice(alloc: Global) -> Result<Script, Fail> {
 }
 
 #[test]
-fn a_second_post_of_a_name_gives_the_run_up(rt: HostRuntime) -> Result<(), Fail> {
+fn a_script_that_posts_a_name_twice_is_not_run(rt: HostRuntime) -> Result<(), Fail> {
     let alloc = rt.alloc();
     let script = posting_twice(alloc)?;
     let mut out = Vec::from_slice(alloc, BEFORE)?;
     let answer = run_all(&rt, alloc, &script, &NoHold, TURNS, &mut out);
-    assert!(rt; answer == Err(Fault::Memory));
-    assert!(rt; run_one(alloc, &script, TURNS, &mut out) == Err(Fault::Memory));
+    assert!(rt; answer == Err(Fault::Size));
+    assert!(rt; run_one(alloc, &script, TURNS, &mut out) == Err(Fault::Size));
     assert!(rt; out.as_slice() == BEFORE);
     Ok(())
 }
@@ -135,6 +135,31 @@ fn a_wait_that_runs_out_of_turns_sets_no_name(rt: HostRuntime) -> Result<(), Fai
         b"vm threads 1 slots 4 objects 8 words 16 locals 16\nthread a\nwait never\ntype never\nint a 1\nwait a\ntype a\ncrit r a\nwait never\ncget r 0\nendcrit copy\ntype never\npost a\n",
         b"[a]\n3 ! E20\ntype never 0\n6 ! E20\ntype a 1\n9 ! E20\ncget r 0 0\ntype never 0\n[end]\nglobals 0 weaks 0 live 1 used 1\n",
     )
+}
+
+#[test]
+fn a_wait_hears_no_later_post(rt: HostRuntime) -> Result<(), Fail> {
+    prints(
+        &rt,
+        rt.alloc(),
+        b"vm threads 1 slots 1 objects 1 words 1 locals 16\nthread a\nwait a\npost a\nsame a null\nwait a\nsame a null\n",
+        b"[a]\n3 ! E20\n5 ! E2\nsame a null true\n[end]\nglobals 0 weaks 0 live 0 used 0\n",
+    )
+}
+
+#[test]
+fn the_first_of_two_threads_that_wait_for_each_other_hears_nothing(
+    rt: HostRuntime,
+) -> Result<(), Fail> {
+    let alloc = rt.alloc();
+    let script = parse(
+        alloc,
+        b"vm threads 2 slots 1 objects 1 words 1 locals 16\nthread a\nwait y\npost x\nthread b\nwait x\npost y\n",
+    )?;
+    let mut out = Vec::from_slice(alloc, BEFORE)?;
+    run_all(&rt, alloc, &script, &NoHold, TURNS, &mut out)?;
+    assert!(rt; out.starts_with(b"before\n[a]\n3 ! E20\n") || out.ends_with(b"[b]\n6 ! E20\n[end]\nglobals 0 weaks 0 live 0 used 0\n"));
+    Ok(())
 }
 
 #[test]

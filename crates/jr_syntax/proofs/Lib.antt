@@ -9,6 +9,7 @@ pub mod VmLaws
 pub mod ReadIsSpelled
 pub mod Rows
 pub mod Posts
+pub mod PostsOnce
 pub mod Steps
 pub mod Reading
 pub mod WithoutFault

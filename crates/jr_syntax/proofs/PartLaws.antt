@@ -13,7 +13,7 @@ or_assoc : (a b c : Bool) → ((a || b) || c) ≡ (a || (b || c))
 or_assoc true b c = refl
 or_assoc false b c = refl
 
-or_nothing : (a : Bool) → (a || false) ≡ a
+pub or_nothing : (a : Bool) → (a || false) ≡ a
 or_nothing true = refl
 or_nothing false = refl
 
@@ -29,11 +29,11 @@ any_names_one word p = or_nothing (bytes_eq word p.name)
 pub any_one : (word name : List ℕ) → list_any (bytes_eq word) (name ∷ []) ≡ bytes_eq word name
 any_one word name = or_nothing (bytes_eq word name)
 
-any_flat : {X Y : Type 0} (p : Y → Bool) (f : X → List Y) (xs : List X) → list_any p (flat_map f xs) ≡ list_any (λ x. list_any p (f x)) xs
+pub any_flat : {X Y : Type 0} (p : Y → Bool) (f : X → List Y) (xs : List X) → list_any p (flat_map f xs) ≡ list_any (λ x. list_any p (f x)) xs
 any_flat p f [] = refl
 any_flat p f (x ∷ xs) = list_any-append p (f x) (flat_map f xs) ∙ ap (λ b. list_any p (f x) || b) (any_flat p f xs)
 
-posts_each : (word : List ℕ) (ps : List ThreadPart) → list_any (bytes_eq word) (posts_of ps) ≡ list_any (λ p. list_any (λ c. list_any (bytes_eq word) (posted c)) p.commands) ps
+pub posts_each : (word : List ℕ) (ps : List ThreadPart) → list_any (bytes_eq word) (posts_of ps) ≡ list_any (λ p. list_any (λ c. list_any (bytes_eq word) (posted c)) p.commands) ps
 posts_each word [] = refl
 posts_each word (p ∷ ps) = list_any-append (bytes_eq word) (flat_map posted p.commands) (posts_of ps) ∙ rw (any_flat (bytes_eq word) posted p.commands, posts_each word ps) refl
 

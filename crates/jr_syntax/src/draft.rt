@@ -245,13 +245,13 @@ fn posts(command: &Command, word: &[u8]) -> bool
     }
 }
 
-fn any_posts(commands: &[Command], word: &[u8]) -> bool
+pub(crate) fn any_posts(commands: &[Command], word: &[u8]) -> bool
     ensures { result ≡ list_any (λ c. list_any (bytes_eq word.now) (posted c)) commands.now }
 {
     commands.iter().any(|command| posts(command, word))
 }
 
-fn any_part_posts(parts: &[ThreadPart], word: &[u8]) -> bool
+pub(crate) fn any_part_posts(parts: &[ThreadPart], word: &[u8]) -> bool
     ensures { result ≡ list_any (λ p. list_any (λ c. list_any (bytes_eq word.now) (posted c)) p.commands) parts.now }
 {
     parts

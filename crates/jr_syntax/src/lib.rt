@@ -10,6 +10,7 @@ mod line;
 mod mode;
 mod name;
 mod number;
+mod once;
 mod reader;
 mod script;
 mod sequence;

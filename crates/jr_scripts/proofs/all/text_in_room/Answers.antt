@@ -39,10 +39,11 @@ returns-clause-ok g c =
     let end : c.in_ok-end.end.items ≡ ending c.closed.result = search rules in
     let last : c.extend_from_slice.new.self.items ≡ c.in_ok-passes.text.items ++ c.in_ok-end.end.items = search rules in
     let board = c.in_ok-passes.ensures.alike.board in
-    together board c.args.turns _ script c.args.room.row c.args.passes.items c.in_ok-jobs.jobs.items c.in_ok-passes.ensures.runs c.in_ok-passes.passes.items c.remove-first.result c.remove-first.new.self.items c.in_ok-passes.text.items c.extend_from_slice.new.self.items c.closed.result
-    c.requires.script.limits c.requires.script.one_each c.requires.opened
+    let rank = c.in_ok-passes.ensures.alike.rank in
+    together board rank c.args.turns _ script c.args.room.row c.args.passes.items c.in_ok-jobs.jobs.items c.in_ok-passes.ensures.runs c.in_ok-passes.passes.items c.remove-first.result c.remove-first.new.self.items c.in_ok-passes.text.items c.extend_from_slice.new.self.items c.closed.result
+    c.requires.script c.requires.opened
     (subst (λ qs. AreJobsOf c.args.turns 2 c.args.passes.items qs c.in_ok-jobs.jobs.items) parts c.in_ok-jobs.ensures.ok)
-    (all_said board c.in_ok-jobs.jobs.items c.in_ok-passes.ensures.runs c.in_ok-passes.ensures.ran.each c.in_ok-passes.ensures.alike.noted)
+    (all_said board rank c.in_ok-jobs.jobs.items c.in_ok-passes.ensures.runs c.in_ok-passes.ensures.ran.each c.in_ok-passes.ensures.alike.noted)
     (subst (λ qs. IsOfPosts (commands_of qs) board) parts (of_posts _ c.in_ok-board.board.numbers.entries board c.in_ok-board.ensures.ok c.in_ok-passes.ensures.alike.named))
     (subst (λ qs. AreTold qs c.in_ok-passes.ensures.runs c.in_ok-passes.passes.items c.in_ok-passes.text.items) parts c.in_ok-passes.ensures.alike.told)
     is c.closed.ensures (last ∙ ap (λ e. c.in_ok-passes.text.items ++ e) end)

@@ -1,10 +1,6 @@
-use Rattle.std.proofs.Common.{◌≡◌, ◌++◌, ℕ, List, [], rules, ap, refl, subst, ◌∙◌}
+use Rattle.std.proofs.Common.{◌≡◌, ◌++◌, rules, ap, ◌∙◌}
 use Rattle.jr_scripts.specs.Text.{heading, ending}
-use Rattle.jr_scripts.specs.Layouts.{Layout, layout_of}
-use Rattle.jr_scripts.specs.Noting.{posted_noted, the_word}
-use Rattle.jr_scripts.specs.Posted.{AddsPosted}
-use Rattle.jr_scripts.proofs.NamedCells.{noted_numbered, of_posts}
-use Rattle.jr_scripts.proofs.Noted.{noted_word}
+use Rattle.jr_scripts.proofs.Speaking.{carried}
 use Rattle.jr_scripts.proofs.ToEnd.{ran_still}
 use Rattle.jr_scripts.proofs.WholeRun.{plain_run}
 use Rattle.jr_scripts.proofs.single.run_part.Goals as goal
@@ -17,11 +13,5 @@ returns-clause-ok c =
     let end : c.in_ok-end.end.items ≡ ending c.summary-summary.result = search rules in
     let last : c.extend_from_slice.new.self.items ≡ c.run_to_end.new.out.items ++ c.in_ok-end.end.items = search rules in
     let whole : c.extend_from_slice.new.self.items ≡ heading c.args.part.now.name ++ x.0 ++ ending c.summary-summary.result = last ∙ (ap (λ l. l ++ c.in_ok-end.end.items) (x.1 ∙ ap (λ h. h ++ x.0) head) ∙ ap (λ e. heading c.args.part.now.name ++ x.0 ++ e) end) in
-    let said = c.run_to_end.new.board.posts.now.numbers.entries in
-    let numbers = c.add.new.self.numbers.entries in
-    let board = λ (n : List ℕ). the_word (posted_noted said c.run_to_end.new.board.notes.items n) in
-    let same : said ≡ numbers = ap (λ (l : Layout). l.numbers) (c.run_to_end.ensures.kept.same ∙ ap layout_of c.new-notes.ensures) in
-    let given : AddsPosted c.as_slice-commands.result.now c.new-posts.result.numbers.entries numbers = search rules in
-    let adds : AddsPosted c.args.part.now.commands [] numbers = subst (λ cs. AddsPosted cs [] numbers) c.as_slice-commands.ensures (subst (λ z. AddsPosted c.as_slice-commands.result.now z numbers) c.new-posts.ensures given) in
-    plain_run board c.args.turns c.args.config c.args.part.now x.0 c.extend_from_slice.new.self.items c.summary-summary.result made c.requires.one
-    c.in_ok-steps.ensures.opened c.opened_env-env.ensures.steps c.opened_env-env.ensures.frames (search rules) (search rules) (ran_still (record { posted = λ n w h t. noted_word (search rules) t; heard = λ n w h t. noted_word (search rules) t; in_vain = λ n v. tt }) x.2) c.summary-summary.ensures whole (of_posts c.args.part.now.commands numbers board adds (noted_numbered said numbers c.run_to_end.new.board.notes.items the_word refl same))
+    plain_run c.args.turns c.args.config c.args.part.now x.0 c.extend_from_slice.new.self.items c.summary-summary.result made c.requires.one
+    c.in_ok-steps.ensures.opened c.opened_env-env.ensures.steps c.opened_env-env.ensures.frames (search rules) (search rules) (ran_still (carried _ _ _ _ _ _ (λ words n w h t. tt) (λ n w h t. t) (λ n v. tt)) x.2) c.summary-summary.ensures whole
