@@ -32,11 +32,7 @@ fn blank<'a, T>(alloc: Global, count: usize) -> Result<Vec<Option<Note<'a, T>>>,
 }
 
 /// The note of what is posted now at a number; none where it isn't, as where something stands there.
-fn posted<'a, T: Drop>(
-    posts: &'a Posts<T>,
-    number: usize,
-    what: Posted<T>,
-) -> Option<Note<'a, T>>
+fn posted<'a, T: Drop>(posts: &'a Posts<T>, number: usize, what: Posted<T>) -> Option<Note<'a, T>>
     requires { number < length posts.now.cells.items }
     ensures { IfSome result (λ note. (note.token.of ≡ cell_at posts.now.cells.items number) × (note.token.value ≡ what)) }
 {

@@ -158,7 +158,10 @@ fn the_first_of_two_threads_that_wait_for_each_other_hears_nothing(
     )?;
     let mut out = Vec::from_slice(alloc, BEFORE)?;
     run_all(&rt, alloc, &script, &NoHold, TURNS, &mut out)?;
-    assert!(rt; out.starts_with(b"before\n[a]\n3 ! E20\n") || out.ends_with(b"[b]\n6 ! E20\n[end]\nglobals 0 weaks 0 live 0 used 0\n"));
+    assert!(rt;
+        out.starts_with(b"before\n[a]\n3 ! E20\n")
+            || out.ends_with(b"[b]\n6 ! E20\n[end]\nglobals 0 weaks 0 live 0 used 0\n")
+    );
     Ok(())
 }
 
