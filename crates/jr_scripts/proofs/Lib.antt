@@ -34,8 +34,6 @@ pub mod OneOfAll
 pub mod AllTogether
 pub mod JobLists
 pub mod Lines
-pub mod ReadScripts
-pub mod FoundWords
 pub mod LoneWords
 pub mod LoneRun
 pub mod GivenUpLevels
