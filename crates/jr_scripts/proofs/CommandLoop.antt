@@ -53,10 +53,10 @@ place_next c answer names between names' region left changed set levels objects 
     place n l o = record { names = n; levels = l; objects = o }
 
 -- what holds of the words behind a command holds of those that are kept
-pub followed : (c : Command) (names between names' : Names) (answer : Result Reply Fault) (words words' : Words) (number : ℕ) (out out' : List ℕ) (r : Result (Unit {0}) AllocError) (so : Words → Type 0) → between ≡ buffers_after c answer names → WritesDown number c answer between names' words words' r out out' → r ≡ Ok tt → so (words_after names c answer words) → so words'
-followed c names between names' answer words words' number out out' r so changed kept good held =
+pub followed : (c : Command) (names between names' : Names) (answer : Result Reply Fault) (had words words' : Words) (number : ℕ) (out out' : List ℕ) (r : Result (Unit {0}) AllocError) (so : Words → Type 0) → had ≡ words → between ≡ buffers_after c answer names → WritesDown number c answer between names' words words' r out out' → r ≡ Ok tt → so (words_after names c answer had) → so words'
+followed c names between names' answer had words words' number out out' r so same changed kept good held =
     let w : WritesDown number c answer between names' words words' (Ok tt) out out' = subst (λ z. WritesDown number c answer between names' words words' z out out') good kept in
-    subst so (sym (w.1 ∙ words_same names between c answer words changed)) held
+    subst so (sym (w.1 ∙ (words_same names between c answer words changed ∙ ap (words_after names c answer) (sym same)))) held
 
 module _ {S : Type 0} {facts : S → Facts} where
   pub begun : (old : S) (f : Frames) (talk : Speech) (turns first : ℕ) (out : List ℕ) (names : Names) (words : Words) → (facts old).stands.role ≡ Outside → names ≡ no_names → words ≡ [] → Going facts old old f f talk turns first [] out out names words None
@@ -93,12 +93,18 @@ module _ {S : Type 0} {facts : S → Facts} where
     },
   )
 
-  module _ {old mid new : S} {f g h : Frames} {earlier talk : Speech} (carries : Carries earlier talk) (turns first : ℕ) (commands : List Command) (i : ℕ) (c : Command) (names between names' : Names) (words words' : Words) (region left : Option Region) {answer : Result Reply Fault} {out out' out'' : List ℕ} where
-    pub went_on : (r : Result (Unit {0}) AllocError) → i < length commands → get_or commands i c ≡ c → Going facts old mid f g earlier turns first (take i commands) out out' names words region
+  module _ {old mid new : S} {f g h : Frames} {earlier talk : Speech} (carries : Carries earlier talk) (turns first : ℕ) (commands : List Command) (i : ℕ) (c : Command) (names between names' : Names) (had words words' : Words) (same : had ≡ words) (region left : Option Region) {answer : Result Reply Fault} {out out' out'' : List ℕ} where
+    -- what it did, it did with these words
+    with_words : CarriedOut facts mid new g h (role_with left) (KnowsWith region g) (KnowsWith left h) (deed_spoken talk turns (place_with names region) had c) answer
         → CarriedOut facts mid new g h (role_with left) (KnowsWith region g) (KnowsWith left h) (deed_spoken talk turns (place_with names region) words c) answer
+    with_words does = subst (λ ws. CarriedOut facts mid new g h (role_with left) (KnowsWith region g) (KnowsWith left h) (deed_spoken talk turns (place_with names region) ws c) answer) same does
+
+    pub went_on : (r : Result (Unit {0}) AllocError) → i < length commands → get_or commands i c ≡ c → Going facts old mid f g earlier turns first (take i commands) out out' names words region
+        → CarriedOut facts mid new g h (role_with left) (KnowsWith region g) (KnowsWith left h) (deed_spoken talk turns (place_with names region) had c) answer
         → between ≡ buffers_after c answer names → level_names left ≡ levels_after c answer (level_names region) → objects_in left ≡ objects_after c answer (objects_in region) → WritesDown (first + i) c answer between names' words words' r out' out'' → r ≡ Ok tt
         → Going facts old new f h talk turns first (take (i + 1) commands) out out'' names' words' left
-    went_on r small is d does changed levels objects kept good =
+    went_on r small is d done changed levels objects kept good =
+        let does = with_words done in
         let w : WritesDown (first + i) c answer between names' words words' (Ok tt) out' out'' = subst (λ r. WritesDown (first + i) c answer between names' words words' r out' out'') good kept in
         let next : suc i ≡ i + 1 = omega arith in
         let count : length (take i commands) ≡ i = length-take-le i commands (omega arith) in
@@ -122,11 +128,12 @@ module _ {S : Type 0} {facts : S → Facts} where
         }
 
     pub cut_off : {last : S} {j : Frames} (r : Result (Unit {0}) AllocError) (e : AllocError) → (facts old).stands.role ≡ Outside → i < length commands → get_or commands i c ≡ c → Going facts old mid f g earlier turns first (take i commands) out out' names words region
-        → CarriedOut facts mid new g h (role_with left) (KnowsWith region g) (KnowsWith left h) (deed_spoken talk turns (place_with names region) words c) answer
+        → CarriedOut facts mid new g h (role_with left) (KnowsWith region g) (KnowsWith left h) (deed_spoken talk turns (place_with names region) had c) answer
         → objects_in left ≡ objects_after c answer (objects_in region) → WritesDown (first + i) c answer between names' words words' r out' out'' → r ≡ Err e
         → CarriedOut facts new last h j Outside (KnowsWith left h) (Holds j) (giving_up_all (objects_in left)) (Ok tt)
         → (text : List ℕ) × (out'' ≡ out ++ text) × DoesDeed facts old last f j (running talk turns first commands text) (Err fault.Memory)
-    cut_off {last} {j} r e outside small is d does objects kept bad ended =
+    cut_off {last} {j} r e outside small is d done objects kept bad ended =
+        let does = with_words done in
         let w : WritesDown (first + i) c answer between names' words words' (Err e) out' out'' = subst (λ r. WritesDown (first + i) c answer between names' words words' r out' out'') bad kept in (
           d.text,
           w ∙ d.grew,
