@@ -80,11 +80,7 @@ fn taken_back<Q: Site>(steps: StepsOver<RoomCells, InRoom<'_, Q>>) -> Pass
 }
 
 /// Runs the native code in the site's thread.
-fn run_at<Q: Site, N: NativeCode>(
-    room: &Room<LAST>,
-    native: &N,
-    pass: Pass,
-) -> Ended<N::Answer>
+fn run_at<Q: Site, N: NativeCode>(room: &Room<LAST>, native: &N, pass: Pass) -> Ended<N::Answer>
     requires pass { IsOpened room.now.row pass }
     requires site { IsSiteOf Q.room Q.sizes Q.thread room.now pass }
     ensures { IsPassOf Q.room Q.sizes Q.thread result.pass × (result.pass.role ≡ Outside) }
