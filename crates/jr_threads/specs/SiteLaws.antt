@@ -1,7 +1,7 @@
 -- That a seat is at its site is one fact, and each step keeps it.
-use Rattle.std.specs.Prelude.{◌≡◌, ℕ, Option, Some}
+use Rattle.std.specs.Prelude.{◌≡◌, ℕ, Option}
 use Rattle.std.proofs.Props.{props}
-use Rattle.std.proofs.Common.{sym, ap, ◌∙◌}
+use Rattle.std.proofs.Common.{ap, ◌∙◌}
 use Rattle.atomic_table.specs.Seated.{TableId}
 use Rattle.jr_word.specs.declared.config.Config.{Config}
 use Rattle.jr_steps.specs.Knowing.{Standing}

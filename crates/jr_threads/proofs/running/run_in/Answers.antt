@@ -1,4 +1,4 @@
-use Rattle.std.proofs.Common.{◌≡◌, ◌<◌, ◌∷◌, length, rules, sym, subst}
+use Rattle.std.proofs.Common.{◌<◌, ◌∷◌, length, rules, subst}
 use Rattle.jr_threads.proofs.Passes.{each_has, each_out, first_at, others_at, some_left, taken}
 use Rattle.jr_threads.specs.Sites.{AreBack}
 use Rattle.jr_threads.proofs.running.run_in.Goals as goal

@@ -1,6 +1,4 @@
-use Rattle.std.proofs.Common.{◌≡◌, ◌≤◌, ℕ, rules, subst, sym, length}
-use Rattle.jr_word.specs.declared.config.Config.{Config}
-use Rattle.jr_threads.specs.Sites.{IsClosedBehind}
+use Rattle.std.proofs.Common.{◌≡◌, ◌≤◌, rules, subst, sym, length}
 use Rattle.jr_threads.proofs.Passes.{opened_so, passes_long, some_thread}
 use Rattle.jr_threads.proofs.running.run_native.Goals as goal
 
