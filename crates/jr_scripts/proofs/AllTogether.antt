@@ -262,7 +262,7 @@ module _ {Q : Type 0} {G : Ghosts Q} (c : Config) (last : ℕ) (r : Row) (turns 
   each_out = subst (AllByRecursion (λ (p : Pass). p.role ≡ Outside)) is all_out.0
 
   pub each_has : HasEachPass r.config (map known_of (q ∷ others))
-  each_has t l = has_counted 0 c.threads t (omega arith) (subst (λ (d : Config). t < d.threads) o.same_config l) (map known_of (q ∷ others))
+  each_has t l = let low : t < c.threads = subst (λ (d : Config). t < d.threads) o.same_config l in has_counted 0 c.threads t (omega arith) (omega arith) (map known_of (q ∷ others))
       (ap (λ zs. map (λ (k : Known). k.thread) (map known_of zs)) (sym is) ∙ (all_out.1 ∙ (o.threads ∙ numbers_counted c.threads)))
 
 module _ (board : List ℕ → Option (ℕ × History)) (rank : List ℕ → ℕ) (turns last : ℕ) (c : Config) (r : Row) (config_is : r.config ≡ c) (last_is : r.last ≡ last) where

@@ -93,18 +93,19 @@ module _ {S : Type 0} {facts : S → Facts} where
     },
   )
 
-  module _ {old mid new : S} {f g h : Frames} {earlier talk : Speech} (carries : Carries earlier talk) (turns first : ℕ) (commands : List Command) (i : ℕ) (c : Command) (names between names' : Names) (had words words' : Words) (same : had ≡ words) (region left : Option Region) {answer : Result Reply Fault} {out out' out'' : List ℕ} where
-    -- what it did, it did with these words
-    with_words : CarriedOut facts mid new g h (role_with left) (KnowsWith region g) (KnowsWith left h) (deed_spoken talk turns (place_with names region) had c) answer
-        → CarriedOut facts mid new g h (role_with left) (KnowsWith region g) (KnowsWith left h) (deed_spoken talk turns (place_with names region) words c) answer
-    with_words does = subst (λ ws. CarriedOut facts mid new g h (role_with left) (KnowsWith region g) (KnowsWith left h) (deed_spoken talk turns (place_with names region) ws c) answer) same does
+  -- what was done with these words was done with those
+  with_words : {mid new : S} {g h : Frames} (talk : Speech) (turns : ℕ) (c : Command) (names : Names) (had words : Words) (region left : Option Region) {answer : Result Reply Fault} → had ≡ words
+      → CarriedOut facts mid new g h (role_with left) (KnowsWith region g) (KnowsWith left h) (deed_spoken talk turns (place_with names region) had c) answer
+      → CarriedOut facts mid new g h (role_with left) (KnowsWith region g) (KnowsWith left h) (deed_spoken talk turns (place_with names region) words c) answer
+  with_words {mid} {new} {g} {h} talk turns c names had words region left {answer} same does = subst (λ ws. CarriedOut facts mid new g h (role_with left) (KnowsWith region g) (KnowsWith left h) (deed_spoken talk turns (place_with names region) ws c) answer) same does
 
+  module _ {old mid new : S} {f g h : Frames} {earlier talk : Speech} (carries : Carries earlier talk) (turns first : ℕ) (commands : List Command) (i : ℕ) (c : Command) (names between names' : Names) (had words words' : Words) (same : had ≡ words) (region left : Option Region) {answer : Result Reply Fault} {out out' out'' : List ℕ} where
     pub went_on : (r : Result (Unit {0}) AllocError) → i < length commands → get_or commands i c ≡ c → Going facts old mid f g earlier turns first (take i commands) out out' names words region
         → CarriedOut facts mid new g h (role_with left) (KnowsWith region g) (KnowsWith left h) (deed_spoken talk turns (place_with names region) had c) answer
         → between ≡ buffers_after c answer names → level_names left ≡ levels_after c answer (level_names region) → objects_in left ≡ objects_after c answer (objects_in region) → WritesDown (first + i) c answer between names' words words' r out' out'' → r ≡ Ok tt
         → Going facts old new f h talk turns first (take (i + 1) commands) out out'' names' words' left
     went_on r small is d done changed levels objects kept good =
-        let does = with_words done in
+        let does = with_words talk turns c names had words region left same done in
         let w : WritesDown (first + i) c answer between names' words words' (Ok tt) out' out'' = subst (λ r. WritesDown (first + i) c answer between names' words words' r out' out'') good kept in
         let next : suc i ≡ i + 1 = omega arith in
         let count : length (take i commands) ≡ i = length-take-le i commands (omega arith) in
@@ -133,7 +134,7 @@ module _ {S : Type 0} {facts : S → Facts} where
         → CarriedOut facts new last h j Outside (KnowsWith left h) (Holds j) (giving_up_all (objects_in left)) (Ok tt)
         → (text : List ℕ) × (out'' ≡ out ++ text) × DoesDeed facts old last f j (running talk turns first commands text) (Err fault.Memory)
     cut_off {last} {j} r e outside small is d done objects kept bad ended =
-        let does = with_words done in
+        let does = with_words talk turns c names had words region left same done in
         let w : WritesDown (first + i) c answer between names' words words' (Err e) out' out'' = subst (λ r. WritesDown (first + i) c answer between names' words words' r out' out'') bad kept in (
           d.text,
           w ∙ d.grew,
