@@ -115,7 +115,7 @@ own_is Announcing = refl
 own_is Collecting = refl
 
 module _ (c : Config) (last : ℕ) where
-  beyond_after : (s : State) (e : Event) → ((t : ℕ) → c.threads ≤ t → s.role t ≡ Outside) → Needs c last s e → (t : ℕ) → c.threads ≤ t → (after s e).role t ≡ Outside
+  pub beyond_after : (s : State) (e : Event) → ((t : ℕ) → c.threads ≤ t → s.role t ≡ Outside) → Needs c last s e → (t : ℕ) → c.threads ≤ t → (after s e).role t ≡ Outside
   beyond_after s e i n t l =
       let apart : e.thread ≢ t = λ z. absurd (let small = n.0 in omega arith) in
       role_step s e.thread e.act t ∙ (ap (λ b. cond b (role_after (s.role t) e.act) (s.role t)) (eq_other e.thread t apart) ∙ i t l)

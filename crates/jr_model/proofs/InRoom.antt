@@ -19,7 +19,7 @@ pub record IsInRoom (c : Config) (s : State) : Type 0 where
   pub cleared : (h : Handle) → s.refs h ≡ Cleared → h.kind ≡ Weak
 
 module _ (c : Config) (last : ℕ) where
-  in_room_act : (s : State) (t : ℕ) (a : Act) → t < c.threads → IsInRoom c s → ActNeeds c last s t a → IsInRoom c (act_after s t a)
+  pub in_room_act : (s : State) (t : ℕ) (a : Act) → t < c.threads → IsInRoom c s → ActNeeds c last s t a → IsInRoom c (act_after s t a)
   in_room_act s t (Create h o) l i n = record {
     objects = i.objects;
     locals = i.locals;
@@ -74,7 +74,7 @@ module _ (c : Config) (last : ℕ) where
   }
   in_room_act s t _ l i n = record { objects = i.objects; locals = i.locals; cleared = i.cleared }
 
-  in_room_opening : IsInRoom c opening
+  pub in_room_opening : IsInRoom c opening
   in_room_opening = record { objects = λ o h. absurd cc; locals = λ t p o e. absurd cc; cleared = λ h e. absurd cc }
 
   -- what stands after a legal history lies in the room

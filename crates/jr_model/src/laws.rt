@@ -30,6 +30,8 @@ ghost use Rattle.jr_model.specs.Laws.{
   FreshAreSound,
   CollectionIsExact,
   LegalGoesByStep,
+  LegalIsDecided,
+  EventIsDecided,
   SeesItsOwnActs,
   ReleaseLeaves,
   FramesStaySound,
@@ -40,6 +42,12 @@ ghost use Rattle.jr_model.specs.Laws.{
 /// A history is legal where its events are steps, one after the other, from the opening state.
 pub fn legal_histories_go_by_steps()
     ensures { (c : Config) (last : ℕ) → LegalGoesByStep c last }
+{}
+
+/// Whether a history is legal, and whether an event may come behind a legal one, is what a test of what stands tells: the machine runs.
+pub fn legality_is_decided()
+    ensures legal { (c : Config) (last : ℕ) → LegalIsDecided c last }
+    ensures event { (c : Config) (last : ℕ) → EventIsDecided c last }
 {}
 
 /// Where a thread did all that it has seen, as over plain words, it has seen since an earlier moment just the acts that it did since: nothing else happened in between.
