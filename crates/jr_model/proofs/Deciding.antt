@@ -273,3 +273,10 @@ module _ (c : Config) (last : ℕ) where
 
   pub event_is : EventIsDecided c last
   event_is es e l = may_is c (given_from [] es) (state es) (within es l) last e
+
+  -- where no given handle stands, none does
+  pub standing_none : (es : History) → IsLegal c last es → not (list_any (λ h. is_there ((state es).refs h)) (given_from [] es)) ≡ true → (h : Handle) → is_there ((state es).refs h) ≡ false
+  standing_none es l none h = not_true _ (λ there.
+      let ne = (there_is ((state es).refs h)).0 there in
+      (Decides-not (list_any (λ h. is_there ((state es).refs h)) (given_from [] es)) (any_of same_handle same_handle_is {P = λ h. (state es).refs h ≢ Stale} (λ h. is_there ((state es).refs h)) (λ h. there_is ((state es).refs h)) (given_from [] es))).0 none
+      (h, listed c (given_from [] es) (state es) (within es l) h ne, ne))

@@ -44,10 +44,12 @@ type_g_again = by 0 (Gate Enter) ∷ by 0 (Look g Stale) ∷ by 0 (Gate Leave) �
 abbrev pub free_p : History
 free_p = by 0 (Gate Enter) ∷ by 0 (LocalDrop 0) ∷ by 0 (Gate Leave) ∷ []
 
+abbrev pub reference_dropped : History
+reference_dropped = plain_p ++ global_g ++ type_g ++ drop_g ++ type_g_again ++ free_p
+
 -- an object and a global reference to it, which is found, dropped and then stale; at the end the object is left
 abbrev pub DropIsLegal : Type 0
-DropIsLegal = let es = plain_p ++ global_g ++ type_g ++ drop_g ++ type_g_again ++ free_p in
-    IsLegal one_thread last_serial es × (summary one_thread last_serial (state es) ≡ counts 0 0 1 0)
+DropIsLegal = IsLegal one_thread last_serial reference_dropped × (summary one_thread last_serial (state reference_dropped) ≡ counts 0 0 1 0)
 
 -- a look that finds the dropped reference is not legal
 abbrev pub FindingDroppedIsIllegal : Type 0
@@ -62,12 +64,13 @@ CreatingBesideIsIllegal = (t o : ℕ) (h : Handle) → h.index ≡ 0 → ¬ (IsL
 abbrev pub two_threads : Config
 two_threads = record { threads = 2; slots = 4; objects = 8; words = 8; locals = 16 }
 
--- thread 1 can't shut the gate while thread 0 is inside; then it shuts it, and thread 0 can neither enter nor shut it; a room that is closed meanwhile would have one thread inside; then the gate is opened, and the room is empty
+-- thread 1 can't shut the gate while thread 0 is inside; then it shuts it, and thread 0 can neither enter nor shut it; then the gate is opened
+abbrev pub gate_passed : History
+gate_passed = by 0 (Gate Enter) ∷ by 1 (ShutBusy 1) ∷ by 0 (Gate Leave) ∷ by 1 (Gate Shut) ∷ by 0 (Gate Knock) ∷ by 0 (Gate Withdraw) ∷ by 0 (ShutBusy 1) ∷ by 0 Meet ∷ by 1 (Gate Reopen) ∷ by 0 Meet ∷ []
+
+-- this is legal, and the room is empty
 abbrev pub GateIsLegal : Type 0
-GateIsLegal =
-    let shut = by 0 (Gate Enter) ∷ by 1 (ShutBusy 1) ∷ by 0 (Gate Leave) ∷ by 1 (Gate Shut) ∷ by 0 (Gate Knock) ∷ by 0 (Gate Withdraw) ∷ by 0 (ShutBusy 1) ∷ by 0 Meet ∷ [] in
-    let es = shut ++ by 1 (Gate Reopen) ∷ by 0 Meet ∷ [] in
-    IsLegal two_threads last_serial es × (summary two_threads last_serial (state es) ≡ counts 0 0 0 0)
+GateIsLegal = IsLegal two_threads last_serial gate_passed × (summary two_threads last_serial (state gate_passed) ≡ counts 0 0 0 0)
 
 -- a refused shut that counts another number than that of the threads inside is not legal
 abbrev pub WrongCountIsIllegal : Type 0
@@ -106,10 +109,12 @@ gate_shut_at_last = by 1 (Gate Shut) ∷ by 0 (Gate Knock) ∷ by 0 (Gate Withdr
 abbrev pub gate_cancelled : History
 gate_cancelled = by 1 (Gate Announce) ∷ by 1 (Gate Cancel) ∷ by 0 (Gate Enter) ∷ by 0 (Gate Leave) ∷ []
 
+abbrev pub gate_twice_announced : History
+gate_twice_announced = gate_announced ++ gate_counted ++ gate_shut_at_last ++ gate_cancelled
+
 -- all of this is legal, and the room is empty at the end
 abbrev pub AnnouncingIsLegal : Type 0
-AnnouncingIsLegal = let es = gate_announced ++ gate_counted ++ gate_shut_at_last ++ gate_cancelled in
-    IsLegal three_threads last_serial es × (summary three_threads last_serial (state es) ≡ counts 0 0 0 0)
+AnnouncingIsLegal = IsLegal three_threads last_serial gate_twice_announced × (summary three_threads last_serial (state gate_twice_announced) ≡ counts 0 0 0 0)
 
 -- an entry behind another thread's announcement is not legal
 abbrev pub EnteringAnnouncedIsIllegal : Type 0
@@ -153,12 +158,17 @@ FourthIsIllegal = (t o : ℕ) (h : Handle) → ¬ (IsLegal one_slot 2 (thrice ++
 
 -- SPACE, READS AND WRITES OF TWO THREADS
 
--- an array of three ints is made and written; six words more find no room beside the three; two words more do, and thread 1, which looked before, loses its reservation
+-- an array of three ints is made and written
+abbrev pub space_used : History
+space_used = by 0 (Gate Enter) ∷ by 1 (Gate Enter) ∷ by 0 (Reserve 3) ∷ by 0 (New 1 Int (0 ∷ 0 ∷ 0 ∷ [])) ∷ by 0 (Write 1 2 7) ∷ by 0 (Read 1 2 7) ∷ []
+
+-- six words more find no room beside the three; two words more do, and thread 1, which looked before, loses its reservation
+abbrev pub space_contended : History
+space_contended = space_used ++ by 0 (ReserveFull 6 3) ∷ by 0 (Reserve 2) ∷ by 1 (ReserveLost 1 3 5) ∷ by 0 (New 2 Plain []) ∷ by 0 (Gate Leave) ∷ by 1 (Gate Leave) ∷ []
+
+-- all of this is legal
 abbrev pub SpaceIsLegal : Type 0
-SpaceIsLegal =
-    let made = by 0 (Gate Enter) ∷ by 1 (Gate Enter) ∷ by 0 (Reserve 3) ∷ by 0 (New 1 Int (0 ∷ 0 ∷ 0 ∷ [])) ∷ by 0 (Write 1 2 7) ∷ by 0 (Read 1 2 7) ∷ [] in
-    let es = made ++ by 0 (ReserveFull 6 3) ∷ by 0 (Reserve 2) ∷ by 1 (ReserveLost 1 3 5) ∷ by 0 (New 2 Plain []) ∷ by 0 (Gate Leave) ∷ by 1 (Gate Leave) ∷ [] in
-    IsLegal two_threads last_serial es × (summary two_threads last_serial (state es) ≡ counts 0 0 2 5)
+SpaceIsLegal = IsLegal two_threads last_serial space_contended × (summary two_threads last_serial (state space_contended) ≡ counts 0 0 2 5)
 
 -- to refuse words that fit beside the three is not legal
 abbrev pub RefusingWhatFitsIsIllegal : Type 0

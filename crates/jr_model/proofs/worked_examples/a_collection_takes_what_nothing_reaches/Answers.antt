@@ -1,4 +1,4 @@
-use Rattle.jr_model.proofs.CollectionExamples.{collection_is_legal, collecting_reached_is_illegal}
+use Rattle.jr_model.proofs.WorkedExamples.{collection_is_legal, collecting_reached_is_illegal}
 use Rattle.jr_model.proofs.worked_examples.a_collection_takes_what_nothing_reaches.Goals as goal
 
 pub returns-clause-legal : goal.returns-clause-legal
