@@ -27,7 +27,8 @@ illegal : (c : Config) (last : ℕ) (es : History) → is_legal c last es ≡ fa
 illegal c last es e l = let is = (legal_is c last es).1 l in cc
 
 -- and where no reference stands, none is counted
-emptied : (c : Config) (last : ℕ) (es : History) → (is_legal c last es && not (list_any (λ h. is_there ((state es).refs h)) (given_from [] es))) ≡ true
+emptied : (c : Config) (last : ℕ) (es : History)
+    → (is_legal c last es && not (list_any (λ h. is_there ((state es).refs h)) (given_from [] es))) ≡ true
     → IsLegal c last es × (summary c last (state es) ≡ counts 0 0 (count_below (c.objects + 1) (λ o. is_some ((state es).objects o))) (state es).used)
 emptied c last es e = (l, counted (none Global) (none Weak))
   where
@@ -40,7 +41,8 @@ emptied c last es e = (l, counted (none Global) (none Weak))
     none : (k : RefKind) → references c last k (state es) ≡ 0
     none k =
         sum_same c.slots (λ i. 0) (λ i. count_below (last + 1) (λ n. is_there ((state es).refs (record { kind = k; serial = n; index = i; owner = 0 }))))
-        (λ i m. count_all_false (last + 1) (λ n. is_there ((state es).refs (record { kind = k; serial = n; index = i; owner = 0 }))) (λ n m. standing_none c last es l parts.1 (record { kind = k; serial = n; index = i; owner = 0 })))
+        (λ i m. count_all_false (last + 1) (λ n. is_there ((state es).refs (record { kind = k; serial = n; index = i; owner = 0 })))
+        (λ n m. standing_none c last es l parts.1 (record { kind = k; serial = n; index = i; owner = 0 })))
         ∙ sum_none c.slots
 
     counted : {a b n u : ℕ} → a ≡ 0 → b ≡ 0 → counts a b n u ≡ counts 0 0 n u

@@ -1,5 +1,5 @@
 -- THE MACHINE, RUN: whether an event may come, by tests of what stands within the room's bounds and of the handles that were given.
-use Rattle.std.specs.Prelude.{◌≡◌, ◌≢◌, ◌+◌, ◌<◌, ◌≤◌, ◌==◌, ◌&&◌, ◌||◌, ◌^◌, ℕ, zero, suc, min, Bool, true, false, not, if◌then◌else◌, nat_eq, nat_lt, nat_le, Option, Some, None, is_some, List, [], ◌∷◌, length, slice_get}
+use Rattle.std.specs.Prelude.{◌↔◌, ◌+◌, ◌==◌, ◌&&◌, ◌||◌, ◌^◌, ℕ, zero, suc, min, Bool, true, false, IsTrue, not, if◌then◌else◌, nat_eq, nat_lt, nat_le, Option, Some, None, is_some, List, [], ◌∷◌, length, slice_get}
 use Rattle.std.specs.List.{filter, list_any, list_all}
 use Rattle.jr_word.specs.declared.config.Config.{Config}
 use Rattle.jr_word.specs.declared.handle.RefKind.{RefKind}
@@ -16,8 +16,8 @@ use Rattle.jr_model.specs.declared.event.Act.TheVariants.{Gate, ShutBusy, Create
 use Rattle.jr_model.specs.declared.event.GateAct.{GateAct}
 use Rattle.jr_model.specs.declared.event.GateAct.TheVariants.{Enter, Knock, Leave, Withdraw, Announce, Cancel, Shut, Reopen}
 use Rattle.jr_model.specs.State.{Handle, same_kind, same_handle, Contents, State, opening, is_barring, is_outside, is_there, not_outside, present_words}
-use Rattle.jr_model.specs.Steps.{after}
-use Rattle.jr_model.specs.History.{History}
+use Rattle.jr_model.specs.Steps.{Needs, after}
+use Rattle.jr_model.specs.History.{History, state, IsLegal}
 
 -- the numbers below n
 abbrev pub below : ℕ → List ℕ
@@ -217,3 +217,11 @@ may_from c last given s (e ∷ es) = may c last given s e && may_from c last (gi
 -- whether the history is legal
 abbrev pub is_legal : Config → ℕ → History → Bool
 is_legal c last es = may_from c last [] opening es
+
+-- the test of a history tells whether it is legal
+abbrev pub LegalIsDecided : Config → ℕ → Type 0
+LegalIsDecided c last = (es : History) → IsTrue (is_legal c last es) ↔ IsLegal c last es
+
+-- and behind a legal history the test of an event tells whether it has what it needs
+abbrev pub EventIsDecided : Config → ℕ → Type 0
+EventIsDecided c last = (es : History) (e : Event) → IsLegal c last es → IsTrue (may c last (given_from [] es) (state es) e) ↔ Needs c last (state es) e

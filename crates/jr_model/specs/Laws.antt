@@ -1,5 +1,5 @@
 -- The laws of every legal history.
-use Rattle.std.specs.Prelude.{◌≡◌, ◌≢◌, ◌⊎◌, ◌≤◌, ℕ, true, false, IsTrue, Some, None, IsSome, List, [], ◌∷◌, ◌++◌, ◌↔◌, map, length}
+use Rattle.std.specs.Prelude.{◌≡◌, ◌≢◌, ◌⊎◌, ◌≤◌, ℕ, true, false, Some, None, IsSome, List, [], ◌∷◌, ◌++◌, ◌↔◌, map, length}
 use Rattle.std.specs.List.{AllByRecursion}
 use Rattle.jr_word.specs.declared.config.Config.{Config}
 use Rattle.jr_word.specs.declared.kind.Kind.TheVariants.{Plain, Objects}
@@ -10,10 +10,9 @@ use Rattle.jr_model.specs.declared.event.Act.TheVariants.{Gate, Create, Look, De
 use Rattle.jr_model.specs.declared.event.GateAct.TheVariants.{Shut, Reopen}
 use Rattle.jr_model.specs.declared.event.Event.{Event}
 use Rattle.jr_model.specs.declared.frames.Mode.{Mode}
-use Rattle.jr_model.specs.Steps.{Needs, Step}
+use Rattle.jr_model.specs.Steps.{Step}
 use Rattle.jr_model.specs.State.{Contents, State, Handle, same_handle, IsPresent, NobodyCollects, AreWords, IsClosed, present_words}
 use Rattle.jr_model.specs.History.{History, by, state, state_from, IsLegal, mine, is_collection_step, is_waiting, IsStay, IsCollection, IsLastWord, PassView, Did}
-use Rattle.jr_model.specs.Decided.{may, given_from, is_legal}
 use Rattle.jr_model.specs.declared.event.Act.{Act}
 use Rattle.jr_model.specs.declared.frames.LocalRef.{LocalRef}
 use Rattle.jr_model.specs.Frames.{Frames, IsAdded, IsMove, LeadsTo, AreSound, Agree, fresh_frames, object_where, object_of, object_at, last_frame, without_local, popped, freed}
@@ -24,14 +23,6 @@ use Rattle.jr_model.specs.Releases.{released, release_acts}
 abbrev pub LegalGoesByStep : Config → ℕ → Type 0
 LegalGoesByStep c last = IsLegal c last []
     × ((es : History) (e : Event) → IsLegal c last (es ++ e ∷ []) ↔ IsLegal c last es × Step c last (state es) e (state (es ++ e ∷ [])))
-
--- the test of a history tells whether it is legal
-abbrev pub LegalIsDecided : Config → ℕ → Type 0
-LegalIsDecided c last = (es : History) → IsTrue (is_legal c last es) ↔ IsLegal c last es
-
--- and the test of an event behind a legal history tells whether it has what it needs
-abbrev pub EventIsDecided : Config → ℕ → Type 0
-EventIsDecided c last = (es : History) (e : Event) → IsLegal c last es → IsTrue (may c last (given_from [] es) (state es) e) ↔ Needs c last (state es) e
 
 -- a thread that did all that it has seen has seen since an earlier moment just the acts that it did since
 abbrev pub SeesItsOwnActs : Type 0

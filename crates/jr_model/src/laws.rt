@@ -9,6 +9,7 @@ ghost use Rattle.jr_model.specs.TrueRefusals.{CallsRefuseTruly, PartsRefuseTruly
 ghost use Rattle.jr_model.specs.Moves.{CallsMoveFrames};
 ghost use Rattle.jr_model.specs.RefusedCalls.{RefusalsChangeNothing, RefusedPartsChangeNothing, HarmlessChangesNothing};
 ghost use Rattle.jr_model.specs.StandingReferences.{StandsUntilDeleted, ClearedUntilDeleted};
+ghost use Rattle.jr_model.specs.Decided.{LegalIsDecided, EventIsDecided};
 ghost use Rattle.jr_model.specs.Laws.{
   CreatedIsFound,
   DeletedIsStale,
@@ -30,8 +31,6 @@ ghost use Rattle.jr_model.specs.Laws.{
   FreshAreSound,
   CollectionIsExact,
   LegalGoesByStep,
-  LegalIsDecided,
-  EventIsDecided,
   SeesItsOwnActs,
   ReleaseLeaves,
   FramesStaySound,
@@ -44,7 +43,7 @@ pub fn legal_histories_go_by_steps()
     ensures { (c : Config) (last : ℕ) → LegalGoesByStep c last }
 {}
 
-/// Whether a history is legal, and whether an event may come behind a legal one, is what a test of what stands tells: the machine runs.
+/// Whether a history is legal, and whether an event may come behind a legal one, is decided by a test that computes.
 pub fn legality_is_decided()
     ensures legal { (c : Config) (last : ℕ) → LegalIsDecided c last }
     ensures event { (c : Config) (last : ℕ) → EventIsDecided c last }

@@ -1,5 +1,4 @@
-use Rattle.jr_model.proofs.WorkedExamples.{drop_is_legal}
-use Rattle.jr_model.proofs.WorkedExamples.{finding_dropped_is_illegal, creating_beside_is_illegal}
+use Rattle.jr_model.proofs.WorkedExamples.{drop_is_legal, finding_dropped_is_illegal, creating_beside_is_illegal}
 use Rattle.jr_model.proofs.worked_examples.a_dropped_reference_is_stale.Goals as goal
 
 pub returns-clause-legal : goal.returns-clause-legal
