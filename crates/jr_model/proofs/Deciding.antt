@@ -1,5 +1,5 @@
 -- What the machine's tests decide: whether an event may come, and whether a history is legal.
-use Rattle.std.proofs.Common.{◌≡◌, ◌≢◌, ◌⊎◌, ◌↔◌, inl, inr, ⊎_elim, ℕ, zero, suc, ◌+◌, ◌<◌, ◌≤◌, ◌==◌, ◌^◌, min, Bool, true, false, IsTrue, not, cond, if◌then◌else◌, ◌&&◌, ◌||◌, Option, Some, None, is_some, List, [], ◌∷◌, ◌++◌, length, slice_get, refl, sym, ap, subst, ◌∙◌, arith, nat_eq, nat_lt, nat_le, Decides}
+use Rattle.std.proofs.Common.{◌≡◌, ◌≢◌, ◌⊎◌, ◌↔◌, inl, inr, ℕ, ◌+◌, ◌<◌, ◌≤◌, ◌==◌, ◌^◌, min, Bool, true, false, IsTrue, not, cond, if◌then◌else◌, ◌&&◌, ◌||◌, Option, Some, None, is_some, List, [], ◌∷◌, length, slice_get, refl, sym, ap, subst, ◌∙◌, arith, nat_le, Decides}
 use Rattle.std.proofs.Math.Nat.{min-eq_left, min_comm}
 use Rattle.std.specs.List.{list_any, list_all}
 use Rattle.std.proofs.lemmas.Bool.{cases_lt, le-leb, leb-true}
@@ -17,13 +17,13 @@ use Rattle.jr_model.specs.declared.event.Act.{Act}
 use Rattle.jr_model.specs.declared.event.Act.TheVariants.{Gate, ShutBusy, Create, Look, Probe, Delete, DeleteStale, Clear, LocalPut, LocalDrop, Reserve, ReserveFull, ReserveLost, New, Read, Write, Drop, Settle, Meet}
 use Rattle.jr_model.specs.declared.event.GateAct.{GateAct}
 use Rattle.jr_model.specs.declared.event.GateAct.TheVariants.{Enter, Knock, Leave, Withdraw, Announce, Cancel, Shut, Reopen}
-use Rattle.jr_model.specs.State.{Handle, same_kind, same_handle, Contents, State, opening, IsPresent, NobodyCloses, SomebodyCloses, is_barring, is_outside, is_there, not_outside, present_words, IsWord, AreWords, IsClosed, IsReached, IsOccupied}
+use Rattle.jr_model.specs.State.{Handle, same_kind, same_handle, Contents, State, opening, NobodyCloses, SomebodyCloses, is_barring, is_outside, is_there, not_outside, present_words, IsWord, AreWords, IsClosed, IsReached, IsOccupied}
 use Rattle.jr_model.specs.Steps.{MayShut, IsInRow, FromRole, GateNeeds, ActNeeds, Needs, act_after, after}
 use Rattle.jr_model.specs.History.{History, state, state_from, IsLegal, IsLegalFrom}
-use Rattle.jr_model.specs.Decided.{below, same_role, same_found, same_answer, is_word_there, is_objects, is_string, is_word, may_shut, from_role, somebody_closes, is_closed_at, gate_may, is_reached, is_in_row, is_given, is_standing, is_occupied, has_word, takes_word, is_lost, is_weak_to, act_may, may, given_after, given_from, may_from, is_legal, LegalIsDecided, EventIsDecided}
+use Rattle.jr_model.specs.Decided.{below, same_role, same_answer, is_objects, is_string, is_word, may_shut, from_role, somebody_closes, is_closed_at, gate_may, is_in_row, is_given, is_standing, is_occupied, has_word, takes_word, is_lost, is_weak_to, act_may, may, given_after, given_from, may_from, LegalIsDecided, EventIsDecided}
 use Rattle.jr_model.proofs.Counts.{beyond_after, not_true}
 use Rattle.jr_model.proofs.InRoom.{in_room_act, in_room_opening}
-use Rattle.jr_model.proofs.Updates.{at_handle, handle_true, handle_self}
+use Rattle.jr_model.proofs.Updates.{at_handle, handle_true}
 use Rattle.jr_model.proofs.Listed.{implies, unless, three, four, itself, any_of, all_at, some_of, any_below, all_below, hits_are_few}
 use Rattle.jr_model.proofs.Reaching.{IsWithin, same_kind_is, same_handle_is, same_found_is, word_there_is, is_objects_is, listed, reached_is}
 

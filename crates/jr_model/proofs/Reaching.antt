@@ -1,6 +1,6 @@
 -- What is reached is found in as many rounds as the room has objects, and one.
-use Rattle.std.proofs.Common.{◌≡◌, ◌≢◌, ◌⊎◌, inl, inr, ⊎_elim, ℕ, zero, suc, ◌+◌, ◌<◌, ◌≤◌, Bool, true, false, not, ◌&&◌, ◌||◌, Option, Some, None, is_some, List, length, slice_get, refl, sym, subst, ap, ◌∙◌, arith, nat_eq, Decides}
-use Rattle.std.specs.List.{filter, list_any}
+use Rattle.std.proofs.Common.{◌≡◌, ◌≢◌, ◌⊎◌, inl, inr, ⊎_elim, ℕ, zero, suc, ◌+◌, ◌<◌, ◌≤◌, Bool, true, ◌&&◌, ◌||◌, Option, Some, None, is_some, List, length, slice_get, refl, sym, subst, ap, ◌∙◌, arith, nat_eq, Decides}
+use Rattle.std.specs.List.{list_any}
 use Rattle.std.proofs.lemmas.Bool.{and_parts}
 use Rattle.std.proofs.lemmas.Bool.Decides.{Decides-like, Decides-and, Decides-or, Decides-eqb}
 use Rattle.jr_word.specs.declared.config.Config.{Config}

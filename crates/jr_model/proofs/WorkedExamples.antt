@@ -1,23 +1,23 @@
 -- The examples of histories: the machine's tests compute whether each is legal.
-use Rattle.std.proofs.Common.{◌≡◌, ◌≢◌, ℕ, zero, suc, ◌+◌, ◌≤◌, Bool, true, false, not, ◌&&◌, is_some, Some, [], ◌∷◌, ◌++◌, slice_get, refl, sym, ap, ◌∙◌, arith}
+use Rattle.std.proofs.Common.{◌≡◌, ℕ, zero, suc, ◌+◌, ◌≤◌, true, false, not, ◌&&◌, is_some, Some, [], ◌∷◌, ◌++◌, slice_get, refl, sym, ap, ◌∙◌, arith}
 use Rattle.std.specs.List.{list_any}
-use Rattle.std.proofs.lemmas.Bool.{and_parts, not-true}
+use Rattle.std.proofs.lemmas.Bool.{and_parts}
 use Rattle.jr_word.specs.declared.config.Config.{Config}
 use Rattle.jr_word.specs.declared.handle.RefKind.{RefKind}
 use Rattle.jr_word.specs.declared.handle.RefKind.TheVariants.{Global, Weak}
-use Rattle.jr_word.specs.declared.kind.Kind.TheVariants.{Plain, Int}
+use Rattle.jr_word.specs.declared.kind.Kind.TheVariants.{Int}
 use Rattle.jr_model.specs.declared.event.Found.TheVariants.{Object}
 use Rattle.jr_model.specs.declared.event.Act.TheVariants.{Gate, Create, Look, Probe, Clear, Drop}
 use Rattle.jr_model.specs.declared.event.GateAct.TheVariants.{Enter, Announce, Shut}
 use Rattle.jr_model.specs.Maps.{sum_below, count_below}
-use Rattle.jr_model.specs.State.{Handle, Contents, State, is_there, references, summary}
+use Rattle.jr_model.specs.State.{Contents, is_there, references, summary}
 use Rattle.jr_model.specs.History.{History, by, state, IsLegal}
 use Rattle.jr_model.specs.Decided.{reached_within, given_from, is_legal}
 use Rattle.jr_model.specs.Examples.{last_serial, counts, reference_dropped, gate_passed, gate_twice_announced, space_contended, array_made, array_used, array_collected, two_threads, three_threads, one_object, g, w, plain_p, global_g, drop_g, one_thread, DropIsLegal, FindingDroppedIsIllegal, CreatingBesideIsIllegal, GateIsLegal, WrongCountIsIllegal, ShuttingOverIsIllegal, EnteringBesideIsIllegal, KnockingAtOpenIsIllegal, AnnouncingIsLegal, EnteringAnnouncedIsIllegal, AnnouncingBesideIsIllegal, CountingTheAnnouncerIsIllegal, ShuttingAnnouncedOverIsIllegal, one_slot, serial, thrice, ThriceIsLegal, FourthIsIllegal, SpaceIsLegal, RefusingWhatFitsIsIllegal, ReadingAnotherIsIllegal, MakingBeyondIsIllegal, CollectionIsLegal, CollectingReachedIsIllegal}
 use Rattle.jr_model.proofs.Histories.{legal_append}
 use Rattle.jr_model.proofs.Lengths.{sum_same, sum_none}
 use Rattle.jr_model.proofs.Counts.{count_all_false}
-use Rattle.jr_model.proofs.Deciding.{legal_is, within, standing_none}
+use Rattle.jr_model.proofs.Deciding.{legal_is, standing_none}
 
 -- what the test says is legal is so, and what it doesn't is not
 legal : (c : Config) (last : ℕ) (es : History) → is_legal c last es ≡ true → IsLegal c last es

@@ -2,7 +2,6 @@
 use Rattle.std.specs.Prelude.{◌↔◌, ◌+◌, ◌==◌, ◌&&◌, ◌||◌, ◌^◌, ℕ, zero, suc, min, Bool, true, false, IsTrue, not, if◌then◌else◌, nat_eq, nat_lt, nat_le, Option, Some, None, is_some, List, [], ◌∷◌, length, slice_get}
 use Rattle.std.specs.List.{filter, list_any, list_all}
 use Rattle.jr_word.specs.declared.config.Config.{Config}
-use Rattle.jr_word.specs.declared.handle.RefKind.{RefKind}
 use Rattle.jr_word.specs.declared.handle.RefKind.TheVariants.{Local, Global, Weak}
 use Rattle.jr_word.specs.declared.kind.Kind.{Kind}
 use Rattle.jr_word.specs.declared.kind.Kind.TheVariants.{Plain, Boolean, Byte, Char, Short, Int, Long, Objects, Text}
@@ -15,7 +14,7 @@ use Rattle.jr_model.specs.declared.event.Act.{Act}
 use Rattle.jr_model.specs.declared.event.Act.TheVariants.{Gate, ShutBusy, Create, Look, Probe, Delete, DeleteStale, Clear, LocalPut, LocalDrop, Reserve, ReserveFull, ReserveLost, New, Read, Write, Drop, Settle, Meet}
 use Rattle.jr_model.specs.declared.event.GateAct.{GateAct}
 use Rattle.jr_model.specs.declared.event.GateAct.TheVariants.{Enter, Knock, Leave, Withdraw, Announce, Cancel, Shut, Reopen}
-use Rattle.jr_model.specs.State.{Handle, same_kind, same_handle, Contents, State, opening, is_barring, is_outside, is_there, not_outside, present_words}
+use Rattle.jr_model.specs.State.{Handle, same_kind, Contents, State, opening, is_barring, is_outside, is_there, not_outside, present_words}
 use Rattle.jr_model.specs.Steps.{Needs, after}
 use Rattle.jr_model.specs.History.{History, state, IsLegal}
 
