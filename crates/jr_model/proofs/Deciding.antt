@@ -20,7 +20,8 @@ use Rattle.jr_model.specs.declared.event.GateAct.TheVariants.{Enter, Knock, Leav
 use Rattle.jr_model.specs.State.{Handle, same_kind, same_handle, Contents, State, opening, NobodyCloses, SomebodyCloses, is_barring, is_outside, is_there, not_outside, present_words, IsWord, AreWords, IsClosed, IsReached, IsOccupied}
 use Rattle.jr_model.specs.Steps.{MayShut, IsInRow, FromRole, GateNeeds, ActNeeds, Needs, act_after, after}
 use Rattle.jr_model.specs.History.{History, state, state_from, IsLegal, IsLegalFrom}
-use Rattle.jr_model.specs.Decided.{below, same_role, same_answer, is_objects, is_string, is_word, may_shut, from_role, somebody_closes, is_closed_at, gate_may, is_in_row, is_given, is_standing, is_occupied, has_word, takes_word, is_lost, is_weak_to, act_may, may, given_after, given_from, may_from, LegalIsDecided, EventIsDecided}
+use Rattle.jr_model.specs.Checks.{is_objects, is_text}
+use Rattle.jr_model.specs.Decided.{below, same_role, same_answer, is_word, may_shut, from_role, somebody_closes, is_closed_at, gate_may, is_in_row, is_given, is_standing, is_index_taken, has_word, takes_word, is_lost, is_weak_to, act_may, may, given_after, given_from, may_from, LegalIsDecided, EventIsDecided}
 use Rattle.jr_model.proofs.Counts.{beyond_after, not_true}
 use Rattle.jr_model.proofs.InRoom.{in_room_act, in_room_opening}
 use Rattle.jr_model.proofs.Updates.{at_handle, handle_true}
@@ -54,7 +55,7 @@ none_is : {A : Type 0} (m : Option A) → Decides (not (is_some m)) (m ≡ None)
 none_is None = (λ e. refl, λ e. refl)
 none_is (Some x) = (λ e. absurd cc, λ e. absurd cc)
 
-string_is : (k : Kind) → Decides (is_string k) (k ≡ Text)
+string_is : (k : Kind) → Decides (is_text k) (k ≡ Text)
 string_is Text = (λ e. refl, λ e. refl)
 string_is _ = (λ e. absurd cc, λ e. absurd cc)
 
@@ -93,7 +94,7 @@ module _ (s : State) where
 
   takes_is : (i v : ℕ) (m : Option Contents) → Decides (takes_word s m i v) ((x : Contents) × (m ≡ Some x) × Takes i v x)
   takes_is i v = some_of {Q = Takes i v} (λ m. takes_word s m i v) refl
-      (λ x. three _ _ _ (Decides-not (is_string x.kind) (string_is x.kind)) (Decides-ltb i (length x.words)) (word_is x.kind v))
+      (λ x. three _ _ _ (Decides-not (is_text x.kind) (string_is x.kind)) (Decides-ltb i (length x.words)) (word_is x.kind v))
 
 row_is : (c : Config) (last : ℕ) (h : Handle) → Decides (is_in_row c last h) (IsInRow c last h)
 row_is c last h = four _ _ _ _
@@ -189,7 +190,7 @@ module _ (c : Config) (given : List Handle) (s : State) (within : IsWithin c giv
               let few = hits_are_few (λ (h : Handle). h.index == i) (λ (h : Handle). h.serial) given (length given + 1) (λ n l. (given_is i n).1 (f n l)) in
               omega arith
 
-  occupied_is : (last i : ℕ) → Decides (is_occupied last given s i) (IsOccupied last s i)
+  occupied_is : (last i : ℕ) → Decides (is_index_taken last given s i) (IsOccupied last s i)
   occupied_is last i = Decides-or _ _ (standing_is i) (all_given last i)
 
   lost_is : (f : Found) → Decides (is_lost c given s f) ((o : ℕ) × (f ≡ Object o) × ¬ (IsReached s o))
@@ -214,7 +215,7 @@ module _ (c : Config) (given : List Handle) (s : State) (within : IsWithin c giv
       (four _ _ _ _ (role_is (s.role t) Within) (itself (is_some (s.objects o))) (row_is c last h) (index_free h.index))
       (serial_free h.index h.serial))
   act_is last t (Look h r) = Decides-and _ _ (role_is (s.role t) Within) (same_found_is (s.refs h) r)
-  act_is last t (Probe i b) = Decides-and _ _ (role_is (s.role t) Within) (answer_is b (is_occupied last given s i) (occupied_is last i))
+  act_is last t (Probe i b) = Decides-and _ _ (role_is (s.role t) Within) (answer_is b (is_index_taken last given s i) (occupied_is last i))
   act_is last t (Delete h) = Decides-and _ _ (role_is (s.role t) Within) (there_is (s.refs h))
   act_is last t (DeleteStale h) = Decides-and _ _ (role_is (s.role t) Within) (stale_is (s.refs h))
   act_is last t (Clear h) = Decides-like _ (λ h. (h.0, h.1, h.2.0, h.2.1, h.2.2)) (λ h. (h.0, h.1, (h.2, h.3, h.4)))

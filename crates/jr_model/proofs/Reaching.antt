@@ -12,7 +12,8 @@ use Rattle.jr_model.specs.declared.event.Role.TheVariants.{Outside}
 use Rattle.jr_model.specs.declared.event.Found.{Found}
 use Rattle.jr_model.specs.declared.event.Found.TheVariants.{Object, Cleared, Stale}
 use Rattle.jr_model.specs.State.{Handle, same_kind, same_handle, Contents, State, IsReached, from_global, from_local, from_element}
-use Rattle.jr_model.specs.Decided.{below, same_found, is_word_there, is_objects, is_root, has_element, grown, reached_within, is_reached}
+use Rattle.jr_model.specs.Checks.{is_objects}
+use Rattle.jr_model.specs.Decided.{below, same_found, is_word_there, is_root, has_element, grown, reached_within, is_reached}
 use Rattle.jr_model.proofs.InRoom.{IsInRoom}
 use Rattle.jr_model.proofs.Updates.{kind_true, kind_self, handle_true, handle_self}
 use Rattle.jr_model.proofs.Listed.{IsSameOrLonger, itself, any_of, any_at, some_of, any_below, passing, passing_is, passing_fits, passing_grows}

@@ -15,6 +15,7 @@ use Rattle.jr_model.specs.declared.event.Act.TheVariants.{Gate, ShutBusy, Create
 use Rattle.jr_model.specs.declared.event.GateAct.{GateAct}
 use Rattle.jr_model.specs.declared.event.GateAct.TheVariants.{Enter, Knock, Leave, Withdraw, Announce, Cancel, Shut, Reopen}
 use Rattle.jr_model.specs.State.{Handle, same_kind, Contents, State, opening, is_barring, is_outside, is_there, not_outside, present_words}
+use Rattle.jr_model.specs.Checks.{is_objects, is_text}
 use Rattle.jr_model.specs.Steps.{Needs, after}
 use Rattle.jr_model.specs.History.{History, state, IsLegal}
 
@@ -47,14 +48,6 @@ same_answer false b = not b
 abbrev pub is_word_there : Option ℕ → ℕ → Bool
 is_word_there None v = false
 is_word_there (Some w) v = w == v
-
-abbrev pub is_objects : Kind → Bool
-is_objects Objects = true
-is_objects _ = false
-
-abbrev pub is_string : Kind → Bool
-is_string Text = true
-is_string _ = false
 
 -- v may be an element of an object of the kind
 abbrev pub is_word : State → Kind → ℕ → Bool
@@ -144,8 +137,8 @@ abbrev pub is_standing : List Handle → State → ℕ → Bool
 is_standing given s i = list_any (λ (h : Handle). (h.index == i) && is_there (s.refs h)) given
 
 -- nothing can be created at the index. So many handles leave one of as many serials and one more ungiven
-abbrev pub is_occupied : ℕ → List Handle → State → ℕ → Bool
-is_occupied last given s i = is_standing given s i || list_all (is_given given i) (below (min (last + 1) (length given + 1)))
+abbrev pub is_index_taken : ℕ → List Handle → State → ℕ → Bool
+is_index_taken last given s i = is_standing given s i || list_all (is_given given i) (below (min (last + 1) (length given + 1)))
 
 -- OBJECTS
 
@@ -157,7 +150,7 @@ has_word (Some x) i v = is_word_there (slice_get x.words i) v
 -- and may have it there
 abbrev pub takes_word : State → Option Contents → ℕ → ℕ → Bool
 takes_word s None i v = false
-takes_word s (Some x) i v = not (is_string x.kind) && nat_lt i (length x.words) && is_word s x.kind v
+takes_word s (Some x) i v = not (is_text x.kind) && nat_lt i (length x.words) && is_word s x.kind v
 
 -- what a cleared reference named is not reached
 abbrev pub is_lost : Config → List Handle → State → Found → Bool
@@ -176,7 +169,7 @@ act_may c last given s t (Create h o) =
     same_role (s.role t) Within && is_some (s.objects o) && is_in_row c last h
     && not (is_standing given s h.index) && not (is_given given h.index h.serial)
 act_may c last given s t (Look h r) = same_role (s.role t) Within && same_found (s.refs h) r
-act_may c last given s t (Probe i b) = same_role (s.role t) Within && same_answer b (is_occupied last given s i)
+act_may c last given s t (Probe i b) = same_role (s.role t) Within && same_answer b (is_index_taken last given s i)
 act_may c last given s t (Delete h) = same_role (s.role t) Within && is_there (s.refs h)
 act_may c last given s t (DeleteStale h) = same_role (s.role t) Within && not (is_there (s.refs h))
 act_may c last given s t (Clear h) = same_role (s.role t) Collecting && same_kind h.kind Weak && is_lost c given s (s.refs h)
