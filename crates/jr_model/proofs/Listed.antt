@@ -17,7 +17,8 @@ pub unless : {P Q : Type 0} (a b : Bool) → Decides a P → Decides b Q → Dec
 unless true b d k = (λ e n. absurd (n (d.0 refl)), λ f. refl)
 unless false b d k = (λ e n. k.0 e, λ f. k.1 (f (λ p. let never = d.1 p in cc)))
 
-pub three : {P Q R : Type 0} (a b c : Bool) → Decides a P → Decides b Q → Decides c R → Decides (a && b && c) (P × Q × R)
+pub three : {P Q R : Type 0} (a b c : Bool) → Decides a P → Decides b Q → Decides c R
+    → Decides (a && b && c) (P × Q × R)
 three a b c p q r = Decides-like (a && b && c) (λ h. (h.0.0, h.0.1, h.1)) (λ h. ((h.0, h.1), h.2))
     (Decides-and (a && b) c (Decides-and a b p q) r)
 
@@ -30,14 +31,16 @@ four a b c d p q r s = Decides-like (a && b && c && d) (λ h. (h.0.0, h.0.1, h.0
 pub itself : (b : Bool) → Decides b (b ≡ true)
 itself b = (λ e. e, λ e. e)
 
-module _ {A : Type 0} (same : A → A → Bool) (is : (x y : A) → Decides (same x y) (x ≡ y)) {P : A → Type 0} (p : A → Bool) (each : (x : A) → Decides (p x) (P x)) where
+module _ {A : Type 0} (same : A → A → Bool) (is : (x y : A) → Decides (same x y) (x ≡ y)) {P : A → Type 0}
+    (p : A → Bool) (each : (x : A) → Decides (p x) (P x)) where
   -- an element of the list has it
   abbrev HasOne : List A → Type 0
   HasOne xs = (x : A) × (list_any (same x) xs ≡ true) × P x
 
   pub any_of : (xs : List A) → Decides (list_any p xs) (HasOne xs)
   any_of [] = (λ e. absurd cc, λ h. absurd (let none = h.1 in cc))
-  any_of (y ∷ ys) = Decides-like (p y || list_any p ys) here there (Decides-or (p y) (list_any p ys) (each y) (any_of ys))
+  any_of (y ∷ ys) =
+      Decides-like (p y || list_any p ys) here there (Decides-or (p y) (list_any p ys) (each y) (any_of ys))
     where
       here : P y ⊎ HasOne ys → HasOne (y ∷ ys)
       here (inl h) = (y, rw ((is y y).1 refl) refl, h)
@@ -65,7 +68,8 @@ any_at o (x ∷ xs) = Decides-like (o == x || list_any (nat_eq o) xs) here (λ h
 pub all_at : {P : ℕ → Type 0} (p : ℕ → Bool) → ((v : ℕ) → Decides (p v) (P v)) → (xs : List ℕ)
     → Decides (list_all p xs) ((i v : ℕ) → slice_get xs i ≡ Some v → P v)
 all_at p each [] = (λ e i v h. absurd cc, λ f. refl)
-all_at {P} p each (x ∷ xs) = Decides-like (p x && list_all p xs) (λ h i v. here h i v) (λ f. (f 0 x refl, λ i v. f (suc i) v))
+all_at {P} p each (x ∷ xs) =
+    Decides-like (p x && list_all p xs) (λ h i v. here h i v) (λ f. (f 0 x refl, λ i v. f (suc i) v))
     (Decides-and (p x) (list_all p xs) (each x) (all_at p each xs))
   where
     here : P x × ((i v : ℕ) → slice_get xs i ≡ Some v → P v) → (i v : ℕ) → slice_get (x ∷ xs) i ≡ Some v → P v
@@ -73,7 +77,8 @@ all_at {P} p each (x ∷ xs) = Decides-like (p x && list_all p xs) (λ h i v. he
     here h (suc i) v e = h.1 i v e
 
 -- what stands there passes a test of its own
-pub some_of : {A : Type 0} {Q : A → Type 0} (f : Option A → Bool) → f None ≡ false → ((x : A) → Decides (f (Some x)) (Q x))
+pub some_of : {A : Type 0} {Q : A → Type 0} (f : Option A → Bool) → f None ≡ false
+    → ((x : A) → Decides (f (Some x)) (Q x))
     → (m : Option A) → Decides (f m) ((x : A) × (m ≡ Some x) × Q x)
 some_of f none each None = (λ e. absurd (let never = none in cc), λ h. absurd (let never = h.1 in cc))
 some_of {A} {Q} f none each (Some y) = Decides-like (f (Some y)) (λ q. (y, refl, q))
@@ -103,11 +108,14 @@ passing_is p o (suc n) = go (p n) refl (passing_is p o n)
       where
         back : (b : Bool) → (o == n) ≡ b → o < suc n → p o ≡ true → (o ≡ n) ⊎ ((o < n) × (p o ≡ true))
         back true e l passes = inl (eq_true o n e)
-        back false e l passes = let apart : o ≢ n = λ is. let same = (Decides-eqb o n).1 is in cc in inr (omega arith, passes)
-    go false here d = Decides-like (list_any (nat_eq o) (passing p n)) (λ h. let l = h.0 in (omega arith, h.1)) below_n d
+        back false e l passes =
+            let apart : o ≢ n = λ is. let same = (Decides-eqb o n).1 is in cc in inr (omega arith, passes)
+    go false here d =
+        Decides-like (list_any (nat_eq o) (passing p n)) (λ h. let l = h.0 in (omega arith, h.1)) below_n d
       where
         below_n : (o < suc n) × (p o ≡ true) → (o < n) × (p o ≡ true)
-        below_n h = let apart : o ≢ n = λ is. let passes = sym h.1 ∙ (ap p is ∙ here) in cc in let l = h.0 in (omega arith, h.1)
+        below_n h =
+            let apart : o ≢ n = λ is. let passes = sym h.1 ∙ (ap p is ∙ here) in cc in let l = h.0 in (omega arith, h.1)
 
 pub passing_fits : (p : ℕ → Bool) (n : ℕ) → length (passing p n) ≤ n
 passing_fits p zero = omega arith
@@ -122,9 +130,11 @@ abbrev pub IsSameOrLonger : List ℕ → List ℕ → Type 0
 IsSameOrLonger xs ys = (xs ≡ ys) ⊎ (length xs < length ys)
 
 -- where a test passes wherever another does, the same numbers pass or more
-pub passing_grows : (p q : ℕ → Bool) (n : ℕ) → ((k : ℕ) → k < n → p k ≡ true → q k ≡ true) → IsSameOrLonger (passing p n) (passing q n)
+pub passing_grows : (p q : ℕ → Bool) (n : ℕ) → ((k : ℕ) → k < n → p k ≡ true → q k ≡ true)
+    → IsSameOrLonger (passing p n) (passing q n)
 passing_grows p q zero more = inl refl
-passing_grows p q (suc n) more = go (p n) (q n) (more n (omega arith)) (passing_grows p q n (λ k l. more k (omega arith)))
+passing_grows p q (suc n) more =
+    go (p n) (q n) (more n (omega arith)) (passing_grows p q n (λ k l. more k (omega arith)))
   where
     go : (a b : Bool) → (a ≡ true → b ≡ true) → IsSameOrLonger (passing p n) (passing q n)
         → IsSameOrLonger (cond a (n ∷ passing p n) (passing p n)) (cond b (n ∷ passing q n) (passing q n))
@@ -140,7 +150,8 @@ unfolding sum_below
 count_or zero p q = omega arith
 count_or (suc m) p q = go (p m) (q m) (count_or m p q)
   where
-    go : (a b : Bool) → count_below m (λ n. p n || q n) ≤ count_below m p + count_below m q → count_below m (λ n. p n || q n) + bit (a || b) ≤ count_below m p + bit a + (count_below m q + bit b)
+    go : (a b : Bool) → count_below m (λ n. p n || q n) ≤ count_below m p + count_below m q
+        → count_below m (λ n. p n || q n) + bit (a || b) ≤ count_below m p + bit a + (count_below m q + bit b)
     go true true l = omega arith
     go true false l = omega arith
     go false true l = omega arith
@@ -157,11 +168,16 @@ count_hit m true k = ⊎_elim
 count_all : (m : ℕ) (p : ℕ → Bool) → ((n : ℕ) → n < m → p n ≡ true) → count_below m p ≡ m
 unfolding sum_below
 count_all zero p all = refl
-count_all (suc m) p all = let rest = count_all m p (λ n l. all n (omega arith)) in let here : bit (p m) ≡ 1 = ap bit (all m (omega arith)) in omega arith
+count_all (suc m) p all =
+    let rest = count_all m p (λ n l. all n (omega arith)) in
+    let here : bit (p m) ≡ 1 = ap bit (all m (omega arith)) in
+    omega arith
 
 -- where each element hits at most one number, no more numbers are hit than there are elements
-pub hits_are_few : {A : Type 0} (b : A → Bool) (key : A → ℕ) (xs : List A) (m : ℕ) → ((n : ℕ) → n < m → list_any (λ x. b x && (key x == n)) xs ≡ true) → m ≤ length xs
-hits_are_few {A} b key xs m all = let whole = count_all m (λ n. list_any (λ x. b x && (key x == n)) xs) all in let most = few xs in omega arith
+pub hits_are_few : {A : Type 0} (b : A → Bool) (key : A → ℕ) (xs : List A) (m : ℕ)
+    → ((n : ℕ) → n < m → list_any (λ x. b x && (key x == n)) xs ≡ true) → m ≤ length xs
+hits_are_few {A} b key xs m all =
+    let whole = count_all m (λ n. list_any (λ x. b x && (key x == n)) xs) all in let most = few xs in omega arith
   where
     few : (xs : List A) → count_below m (λ n. list_any (λ x. b x && (key x == n)) xs) ≤ length xs
     few [] = let none = count_all_false m (λ n. false) (λ n l. refl) in omega arith

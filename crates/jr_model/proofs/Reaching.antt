@@ -76,9 +76,11 @@ module _ (c : Config) (given : List Handle) (s : State) (within : IsWithin c giv
   any_place o t = list_any (at_place o t) (below c.locals)
 
   locals : (o : ℕ) → Decides (list_any (any_place o) (below c.threads)) ((t : ℕ) × (p : ℕ) × (s.locals t p ≡ Some o))
-  locals o = Decides-like _ (λ h. (h.0, h.2.0, h.2.2)) (λ h. let l = within.room.locals h.0 h.1 o h.2 in (h.0, l.0, (h.1, l.1, h.2)))
+  locals o = Decides-like _ (λ h. (h.0, h.2.0, h.2.2))
+      (λ h. let l = within.room.locals h.0 h.1 o h.2 in (h.0, l.0, (h.1, l.1, h.2)))
       (any_below {P = λ t. (p : ℕ) × (p < c.locals) × (s.locals t p ≡ Some o)} (any_place o)
-      (λ t. any_below {P = λ p. s.locals t p ≡ Some o} (at_place o t) (λ p. word_there_is (s.locals t p) o) c.locals) c.threads)
+      (λ t. any_below {P = λ p. s.locals t p ≡ Some o} (at_place o t)
+      (λ p. word_there_is (s.locals t p) o) c.locals) c.threads)
 
   root_is : (o : ℕ) → Decides (is_root c given s o) (IsRoot o)
   root_is o = Decides-or _ _ (globals o) (locals o)
@@ -127,7 +129,8 @@ module _ (c : Config) (given : List Handle) (s : State) (within : IsWithin c giv
 
   pub reached_if : (n o : ℕ) → IsFound n o → IsReached s o
   reached_if zero o f =
-      let h = (Decides-and (is_some (s.objects o)) (is_root c given s o) (itself _) (root_is o)).0 ((found_is 0 o).0 f).1 in
+      let h =
+          (Decides-and (is_some (s.objects o)) (is_root c given s o) (itself _) (root_is o)).0 ((found_is 0 o).0 f).1 in
       ⊎_elim (λ g. from_global g.0 g.1 g.2 h.0) (λ l. from_local l.0 l.1 l.2 h.0) h.1
   reached_if (suc n) o f =
       let h = (next_is n o).0 ((found_is (suc n) o).0 f).1 in

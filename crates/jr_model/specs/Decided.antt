@@ -111,7 +111,9 @@ has_element (Some x) o = is_objects x.kind && list_any (nat_eq o) x.words
 
 -- the present objects that are among these, or elements of one of them
 abbrev pub grown : Config → State → List ℕ → List ℕ
-grown c s os = filter (λ o. is_some (s.objects o) && (list_any (nat_eq o) os || list_any (λ a. has_element (s.objects a) o) os)) (below (c.objects + 1))
+grown c s os =
+    filter (λ o. is_some (s.objects o) && (list_any (nat_eq o) os || list_any (λ a. has_element (s.objects a) o) os))
+    (below (c.objects + 1))
 
 -- the objects that are reached through at most so many others
 unfoldable pub reached_within : Config → List Handle → State → ℕ → List ℕ
@@ -138,7 +140,8 @@ is_standing given s i = list_any (λ (h : Handle). (h.index == i) && is_there (s
 
 -- nothing can be created at the index. So many handles leave one of as many serials and one more ungiven
 abbrev pub is_index_taken : ℕ → List Handle → State → ℕ → Bool
-is_index_taken last given s i = is_standing given s i || list_all (is_given given i) (below (min (last + 1) (length given + 1)))
+is_index_taken last given s i =
+    is_standing given s i || list_all (is_given given i) (below (min (last + 1) (length given + 1)))
 
 -- OBJECTS
 
@@ -164,7 +167,8 @@ is_weak_to s o h = same_kind h.kind Weak && same_found (s.refs h) (Object o)
 -- WHETHER THE ACT OF THREAD t MAY COME, where these handles were given
 abbrev pub act_may : Config → ℕ → List Handle → State → ℕ → Act → Bool
 act_may c last given s t (Gate a) = from_role a (s.role t) && gate_may c s t a
-act_may c last given s t (ShutBusy n) = may_shut (s.role t) && (not_outside c s == n + (if is_outside (s.role t) then 0 else 1)) && nat_le 1 n
+act_may c last given s t (ShutBusy n) =
+    may_shut (s.role t) && (not_outside c s == n + (if is_outside (s.role t) then 0 else 1)) && nat_le 1 n
 act_may c last given s t (Create h o) =
     same_role (s.role t) Within && is_some (s.objects o) && is_in_row c last h
     && not (is_standing given s h.index) && not (is_given given h.index h.serial)
@@ -172,7 +176,8 @@ act_may c last given s t (Look h r) = same_role (s.role t) Within && same_found 
 act_may c last given s t (Probe i b) = same_role (s.role t) Within && same_answer b (is_index_taken last given s i)
 act_may c last given s t (Delete h) = same_role (s.role t) Within && is_there (s.refs h)
 act_may c last given s t (DeleteStale h) = same_role (s.role t) Within && not (is_there (s.refs h))
-act_may c last given s t (Clear h) = same_role (s.role t) Collecting && same_kind h.kind Weak && is_lost c given s (s.refs h)
+act_may c last given s t (Clear h) =
+    same_role (s.role t) Collecting && same_kind h.kind Weak && is_lost c given s (s.refs h)
 act_may c last given s t (LocalPut p o) = same_role (s.role t) Within && nat_lt p c.locals && is_some (s.objects o)
 act_may c last given s t (LocalDrop p) = same_role (s.role t) Within && nat_lt p c.locals
 act_may c last given s t (Reserve n) = same_role (s.role t) Within && nat_le (s.used + n) c.words
@@ -183,7 +188,9 @@ act_may c last given s t (New o k ws) =
     && (list_all (is_word s k) ws && nat_le (present_words c s + length ws) s.used)
 act_may c last given s t (Read o i v) = same_role (s.role t) Within && has_word (s.objects o) i v
 act_may c last given s t (Write o i v) = same_role (s.role t) Within && takes_word s (s.objects o) i v
-act_may c last given s t (Drop o) = same_role (s.role t) Collecting && is_some (s.objects o) && not (is_reached c given s o) && not (list_any (is_weak_to s o) given)
+act_may c last given s t (Drop o) =
+    same_role (s.role t) Collecting && is_some (s.objects o)
+    && not (is_reached c given s o) && not (list_any (is_weak_to s o) given)
 act_may c last given s t (Settle u) = same_role (s.role t) Collecting && (u == present_words c s)
 act_may c last given s t Meet = true
 
@@ -216,4 +223,5 @@ LegalIsDecided c last = (es : History) → IsTrue (is_legal c last es) ↔ IsLeg
 
 -- and behind a legal history the test of an event tells whether it has what it needs
 abbrev pub EventIsDecided : Config → ℕ → Type 0
-EventIsDecided c last = (es : History) (e : Event) → IsLegal c last es → IsTrue (may c last (given_from [] es) (state es) e) ↔ Needs c last (state es) e
+EventIsDecided c last = (es : History) (e : Event) → IsLegal c last es
+    → IsTrue (may c last (given_from [] es) (state es) e) ↔ Needs c last (state es) e
