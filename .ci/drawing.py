@@ -16,7 +16,7 @@ import re
 from html import escape
 
 from pages import is_kept
-from reading import text_of
+from rattle import text_of
 
 WIDE, HIGH, MARGIN, SIZE = 9, 19, 18, 14.9
 LEFT, RIGHT, UP, DOWN = (-1, 0), (1, 0), (0, -1), (0, 1)

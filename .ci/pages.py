@@ -3,7 +3,7 @@
 import os
 import re
 
-from reading import text_of
+from rattle import text_of
 
 
 def anchor(heading):
