@@ -162,7 +162,7 @@ class File:
         """Returns the first and the last line of an item, with the attributes above it, at which the prover tells of some goals. An edit puts one line in the place of one, so that lines keep their numbers."""
         first, last = self.text.count("\n", 0, start) + 1, self.text.count("\n", 0, stop) + 1
         lines = self.text.split("\n")
-        while lines[first - 2].lstrip().startswith("#["):
+        while first > 1 and lines[first - 2].lstrip().startswith("#["):
             first -= 1
         return first, last
 
