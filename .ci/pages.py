@@ -12,10 +12,12 @@ def anchor(heading):
 
 
 def link(text, heading):
+    """Returns a link to a heading of the same page."""
     return f"[{text}](#{anchor(heading)})"
 
 
 def counted(number, word):
+    """Returns a number with the word for what is counted."""
     return f"{number:,} {word if number == 1 else word + 's'}"
 
 
@@ -25,6 +27,7 @@ def head_of(*columns):
 
 
 def row(*cells):
+    """Returns a row of a table."""
     return f"| {' | '.join(f'{it:,}' if isinstance(it, int) else it for it in cells)} |"
 
 
@@ -34,10 +37,12 @@ def folded(summary, lines):
 
 
 def is_kept(path, text):
+    """Returns whether a file has this text."""
     return os.path.exists(path) and text_of(path) == text
 
 
 def write(path, text):
+    """Writes a text to a file."""
     with open(path, "w", encoding="utf-8") as file:
         file.write(text)
 

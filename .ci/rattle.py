@@ -144,6 +144,7 @@ class File:
     """A file of the src/ of a crate: its path there, its text, without comments and what is quoted too, and its items."""
 
     def __init__(self, crate, path):
+        """Reads a file."""
         self.crate, self.path, self.text = crate, os.path.relpath(path, f"crates/{crate}"), text_of(path)
         self.code = blanked(self.text)
         self.items = items_of(self.code)
@@ -192,6 +193,7 @@ class Functions:
     """The functions of a crate, but for those of its tests: for each name that the prover has for one the file and the way to it."""
 
     def __init__(self, crate, known=None):
+        """Finds the functions of a crate, where the prover knows functions by these names, or by those that checks left."""
         self.crate, self.files = crate, {it.path: it for it in (File(crate, path) for path in files_of(crate, "src", ".rt"))}
         self.by_word = {}
         for name in known_to_the_prover(crate) if known is None else known:

@@ -94,6 +94,7 @@ class Scope:
     """What words mean: by themselves, and behind the name of a module; and the traits of type parameters."""
 
     def __init__(self, text, above=None):
+        """Takes in the imports of a text, beside what words mean above it."""
         self.words = dict(above.words) if above else {}
         self.modules = dict(above.modules) if above else {}
         self.traits = dict(above.traits) if above else {}
@@ -105,10 +106,12 @@ class Scope:
                     self.define(renamed or word, target_of(path, word))
 
     def define(self, word, name):
+        """Has a word, or the parts of an operator, mean a name."""
         for piece in filter(None, word.split("◌")):
             self.words[piece] = name
 
     def meaning(self, word):
+        """Returns the name that a word means, or None."""
         head, _, rest = word.partition(".")
         if head == "Rattle":
             path = re.match(r"Rattle\.(\w+\.(?:specs|proofs)(?:\.[A-Z]\w*)+?)\.(\w+)$", word)
@@ -133,6 +136,7 @@ class Specs:
     """A file of specs/ or proofs/: its definitions, and its scope."""
 
     def __init__(self, path):
+        """Takes in the text of a file."""
         self.path, self.module = path, path[len("crates/"):-len(".antt")].replace("/", ".")
         self.text = text_of(path)
         self.code = IMPORT.sub(lambda it: "\n" * it[0].count("\n"), self.text)
@@ -263,12 +267,14 @@ class Shown:
     """What the root of a crate shows to others: modules, and words of other modules."""
 
     def __init__(self, crate):
+        """Reads the root of a crate."""
         root = f"crates/{crate}/src/lib.rt"
         text = text_of(root) if os.path.exists(root) else ""
         self.modules = set(re.findall(r"^pub mod (\w+);", text, re.M))
         self.words = {(module, it) for module, words in re.findall(r"^pub use (\w+)::\{?([^;}]*)\}?;", text, re.M) for it in re.findall(r"\w+", words)}
 
     def has(self, item):
+        """Tells whether others can name an item that stands in no other."""
         # (a module within a module that is shown hands its public items on to that)
         return item.is_public and (item.module.partition(".")[0] in self.modules or (item.module, item.name) in self.words)
 
@@ -279,6 +285,7 @@ def public_items(crate, items):
     own = {it.name: it for it in items if it.kind in ("struct", "enum", "trait", "type")}
 
     def is_public(item):
+        """Tells whether others can name an item of an impl or a trait."""
         around = item.inside.split(" for ")
         is_member = item.is_public or item.in_trait or len(around) == 2 and (around[0], item.name) != ("Model", "invariant")
         return is_member and all(word not in own or shown.has(own[word]) for word in around)
@@ -290,6 +297,7 @@ class Repository:
     """The definitions of specs/ by name, the items of src/, and what each name says: a definition what its text says, a type what its model says, or else the types of its public fields."""
 
     def __init__(self):
+        """Reads all crates."""
         self.definitions, self.said, self.items, self.public, self.types, self.constructors = {}, {}, [], [], {}, {}
         for crate in crates():
             for file in (Specs(it).read() for it in files_of(crate, "specs", ".antt")):

@@ -74,5 +74,5 @@ class Habits(unittest.TestCase):
         self.assertEqual([it.split(": ")[1] for it in found], ["a link to 'two' of README.md, which has no such heading", "a link to two.md, which is no file here"])
 
     def test_labels_of_papers(self):
-        with repository({"page.md": "by T5\nby rule\n"}):
+        with repository({"page.md": f"by T{5}\nby rule\n"}):
             self.assertEqual([it.split(":")[1] for it in self.habits.labels("page.md")], ["1"])

@@ -31,6 +31,7 @@ class StandIn:
     """What stands in the place of the prover: the names that it does not know, those that it lacks whatever is left open, what it says of each edit, by its name, once or each time that it is asked, and how many edits it takes at once."""
 
     def __init__(self, unknown=(), lacks=(), says=None, most=64):
+        """Begins with nothing asked."""
         self.unknown, self.lacks, self.says, self.most, self.left_open, self.sizes = unknown, lacks, says or {}, most, [], []
 
     def said_of(self, edit):
