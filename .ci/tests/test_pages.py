@@ -68,7 +68,7 @@ FILES = {
     "crates/jr_word/src/lib.rt": "#![tactic(auto)]\npub mod kind;\npub mod fault;\n",
     "crates/jr_word/src/kind.rt": SOURCE,
     "crates/jr_word/src/fault.rt": FAULTS,
-    "docs/DEFINITIONS.md": "By hand: `Words.antt` (`held`, `gone`).\n\n<!-- From here on .ci/definitions writes this page. -->\nold\n",
+    "docs/DEFINITIONS.md": "By hand: `Words.antt` (`held`, `gone`).\n",
 }
 WORDS = "jr_word.specs.Words"
 
@@ -112,10 +112,11 @@ class Pages(unittest.TestCase):
 
     def test_definitions(self):
         with repository(FILES):
-            page = script("definitions").Page(Repository())
-            text, lost = page.whole(), [*page.lost()]
-        self.assertEqual(lost, ["docs/DEFINITIONS.md:1: Words.antt has no definition `gone`"])
-        self.assertTrue(text.startswith("By hand: "))
+            comments = script("definitions").Comments(Repository())
+            self.assertEqual([*comments.lost()], ["docs/DEFINITIONS.md:1: Words.antt has no definition `gone`"])
+            of_file, of_name = [*comments.told_of("Words.antt")], [*comments.told_of("held")]
+        self.assertEqual(of_file, ["crates/jr_word/specs/Words.antt: what is believed", "  Pair: a pair", "  same, held: one and the other of it"])
+        self.assertEqual(of_name, ["crates/jr_word/specs/Words.antt:10: one and the other of it", "    abbrev pub held : Pair → Type 0", "    held a = same a a"])
 
     def test_reference_of_a_call(self):
         with repository(FILES):
@@ -134,7 +135,10 @@ class Pages(unittest.TestCase):
             trusted, repo = script("trusted"), Repository()
             names = repo.reach(trusted.claimed(repo, ("jr_word kind_of:held",)))
             self.assertEqual(trusted.sums(repo, names)[:3], (3, 6, 1))
-            self.assertEqual([it for _, it, _ in trusted.each_function(repo, "jr_word", lambda it: True)], ["its contract"])
+            claims = trusted.each_function(repo, "jr_word", lambda it: True)
+            self.assertEqual(trusted.table(repo, claims, "Call", "Where")[2:], ["| `kind_of` | [kind](../crates/jr_word/src/kind.rt) | 3 | 6 | 1 | 2 |"])
+            wanted = ["  crates/jr_word/specs/Words.antt: Pair 2, same 2, held 2", "  Rust types of jr_word: Fault, Kind"]
+            self.assertEqual([*trusted.listed(repo, claims[0][2])], wanted)
 
     def test_links(self):
         self.assertEqual(anchor("By `law`, and call"), "by-law-and-call")
