@@ -130,6 +130,13 @@ class Pages(unittest.TestCase):
         self.assertIn("- **Asks**: asked: `A.Asked code`.", lines)
         self.assertEqual(page.faults, ["crates/jr_word/src/kind.rt: the `///` of kind_of says E2 under `# Errors`, and the contract nothing"])
 
+    def test_plan_of_the_reference(self):
+        plan = "# Reference\n(refusals)\n\n## Calls\nabout\n(calls by the names of JNI)\nlaws: one two\njr_word: kind_of\n\n## (left out)\nwhy\njr_word: Kind.of part (a part)\n"
+        with repository({**FILES, ".ci/reference.txt": plan}):
+            head, (chapter,), left_out = script("reference").planned()
+        self.assertEqual((head, left_out), ("# Reference\n(refusals)\n", {("jr_word", "Kind", "of"), ("jr_word", "", "part")}))
+        self.assertEqual((chapter.heading, chapter.about, chapter.is_by_name, chapter.laws, chapter.places), ("Calls", "about", True, ["one", "two"], ["jr_word: kind_of"]))
+
     def test_what_one_must_believe(self):
         with repository(FILES):
             trusted, repo = script("trusted"), Repository()
