@@ -7,6 +7,11 @@ import subprocess
 from typing import NamedTuple
 
 
+TOP = os.path.dirname(os.path.dirname(os.path.abspath(__file__)))
+PROGRAM = f"{TOP}/crates/jrefs/out/jrefs"
+OUT_OF_MEMORY = (3, b"", b"out of memory\n")
+
+
 class Ended(NamedTuple):
     """How a command ended, what the library told, and the numbers that it kept."""
 
@@ -15,15 +20,25 @@ class Ended(NamedTuple):
     kept: tuple
 
 
-def compiled(folder, name, source):
-    """Compiles a library of C by the kit's clang, and returns its path."""
-    kit = os.path.dirname(os.path.dirname(os.path.realpath(shutil.which("rt"))))
-    path = f"{folder}/{name}"
-    with open(f"{path}.c", "w", encoding="utf-8") as file:
-        file.write(source)
-    words = [f"{kit}/toolchain/bin/clang", "-O1", "-shared", "-fPIC", "-nostdlib", "-o", f"{path}.so", f"{path}.c"]
-    subprocess.run(words, check=True)
-    return f"{path}.so"
+def tests_of(crate):
+    """Returns the path of a crate's tests."""
+    return f"{TOP}/crates/{crate}/out/{crate}_tests"
+
+
+def are_built(paths):
+    """Returns whether these executables are there, and tells where one is not."""
+    lacking = [it for it in paths if not os.path.isfile(it)]
+    if lacking:
+        print(f"there is no {lacking[0]}: rt ci builds it")
+    return not lacking
+
+
+def compiled(folder, name):
+    """Compiles a library of .ci/c by the kit's clang into a folder, and returns its path."""
+    kit, path = os.path.dirname(os.path.dirname(os.path.realpath(shutil.which("rt")))), f"{folder}/{name}.so"
+    source = f"{TOP}/.ci/c/{name}.c"
+    subprocess.run([f"{kit}/toolchain/bin/clang", "-O1", "-shared", "-fPIC", "-nostdlib", "-o", path, source], check=True)
+    return path
 
 
 def ended(words, given, library=None, number=0):

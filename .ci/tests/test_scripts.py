@@ -5,7 +5,7 @@ import glob
 import os
 import unittest
 
-from shared import CI
+from shared import CI, script
 
 # Scripts of which some functions have no sentence yet.
 NOT_YET = ("contend", "machine.py", "soak")
@@ -29,6 +29,11 @@ class Scripts(unittest.TestCase):
             if (path.endswith(".py") or text.startswith("#!/usr/bin/env python3")) and path not in NOT_YET:
                 parts = [it for it in ast.walk(ast.parse(text)) if isinstance(it, (ast.FunctionDef, ast.ClassDef))]
                 self.assertEqual([f"{path}: {it.name}" for it in parts if not ast.get_docstring(it) and not it.name.startswith(("test_", "setUp"))], [])
+
+    def test_each_script_can_be_loaded(self):
+        for path, text in scripts().items():
+            if text.startswith("#!/usr/bin/env python3") and "/" not in path:
+                self.assertTrue(callable(script(path).main), path)
 
     def test_the_page_names_each_file(self):
         page = scripts()["README.md"]
