@@ -1,4 +1,4 @@
-"""What the scripts that write pages have in common: links to headings, tables, parts that are folded, and the check that a page is what its script makes."""
+"""What the scripts that write pages have in common: links to headings, tables, and the check that a page is what its script makes."""
 
 import os
 import re
@@ -29,11 +29,6 @@ def head_of(*columns):
 def row(*cells):
     """Returns a row of a table."""
     return f"| {' | '.join(f'{it:,}' if isinstance(it, int) else it for it in cells)} |"
-
-
-def folded(summary, lines):
-    """Returns the lines of a part that a reader opens: in a browser by a click, and in a terminal they stand there."""
-    return ["", f"<details><summary>{summary}</summary>", "", *lines, "", "</details>"]
 
 
 def is_kept(path, text):
