@@ -20,25 +20,15 @@ class Ended(NamedTuple):
     kept: tuple
 
 
-def tests_of(crate):
-    """Returns the path of a crate's tests."""
-    return f"{TOP}/crates/{crate}/out/{crate}_tests"
-
-
-def are_built(paths):
-    """Returns whether these executables are there, and tells where one is not."""
-    lacking = [it for it in paths if not os.path.isfile(it)]
-    if lacking:
-        print(f"there is no {lacking[0]}: rt ci builds it")
-    return not lacking
-
-
-def compiled(folder, name):
-    """Compiles a library of .ci/c by the kit's clang into a folder, and returns its path."""
-    kit, path = os.path.dirname(os.path.dirname(os.path.realpath(shutil.which("rt")))), f"{folder}/{name}.so"
-    source = f"{TOP}/.ci/c/{name}.c"
-    subprocess.run([f"{kit}/toolchain/bin/clang", "-O1", "-shared", "-fPIC", "-nostdlib", "-o", path, source], check=True)
-    return path
+def compiled(folder, name, source):
+    """Compiles a library of C by the kit's clang, and returns its path."""
+    kit = os.path.dirname(os.path.dirname(os.path.realpath(shutil.which("rt"))))
+    path = f"{folder}/{name}"
+    with open(f"{path}.c", "w", encoding="utf-8") as file:
+        file.write(source)
+    words = [f"{kit}/toolchain/bin/clang", "-O1", "-shared", "-fPIC", "-nostdlib", "-o", f"{path}.so", f"{path}.c"]
+    subprocess.run(words, check=True)
+    return f"{path}.so"
 
 
 def ended(words, given, library=None, number=0):
@@ -55,3 +45,22 @@ def ended(words, given, library=None, number=0):
     os.close(kept)
     with open(taken, "rb") as file:
         return Ended((ran.returncode, ran.stdout, ran.stderr), file.read(), numbers)
+
+
+def source_of(name):
+    """Returns the text of a library of .ci/c."""
+    with open(f"{TOP}/.ci/c/{name}.c", encoding="utf-8") as file:
+        return file.read()
+
+
+def tests_of(crate):
+    """Returns the path of a crate's tests."""
+    return f"{TOP}/crates/{crate}/out/{crate}_tests"
+
+
+def are_built(paths):
+    """Returns whether these executables are there, and tells where one is not."""
+    lacking = [it for it in paths if not os.path.isfile(it)]
+    if lacking:
+        print(f"there is no {lacking[0]}: rt ci builds it")
+    return not lacking
