@@ -213,14 +213,16 @@ class Functions:
             plain = re.fullmatch(r"(?:impl|(?:pub )?trait) (?:[\w:<>]+ for )?\w+\s*", head)
             owner = "".join(it[:1].upper() + it[1:] for it in [*words_of(head)[1], *words_of(head)[0]])
             return "::".join([self.crate, *modules, *([owner] if head else []), word]) if plain or not head else None
-        return max(filter(None, (self.fits(name, modules, head) for name in self.by_word.get(word, []))), key=len, default=None)
+        fitting = ["::".join(it) for it in self.by_word.get(word, []) if self.fits(it, modules, head)]
+        return max(fitting, key=len, default=None)
 
     def fits(self, name, modules, head):
-        """Returns the name where it may be that of a function in these modules, in an impl with this head, or None. A type's own methods stand in the module of the type."""
-        within, owner = (name[1:-1], "") if not head else (name[1:-2], name[-2] if len(name) > 2 else "")
-        is_own = bool(head) and not words_of(head)[0]
-        stands = within == modules or is_own and "+" not in owner and owner == words_of(head)[1][0]
-        return "::".join(name) if stands and bool(owner) == bool(head) and (not head or is_spelled(owner, head)) else None
+        """Tells whether a name may be that of a function in these modules, in an impl with this head. A type's own methods stand in the module of the type."""
+        if not head:
+            return name[1:-1] == modules
+        within, owner = name[1:-2], name[-2]
+        trait, of = words_of(head)
+        return (within == modules or not trait and owner == of[0]) and is_spelled(owner, head)
 
     def at(self, path, start, end):
         """Returns the name of the function whose body holds this part of a file, if the prover's name for it is known, with the way to it."""
