@@ -33,6 +33,22 @@ mod tests {
 FILES = {"crates.txt": "jr_word:\n", "README.md": PAGE, "crates/jr_word/src/place.rt": SOURCE, "crates/jr_word/src/owner.rt": "fn own(it: Vec<u8>) {}\n"}
 
 
+# A repository in which much is wrong.
+WRONG = {
+    "crates.txt": "jr_word:\njr_env: jr_word\n", "HANDLES": "Handles allowed: none.\n", "README.md": "a" * 12_289, ".ci/run": "true\n",
+    "crates/jr_word/src/lib.rt": "pub fn one() {}\n", "crates/jr_env/src/lib.rt": "#![tactic(auto)]\npub fn two() {}\n",
+    "crates/jr_env/must-fail/it.edit": "", ".ci/edits/jr_none/it.edit": "", "crates/jr_word/README.md": "# A word\n", "crates/jr_word/out/it": "",
+    "crates/jr_rule/src/row.rt": "struct Row {\n    pub table: Table,\n}\n", "crates/jr_rule/src/over.rt": "use atomic_table::Table;\n",
+    "crates/jr_word/specs/One.antt": "abbrev pub same : Type 0\nsame = Unit\n", "crates/jr_word/specs/Two.antt": "-- two\nabbrev pub same : Type 0\nsame = Unit\n",
+}
+FOUND = {
+    "basics": ("HANDLES: must be", "docs/DECISIONS.md: missing", "docs/ARCHITECTURE.md: missing", ".ci/run: does not call rt ci", "crates/jr_word/out/it: is not"),
+    "edits": (".ci/edits/jr_none/it.edit: crates.txt has no", "crates/jr_word/src/lib.rt: lacks the line", "crates/jr_word: 1 public", "crates/jr_env: 1 public", "crates/jr_env/must-fail: an edit"),
+    "table": ("crates/jr_rule/src/row.rt:2: the field", "crates/jr_rule/src/over.rt:1: names `Table`"),
+    "pages": ("README.md: 12289 bytes", "crates/jr_word/README.md: 1 lines", "crates/jr_word/README.md: has not", "crates/jr_env/README.md: missing"),
+}
+
+
 class Habits(unittest.TestCase):
     """Findings in a small repository."""
 
@@ -72,6 +88,26 @@ class Habits(unittest.TestCase):
         with repository(pages):
             found = [*self.habits.links([*pages])]
         self.assertEqual([it.split(": ")[1] for it in found], ["a link to 'two' of README.md, which has no such heading", "a link to two.md, which is no file here"])
+
+    def test_what_is_wrong_in_a_repository(self):
+        with repository(WRONG):
+            for part, wanted in FOUND.items():
+                found = [*getattr(self.habits, part)([*WRONG])]
+                self.assertEqual(len(found), len(wanted), found)
+                for told, begins in zip(sorted(found), sorted(wanted)):
+                    self.assertTrue(told.startswith(begins), told)
+            self.assertEqual(len([*self.habits.without_head("crates/jr_word/specs/One.antt"), *self.habits.without_head("crates/jr_word/specs/Two.antt")]), 1)
+
+    def test_definitions_that_are_doubled_or_of_no_use(self):
+        with repository(WRONG):
+            found = self.habits.Repository()
+            definitions = [*found.definitions.values()]
+            self.assertEqual(len([*self.habits.doubled(definitions)]), 1)
+            self.assertEqual(len([*self.habits.unreached(found, definitions)]), 2)
+
+    def test_folders_with_too_many_files(self):
+        many = [f"{folder}/{number}" for folder in ("proofs", ".ci/edits/low") for number in range(41)]
+        self.assertEqual([*self.habits.folders(many)], ["proofs: 41 files (40 at the most)"])
 
     def test_labels_of_papers(self):
         with repository({"page.md": f"by T{5}\nby rule\n"}):

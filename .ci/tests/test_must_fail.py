@@ -4,7 +4,10 @@ import contextlib
 import io
 import os
 import re
+import subprocess
+import sys
 import unittest
+from unittest import mock
 
 from shared import repository, script
 
@@ -127,6 +130,11 @@ class Checks(unittest.TestCase):
         self.refused(told)
         self.assertEqual(prover.sizes, [3, 1, 2, 1, 1])
 
+    def test_an_edit_of_two_functions_is_a_check_of_the_whole_crate(self):
+        told, prover = tried([("Word", 3)], [(".ci/edits/low/import.edit", "file: src/lib.rt\nold:     10\nnew:     4\nold:     11\nnew:     5\n")])
+        self.refused(told)
+        self.assertEqual(prover.sizes, [1, 1])
+
     def test_a_lone_check_without_an_end_is_told(self):
         told, _ = tried([("one", 1)], most=0)
         self.assertIn("the check did not come to an end: killed", told["one_1"])
@@ -216,6 +224,89 @@ class Kept(unittest.TestCase):
             self.assertEqual(module.owed([*listed], listed), [*listed])
 
 
+    def test_what_no_run_came_to_for_long_is_removed(self):
+        with repository({"store/old": "", "store/new": ""}):
+            module = script("must-fail")
+            module.STORE = os.path.abspath("store")
+            os.utime("store/old", (0, 0))
+            module.drop_stale()
+            self.assertEqual(os.listdir("store"), ["new"])
+
+    def test_a_library_is_built_behind_its_text_and_those_below(self):
+        files = {"crates/low/src/lib.rt": "", "crates/high/src/lib.rt": ""}
+        listed = {"low": [], "high": ["low"]}
+        with repository(files):
+            module = script("must-fail")
+            self.assertFalse(module.is_built("high", listed))
+            for at, crate in ((10**10, "low"), (10**10 + 1, "high")):
+                os.makedirs(module.rlib(crate))
+                os.utime(module.rlib(crate), (at, at))
+            self.assertTrue(module.is_built("high", listed))
+            with open("crates/low/out/rlib/stamp", "w", encoding="utf-8"):
+                self.assertFalse(module.is_built("high", listed))
+            os.remove("crates/low/out/rlib/stamp")
+            os.utime(module.rlib("low"), (10**10 + 2, 10**10 + 2))
+            self.assertFalse(module.is_built("high", listed))
+
+    def test_what_a_landing_touches(self):
+        def git(*words):
+            """Runs git, as somebody."""
+            who = ["-c", "user.name=one", "-c", "user.email=one", "-c", "commit.gpgsign=false"]
+            subprocess.run(["git", *who, *words], check=True, stdout=subprocess.DEVNULL, stderr=subprocess.DEVNULL)
+
+        def write(path, text):
+            """Writes a file and commits it."""
+            with open(path, "w", encoding="utf-8") as file:
+                file.write(text)
+            git("add", "-A")
+            git("commit", "-qm", path)
+
+        with repository({**FILES, "crates/high/src/lib.rt": "", **dict([edit("one", 1)])}):
+            module = script("must-fail")
+            self.assertIsNone(module.touched())
+            git("init", "-q")
+            write("crates.txt", "low:\nhigh: low\n")
+            write(".ci/landing", "6 kit\n")
+            self.assertEqual(module.touched(), set())
+            write("crates/high/src/lib.rt", "fn four() {}\n")
+            write(".ci/edits/low/one_2.edit", "")
+            write("README.md", "")
+            self.assertEqual(module.touched(), {"high", "low"})
+            write(".ci/landing", "7 other\n")
+            self.assertIsNone(module.touched())
+
+
+class Words(unittest.TestCase):
+    """The words that the script is called with."""
+
+    def ended(self, *words, owed=("low",)):
+        """Returns the status of the script, called with these words, and what it prints."""
+        printed = io.StringIO()
+        with repository({**FILES, **dict([edit("one", 1), edit("two", 2)])}) as room, contextlib.redirect_stdout(printed):
+            module, prover = script("must-fail"), StandIn(says={"two_2": PROVED})
+            trials(module, prover)
+            module.__file__, module.owed = f"{room}/.ci/must-fail", lambda crates, listed: [it for it in crates if it in owed]
+            with mock.patch.object(sys, "argv", ["must-fail", *words]):
+                return module.main(), printed.getvalue()
+
+    def test_all_edits_or_those_that_are_owed(self):
+        for words, owed in ((("--all", "--proved"), ()), (("--proved",), ("low",)), (("low",), ())):
+            status, said = self.ended(*words, owed=owed)
+            self.assertEqual((status, "1 edits refused, 1 not" in said), (1, True), said)
+
+    def test_nothing_that_is_owed(self):
+        status, said = self.ended("--proved", owed=())
+        self.assertEqual((status, "2 edits of crates that the landing does not touch" in said), (1, True))
+
+    def test_one_edit_with_what_the_prover_says(self):
+        status, said = self.ended("low", "one_1.edit")
+        self.assertEqual((status, f"fn low::one: {REFUSED}" in said, "1 edits refused, 0 not" in said), (0, True, True))
+
+    def test_copies_and_words_that_there_are_not(self):
+        self.assertIn("0 functions proved in a copy, 0 not", self.ended("--copies", "--all")[1])
+        self.assertEqual(self.ended("--no-such")[0], 2)
+
+
 class Copies(unittest.TestCase):
     """What the prover is handed: a copy of the crate with the edits."""
 
@@ -249,6 +340,17 @@ class Copies(unittest.TestCase):
             file, way = rattle.Functions("low").places["low::one"]
             module.leave_open("crates/low", "low", "low::one", file.path, way[-1].body)
             self.assertEqual(rattle.text_of("crates/low/src/lib.rt"), "fn one() -> u8 {\n loop {}        \n      \n}\n")
+
+    def test_a_copy_of_a_method_stands_in_an_impl(self):
+        text = "use core::one;\nimpl It {\n    fn one() { 1 }\n}\n"
+        pair = "file: src/lib.rt\nold: { 1 }\nnew: { 2 }\nold: use core::one\nnew: use core::two\n"
+        with repository({**FILES, "crates/low/src/lib.rt": text, ".ci/edits/low/it.edit": pair}):
+            module, known = script("must-fail"), rattle.Functions("low")
+            it = module.Edit(".ci/edits/low/it.edit", "low")
+            it.find_function(known)
+            it.copy = 1
+            self.assertEqual((it.function, it.source.copied("crates/low", it)), ("low::It::one", ("src/lib.rt", 6, 8)))
+            self.assertEqual(rattle.text_of("crates/low/src/lib.rt"), f"{text}\nimpl It {{\n    fn one_edit1() {{ 2 }}\n}}\n")
 
     def test_what_can_be_copied(self):
         bodies = {"fn one() { 1 }": True, "fn one() { one() }": False, "impl It {\n fn one() { 1 }\n}": True, "impl Go for It {\n fn one() { 1 }\n}": False, "impl It {\n fn one() { self.one() }\n}": False}

@@ -8,7 +8,7 @@ import unittest
 from shared import CI, script
 
 # Scripts of which some functions have no sentence yet.
-NOT_YET = ("contend", "machine.py", "soak")
+NOT_YET = ("contend", "machine.py", "one_process.py", "soak", "straying.py", "yielding.py")
 
 
 def scripts():
