@@ -43,6 +43,7 @@ class Case(NamedTuple):
 
 
 def read(path):
+    """Returns the bytes of a file."""
     with open(path, "rb") as file:
         return file.read()
 

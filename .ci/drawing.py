@@ -16,7 +16,7 @@ import re
 from html import escape
 
 from pages import is_kept
-from reading import text_of
+from rattle import text_of
 
 WIDE, HIGH, MARGIN, SIZE = 9, 19, 18, 14.9
 LEFT, RIGHT, UP, DOWN = (-1, 0), (1, 0), (0, -1), (0, 1)
@@ -50,10 +50,12 @@ class Grid:
     """The signs of a text, by column and row."""
 
     def __init__(self, lines):
+        """Takes in the lines of a text."""
         self.lines = lines
         self.wide = max(len(it) for it in lines)
 
     def at(self, column, row):
+        """Returns the sign at a place."""
         inside = 0 <= row < len(self.lines) and 0 <= column < len(self.lines[row])
         return self.lines[row][column] if inside else " "
 
@@ -102,10 +104,12 @@ def middle(column, row):
 
 
 def short(number):
+    """Returns a number with a digit behind the point at the most."""
     return f"{number:.1f}".removesuffix(".0")
 
 
 def boxes(grid):
+    """Yields each box, filled."""
     for left, top, right, bottom, sign in grid.boxes():
         (x, y), (to_x, to_y) = middle(left, top), middle(right, bottom)
         yield f'<rect x="{short(x)}" y="{short(y)}" width="{short(to_x - x)}" height="{short(to_y - y)}" fill="{BOX if sign == "┌" else ABOUT}"/>'

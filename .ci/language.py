@@ -67,6 +67,7 @@ def kinds_of(words):
 
 
 def is_between(word, bounds):
+    """Returns whether a number lies between two, where there are bounds."""
     return bounds is None or bounds[0] <= int(word) <= bounds[1]
 
 
@@ -84,9 +85,11 @@ class Reading:
     """What the lines before a line say."""
 
     def __init__(self):
+        """Begins before the first line."""
         self.threads, self.names, self.posted = 0, set(), set()
 
     def fault_of_sizes(self, line):
+        """Returns the fault of the first line, or None."""
         sizes = VM.fullmatch(line)
         if not sizes:
             return "vm line expected"
@@ -94,6 +97,7 @@ class Reading:
         return None if all(map(is_between, sizes.groups(), SIZES.values())) else "number out of range"
 
     def fault_of_thread(self, name):
+        """Returns the fault of a line that begins a thread, or None."""
         if len(self.names) >= self.threads:
             return "too many threads"
         if name in self.names:
@@ -102,6 +106,7 @@ class Reading:
         return None
 
     def fault_of_post(self, line):
+        """Returns the fault of a command that posts a name, or None."""
         verb, _, name = line.partition(b" ")
         if verb != b"post":
             return None

@@ -1,9 +1,9 @@
-"""What the scripts that write pages have in common: links to headings, tables, parts that are folded, and the check that a page is what its script makes."""
+"""What the scripts that write pages have in common: links to headings, tables, and the check that a page is what its script makes."""
 
 import os
 import re
 
-from reading import text_of
+from rattle import text_of
 
 
 def anchor(heading):
@@ -12,10 +12,12 @@ def anchor(heading):
 
 
 def link(text, heading):
+    """Returns a link to a heading of the same page."""
     return f"[{text}](#{anchor(heading)})"
 
 
 def counted(number, word):
+    """Returns a number with the word for what is counted."""
     return f"{number:,} {word if number == 1 else word + 's'}"
 
 
@@ -25,19 +27,17 @@ def head_of(*columns):
 
 
 def row(*cells):
+    """Returns a row of a table."""
     return f"| {' | '.join(f'{it:,}' if isinstance(it, int) else it for it in cells)} |"
 
 
-def folded(summary, lines):
-    """Returns the lines of a part that a reader opens: in a browser by a click, and in a terminal they stand there."""
-    return ["", f"<details><summary>{summary}</summary>", "", *lines, "", "</details>"]
-
-
 def is_kept(path, text):
+    """Returns whether a file has this text."""
     return os.path.exists(path) and text_of(path) == text
 
 
 def write(path, text):
+    """Writes a text to a file."""
     with open(path, "w", encoding="utf-8") as file:
         file.write(text)
 

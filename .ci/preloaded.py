@@ -7,6 +7,11 @@ import subprocess
 from typing import NamedTuple
 
 
+TOP = os.path.dirname(os.path.dirname(os.path.abspath(__file__)))
+PROGRAM = f"{TOP}/crates/jrefs/out/jrefs"
+OUT_OF_MEMORY = (3, b"", b"out of memory\n")
+
+
 class Ended(NamedTuple):
     """How a command ended, what the library told, and the numbers that it kept."""
 
@@ -40,3 +45,22 @@ def ended(words, given, library=None, number=0):
     os.close(kept)
     with open(taken, "rb") as file:
         return Ended((ran.returncode, ran.stdout, ran.stderr), file.read(), numbers)
+
+
+def source_of(name):
+    """Returns the text of a library of .ci/c."""
+    with open(f"{TOP}/.ci/c/{name}.c", encoding="utf-8") as file:
+        return file.read()
+
+
+def tests_of(crate):
+    """Returns the path of a crate's tests."""
+    return f"{TOP}/crates/{crate}/out/{crate}_tests"
+
+
+def are_built(paths):
+    """Returns whether these executables are there, and tells where one is not."""
+    lacking = [it for it in paths if not os.path.isfile(it)]
+    if lacking:
+        print(f"there is no {lacking[0]}: rt ci builds it")
+    return not lacking

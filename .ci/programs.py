@@ -31,6 +31,7 @@ def wrong(program, asked):
     that ends otherwise."""
 
     def told(it):
+        """Returns what is told of one text, or None."""
         name, word, text, wanted = it
         came = ended(program, word, text)
         return None if came == wanted else f"FAILED  {os.path.basename(program)} {word}: {name}: {str(came)[:400]}, and not {str(wanted)[:400]}"

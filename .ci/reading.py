@@ -2,10 +2,11 @@
 
 A *name* is a pair of a module and a word: (`jr_rule.specs.Knowing`, `Took`) for a definition, and for a Rust type the module that the prover gives it: (`jr_rule.specs.declared.known`, `Known`). Names of the kit's libraries are left out."""
 
-import glob
 import os
 import re
 from dataclasses import dataclass, field
+
+from rattle import CLAUSE, blanked, crates, files_of, items_of, text_of
 
 IMPORT = re.compile(r"^\s*(?:ghost )?use (?:Rattle\.)?([\w.@?]+?)(?:\.\{([^}]*)\}| as (\w+));?$", re.M)
 DEFINED = re.compile(r"(?:pub )?(?:abbrev|unfoldable|record|data) (?:pub )?(\S+)(?: |$)")
@@ -16,13 +17,10 @@ PROJECTION = re.compile(r"(?<=\))(?:\.[\w']+)+")
 WORD = re.compile(r"[^\s(){}\[\];,.λ∥]+(?:\.[^\s(){}\[\];,.∥]+)*")
 TYPED = re.compile(r"[({]\s*((?:[\w'-]+ )+):|^\s+(?:pub )?([\w'-]+) :|\blet ([\w'-]+)|([\w']+) ←", re.M)
 LAMBDA = re.compile(r"λ ((?:\([^)]*\)|[^.(])*)\.")
-BLANKED = re.compile(r"//[^\n]*|/\*.*?\*/|\"(?:\\.|[^\"\\])*\"|'(?:\\.|[^\\'\n])'", re.S)
-ITEM = re.compile(r"(?P<public>pub(?:\((?P<within>\w+)\))? )?(?:const (?=fn))?(?P<kind>ghost use|ghost|fn|struct|enum|trait|impl|mod|const|use|type)\b\s*(?P<name>\w*)")
 PUBLIC_FIELD = re.compile(r"\bpub ([^,{;\n]*)")
 NAMED_TYPE = re.compile(r"=\s*([^;]+)")
 NAMED = re.compile(r"^pub type (\w+)[^=;]*=\s*([^;]+);", re.M)
 HELD_TYPE = re.compile(r"[(:<] ?([A-Z]\w*)")
-CLAUSE = re.compile(r"\b(requires|ensures)\*?(?:\s+(\w+))?\s*\Z")
 BOUND = re.compile(r"\b([A-Z]\w*)\s*:\s*([A-Z]\w*)")
 MEMBER = re.compile(r"(?<![\w.])([A-Z]\w*)\.([A-Za-z]\w*)")
 # Traits whose members count for nothing beside the trait itself: what they are in a room is a claim of its own.
@@ -43,7 +41,7 @@ class Definition:
 
 
 @dataclass
-class Item:
+class Entry:
     """A function, a type or a ghost member of src/: the file, and from where to where its head stands there; the trait, the type (by the name that the file gives it, where it gives one: `pub type Name = Type;`) or `Trait for Type` that it stands in; its clauses; the names that they say; and the words of its signature or its public fields that may be Rust types, each with the crate that it is of."""
     file: str
     place: tuple
@@ -67,21 +65,6 @@ class Clause:
     place: tuple
     words: list
     members: set
-
-
-def text_of(path):
-    with open(path, encoding="utf-8", errors="replace") as file:
-        return file.read()
-
-
-def crates():
-    """Returns the crates, the lowest first."""
-    lines = [line.partition("#")[0].partition(":")[0].split() for line in text_of("crates.txt").split("\n")]
-    return [words[0] for words in lines if words]
-
-
-def files_of(crate, folder, ending):
-    return sorted(glob.glob(f"crates/{crate}/{folder}/**/*{ending}", recursive=True))
 
 
 def target_of(path, word):
@@ -111,6 +94,7 @@ class Scope:
     """What words mean: by themselves, and behind the name of a module; and the traits of type parameters."""
 
     def __init__(self, text, above=None):
+        """Takes in the imports of a text, beside what words mean above it."""
         self.words = dict(above.words) if above else {}
         self.modules = dict(above.modules) if above else {}
         self.traits = dict(above.traits) if above else {}
@@ -122,10 +106,12 @@ class Scope:
                     self.define(renamed or word, target_of(path, word))
 
     def define(self, word, name):
+        """Has a word, or the parts of an operator, mean a name."""
         for piece in filter(None, word.split("◌")):
             self.words[piece] = name
 
     def meaning(self, word):
+        """Returns the name that a word means, or None."""
         head, _, rest = word.partition(".")
         if head == "Rattle":
             path = re.match(r"Rattle\.(\w+\.(?:specs|proofs)(?:\.[A-Z]\w*)+?)\.(\w+)$", word)
@@ -150,6 +136,7 @@ class Specs:
     """A file of specs/ or proofs/: its definitions, and its scope."""
 
     def __init__(self, path):
+        """Takes in the text of a file."""
         self.path, self.module = path, path[len("crates/"):-len(".antt")].replace("/", ".")
         self.text = text_of(path)
         self.code = IMPORT.sub(lambda it: "\n" * it[0].count("\n"), self.text)
@@ -205,99 +192,66 @@ class Specs:
 
 
 class Source:
-    """A file of src/: its items, without those of tests."""
+    """A file of src/: its entries, without those of tests."""
 
     def __init__(self, path):
+        """Takes in the text of a file."""
         parts = path[len("crates/"):-len(".rt")].split("/")
         self.path, self.crate, self.module = path, parts[0], ".".join(parts[2:])
-        self.code = BLANKED.sub(lambda it: re.sub(r"[^\n]", " ", it[0]), text_of(path))
-        self.items, self.crates = [], {}
+        self.code = blanked(text_of(path))
+        self.entries, self.crates = [], {}
         self.named = {" ".join(of.split()): name for name, of in NAMED.findall(self.code)}
 
     def read(self):
-        self.block(0, len(self.code), Scope(""), "", False)
+        """Finds the entries."""
+        self.block(items_of(self.code), Scope(""), "", False)
         return self
 
-    def block(self, at, end, above, inside, in_trait):
+    def block(self, items, above, inside, in_trait):
         """Reads the items of the file, an impl or a trait."""
-        found = [*self.split(at, end)]
-        scope = Scope("\n".join(self.code[it.start():stop] for it, _, stop in found if it["kind"] == "ghost use"), above)
-        for head, braces, stop in found:
-            kind = head["kind"]
-            text = self.code[head.start():braces[-1][0] if braces and kind != "use" else stop]
-            if kind == "use":
+        found = [it for it in items if not it.is_test]
+        scope = Scope("\n".join(self.code[it.start:it.stop] for it in found if it.kind == "ghost use"), above)
+        for it in found:
+            text = self.code[it.start:it.braces[-1][0] if it.braces and it.kind != "use" else it.stop]
+            if it.kind == "use":
                 crate, _, words = re.sub(r".*\buse ", "", text).partition("::")
-                self.crates.update({it: self.crate if crate == "crate" else crate for it in re.findall(r"\b[A-Z]\w*", words)})
-            elif kind in ("fn", "ghost", "struct", "enum", "trait") or kind == "type" and not inside:
-                self.items.append(self.item(head, braces, stop, scope, inside, in_trait))
-            if kind in ("impl", "trait"):
-                plain = re.sub(r"<[^<>]*(?:<[^<>]*>[^<>]*)*>", "", text).partition("where")[0]
-                of = " ".join(re.sub(r"^impl(?:<[^<>]*>)?", "", text).split())
-                within = self.named.get(of, " ".join(plain.split()[1:])) if kind == "impl" else head["name"]
-                scope.traits = {**scope.traits, **dict(BOUND.findall(text))} if kind == "impl" else {"Self": head["name"]}
-                self.block(braces[-1][0] + 1, stop - 1, scope, within, kind == "trait")
+                self.crates.update({word: self.crate if crate == "crate" else crate for word in re.findall(r"\b[A-Z]\w*", words)})
+            elif it.kind in ("fn", "ghost", "struct", "enum", "trait") or it.kind == "type" and not inside:
+                self.entries.append(self.entry(it, scope, inside, in_trait))
+            if it.kind in ("impl", "trait"):
+                scope.traits = {**scope.traits, **dict(BOUND.findall(text))} if it.kind == "impl" else {"Self": it.name}
+                self.block(it.items, scope, self.owner(text) if it.kind == "impl" else it.name, it.kind == "trait")
                 scope.traits = {}
 
-    def item(self, head, braces, stop, scope, inside, in_trait):
-        """Returns a function, a type or a ghost member."""
-        kind, first = head["kind"], braces[0][0] if braces else stop
-        signature = self.code[head.start():first] if kind == "fn" else ""
-        bound = set(re.findall(r"(\w+):", signature))
-        traits = {**scope.traits, **dict(BOUND.findall(signature))}
-        clauses, before = [], head.start()
-        for start, close, is_said in braces:
-            if is_said and kind in ("fn", "ghost"):
+    def owner(self, head):
+        """Returns the type of the head of an impl, by the name that the file gives it, or `Trait for Type`."""
+        plain = re.sub(r"<[^<>]*(?:<[^<>]*>[^<>]*)*>", "", head).partition("where")[0]
+        of = " ".join(re.sub(r"^impl(?:<[^<>]*>)?", "", head).split())
+        return self.named.get(of, " ".join(plain.split()[1:]))
+
+    def clauses(self, item, scope, signature):
+        """Returns the clauses of an item, with what they say."""
+        bound, traits = set(re.findall(r"(\w+):", signature)), {**scope.traits, **dict(BOUND.findall(signature))}
+        clauses, before = [], item.start
+        for start, close, is_said in item.braces:
+            if is_said and item.kind in ("fn", "ghost"):
                 text, word = self.code[start:close], CLAUSE.search(self.code, before, start)
                 words = scope.words_said(text, bound_words(text) | bound)
                 members = {(traits[it], member) for it, member in MEMBER.findall(text) if it in traits}
                 clauses.append(Clause(word[1] if word else "", word[2] or "" if word else "", (start, close), words, members))
             before = close
+        return clauses
+
+    def entry(self, item, scope, inside, in_trait):
+        """Returns a function, a type or a ghost member."""
+        signature = self.code[item.start:item.first] if item.kind == "fn" else ""
+        clauses = self.clauses(item, scope, signature)
         said = {name for it in clauses for _, name in it.words}
-        held = {"struct": PUBLIC_FIELD, "enum": HELD_TYPE, "type": NAMED_TYPE}
-        text = " ".join(held[kind].findall(self.code, head.end(), stop)) if kind in held else f"{inside} {signature}" if signature else ""
+        held = {"struct": PUBLIC_FIELD, "enum": HELD_TYPE, "type": NAMED_TYPE}.get(item.kind)
+        text = " ".join(held.findall(self.code, item.named, item.stop)) if held else f"{inside} {signature}" if signature else ""
         types = {(self.crates.get(it, self.crate), it) for it in re.findall(r"\b[A-Z]\w*", text)}
-        is_public = bool(head["public"]) and not head["within"]
-        return Item(self.path, (head.start(), first if kind == "fn" else stop), self.crate, self.module, kind, head["name"], is_public, inside, in_trait, clauses, said, types)
-
-    def split(self, at, end):
-        """Yields each item's head, its braces (and whether they are a clause or a ghost value), and its end."""
-        marks = re.compile(r"\s*(#!?\[[^\]]*\]\s*)*")
-        while True:
-            marked = marks.match(self.code, at, end)
-            head = ITEM.match(self.code, marked.end(), end)
-            if not head:
-                return
-            braces, at, brace, is_body = [], head.end(), "{", False
-            while brace == "{" and not is_body:
-                at, brace = self.next_brace(at, end)
-                if brace == "{":
-                    start, at = at - 1, self.closed_at(at - 1)
-                    is_said = head["kind"] == "ghost" or bool(CLAUSE.search(self.code, head.end(), start))
-                    is_body = not is_said and head["kind"] not in ("ghost use", "use", "const", "type")
-                    braces.append((start, at, is_said))
-            if "cfg(test)" not in marked[0]:
-                yield head, braces, at
-
-    def next_brace(self, at, end):
-        """Returns the place behind the next brace or semicolon that stands in no other bracket, and which it is."""
-        depth = 0
-        for found in re.compile(r"[(\[\])]|[{;]").finditer(self.code, at, end):
-            if found[0] in "([":
-                depth += 1
-            elif found[0] in ")]":
-                depth -= 1
-            elif depth == 0:
-                return found.end(), found[0]
-        return end, ""
-
-    def closed_at(self, start):
-        """Returns the place behind the brace that closes the one at a place."""
-        depth = 0
-        for found in re.compile(r"[{}]").finditer(self.code, start):
-            depth += 1 if found[0] == "{" else -1
-            if depth == 0:
-                return found.end()
-        return len(self.code)
+        place = (item.start, item.first if item.kind == "fn" else item.stop)
+        return Entry(self.path, place, self.crate, self.module, item.kind, item.name, item.is_public, inside, in_trait, clauses, said, types)
 
 
 def said_in(path):
@@ -313,12 +267,14 @@ class Shown:
     """What the root of a crate shows to others: modules, and words of other modules."""
 
     def __init__(self, crate):
+        """Reads the root of a crate."""
         root = f"crates/{crate}/src/lib.rt"
         text = text_of(root) if os.path.exists(root) else ""
         self.modules = set(re.findall(r"^pub mod (\w+);", text, re.M))
         self.words = {(module, it) for module, words in re.findall(r"^pub use (\w+)::\{?([^;}]*)\}?;", text, re.M) for it in re.findall(r"\w+", words)}
 
     def has(self, item):
+        """Tells whether others can name an item that stands in no other."""
         # (a module within a module that is shown hands its public items on to that)
         return item.is_public and (item.module.partition(".")[0] in self.modules or (item.module, item.name) in self.words)
 
@@ -329,6 +285,7 @@ def public_items(crate, items):
     own = {it.name: it for it in items if it.kind in ("struct", "enum", "trait", "type")}
 
     def is_public(item):
+        """Tells whether others can name an item of an impl or a trait."""
         around = item.inside.split(" for ")
         is_member = item.is_public or item.in_trait or len(around) == 2 and (around[0], item.name) != ("Model", "invariant")
         return is_member and all(word not in own or shown.has(own[word]) for word in around)
@@ -340,12 +297,13 @@ class Repository:
     """The definitions of specs/ by name, the items of src/, and what each name says: a definition what its text says, a type what its model says, or else the types of its public fields."""
 
     def __init__(self):
+        """Reads all crates."""
         self.definitions, self.said, self.items, self.public, self.types, self.constructors = {}, {}, [], [], {}, {}
         for crate in crates():
             for file in (Specs(it).read() for it in files_of(crate, "specs", ".antt")):
                 self.definitions.update({it.name: it for it in file.definitions})
                 self.constructors.update(file.constructors())
-            items = [it for path in files_of(crate, "src", ".rt") for it in Source(path).read().items]
+            items = [it for path in files_of(crate, "src", ".rt") for it in Source(path).read().entries]
             self.items += items
             self.public += public_items(crate, items)
             self.types.update({(crate, it.name): (f"{crate}.specs.declared.{it.module}", it.name) for it in items if it.kind in ("struct", "enum", "type")})

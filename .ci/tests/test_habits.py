@@ -1,0 +1,114 @@
+"""Tries .ci/check-habits: what it finds on pages and in sources."""
+
+import unittest
+
+from shared import repository, script
+
+PAGE = """# A page
+
+`Taken` and `place` are here, and `src/place.rt`, `place.rt`, `jr_word/src`, `..lace.rt` and `../crates.txt`; `Gone` and `src/gone.rt` are not.
+A word of a clause: `Taken x gone_too ≡ y`. A plain word in it is not looked up: `Taken x gone`.
+
+```rust
+`FencedGone`
+```
+"""
+SOURCE = """//! A place.
+
+/// A call.
+pub fn place(it: Taken) {
+    one();
+    it.push(1);
+}
+
+pub struct Taken {}
+
+#[cfg(test)]
+mod tests {
+    fn tried() {
+        it.push(1);
+    }
+}
+"""
+FILES = {"crates.txt": "jr_word:\n", "README.md": PAGE, "crates/jr_word/src/place.rt": SOURCE, "crates/jr_word/src/owner.rt": "fn own(it: Vec<u8>) {}\n"}
+
+
+# A repository in which much is wrong.
+WRONG = {
+    "crates.txt": "jr_word:\njr_env: jr_word\n", "HANDLES": "Handles allowed: none.\n", "README.md": "a" * 12_289, ".ci/run": "true\n",
+    "crates/jr_word/src/lib.rt": "pub fn one() {}\n", "crates/jr_env/src/lib.rt": "#![tactic(auto)]\npub fn two() {}\n",
+    "crates/jr_env/must-fail/it.edit": "", ".ci/edits/jr_none/it.edit": "", "crates/jr_word/README.md": "# A word\n", "crates/jr_word/out/it": "",
+    "crates/jr_rule/src/row.rt": "struct Row {\n    pub table: Table,\n}\n", "crates/jr_rule/src/over.rt": "use atomic_table::Table;\n",
+    "crates/jr_word/specs/One.antt": "abbrev pub same : Type 0\nsame = Unit\n", "crates/jr_word/specs/Two.antt": "-- two\nabbrev pub same : Type 0\nsame = Unit\n",
+}
+FOUND = {
+    "basics": ("HANDLES: must be", "docs/DECISIONS.md: missing", "docs/ARCHITECTURE.md: missing", ".ci/run: does not call rt ci", "crates/jr_word/out/it: is not"),
+    "edits": (".ci/edits/jr_none/it.edit: crates.txt has no", "crates/jr_word/src/lib.rt: lacks the line", "crates/jr_word: 1 public", "crates/jr_env: 1 public", "crates/jr_env/must-fail: an edit"),
+    "table": ("crates/jr_rule/src/row.rt:2: the field", "crates/jr_rule/src/over.rt:1: names `Table`"),
+    "pages": ("README.md: 12289 bytes", "crates/jr_word/README.md: 1 lines", "crates/jr_word/README.md: has not", "crates/jr_env/README.md: missing"),
+}
+
+
+class Habits(unittest.TestCase):
+    """Findings in a small repository."""
+
+    def setUp(self):
+        self.habits, self.paths = script("check-habits"), [*FILES]
+
+    def found(self, by, *words):
+        """Returns what a part of the script finds in the repository."""
+        with repository(FILES):
+            return [*by(*words)]
+
+    def test_names_in_backticks_that_are_not_there(self):
+        found = self.found(self.habits.names, self.paths)
+        self.assertEqual([it.partition("`")[2].partition("`")[0] for it in found], ["Gone", "src/gone.rt", "gone_too"])
+        self.assertEqual({it.split(":")[1] for it in found}, {"3", "4"})
+
+    def test_functions_that_take_memory(self):
+        found = self.found(self.habits.takers, self.paths)
+        self.assertEqual(len(found), 1)
+        self.assertTrue(found[0].startswith("crates/jr_word/src/place.rt:4: place takes memory ('.push(')"))
+
+    def test_long_bodies(self):
+        self.habits.MOST_LINES_OF_A_BODY = 1
+        self.assertEqual(self.found(self.habits.long_bodies, self.paths[2]), ["crates/jr_word/src/place.rt:4: the body of place has 2 lines (1 at the most)"])
+
+    def test_what_has_no_sentence(self):
+        self.assertEqual(self.found(self.habits.without_sentence, self.paths[2]), ["crates/jr_word/src/place.rt:9: lacks a sentence (`///`): pub struct Taken {}"])
+
+    def test_what_the_scripts_cannot_read(self):
+        files = {"crates.txt": "", "crates/jr_word/src/lib.rt": "fn one() {}\n\nmacro! {}\n"}
+        with repository(files):
+            found = [*self.habits.unread_parts("crates/jr_word/src/lib.rt")]
+        self.assertEqual(found, ["crates/jr_word/src/lib.rt:3: .ci/rattle.py can't read on from here: macro! {}"])
+
+    def test_links_that_lead_nowhere(self):
+        pages = {"README.md": "# One\n\n[a](#one) [b](#two) [c](two.md) [d](https://example.org) `[e](gone)`\n"}
+        with repository(pages):
+            found = [*self.habits.links([*pages])]
+        self.assertEqual([it.split(": ")[1] for it in found], ["a link to 'two' of README.md, which has no such heading", "a link to two.md, which is no file here"])
+
+    def test_what_is_wrong_in_a_repository(self):
+        with repository(WRONG):
+            for part, wanted in FOUND.items():
+                found = [*getattr(self.habits, part)([*WRONG])]
+                self.assertEqual(len(found), len(wanted), found)
+                for told, begins in zip(sorted(found), sorted(wanted)):
+                    self.assertTrue(told.startswith(begins), told)
+            self.assertEqual(len([*self.habits.without_head("crates/jr_word/specs/One.antt"), *self.habits.without_head("crates/jr_word/specs/Two.antt")]), 1)
+
+    def test_definitions_that_are_doubled_or_of_no_use(self):
+        with repository(WRONG):
+            found = self.habits.Repository()
+            definitions = [*found.definitions.values()]
+            self.assertEqual(len([*self.habits.doubled(definitions)]), 1)
+            self.assertEqual(len([*self.habits.unreached(found, definitions)]), 2)
+
+    def test_folders_with_too_many_files(self):
+        many = [f"{folder}/{number}" for folder in ("proofs", ".ci/edits/low") for number in range(41)]
+        self.assertEqual([*self.habits.folders(many)], ["proofs: 41 files (40 at the most)"])
+
+    def test_labels_of_papers(self):
+        with repository({"page.md": f"by T{5}\nby rule\n"}):
+            self.assertEqual([it.split(":")[1] for it in self.habits.labels("page.md")], ["1"])

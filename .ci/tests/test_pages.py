@@ -1,0 +1,152 @@
+"""Tries what makes pages: what sources and definitions say, and the pages of a small repository."""
+
+import unittest
+
+from shared import repository, script
+
+from pages import anchor, loose_links
+from reading import Repository
+
+SPECS = """-- what is believed
+
+-- a pair
+pub record Pair : Type 0 where
+  pub one : ℕ
+
+-- one and the other of it
+abbrev pub same : Pair → Pair → Type 0
+same a b = a ≡ b
+abbrev pub held : Pair → Type 0
+held a = same a a
+
+pub same_self : (a : Pair) → same a a
+same_self a = refl
+"""
+SOURCE = """//! Calls.
+
+ghost use Rattle.jr_word.specs.Words.{held, same};
+
+/// A kind of words.
+pub struct Kind { pub code: u8 }
+
+/// What is asked of a kind.
+pub trait Asks {
+    ghost Asked: { held };
+}
+
+impl Asks for Kind {
+    ghost Asked: { same };
+}
+
+/// Gives a kind.
+///
+/// # Errors
+///
+/// E2 where there is none.
+///
+/// Nothing has changed then.
+pub fn kind_of<A: Asks>(code: u8) -> Result<Kind, Fault>
+    requires asked { A.Asked code }
+    ensures held { held result }
+{
+    Ok(Kind { code })
+}
+"""
+FAULTS = """/// A fault.
+pub enum Fault {
+    /// A handle is malformed.
+    ///
+    /// Nothing can be done.
+    #[error("E2")]
+    Malformed,
+}
+"""
+FILES = {
+    "crates.txt": "jr_word:\n",
+    "crates/jr_word/specs/Lib.antt": "pub mod Words\n",
+    "crates/jr_word/specs/Words.antt": SPECS,
+    "crates/jr_word/src/lib.rt": "#![tactic(auto)]\npub mod kind;\npub mod fault;\n",
+    "crates/jr_word/src/kind.rt": SOURCE,
+    "crates/jr_word/src/fault.rt": FAULTS,
+    "docs/DEFINITIONS.md": "By hand: `Words.antt` (`held`, `gone`).\n",
+}
+WORDS = "jr_word.specs.Words"
+
+
+class Sources(unittest.TestCase):
+    """What definitions and items say."""
+
+    def setUp(self):
+        with repository(FILES):
+            self.repository = Repository()
+        self.entries = {(it.inside, it.name): it for it in self.repository.items}
+
+    def test_definitions_say_what_they_name(self):
+        definitions = {name[1]: it for name, it in self.repository.definitions.items()}
+        self.assertEqual([*definitions], ["Pair", "same", "held", "same_self"])
+        self.assertEqual([len(it.lines) for it in definitions.values()], [2, 2, 2, 2])
+        self.assertEqual(definitions["held"].says, {(WORDS, "Pair"), (WORDS, "same")})
+        self.assertTrue(definitions["same_self"].is_proof)
+
+    def test_items_have_their_clauses(self):
+        call = self.entries["", "kind_of"]
+        self.assertEqual([(it.kind, it.name) for it in call.clauses], [("requires", "asked"), ("ensures", "held")])
+        self.assertEqual(call.clauses[0].members, {("Asks", "Asked")})
+        self.assertIn(("Asks for Kind", "Asked"), self.entries)
+
+    def test_members_of_traits_count_as_what_impls_say(self):
+        call = self.entries["", "kind_of"]
+        self.assertIn((WORDS, "held"), self.repository.says(call))
+        self.assertIn((WORDS, "same"), self.repository.says(call, "asked"))
+
+    def test_what_is_reached_leaves_proofs_out(self):
+        reached = self.repository.reach({(WORDS, "held"), (WORDS, "same_self")})
+        self.assertEqual(reached, {(WORDS, "held"), (WORDS, "same"), (WORDS, "Pair")})
+
+    def test_what_is_public(self):
+        self.assertEqual(sorted(it.name for it in self.repository.public if it.kind in ("fn", "struct", "trait")), ["Asks", "Kind", "kind_of"])
+
+
+class Pages(unittest.TestCase):
+    """The pages of a small repository."""
+
+    def test_definitions(self):
+        with repository(FILES):
+            comments = script("definitions").Comments(Repository())
+            self.assertEqual([*comments.lost()], ["docs/DEFINITIONS.md:1: Words.antt has no definition `gone`"])
+            of_file, of_name = [*comments.told_of("Words.antt")], [*comments.told_of("held")]
+        self.assertEqual(of_file, ["crates/jr_word/specs/Words.antt: what is believed", "  Pair: a pair", "  same, held: one and the other of it"])
+        self.assertEqual(of_name, ["crates/jr_word/specs/Words.antt:10: one and the other of it", "    abbrev pub held : Pair → Type 0", "    held a = same a a"])
+
+    def test_reference_of_a_call(self):
+        with repository(FILES):
+            reference = script("reference")
+            page = reference.Page(Repository())
+            call = page.calls["jr_word", "", "kind_of"]
+            lines = [*page.call(call)]
+            page.look_at(call, page.said(call))
+        self.assertEqual(lines[1:4], ["### `kind_of`", "", "`<A: Asks>(code: u8) -> Result<Kind, Fault>`"])
+        self.assertIn("- **Refused** E2: there is none.", lines)
+        self.assertIn("- **Asks**: asked: `A.Asked code`.", lines)
+        self.assertEqual(page.faults, ["crates/jr_word/src/kind.rt: the `///` of kind_of says E2 under `# Errors`, and the contract nothing"])
+
+    def test_plan_of_the_reference(self):
+        plan = "# Reference\n(refusals)\n\n## Calls\nabout\n(calls by the names of JNI)\nlaws: one two\njr_word: kind_of\n\n## (left out)\nwhy\njr_word: Kind.of part (a part)\n"
+        with repository({**FILES, ".ci/reference.txt": plan}):
+            head, (chapter,), left_out = script("reference").planned()
+        self.assertEqual((head, left_out), ("# Reference\n(refusals)\n", {("jr_word", "Kind", "of"), ("jr_word", "", "part")}))
+        self.assertEqual((chapter.heading, chapter.about, chapter.is_by_name, chapter.laws, chapter.places), ("Calls", "about", True, ["one", "two"], ["jr_word: kind_of"]))
+
+    def test_what_one_must_believe(self):
+        with repository(FILES):
+            trusted, repo = script("trusted"), Repository()
+            names = repo.reach(trusted.claimed(repo, ("jr_word kind_of:held",)))
+            self.assertEqual(trusted.sums(repo, names)[:3], (3, 6, 1))
+            claims = trusted.each_function(repo, "jr_word", lambda it: True)
+            self.assertEqual(trusted.table(repo, claims, "Call", "Where")[2:], ["| `kind_of` | [kind](../crates/jr_word/src/kind.rt) | 3 | 6 | 1 | 2 |"])
+            wanted = ["  crates/jr_word/specs/Words.antt: Pair 2, same 2, held 2", "  Rust types of jr_word: Fault, Kind"]
+            self.assertEqual([*trusted.listed(repo, claims[0][2])], wanted)
+
+    def test_links(self):
+        self.assertEqual(anchor("By `law`, and call"), "by-law-and-call")
+        self.assertEqual(loose_links("# One\n[a](#one) [b](#two) <a id=\"three\"></a> [c](#three)"), ["two"])
