@@ -1,24 +1,27 @@
-"""The built program within one process, for many scripts: the very object that was compiled of what was proved, linked with a file of C in
-the place of what it calls to read its words and its input, to write, and to end."""
+"""The built program within one process, for many scripts: a library before the C library has its `main` run again and again, and stands for
+the calls by which it reads its input, writes and ends."""
 
 import os
 import select
 import struct
 import subprocess
 
-from preloaded import compiled, linked
+from preloaded import compiled
 from programs import SECONDS
 
-# Before `main`, reads the length of a text and the text, runs `main` on it as `jrefs run`, and writes the status, and what came on standard
+# In the place of `main`, reads the length of a text and the text, runs `main` on it, and writes the status, and what came on standard
 # output and on standard error, each behind its length; and so again until there is no more.
 HANDING = r"""
 #define MOST (1 << 24)
+#define NEXT ((void *) -1l)
 enum { READ = 0, WRITE = 1, END = 231 };
 typedef unsigned long size;
+typedef int program(int count, char **words, char **variables);
 typedef struct { unsigned length; unsigned char bytes[MOST]; } stream;
+void *dlsym(void *where, const char *name);
 long syscall(long number, ...);
 void *memcpy(void *to, const void *from, size length);
-int main(int count, char **words);
+static program *own;
 static stream given, streams[3];
 static unsigned taken;
 static int status;
@@ -36,14 +39,6 @@ long write(int to, const void *from, size length) {
     told->length += length;
     return length;
 }
-long rattle_arg(size number, unsigned char *to, size length) {
-    const char *word = number == 0 ? "jrefs" : "run";
-    size needed = number == 0 ? 5 : 3;
-    if (number > 1) return -1;
-    if (needed > length) return -2;
-    memcpy(to, word, needed);
-    return needed;
-}
 void _exit(int with) {
     status = with;
     __builtin_longjmp(ended, 1);
@@ -52,30 +47,33 @@ static void moved(int call, int at, void *bytes, size length) {
     for (long part; length; bytes = (char *) bytes + part, length -= part)
         if ((part = syscall(call, at, bytes, length)) <= 0) syscall(END, 0);
 }
-static void run(void) {
-    char *words[] = { "jrefs", "run", 0 };
-    if (__builtin_setjmp(ended) == 0) status = main(2, words);
+static void run(int count, char **words, char **variables) {
+    if (__builtin_setjmp(ended) == 0) status = own(count, words, variables);
 }
-static void serve(void) __attribute__((constructor));
-static void serve(void) {
+static int serve(int count, char **words, char **variables) {
     for (;;) {
         taken = streams[1].length = streams[2].length = 0;
         moved(READ, 0, &given.length, 4);
         moved(READ, 0, given.bytes, given.length);
-        run();
+        run(count, words, variables);
         moved(WRITE, 1, &status, 4);
         moved(WRITE, 1, &streams[1], 4 + streams[1].length);
         moved(WRITE, 1, &streams[2], 4 + streams[2].length);
     }
 }
+int __libc_start_main(program *main, int count, char **words, void *first, void *last, void *end, void *stack) {
+    int (*next)(program *, int, char **, void *, void *, void *, void *) = dlsym(NEXT, "__libc_start_main");
+    own = main;
+    return next(serve, count, words, first, last, end, stack);
+}
 """
 
 
 class Handed:
-    """A program that runs many scripts in one process, which is started at the first. It ends as a process each would."""
+    """A program that runs many scripts in one process, which is started at the first."""
 
-    def __init__(self, path):
-        self.path, self.process = path, None
+    def __init__(self, program, library):
+        self.program, self.library, self.process = program, library, None
 
     def part(self, length):
         """Returns so many bytes of what the process writes, or fewer, where it has ended or comes to no end."""
@@ -94,7 +92,8 @@ class Handed:
     def ended(self, text):
         """Runs a script. Returns its status, its output and its standard error."""
         if not self.process:
-            self.process = subprocess.Popen([self.path], stdin=subprocess.PIPE, stdout=subprocess.PIPE)
+            how = {"stdin": subprocess.PIPE, "stdout": subprocess.PIPE, "env": {**os.environ, "LD_PRELOAD": self.library}}
+            self.process = subprocess.Popen([self.program, "run"], **how)
         try:
             self.process.stdin.write(struct.pack("I", len(text)) + text)
             self.process.stdin.flush()
@@ -102,10 +101,9 @@ class Handed:
         except (OSError, struct.error):
             self.process.kill()
             status, self.process = self.process.wait(), None
-            return f"none, the process ended with {status}", b"", b""
+            return f"none, and the process ended with {status}", b"", b""
 
 
-def handed(folder, programs):
-    """Returns the paths of programs that run many scripts, one for each of these of which the object file is there."""
-    way = compiled(folder, "handing", HANDING, ("-c", "-fPIE", "-w"), "o")
-    return [linked(f"{folder}/{os.path.basename(it)}", [f"{it}.o", way]) for it in programs if os.path.isfile(f"{it}.o")]
+def handing(folder):
+    """Returns the path of the library, compiled in a folder."""
+    return compiled(folder, "handing", HANDING)

@@ -68,6 +68,8 @@ int pthread_create(thread *made, const void *how, work *does, void *with) {
 class Straying:
     """The library, in a folder."""
 
+    said = ", interrupted"
+
     def __init__(self, folder):
         self.path = compiled(folder, "interrupting", INTERRUPTING)
 

@@ -81,6 +81,8 @@ def linked_kit(folder):
 class Yielding:
     """The program, in a folder."""
 
+    said = ""
+
     def __init__(self, folder):
         words = [linked_kit(folder), "try", "--steps", "1", "--", "run"]
         said = subprocess.run(words, cwd="crates/jrefs", stdin=subprocess.DEVNULL, capture_output=True, check=False)
