@@ -20,15 +20,26 @@ class Ended(NamedTuple):
     kept: tuple
 
 
-def compiled(folder, name, source):
-    """Compiles a library of C by the kit's clang, and returns its path."""
-    kit = os.path.dirname(os.path.dirname(os.path.realpath(shutil.which("rt"))))
+def kit():
+    """Returns the folder of the kit."""
+    return os.path.dirname(os.path.dirname(os.path.realpath(shutil.which("rt"))))
+
+
+def compiled(folder, name, source, words=("-shared", "-fPIC", "-nostdlib"), ending="so"):
+    """Compiles a library of C, or what these words make of it, by the kit's clang, and returns its path."""
     path = f"{folder}/{name}"
     with open(f"{path}.c", "w", encoding="utf-8") as file:
         file.write(source)
-    words = [f"{kit}/toolchain/bin/clang", "-O1", "-shared", "-fPIC", "-nostdlib", "-o", f"{path}.so", f"{path}.c"]
-    subprocess.run(words, check=True)
-    return f"{path}.so"
+    subprocess.run([f"{kit()}/toolchain/bin/clang", "-O1", *words, "-o", f"{path}.{ending}", f"{path}.c"], check=True)
+    return f"{path}.{ending}"
+
+
+def linked(path, objects):
+    """Links a program of object files by the kit, as `rt ci` does, and returns its path."""
+    words = [f"{kit()}/bin/rattle-link", "--target", "x86_64-unknown-linux-gnu", "--toolchain", f"{kit()}/toolchain", "-o", path]
+    libraries = [f"{kit()}/c/libos_c.a", f"{kit()}/c/liblibc_c.a"]
+    subprocess.run([*words, *objects, *libraries], check=True, stderr=subprocess.DEVNULL)
+    return path
 
 
 def ended(words, given, library=None, number=0):

@@ -17,10 +17,12 @@ def built():
     return found
 
 
-def ended(program, word, text):
-    """Runs the program on a text, and returns its status, or that it came to no end, its output and its standard error."""
+def ended(program, word, text, variables=()):
+    """Runs the program on a text, with these variables of the environment beside those that stand, and returns its status, or that it came
+    to no end, its output and its standard error."""
+    how = {"env": {**os.environ, **dict(variables)}, "timeout": SECONDS, "check": False}
     try:
-        ran = subprocess.run([program, word], input=text, stdout=subprocess.PIPE, stderr=subprocess.PIPE, timeout=SECONDS, check=False)
+        ran = subprocess.run([program, word], input=text, stdout=subprocess.PIPE, stderr=subprocess.PIPE, **how)
     except subprocess.TimeoutExpired:
         return f"none in {SECONDS} seconds", b"", b""
     return ran.returncode, ran.stdout, ran.stderr
