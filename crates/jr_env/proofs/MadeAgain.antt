@@ -14,8 +14,8 @@ module _ {M A : Type 0} {one : M → Result A Fault → M → Type 0} {waits : B
   pub tries_from_first : {old new : M} {answer : Result A Fault} (n : ℕ) → MadeAgain waits one (n - 0) old answer new → MadeAgain waits one n old answer new
   tries_from_first {old} {new} {answer} n t = let e : n - 0 ≡ n = omega arith in subst (λ m. MadeAgain waits one m old answer new) e t
 
-  pub tries_once_more : {old mid new : M} {once answer : Result A Fault} (n k : ℕ) → k < n → one old once mid → is_worth_a_try waits once ≡ true → MadeAgain waits one (n - (k + 1)) mid answer new → MadeAgain waits one (n - k) old answer new
-  tries_once_more {old} {mid} {new} {once} {answer} n k l o is t = let e : suc (n - (k + 1)) ≡ n - k = omega arith in subst (λ m. MadeAgain waits one m old answer new) e (once_more o is t)
+  pub tries_once_more : {old mid new : M} {answer : Result A Fault} (once : Result A Fault) (n k : ℕ) → k < n → one old once mid → is_worth_a_try waits once ≡ true → MadeAgain waits one (n - (k + 1)) mid answer new → MadeAgain waits one (n - k) old answer new
+  tries_once_more {old} {mid} {new} {answer} once n k l o is t = let e : suc (n - (k + 1)) ≡ n - k = omega arith in subst (λ m. MadeAgain waits one m old answer new) e (once_more o is t)
 
   pub tries_the_last : {old new : M} {answer : Result A Fault} (n k : ℕ) → n ≤ k → one old answer new → MadeAgain waits one (n - k) old answer new
   tries_the_last {old} {new} {answer} n k l o = let e : 0 ≡ n - k = omega arith in subst (λ m. MadeAgain waits one m old answer new) e (the_last o)
@@ -29,7 +29,7 @@ module _ {S : Type 0} {facts : S → Facts} where
     again_settled n d is = does_more (λ p q o. settled o is) d
 
     pub again_once_more : {a b c : S} {f g h : Frames} {once answer : Result A Fault} (n k : ℕ) → k < n → DoesOutside facts a b f g deed once → is_worth_a_try waits once ≡ true → DoesOutside facts b c g h (made_again waits (n - (k + 1)) deed) answer → DoesOutside facts a c f h (made_again waits (n - k) deed) answer
-    again_once_more n k l d is more = does_next (λ p m q o t. tries_once_more n k l o is t) d more
+    again_once_more n k l d is more = does_next (λ p m q o t. tries_once_more _ n k l o is t) d more
 
     pub again_the_last : {a b : S} {f g : Frames} {answer : Result A Fault} (n k : ℕ) → n ≤ k → DoesOutside facts a b f g deed answer → DoesOutside facts a b f g (made_again waits (n - k) deed) answer
     again_the_last n k l d = does_more (λ p q o. tries_the_last n k l o) d

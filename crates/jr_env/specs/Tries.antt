@@ -1,7 +1,6 @@
 -- Calls that are made again, and those that are made again behind a collection.
 use Rattle.std.specs.Prelude.{◌≡◌, ◌||◌, ℕ, suc, Bool, true, false, Result, Ok, Err}
-use Rattle.std.specs.Fn.{CalledAtMut}
-use denote.Param.Members.{Mut}
+use Rattle.std.specs.Fn.{CalledAtMut, Mut}
 use denote.Ref.{MutBor}
 use Rattle.jr_word.specs.declared.fault.Fault.{Fault}
 use Rattle.jr_word.specs.declared.fault.Fault.TheVariants as fault
