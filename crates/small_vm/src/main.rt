@@ -17,7 +17,10 @@ use worker::Found;
 const SYMBOLS: u32 = 24;
 
 /// How often a call is made again: also for want of room, until the collector has collected.
-const PATIENCE: Patience = Patience::LONG.waiting_for_room();
+const PATIENCE: Patience = Patience {
+    waits_for_room: true,
+    ..Patience::LONG
+};
 
 /// The sizes of the room.
 const SIZES: Config = Config {
