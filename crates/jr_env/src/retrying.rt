@@ -35,7 +35,7 @@ impl<S: Steps> Env<S> {
     ghost use Rattle.jr_env.specs.Envs.{Does};
     ghost use Rattle.jr_env.specs.Tries.{made_again, made_collecting};
 
-    /// Makes a call, and again as long as it is refused by E12, E13 or E23, and where the patience waits for room by E10 or E11, but no more than so many times more. The last answer is the answer. Between two tries it does nothing but yield, where the patience does.
+    /// Makes a call, and again as long as it is refused by E12, E13 or E23, but no more than so many times more. Where the patience waits for room E10 and E11 are for another try too. The last answer is the answer. Between two tries it does nothing but yield, where the patience does.
     ///
     /// # Errors
     ///
