@@ -4,8 +4,8 @@
 pub use jr_census::{Census, KindCounts, Objects, Slots, Words};
 pub use jr_elements::Elements;
 pub use jr_env::{
-    Env, EnvCall, LocalFrames, Region, Scoped, Stay, calls, is_made_again, is_short_of_room,
-    with_local_frame,
+    Env, EnvCall, LocalFrames, Patience, Region, Scoped, Stay, calls, is_made_again,
+    is_short_of_room, with_local_frame, with_patience,
 };
 pub use jr_model::{Mode, Summary};
 pub use jr_rule::{AllLeft, Left, Note, Pass, PinnedNote, PlainSteps, Room, RoomSteps};

@@ -5,6 +5,7 @@ ghost use Rattle.jr_env.specs.Tries.{is_tried_again, lacks_room};
 
 use crate::env::Env;
 use crate::env_call::EnvCall;
+use crate::patience::Patience;
 use jr_steps::Steps;
 use jr_weak::Marker;
 use jr_word::Fault;
@@ -34,7 +35,7 @@ impl<S: Steps> Env<S> {
     ghost use Rattle.jr_env.specs.Envs.{Does};
     ghost use Rattle.jr_env.specs.Tries.{made_again, made_collecting};
 
-    /// Makes a call, and again as long as it is refused by E12, E13 or E23, but no more than so many times more. The last answer is the answer. Between two tries it does nothing, and it never waits.
+    /// Makes a call, and again as long as it is refused by E12, E13 or E23, but no more than so many times more. Where the patience waits for room E10 and E11 are for another try too. The last answer is the answer. Between two tries it does nothing but yield, where the patience does.
     ///
     /// # Errors
     ///
@@ -45,14 +46,15 @@ impl<S: Steps> Env<S> {
     /// # Operations
     ///
     /// Those of each try.
-    pub fn retry<C: EnvCall<S>>(&mut self, call: &C, more: u64) -> Result<C::Answer, Fault>
-        ensures { Does self.old self.new (made_again more (C.deed call.now)) result }
+    pub fn retry<C: EnvCall<S>>(&mut self, call: &C, patience: Patience) -> Result<C::Answer, Fault>
+        ensures { Does self.old self.new (made_again patience.waits_for_room patience.more (C.deed call.now)) result }
     {
-        for _ in 0..more {
+        for _ in 0..patience.more {
             let answer = call.make(self);
-            if !is_made_again(&answer) {
+            if !patience.is_for_later(&answer) {
                 return answer;
             }
+            patience.pause();
         }
         call.make(self)
     }
@@ -72,16 +74,16 @@ impl<S: Steps> Env<S> {
         &mut self,
         marker: &mut Marker,
         call: &C,
-        more: u64,
+        patience: Patience,
     ) -> Result<C::Answer, Fault>
-        ensures call { FitsRoom marker.old self.old → Does self.old self.new (made_collecting more (C.deed call.now)) result }
+        ensures call { FitsRoom marker.old self.old → Does self.old self.new (made_collecting patience.waits_for_room patience.more (C.deed call.now)) result }
         ensures size { ¬ (FitsRoom marker.old self.old) → (result ≡ Err Size) × (self.new ≡ self.old) × (marker.new ≡ marker.old) }
         ensures room { room_of marker.new ≡ room_of marker.old }
     {
         if !self.has_marker(marker) {
             return Err(Fault::Size);
         }
-        self.retry_collecting_by(marker, call, more)
+        self.retry_collecting_by(marker, call, patience)
     }
 
     /// Makes a call as `retry_collecting` does, by a marker that fits.
@@ -93,18 +95,18 @@ impl<S: Steps> Env<S> {
         &mut self,
         marker: &mut Marker,
         call: &C,
-        more: u64,
+        patience: Patience,
     ) -> Result<C::Answer, Fault>
         requires { FitsRoom marker.old self.old }
-        ensures call { Does self.old self.new (made_collecting more (C.deed call.now)) result }
+        ensures call { Does self.old self.new (made_collecting patience.waits_for_room patience.more (C.deed call.now)) result }
         ensures room { room_of marker.new ≡ room_of marker.old }
     {
-        let answer = self.retry(call, more);
+        let answer = self.retry(call, patience);
         if !is_short_of_room(&answer) {
             return answer;
         }
         match Env::collect(self, marker) {
-            Ok(_) => self.retry(call, more),
+            Ok(_) => self.retry(call, patience),
             Err(fault) => Err(fault),
         }
     }

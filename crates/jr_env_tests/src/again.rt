@@ -2,8 +2,8 @@
 
 use crate::envs::is_refused;
 use crate::plain::{Case, try_plain};
-use jr_env::Env;
 use jr_env::calls::{DeleteLocalRef, NewArray, SetArrayRegion};
+use jr_env::{Env, Patience, with_patience};
 use jr_steps::Steps;
 use jr_weak::Marker;
 use jr_word::{Config, Fault, Handle};
@@ -31,7 +31,7 @@ fn array_behind<S: Steps>(
     length: u32,
 ) -> Result<Result<Handle, Fault>, Fault> {
     let mut marker = Marker::new(alloc, env.held.steps.config())?;
-    Ok(env.retry_collecting(&mut marker, &NewArray::<i32>::of(length), 3))
+    Ok(env.retry_collecting(&mut marker, &NewArray::<i32>::of(length), Patience::of(3)))
 }
 
 /// A room of two objects and four words.
@@ -43,18 +43,18 @@ const FEW: Config = Config {
 
 /// An array that leaves too few words for another. The reference to it is deleted.
 fn fill<S: Steps>(rt: &impl Abort, env: &mut Env<S>) -> Result<(), Fail> {
-    let first = env.retry(&NewArray::<i32>::of(3), 0)?;
-    let full = env.retry(&NewArray::<i32>::of(2), 3);
+    let first = env.retry(&NewArray::<i32>::of(3), Patience::of(0))?;
+    let full = env.retry(&NewArray::<i32>::of(2), Patience::of(3));
     is_refused(rt, full, Some(Fault::SpaceFull(3)));
-    env.retry(&DeleteLocalRef(first), 3)?;
+    env.retry(&DeleteLocalRef(first), Patience::of(3))?;
     Ok(())
 }
 
 /// An array is written, and the reference to it deleted.
 fn write<S: Steps>(rt: &impl Abort, env: &mut Env<S>, array: Handle) -> Result<(), Fail> {
-    env.retry(&SetArrayRegion(array, 1, &[7]), 0)?;
+    env.retry(&SetArrayRegion(array, 1, &[7]), Patience::of(0))?;
     has_ints(rt, env, array, [0, 7])?;
-    env.retry(&DeleteLocalRef(array), 3)?;
+    env.retry(&DeleteLocalRef(array), Patience::of(3))?;
     Ok(())
 }
 
@@ -75,4 +75,32 @@ pub(crate) fn is_made_behind<S: Steps>(
 #[test]
 fn an_array_is_made_behind_a_collection(rt: HostRuntime) -> Result<(), Fail> {
     try_plain(&rt, rt.alloc(), FEW, Case::Again)
+}
+
+/// What comes of a closure that is refused so often before it answers how often it was called, and how often that was.
+fn called(patience: Patience, refusals: u32, fault: Fault) -> (Result<u32, Fault>, u32) {
+    let mut calls = 0u32;
+    let answer = with_patience(&mut calls, patience, |calls| {
+        *calls = calls.wrapping_add(1);
+        if *calls > refusals {
+            Ok(*calls)
+        } else {
+            Err(fault)
+        }
+    });
+    (answer, calls)
+}
+
+#[test]
+fn a_closure_is_called_again(rt: HostRuntime) {
+    let (few, full) = (Patience::of(3), Fault::ObjectsFull);
+    assert_eq!(rt; called(few, 0, Fault::Barred), (Ok(1), 1));
+    assert_eq!(rt; called(few, 3, Fault::Barred), (Ok(4), 4));
+    assert_eq!(rt; called(few, 4, Fault::Barred), (Err(Fault::Barred), 4));
+    assert_eq!(rt; called(few, 1, full), (Err(full), 1));
+    assert_eq!(rt; called(few.waiting_for_room(), 1, full), (Ok(2), 2));
+    assert_eq!(rt;
+        called(few.without_yields(), 9, Fault::Stale),
+        (Err(Fault::Stale), 1)
+    );
 }

@@ -34,24 +34,24 @@ module _ {S : Type 0} {facts : S → Facts} {A : Type 0} {deed : Deed A} {met sh
   did_give_up {a} {f} n k l is on = let e : 0 ≡ n - k = omega arith in subst (λ m. CarriedOut facts a a f f r met shown (tried m deed) (Err fault.Turns)) e (did_nowhere is on (λ p. gave_up))
 
 -- a call that was made again up to so many times is one that was tried once more often, where its last answer settles it
-pub tried_settled : {A : Type 0} {one : Deed A} {n : ℕ} {p q : ThreadState} {answer : Result A Fault} → MadeAgain one n p answer q → is_tried_again answer ≡ false → Tried one (suc n) p answer q
+pub tried_settled : {A : Type 0} {one : Deed A} {n : ℕ} {p q : ThreadState} {answer : Result A Fault} → MadeAgain false one n p answer q → is_tried_again answer ≡ false → Tried one (suc n) p answer q
 tried_settled (settled o s) is = answered o s
 tried_settled (once_more o s t) is = again o s (tried_settled t is)
 tried_settled (the_last o) is = answered o is
 
 -- and where it doesn't the turns ran out
-pub tried_out : {A : Type 0} {one : Deed A} {n : ℕ} {p q : ThreadState} {answer : Result A Fault} → MadeAgain one n p answer q → is_tried_again answer ≡ true → Tried one (suc n) p (Err fault.Turns) q
+pub tried_out : {A : Type 0} {one : Deed A} {n : ℕ} {p q : ThreadState} {answer : Result A Fault} → MadeAgain false one n p answer q → is_tried_again answer ≡ true → Tried one (suc n) p (Err fault.Turns) q
 tried_out (settled o s) is = absurd (let no = sym s ∙ is in cc)
 tried_out (once_more o s t) is = again o s (tried_out t is)
 tried_out (the_last o) is = again o is gave_up
 
 module _ {S : Type 0} {facts : S → Facts} {A : Type 0} {deed : Deed A} {a b : S} {f g : Frames} {answer : Result A Fault} (n : ℕ) where
-  pub does_settle : 1 ≤ n → DoesDeed facts a b f g (made_again (n - 1) deed) answer → is_tried_again answer ≡ false → DoesDeed facts a b f g (tried n deed) answer
+  pub does_settle : 1 ≤ n → DoesDeed facts a b f g (made_again false (n - 1) deed) answer → is_tried_again answer ≡ false → DoesDeed facts a b f g (tried n deed) answer
   does_settle l d is =
       let e : suc (n - 1) ≡ n = omega arith in
       subst (λ m. DoesDeed facts a b f g (tried m deed) answer) e (did_more (λ p q t. tried_settled t is) d)
 
-  pub does_run_out : 1 ≤ n → DoesDeed facts a b f g (made_again (n - 1) deed) answer → is_tried_again answer ≡ true → DoesDeed facts a b f g (tried n deed) (Err fault.Turns)
+  pub does_run_out : 1 ≤ n → DoesDeed facts a b f g (made_again false (n - 1) deed) answer → is_tried_again answer ≡ true → DoesDeed facts a b f g (tried n deed) (Err fault.Turns)
   does_run_out l d is =
       let e : suc (n - 1) ≡ n = omega arith in
       subst (λ m. DoesDeed facts a b f g (tried m deed) (Err fault.Turns)) e (did_more (λ p q t. tried_out t is) d)

@@ -3,7 +3,7 @@
 ghost use Rattle.jr_env.specs.Envs.{WasDone, IsOutside};
 ghost use Rattle.jr_scripts.specs.Commands.{tried};
 
-use jr_env::{Env, EnvCall, is_made_again};
+use jr_env::{Env, EnvCall, Patience, is_made_again};
 use jr_steps::Steps;
 use jr_word::Fault;
 
@@ -19,7 +19,12 @@ pub fn retry<S: Steps, C: EnvCall<S>>(
     if turns == 0 {
         return Err(Fault::Turns);
     }
-    let answer = env.retry(call, turns - 1);
+    let patience = Patience {
+        more: turns - 1,
+        yields: false,
+        waits_for_room: false,
+    };
+    let answer = env.retry(call, patience);
     if is_made_again(&answer) {
         return Err(Fault::Turns);
     }

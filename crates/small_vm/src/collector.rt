@@ -1,12 +1,14 @@
 //! The collector collects while the others work, and once more when they have left.
 
-use crate::SYMBOLS;
 use crate::board::Board;
-use crate::trying::{TRIES, again};
+use crate::{PATIENCE, SYMBOLS};
 use jr::calls::IsSameObject;
 use jr::{Env, Fault, Handle, Steps};
 use std::alloc::Global;
 use std::thread;
+
+/// How often it collects at the most.
+const ROUNDS: u32 = 1 << 22;
 
 /// How often an announced collection tries to shut the gate.
 const SHUTS: u32 = 1_000;
@@ -14,7 +16,7 @@ const SHUTS: u32 = 1_000;
 /// Collects until the others have left, and once more, and tells how many weak references of the cache are cleared then.
 pub(crate) fn run<S: Steps>(alloc: Global, env: &mut Env<S>, board: &Board) -> Result<u32, Fault> {
     let mut marker = env.marker(alloc)?;
-    for _ in 0..TRIES {
+    for _ in 0..ROUNDS {
         let is_last = board.have_left(2);
         let collected = env.collect_announced(&mut marker, SHUTS);
         if is_last && collected.is_ok() {
@@ -29,7 +31,7 @@ pub(crate) fn run<S: Steps>(alloc: Global, env: &mut Env<S>, board: &Board) -> R
 fn cleared<S: Steps>(env: &mut Env<S>, board: &Board) -> Result<u32, Fault> {
     let mut cleared = 0u32;
     for symbol in 0..SYMBOLS {
-        if again(env, &IsSameObject(board.kept(symbol), Handle::NULL))? {
+        if env.retry(&IsSameObject(board.kept(symbol), Handle::NULL), PATIENCE)? {
             cleared = cleared.wrapping_add(1);
         }
     }

@@ -1,8 +1,7 @@
 //! The loader makes the symbols: each is an array of its name and its numbers.
 
-use crate::SYMBOLS;
 use crate::board::Board;
-use crate::trying::{again, made};
+use crate::{PATIENCE, SYMBOLS};
 use jr::calls::{
     FreeLocals, GetStringLength, NewArray, NewGlobalRef, NewObjectArray, NewString, PopLocalFrame,
     SetArrayRegion, SetObjectArrayElement,
@@ -12,7 +11,7 @@ use jr::{Env, Fault, Handle, Steps, with_local_frame};
 /// Loads all symbols, hands each on by a global reference, and answers how many units their names have.
 pub(crate) fn run<S: Steps>(env: &mut Env<S>, board: &Board) -> Result<u32, Fault> {
     let units = load_all(env, board);
-    let freed = again(env, &FreeLocals);
+    let freed = env.retry(&FreeLocals, PATIENCE);
     board.leave();
     freed?;
     units
@@ -24,7 +23,7 @@ fn load_all<S: Steps>(env: &mut Env<S>, board: &Board) -> Result<u32, Fault> {
     for symbol in 0..SYMBOLS {
         let scoped = with_local_frame(env, 8, |env| load(env, board, symbol))?;
         if scoped.popped.is_err() {
-            again(env, &PopLocalFrame(Handle::NULL))?;
+            env.retry(&PopLocalFrame(Handle::NULL), PATIENCE)?;
         }
         units = units.wrapping_add(scoped.answer?);
     }
@@ -33,14 +32,15 @@ fn load_all<S: Steps>(env: &mut Env<S>, board: &Board) -> Result<u32, Fault> {
 
 /// Loads a symbol, and answers how many units its name has.
 fn load<S: Steps>(env: &mut Env<S>, board: &Board, symbol: u32) -> Result<u32, Fault> {
-    let name = again(env, &NewString(&name_of(symbol)))?;
-    let numbers = again(env, &NewArray::<i32>::of(4))?;
+    let name = env.retry(&NewString(&name_of(symbol)), PATIENCE)?;
+    let numbers = env.retry(&NewArray::<i32>::of(4), PATIENCE)?;
     let first = i32::try_from(symbol).unwrap_or(0);
-    again(env, &SetArrayRegion(numbers, 0, &[first, 1, 2, 3]))?;
-    let entry = again(env, &NewObjectArray(2, name))?;
-    again(env, &SetObjectArrayElement(entry, 1, numbers))?;
-    let length = again(env, &GetStringLength(name))?;
-    board.post(symbol, made(env, &NewGlobalRef(entry))?);
+    env.retry(&SetArrayRegion(numbers, 0, &[first, 1, 2, 3]), PATIENCE)?;
+    let entry = env.retry(&NewObjectArray(2, name), PATIENCE)?;
+    env.retry(&SetObjectArrayElement(entry, 1, numbers), PATIENCE)?;
+    let length = env.retry(&GetStringLength(name), PATIENCE)?;
+    let shared = env.retry(&NewGlobalRef(entry), PATIENCE)?;
+    board.post(symbol, Handle::or_null(shared));
     Ok(length)
 }
 

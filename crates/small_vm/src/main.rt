@@ -4,11 +4,10 @@
 mod board;
 mod collector;
 mod loader;
-mod trying;
 mod worker;
 
 use board::Board;
-use jr::{Config, Env, Fault, NativeCode, Steps, Summary, run_native};
+use jr::{Config, Env, Fault, NativeCode, Patience, Steps, Summary, run_native};
 use std::alloc::{AllocError, Global};
 use std::io;
 use thiserror::Error;
@@ -16,6 +15,12 @@ use worker::Found;
 
 /// How many symbols there are.
 const SYMBOLS: u32 = 24;
+
+/// How often a call is made again: also for want of room, until the collector has collected.
+const PATIENCE: Patience = Patience {
+    waits_for_room: true,
+    ..Patience::LONG
+};
 
 /// The sizes of the room.
 const SIZES: Config = Config {

@@ -1,14 +1,12 @@
 //! The worker reads each symbol, keeps a weak reference to its numbers, and lets go of it.
 
-use crate::SYMBOLS;
 use crate::board::Board;
-use crate::trying::{TRIES, again, is_for_later, made};
+use crate::{PATIENCE, SYMBOLS};
 use jr::calls::{
     DeleteGlobalRef, FreeLocals, GetObjectArrayElement, NewWeakGlobalRef, PopLocalFrame,
 };
-use jr::{Env, Fault, Handle, Steps, with_local_frame};
+use jr::{Env, EnvCall, Fault, Handle, Steps, with_local_frame, with_patience};
 use std::alloc::Global;
-use std::thread;
 
 /// What the worker read.
 #[derive(Clone, Copy)]
@@ -26,7 +24,7 @@ pub(crate) fn run<S: Steps>(
     board: &Board,
 ) -> Result<Found, Fault> {
     let found = work_all(alloc, env, board);
-    let freed = again(env, &FreeLocals);
+    let freed = env.retry(&FreeLocals, PATIENCE);
     board.leave();
     freed?;
     found
@@ -39,12 +37,12 @@ fn work_all<S: Steps>(alloc: Global, env: &mut Env<S>, board: &Board) -> Result<
         let shared = board.wait(symbol)?;
         let scoped = with_local_frame(env, 8, |env| work(alloc, env, board, symbol, shared))?;
         if scoped.popped.is_err() {
-            again(env, &PopLocalFrame(Handle::NULL))?;
+            env.retry(&PopLocalFrame(Handle::NULL), PATIENCE)?;
         }
         let one = scoped.answer?;
         found.units = found.units.wrapping_add(one.units);
         found.sum = found.sum.wrapping_add(one.sum);
-        again(env, &DeleteGlobalRef(shared))?;
+        env.retry(&DeleteGlobalRef(shared), PATIENCE)?;
     }
     Ok(found)
 }
@@ -59,40 +57,28 @@ fn work<S: Steps>(
 ) -> Result<Found, Fault> {
     let name = made(env, &GetObjectArrayElement(shared, 0))?;
     let numbers = made(env, &GetObjectArrayElement(shared, 1))?;
-    let units = copied(alloc, env, name)?;
-    let sum = added(env, numbers)?;
+    let units = with_patience(env, PATIENCE, |env| env.get_string_chars(alloc, name))?;
+    let sum = with_patience(env, PATIENCE, |env| added(env, numbers))?;
     board.keep(symbol, made(env, &NewWeakGlobalRef(numbers))?);
-    Ok(Found { units, sum })
-}
-
-/// How many units a copy of a string has.
-fn copied<S: Steps>(alloc: Global, env: &mut Env<S>, name: Handle) -> Result<usize, Fault> {
-    for _ in 0..TRIES {
-        match env.get_string_chars(alloc, name) {
-            Err(fault) if is_for_later(fault) => thread::yield_now(),
-            Err(fault) => return Err(fault),
-            Ok(units) => return Ok(units.len()),
-        }
-    }
-    Err(Fault::Turns)
-}
-
-/// The sum of an array's first numbers, once no collection is in the way.
-fn added<S: Steps>(env: &mut Env<S>, numbers: Handle) -> Result<i64, Fault> {
-    for _ in 0..TRIES {
-        match added_once(env, numbers) {
-            Err(fault) if is_for_later(fault) => thread::yield_now(),
-            answer => return answer,
-        }
-    }
-    Err(Fault::Turns)
+    Ok(Found {
+        units: units.len(),
+        sum,
+    })
 }
 
 /// The sum of an array's first numbers, in a critical region.
-fn added_once<S: Steps>(env: &mut Env<S>, numbers: Handle) -> Result<i64, Fault> {
+fn added<S: Steps>(env: &mut Env<S>, numbers: Handle) -> Result<i64, Fault> {
     let mut region = env.get_array_critical(numbers)?;
     let first = region.get::<i32>(0, 0);
     let second = region.get::<i32>(0, 1);
     region.release_all();
     Ok(i64::from(first?).wrapping_add(i64::from(second?)))
+}
+
+/// The reference that a call made, NULL where that is to nothing.
+fn made<S: Steps, C: EnvCall<S, Answer = Option<Handle>>>(
+    env: &mut Env<S>,
+    call: &C,
+) -> Result<Handle, Fault> {
+    Ok(Handle::or_null(env.retry(call, PATIENCE)?))
 }

@@ -1,6 +1,6 @@
 use crate::envs::{is_refused, plain_env};
-use jr_env::Env;
 use jr_env::calls::NewPlain;
+use jr_env::{Env, Patience};
 use jr_steps::Steps;
 use jr_weak::Marker;
 use jr_word::{Config, Fault, Handle};
@@ -52,7 +52,7 @@ fn fits_no_collection<S: Steps>(rt: &impl Abort, env: &mut Env<S>, marker: &mut 
     is_refused(rt, env.collect_announced(marker, 3), Some(Fault::Size));
     is_refused(
         rt,
-        env.retry_collecting(marker, &NewPlain, 3),
+        env.retry_collecting(marker, &NewPlain, Patience::of(3)),
         Some(Fault::Size),
     );
 }

@@ -3,7 +3,8 @@ ghost use Rattle.std.specs.Prelude.{All};
 ghost use Rattle.jr_rule.specs.Passes.{IsOpened};
 
 use crate::envs::{LAST, NoPass, collected, leaves, next_env, next_pass};
-use jr_env::Env;
+use jr_env::calls::{DeleteGlobalRef, DeleteLocalRef, GetObjectRefType, SetArrayRegion};
+use jr_env::{Env, Patience, with_patience};
 use jr_model::Summary;
 use jr_rule::{Pass, Room};
 use jr_steps::Steps;
@@ -42,25 +43,18 @@ const TRIES: u32 = 5_000_000;
 
 /// Writes a number in an array, as soon as nobody collects.
 fn write<S: Steps>(env: &mut Env<S>, array: Handle, number: i64) -> Result<(), Fault> {
-    for _ in 0..TRIES {
-        match env.set_array_region(array, 1, &[number]) {
-            Err(Fault::Barred) => thread::yield_now(),
-            answer => return answer,
-        }
-    }
-    Err(Fault::Turns)
+    env.retry(&SetArrayRegion(array, 1, &[number]), Patience::LONG)
 }
 
 /// The number in an array, as soon as nobody collects.
 fn read<S: Steps>(env: &mut Env<S>, array: Handle) -> Result<i64, Fault> {
-    for _ in 0..TRIES {
-        let mut number = [0i64];
-        match env.get_array_region(array, 1, &mut number) {
-            Err(Fault::Barred) => thread::yield_now(),
-            answer => return answer.map(|()| number[0]),
-        }
-    }
-    Err(Fault::Turns)
+    let mut number = [0i64];
+    with_patience(
+        env,
+        Patience::LONG,
+        |env| env.get_array_region(array, 1, &mut number),
+    )?;
+    Ok(number[0])
 }
 
 /// How a thread collects.
@@ -100,13 +94,7 @@ fn make<S: Steps>(alloc: Global, env: &mut Env<S>, how: How) -> Result<Handle, F
 
 /// Deletes a reference, as soon as nobody collects.
 fn delete<S: Steps>(env: &mut Env<S>, array: Handle) -> Result<(), Fault> {
-    for _ in 0..TRIES {
-        match env.delete_local_ref(array) {
-            Err(Fault::Barred) => thread::yield_now(),
-            answer => return answer,
-        }
-    }
-    Err(Fault::Turns)
+    env.retry(&DeleteLocalRef(array), Patience::LONG)
 }
 
 /// Writes in an array, makes another, reads what was written, which a collection may have moved meanwhile, and drops it. The new array, where it was read.
@@ -180,24 +168,12 @@ fn make_global<S: Steps>(env: &mut Env<S>, array: Handle) -> Result<Handle, Faul
 
 /// The type of a reference, as soon as nobody collects.
 fn type_of<S: Steps>(env: &mut Env<S>, word: Handle) -> Result<u8, Fault> {
-    for _ in 0..TRIES {
-        match env.get_object_ref_type(word) {
-            Err(Fault::Barred) => thread::yield_now(),
-            answer => return answer,
-        }
-    }
-    Err(Fault::Turns)
+    env.retry(&GetObjectRefType(word), Patience::LONG)
 }
 
 /// Deletes a global reference, as soon as nobody collects.
 fn delete_global<S: Steps>(env: &mut Env<S>, word: Handle) -> Result<(), Fault> {
-    for _ in 0..TRIES {
-        match env.delete_global_ref(word) {
-            Err(Fault::Barred) => thread::yield_now(),
-            answer => return answer,
-        }
-    }
-    Err(Fault::Turns)
+    env.retry(&DeleteGlobalRef(word), Patience::LONG)
 }
 
 /// Makes a global reference, which is found until it is deleted, and never after.
