@@ -1,5 +1,5 @@
 -- A critical region that is opened in a stay, and given up there, for whatever was known.
-use Rattle.std.proofs.Common.{◌≡◌, ℕ, Result, Ok, Err, IfOk, IfErr, length, sym, subst}
+use Rattle.std.proofs.Common.{◌≡◌, ℕ, Result, Ok, Err, IfOk, IfErr, length, sym, ap, subst, ◌∙◌}
 use Rattle.jr_word.specs.declared.config.Config.{Config}
 use Rattle.jr_word.specs.declared.fault.Fault.{Fault}
 use Rattle.jr_model.specs.State.{State}
@@ -10,28 +10,19 @@ use Rattle.jr_model.proofs.OpenStays.{Stays, level_array_stays, level_string_sta
 use Rattle.jr_steps.specs.declared.steps.Steps.{Ghosts}
 use Rattle.jr_steps.specs.Knowing.{state_of, Holds}
 use Rattle.jr_gate.specs.declared.inside.Inside.{Inside}
-use Rattle.jr_gate.specs.Stays.{IsOwnStay}
 use Rattle.jr_frames.specs.declared.held.Held.{Held}
 use Rattle.jr_frames.specs.Table.{Table}
 use Rattle.jr_critical.specs.declared.levels.Levels.{Levels}
-use Rattle.jr_critical.specs.Levels.{level_object, objects_of, without_stay, KnowsLevels, OpensWithinOver, StandOver, StandsWithin}
-use Rattle.jr_env.specs.Calling.{CanCall}
+use Rattle.jr_critical.specs.Levels.{level_object, objects_of, without_stay, KnowsLevels, OpensWithinOver, StandOver}
+use Rattle.jr_env.specs.declared.critical_region.Region.{Region}
+use Rattle.jr_env.specs.declared.env.Env.{Env}
+use Rattle.jr_env.specs.declared.stay.Stay.{Stay}
+use Rattle.jr_env.specs.Criticals.{env_of, held_of, levels_of}
+use Rattle.jr_env.specs.LentStays.{env_in, frames_in, held_in}
 use Rattle.jr_env.specs.OpenStays.{StaysOn}
-use Rattle.jr_env.specs.StayLevels.{StaysWith, StaysWithout}
-use Rattle.jr_env.proofs.OpenStays.{can_within}
+use Rattle.jr_env.specs.StayLevels.{StaysWith, StaysWithout, WasNotOpenedIn, WasOpenedIn}
 
 module _ {S : Type 0} {G : Ghosts S} (old new : Held S G) where
-  -- what the opening ensures where it was made, and where it was refused
-  abbrev pub AreOpen : Result Levels (Inside × Fault) → Type 0
-  AreOpen answer = IfOk answer (λ v. StandOver v new × (length (objects_of v) ≡ 1))
-
-  abbrev pub IsHandedBack : Result Levels (Inside × Fault) → Type 0
-  IsHandedBack answer = IfErr answer (λ e. IsOwnStay e.0 (G.facts new.steps).stands × StandsWithin new)
-
-  pub can_opened : (answer : Result Levels (Inside × Fault)) → AreOpen answer → IsHandedBack answer → CanCall (G.facts new.steps).stands
-  can_opened (Ok v) ok err = can_within ok.0.ready
-  can_opened (Err e) ok err = can_within err.1
-
   module _ (same : new.frames ≡ old.frames) (w : ℕ) (call : Config → ℕ → ℕ → State → Word → Call ℕ) (law : (c : Config) (last t : ℕ) (s : State) (a : Word) → Stays (call c last t s a)) where
     with_level : (v : Levels) → OpensWithinOver old new w call (Ok v) → StaysWith old new v
     with_level v p begun since i s m =
@@ -77,3 +68,20 @@ module _ {S : Type 0} {G : Ghosts S} (old new : Held S G) where
 -- the levels are given up, and the stay goes on
 pub given_up : {S : Type 0} {G : Ghosts S} (old : Held S G) (v : Levels) → StaysWithout old old v
 given_up old v begun since i s m = let x = since i s m in (x.0, x.1, x.2, (x.3.0, x.3.1.1))
+
+-- what such an opening left, in the region, and in the stay where it was refused
+module _ {S : Type 0} {G : Ghosts S} (old : Stay S G) (env : Env S G) (same : env.held.frames ≡ frames_in old) (w : ℕ) (call : Config → ℕ → ℕ → State → Word → Call ℕ) where
+  pub opened_in : (v : Levels) → OpensWithinOver (held_in old) env.held w call (Ok v) → StandOver v env.held × (length (objects_of v) ≡ 1) → StaysWith (held_in old) env.held v → (r : Region S G) → (env_of r).now ≡ env → levels_of r ≡ v → WasOpenedIn old r w call
+  opened_in v opens stand on r env_is levels_is = record {
+    opens = subst (λ (x : Levels). OpensWithinOver (held_in old) (held_of r) w call (Ok x)) (sym levels_is) (subst (λ (e : Env S G). OpensWithinOver (held_in old) e.held w call (Ok v)) (sym env_is) opens);
+    one = ap (λ (x : Levels). length (objects_of x)) levels_is ∙ stand.1;
+    on = subst (λ (x : Levels). StaysWith (held_in old) (held_of r) x) (sym levels_is) (subst (λ (e : Env S G). StaysWith (held_in old) e.held v) (sym env_is) on);
+    frames = ap (λ (e : Env S G). e.held.frames) env_is ∙ same;
+  }
+
+  pub refused_in : (e : Fault) → OpensWithinOver (held_in old) env.held w call (Err e) → StaysOn (held_in old) env.held → (r : Stay S G) → (env_in r).now ≡ env → WasNotOpenedIn old r w call e
+  refused_in e refuses on r env_is = record {
+    refuses = subst (λ (x : Env S G). OpensWithinOver (held_in old) x.held w call (Err e)) (sym env_is) refuses;
+    on = subst (λ (x : Env S G). StaysOn (held_in old) x.held) (sym env_is) on;
+    frames = ap (λ (x : Env S G). x.held.frames) env_is ∙ same;
+  }

@@ -26,10 +26,7 @@ impl<'e, S: Steps> Stay<'e, S> {
     ///
     /// At most 2: a look at the slot of a global or weak handle, and one at the array's header. It takes none at the gate.
     #[inline(always)]
-    pub fn get_array_critical(
-        self,
-        array: Handle,
-    ) -> Result<Region<'e, S>, (Stay<'e, S>, Fault)>
+    pub fn get_array_critical(self, array: Handle) -> Result<Region<'e, S>, (Stay<'e, S>, Fault)>
         ensures same_reference { IfOk result (λ r. (env_of r).ghost_name ≡ (env_in self.entry).ghost_name) }
         ensures opened { IfOk result (λ r. WasOpenedIn self.entry r array.0 (λ c last t s a. level_array c last t s 0 a)) }
         ensures same_stay { IfErr result (λ e. (env_in e.0).ghost_name ≡ (env_in self.entry).ghost_name) }
@@ -54,10 +51,7 @@ impl<'e, S: Steps> Stay<'e, S> {
     ///
     /// At most 2: a look at the slot of a global or weak handle, and one at the string's header. It takes none at the gate.
     #[inline(always)]
-    pub fn get_string_critical(
-        self,
-        string: Handle,
-    ) -> Result<Region<'e, S>, (Stay<'e, S>, Fault)>
+    pub fn get_string_critical(self, string: Handle) -> Result<Region<'e, S>, (Stay<'e, S>, Fault)>
         ensures same_reference { IfOk result (λ r. (env_of r).ghost_name ≡ (env_in self.entry).ghost_name) }
         ensures opened { IfOk result (λ r. WasOpenedIn self.entry r string.0 (λ c last t s a. level_string c last t s 0 a)) }
         ensures same_stay { IfErr result (λ e. (env_in e.0).ghost_name ≡ (env_in self.entry).ghost_name) }
@@ -68,28 +62,6 @@ impl<'e, S: Steps> Stay<'e, S> {
             Ok(levels) => Ok(Region::over(env, levels)),
             Err((inside, fault)) => Err((Stay::over(env, inside), fault)),
         }
-    }
-}
-
-impl<'e, S: Steps> Region<'e, S> {
-    ghost use Rattle.std.specs.Prelude.{◌≡◌};
-    ghost use Rattle.jr_env.specs.Criticals.{env_of, held_of, levels_of};
-    ghost use Rattle.jr_env.specs.LentStays.{env_in, held_in};
-    ghost use Rattle.jr_env.specs.StayLevels.{StaysWithout};
-
-    /// Gives up all levels at once without leaving the gate: the stay that they stood in goes on, and its calls can be made. It needs no mode, since a region is no copy.
-    ///
-    /// # Operations
-    ///
-    /// None.
-    #[inline(always)]
-    pub fn into_stay(self) -> Stay<'e, S>
-        ensures same_reference { (env_in result).ghost_name ≡ (env_of self.entry).ghost_name }
-        ensures env { (env_in result).now ≡ (env_of self.entry).now }
-        ensures on { StaysWithout (held_of self.entry) (held_in result) (levels_of self.entry) }
-    {
-        let Region { env, levels } = self;
-        Stay::over(env, levels.into_stay())
     }
 }
 
