@@ -77,9 +77,9 @@ without_stay (Ok v) = Ok v
 without_stay (Err e) = Err e.1
 
 -- the header of the first level is known where the region was opened
-abbrev pub KnowsOpened : Result Levels Fault → Frames → Known → Type 0
-KnowsOpened (Ok v) f k = KnowsLevels v f k
-KnowsOpened (Err e) f k = Holds f k
+abbrev pub KnowsFirst : Result Levels Fault → Frames → Known → Type 0
+KnowsFirst (Ok v) f k = KnowsLevels v f k
+KnowsFirst (Err e) f k = Holds f k
 
 -- a new level, as the call answers it: its number, and the objects then
 abbrev pub level_nested : Result ℕ Fault → Levels → Result (ℕ × List ℕ) Fault
@@ -134,7 +134,7 @@ module _ {S : Type 0} (facts : S → Facts) where
 
   -- A REGION WAS OPENED IN A STAY that goes on, by a reference word that was read, or refused, by at most one operation beside the acts: the header of its level is known
   abbrev pub OpensWithin : S → S → Frames → ℕ → (Config → ℕ → ℕ → State → Word → Call ℕ) → Result Levels Fault → Type 0
-  OpensWithin old new f w call answer = (a : Word) × IsReadAs w a × Performed facts old new f f 1 (Holds f) (λ s. call (facts old).stands.config (facts old).stands.last (facts old).stands.thread s a) (object_opened answer) (λ j k. KnowsOpened answer f k)
+  OpensWithin old new f w call answer = (a : Word) × IsReadAs w a × Performed facts old new f f 1 (Holds f) (λ s. call (facts old).stands.config (facts old).stands.last (facts old).stands.thread s a) (object_opened answer) (λ j k. KnowsFirst answer f k)
 
   -- A LEVEL WAS ADDED to these levels, or refused, in their stay, by at most one operation beside the acts: the header of each level is known
   abbrev pub Nests : S → S → Frames → ℕ → (Config → ℕ → ℕ → State → List ℕ → Word → Call (ℕ × List ℕ)) → Levels → Levels → Result ℕ Fault → Type 0
