@@ -5,6 +5,7 @@ ghost use Rattle.jr_model.specs.declared.event.Role.TheVariants.{Outside};
 use crate::copies::{copies_both, copies_elements, copies_units, goes_to_another, have_no_copies};
 use crate::element_types::{are_of_one_type, has_units};
 use crate::envs::{LAST, env_of, next_steps};
+use crate::in_a_stay::has_levels;
 use crate::levels::stands_anew;
 use crate::objects::have_kinds;
 use crate::regions::{a_long_part, has_regions, have_no_regions};
@@ -21,6 +22,7 @@ use std::test::Fail;
 #[derive(Clone, Copy)]
 pub(crate) enum Case {
     StandsAnew,
+    HasLevels,
     HasRegions,
     LongPart,
     HaveNoRegions,
@@ -44,6 +46,7 @@ fn shows<S: Steps>(
 ) -> Result<(), Fail> {
     match case {
         Case::StandsAnew => stands_anew(rt, env),
+        Case::HasLevels => has_levels(rt, env),
         Case::HasRegions => has_regions(rt, env),
         Case::LongPart => a_long_part(rt, env),
         Case::HaveNoRegions => have_no_regions(rt, env),

@@ -20,6 +20,8 @@ mod elements;
 #[cfg(test)]
 mod envs;
 #[cfg(test)]
+mod in_a_stay;
+#[cfg(test)]
 mod levels;
 #[cfg(test)]
 mod not_opened;

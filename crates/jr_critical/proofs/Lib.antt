@@ -5,3 +5,4 @@ pub mod LevelElements
 pub mod Closing
 pub mod Nesting
 pub mod Opening
+pub mod OpenedWithin

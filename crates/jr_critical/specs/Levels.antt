@@ -16,6 +16,7 @@ use Rattle.jr_model.specs.Objects.{region_get, region_kind, region_length, regio
 use Rattle.jr_steps.specs.declared.known.Known.{Known}
 use Rattle.jr_steps.specs.declared.steps.Steps.{Ghosts}
 use Rattle.jr_steps.specs.Knowing.{Facts, Leads, MayKnow, state_of, keeps, lets_go, Holds}
+use Rattle.jr_gate.specs.declared.inside.Inside.{Inside}
 use Rattle.jr_gate.specs.Performing.{IsAsBefore, IsMade, Performed, thread_state}
 use Rattle.jr_gate.specs.Stays.{IsOwnStay}
 use Rattle.jr_heap.specs.Heap.{HoldsHeader, Learns}
@@ -37,6 +38,10 @@ level_at v i = slice_index_or v.levels.items i (record { object = 0; header = re
 -- its object
 abbrev pub level_object : Levels → ℕ → ℕ
 level_object v i = (level_at v i).object
+
+-- the stay that they stand in
+abbrev pub stay_of : Levels → Inside
+stay_of v = v.inside
 
 -- the pass knows the header of each level
 abbrev pub AreKnown : List Level → Known → Type 0
@@ -65,6 +70,16 @@ role_opened (Err e) = Outside
 abbrev pub LearnsFirst : Result Levels Fault → Known → Known → Type 0
 LearnsFirst (Ok v) j k = AreKnown v.levels.items k × Learns (level_at v 0).object (level_at v 0).header j k
 LearnsFirst (Err e) j k = lets_go j k
+
+-- a region that was opened in a stay, without the stay that is handed back where it was refused
+abbrev pub without_stay : Result Levels (Inside × Fault) → Result Levels Fault
+without_stay (Ok v) = Ok v
+without_stay (Err e) = Err e.1
+
+-- the header of the first level is known where the region was opened
+abbrev pub KnowsFirst : Result Levels Fault → Frames → Known → Type 0
+KnowsFirst (Ok v) f k = KnowsLevels v f k
+KnowsFirst (Err e) f k = Holds f k
 
 -- a new level, as the call answers it: its number, and the objects then
 abbrev pub level_nested : Result ℕ Fault → Levels → Result (ℕ × List ℕ) Fault
@@ -117,6 +132,10 @@ module _ {S : Type 0} (facts : S → Facts) where
   abbrev pub Opens : S → S → Frames → ℕ → (Config → ℕ → ℕ → State → Word → Call ℕ) → Result Levels Fault → Type 0
   Opens old new f w call answer = (a : Word) × IsReadAs w a × HasOpened old new f (λ s. call (facts old).stands.config (facts old).stands.last (facts old).stands.thread s a) answer
 
+  -- A REGION WAS OPENED IN A STAY that goes on, by a reference word that was read, or refused, by at most one operation beside the acts: the header of its level is known
+  abbrev pub OpensWithin : S → S → Frames → ℕ → (Config → ℕ → ℕ → State → Word → Call ℕ) → Result Levels Fault → Type 0
+  OpensWithin old new f w call answer = (a : Word) × IsReadAs w a × Performed facts old new f f 1 (Holds f) (λ s. call (facts old).stands.config (facts old).stands.last (facts old).stands.thread s a) (object_opened answer) (λ j k. KnowsFirst answer f k)
+
   -- A LEVEL WAS ADDED to these levels, or refused, in their stay, by at most one operation beside the acts: the header of each level is known
   abbrev pub Nests : S → S → Frames → ℕ → (Config → ℕ → ℕ → State → List ℕ → Word → Call (ℕ × List ℕ)) → Levels → Levels → Result ℕ Fault → Type 0
   Nests old new f w call v v' answer = (a : Word) × IsReadAs w a × Performed facts old new f f 1 (KnowsLevels v f) (λ s. call (facts old).stands.config (facts old).stands.last (facts old).stands.thread s (objects_of v) a) (level_nested answer v') (λ j k. KnowsLevels v' f k)
@@ -141,6 +160,10 @@ module _ {S : Type 0} {G : Ghosts S} where
   abbrev pub StandsOutside : Held S G → Type 0
   StandsOutside held = StandsReady G.facts Outside held.steps held.frames
 
+  -- the thread stands within, ready for its next call there
+  abbrev pub StandsWithin : Held S G → Type 0
+  StandsWithin held = StandsReady G.facts Within held.steps held.frames
+
   -- the levels stand over what the thread holds
   abbrev pub StandOver : Levels → Held S G → Type 0
   StandOver v held = Stand G.facts v held.steps held.frames
@@ -148,6 +171,10 @@ module _ {S : Type 0} {G : Ghosts S} where
   -- a region was opened, or refused, by a reference word that was read
   abbrev pub OpensOver : Held S G → Held S G → ℕ → (Config → ℕ → ℕ → State → Word → Call ℕ) → Result Levels Fault → Type 0
   OpensOver old new w call answer = Opens G.facts old.steps new.steps old.frames.frames w call answer
+
+  -- a region was opened in a stay, or refused
+  abbrev pub OpensWithinOver : Held S G → Held S G → ℕ → (Config → ℕ → ℕ → State → Word → Call ℕ) → Result Levels Fault → Type 0
+  OpensWithinOver old new w call answer = OpensWithin G.facts old.steps new.steps old.frames.frames w call answer
 
   -- a level was added to these levels, or refused
   abbrev pub NestsOver : Held S G → Held S G → ℕ → (Config → ℕ → ℕ → State → List ℕ → Word → Call (ℕ × List ℕ)) → Levels → Levels → Result ℕ Fault → Type 0

@@ -1,8 +1,9 @@
 //! The levels of a critical region.
 ghost use Rattle.std.specs.Prelude.{◌≡◌, ◌<◌, ◌∷◌, [], IfOk, IfErr, length};
 ghost use Rattle.jr_model.specs.Calls.{opened};
+ghost use Rattle.jr_gate.specs.Stays.{IsOwnStay};
 ghost use Rattle.jr_critical.specs.Finding.{level_work};
-ghost use Rattle.jr_critical.specs.Levels.{objects_of, OpensOver, StandOver, StandsOutside};
+ghost use Rattle.jr_critical.specs.Levels.{objects_of, without_stay, OpensOver, OpensWithinOver, StandOver, StandsOutside, StandsWithin};
 
 use crate::level::{Level, Wanted, find_level, is_read_as};
 use arrayvec::ArrayVec;
@@ -50,12 +51,35 @@ fn open<S: Steps>(held: &mut Held<S>, handle: Handle, wanted: Wanted) -> Result<
     }
 }
 
+/// Opens the first level over what a reference names, in a stay, which goes on.
+#[inline(always)]
+fn open_within<S: Steps>(
+    inside: Inside,
+    held: &mut Held<S>,
+    handle: Handle,
+    wanted: Wanted,
+) -> Result<Levels, (Inside, Fault)>
+    requires stay { IsOwnStay inside (S.facts held.old.steps).stands }
+    requires ready { StandsWithin held.old }
+    ensures call { OpensWithinOver held.old held.new handle.0 (λ c last t s a. level_work wanted c last t s 0 a) (without_stay result) }
+    ensures frames { held.new.frames ≡ held.old.frames }
+    ensures ok { IfOk result (λ v. StandOver v held.new × (length (objects_of v) ≡ 1)) }
+    ensures err { IfErr result (λ e. IsOwnStay e.0 (S.facts held.new.steps).stands × StandsWithin held.new) }
+{
+    let target = Reference::of(handle);
+    match find_level(&mut held.steps, &inside, &held.frames, target, wanted, 0) {
+        Ok(level) => Ok(first(inside, level)),
+        Err(fault) => Err((inside, fault)),
+    }
+}
+
 impl Levels {
     ghost use Rattle.std.specs.Prelude.{◌≡◌, ◌<◌, ◌≤◌, IfOk, IfErr, IfSome, IfNone, length};
     ghost use Rattle.jr_model.specs.declared.frames.TheConstants.{LEVELS};
-    ghost use Rattle.jr_model.specs.Objects.{get_array_critical, get_string_critical, nest_array, nest_string};
+    ghost use Rattle.jr_model.specs.Objects.{get_array_critical, get_string_critical, level_array, level_string, nest_array, nest_string};
+    ghost use Rattle.jr_gate.specs.Stays.{IsOwnStay};
     ghost use Rattle.jr_critical.specs.Finding.{level_nesting};
-    ghost use Rattle.jr_critical.specs.Levels.{objects_of, level_object, level_at, in_words, OpensOver, NestsOver, ReadsAt, WritesAt, GivesUpAllOver, GivesUpLastOver, LeavesBefore, StandOver, StandsOutside, TellsKind, TellsLength, WasAdded};
+    ghost use Rattle.jr_critical.specs.Levels.{objects_of, level_object, level_at, in_words, stay_of, without_stay, OpensOver, OpensWithinOver, NestsOver, ReadsAt, WritesAt, GivesUpAllOver, GivesUpLastOver, LeavesBefore, StandOver, StandsOutside, StandsWithin, TellsKind, TellsLength, WasAdded};
 
     /// Enters the gate, and opens the first level over an array whose elements are no objects. The thread has to stand outside. (JNI Specification, chapter 4, "GetPrimitiveArrayCritical")
     ///
@@ -99,6 +123,73 @@ impl Levels {
         ensures err { IfErr result (λ _. StandsOutside held.new) }
     {
         open(held, handle, Wanted::Text)
+    }
+
+    /// Opens the first level over an array whose elements are no objects, in a stay of the thread, which goes on: the levels have its end from then on. (JNI Specification, chapter 4, "GetPrimitiveArrayCritical")
+    ///
+    /// # Errors
+    ///
+    /// E2 where the handle is malformed or lies outside the room; E3 where it is a local one of another thread; E2 where its reference does not stand; E1 where it is to null; E5 where it is to a plain object or a string; E6 where it is to an array of objects.
+    ///
+    /// The stay is handed back, and goes on.
+    ///
+    /// # Operations
+    ///
+    /// At most 2: a look at the slot of a global or weak handle, and one at the array's header. It takes none at the gate.
+    #[inline(always)]
+    pub fn open_array_within<S: Steps>(
+        inside: Inside,
+        held: &mut Held<S>,
+        handle: Handle,
+    ) -> Result<Levels, (Inside, Fault)>
+        requires stay { IsOwnStay inside (S.facts held.old.steps).stands }
+        requires ready { StandsWithin held.old }
+        ensures call { OpensWithinOver held.old held.new handle.0 (λ c last t s a. level_array c last t s 0 a) (without_stay result) }
+        ensures frames { held.new.frames ≡ held.old.frames }
+        ensures ok { IfOk result (λ v. StandOver v held.new × (length (objects_of v) ≡ 1)) }
+        ensures err { IfErr result (λ e. IsOwnStay e.0 (S.facts held.new.steps).stands × StandsWithin held.new) }
+    {
+        open_within(inside, held, handle, Wanted::Array)
+    }
+
+    /// Opens the first level over a string, in a stay of the thread, which goes on: the levels have its end from then on. (JNI Specification, chapter 4, "GetStringCritical")
+    ///
+    /// # Errors
+    ///
+    /// E2 where the handle is malformed or lies outside the room; E3 where it is a local one of another thread; E2 where its reference does not stand; E1 where it is to null; E4 where it is to no string.
+    ///
+    /// The stay is handed back, and goes on.
+    ///
+    /// # Operations
+    ///
+    /// At most 2: a look at the slot of a global or weak handle, and one at the string's header. It takes none at the gate.
+    #[inline(always)]
+    pub fn open_string_within<S: Steps>(
+        inside: Inside,
+        held: &mut Held<S>,
+        handle: Handle,
+    ) -> Result<Levels, (Inside, Fault)>
+        requires stay { IsOwnStay inside (S.facts held.old.steps).stands }
+        requires ready { StandsWithin held.old }
+        ensures call { OpensWithinOver held.old held.new handle.0 (λ c last t s a. level_string c last t s 0 a) (without_stay result) }
+        ensures frames { held.new.frames ≡ held.old.frames }
+        ensures ok { IfOk result (λ v. StandOver v held.new × (length (objects_of v) ≡ 1)) }
+        ensures err { IfErr result (λ e. IsOwnStay e.0 (S.facts held.new.steps).stands × StandsWithin held.new) }
+    {
+        open_within(inside, held, handle, Wanted::Text)
+    }
+
+    /// Gives up all levels at once, and hands back the stay that they stand in, which goes on.
+    ///
+    /// # Operations
+    ///
+    /// None.
+    #[inline(always)]
+    pub fn into_stay(self) -> Inside
+        ensures { result ≡ stay_of self }
+    {
+        let Levels { inside, levels: _ } = self;
+        inside
     }
 
     /// Adds a level over what a reference names: its number. It takes no step at the gate.

@@ -22,3 +22,4 @@ pub mod AnnouncedCollections
 pub mod StandingRegions
 pub mod OpenStays
 pub mod WithinStays
+pub mod StayLevels

@@ -10,6 +10,7 @@ pub mod Works
 pub mod StayDeeds
 pub mod LentStays
 pub mod InStays
+pub mod StayLevels
 pub mod Elements
 pub mod Calling
 pub mod ArrayParts

@@ -3,6 +3,7 @@ ghost use Rattle.jr_critical.specs.Levels.{StandOver};
 
 use crate::env::Env;
 use crate::levels_beside;
+use crate::stay::Stay;
 use jr_critical::Levels;
 use jr_model::Mode;
 use jr_steps::Steps;
@@ -24,6 +25,8 @@ impl<'e, S: Steps> Region<'e, S> {
     ghost use Rattle.jr_env.specs.Envs.{IsOutside};
     ghost use Rattle.jr_env.specs.StandingRegions.{EndsUndisturbed, StandsOn};
     ghost use Rattle.jr_env.specs.Criticals.{env_of, levels_of, held_of, frames_of, rests_in_left, AtLevel};
+    ghost use Rattle.jr_env.specs.LentStays.{env_in, held_in};
+    ghost use Rattle.jr_env.specs.StayLevels.{StaysWithout};
 
     /// The region of an env whose levels stand.
     #[inline(always)]
@@ -211,5 +214,20 @@ impl<'e, S: Steps> Region<'e, S> {
         let Region { env, levels } = self;
         levels_beside::close_all(env, levels);
         env
+    }
+
+    /// Gives up all levels at once without leaving the gate: the stay that they stood in goes on, and its calls can be made. It needs no mode, since a region is no copy.
+    ///
+    /// # Operations
+    ///
+    /// None.
+    #[inline(always)]
+    pub fn into_stay(self) -> Stay<'e, S>
+        ensures same_reference { (env_in result).ghost_name ≡ (env_of self.entry).ghost_name }
+        ensures env { (env_in result).now ≡ (env_of self.entry).now }
+        ensures on { StaysWithout (held_of self.entry) (held_in result) (levels_of self.entry) }
+    {
+        let Region { env, levels } = self;
+        Stay::over(env, levels.into_stay())
     }
 }

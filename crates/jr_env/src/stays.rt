@@ -3,6 +3,7 @@
 mod array_parts;
 mod copies;
 mod frames;
+mod levels;
 mod making;
 mod objects;
 mod references;

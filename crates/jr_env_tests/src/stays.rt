@@ -226,6 +226,36 @@ fn keeps_a_collection_out<S: Steps>(
     collects(rt, alloc, other, [0, 0, 2])
 }
 
+/// While a level stands in a stay no other thread collects, and then the stay goes on.
+fn a_level_keeps_a_collection_out<S: Steps>(
+    rt: &impl Abort,
+    alloc: Global,
+    env: &mut Env<S>,
+    other: &mut Env<S>,
+) -> Result<(), Fail> {
+    let array = env.new_array::<i32>(2)?;
+    let stay = env.stay()?;
+    match stay.get_array_critical(array) {
+        Ok(mut region) => {
+            let kept_out = collected(alloc, other);
+            let written = region.set(0, 1, -4);
+            let mut stay = region.into_stay();
+            let mut read = [0];
+            let answer = stay.get_array_region(array, 1, &mut read);
+            stay.end();
+            if matches!(kept_out, Err(Fault::Memory)) {
+                return Err(Fault::Memory)?;
+            }
+            assert_eq!(rt; kept_out, Err(Fault::Busy(1)));
+            done(rt, written);
+            done(rt, answer);
+            assert_eq!(rt; read, [-4]);
+            Ok(())
+        }
+        Err(_) => panic!(rt; "no region is opened"),
+    }
+}
+
 /// How a stay of an env is refused, which is ended where it is not.
 fn refused_stay<S: Steps>(env: &mut Env<S>) -> Option<Fault> {
     match env.stay() {
@@ -273,6 +303,7 @@ pub(crate) fn excludes_collections<S: Steps>(
     requires { (S.facts announcer.old).stands.role ≡ Outside }
 {
     keeps_a_collection_out(rt, alloc, env, other)?;
+    a_level_keeps_a_collection_out(rt, alloc, env, other)?;
     goes_on_beside_who_announces(rt, announcer, env, other)
 }
 
