@@ -297,12 +297,13 @@ fn learns_in_a_stay(steps: &mut RoomSteps<'_, LAST>, note: Note) -> bool
     ensures { result ≡ true → IsOneStay (view (stepping_pass steps.old.cells.seat.me)) (view (stepping_pass steps.new.cells.seat.me)) (by (stepping_pass steps.old.cells.seat.me).thread (Gate Leave) ∷ []) }
 {
     open_stays_exclude_collections();
-    let is_within = steps.go_in();
-    if is_within {
-        steps.learn(note);
+    if !steps.go_in() {
+        steps.go_out();
+        return false;
     }
+    steps.learn(note);
     steps.go_out();
-    is_within
+    true
 }
 
 /// A thread learns a note in a stay.
