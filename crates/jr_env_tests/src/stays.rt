@@ -1,14 +1,22 @@
 //! Stays that go on from call to call: each call once in one, what a refusal leaves, and what a stay keeps out and is kept out by.
-ghost use Rattle.std.specs.Prelude.{◌≡◌};
+ghost use Rattle.std.specs.Prelude.{◌≡◌, ◌∷◌, [], true};
+ghost use Rattle.jr_model.specs.declared.event.Act.TheVariants.{Gate};
+ghost use Rattle.jr_model.specs.declared.event.GateAct.TheVariants.{Leave};
 ghost use Rattle.jr_model.specs.declared.event.Role.TheVariants.{Outside};
+ghost use Rattle.jr_model.specs.History.{by};
+ghost use Rattle.jr_model.specs.OpenStays.{IsOneStay};
+ghost use Rattle.jr_rule.specs.Rooms.{IsNoteThere};
+ghost use Rattle.jr_rule.specs.Rule.{stepping_pass};
+ghost use Rattle.jr_steps.specs.Knowing.{view};
 
-use crate::envs::{collected, collects, has_type, is_refused, made};
+use crate::envs::{LAST, collected, collects, has_type, is_refused, made, next_pass};
 use crate::plain::try_plain;
 use crate::shared::in_a_room;
 use crate::{plain, shared};
 use jr_env::{Env, Stay};
 use jr_gate::announce;
-use jr_model::Mode;
+use jr_model::{Mode, open_stays_exclude_collections};
+use jr_rule::{Note, Room, RoomSteps};
 use jr_steps::Steps;
 use jr_word::{Config, Fault, Handle};
 use std::alloc::Global;
@@ -311,4 +319,36 @@ pub(crate) fn excludes_collections<S: Steps>(
 #[test]
 fn stays_and_collections_exclude_each_other(rt: HostRuntime) -> Result<(), Fail> {
     in_a_room(&rt, rt.alloc(), shared::Case::Stays)
+}
+
+/// A thread goes in, learns a note, and goes out: all between is one stay, in which no event of any thread is a step of a collection. It is false where the gate was closed.
+fn learns_in_a_stay(steps: &mut RoomSteps<'_, LAST>, note: Note) -> bool
+    requires outside { steps.old.role ≡ Outside }
+    requires note { IsNoteThere steps.old note }
+    ensures { result ≡ true → IsOneStay (view (stepping_pass steps.old.cells.seat.me)) (view (stepping_pass steps.new.cells.seat.me)) (by (stepping_pass steps.old.cells.seat.me).thread (Gate Leave) ∷ []) }
+{
+    open_stays_exclude_collections();
+    if !steps.go_in() {
+        steps.go_out();
+        return false;
+    }
+    steps.learn(note);
+    steps.go_out();
+    true
+}
+
+/// A thread learns a note in a stay.
+#[test]
+fn a_note_is_learned_in_a_stay(rt: HostRuntime) -> Result<(), Fail> {
+    let two = Config {
+        threads: 2,
+        ..SIZES
+    };
+    let (room, mut passes) = Room::<LAST>::open(rt.alloc(), two)?;
+    let second = next_pass(&room, &mut passes)?;
+    let first = next_pass(&room, &mut passes)?;
+    let mut steps = RoomSteps::new(&room, first);
+    let note = RoomSteps::new(&room, second).note();
+    assert!(rt; learns_in_a_stay(&mut steps, note));
+    Ok(())
 }
