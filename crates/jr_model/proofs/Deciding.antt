@@ -203,7 +203,7 @@ module _ (c : Config) (given : List Handle) (s : State) (within : IsWithin c giv
           full : ((n : ℕ) → n < length given + 1 → Given i n) → ⊥
           full f =
               let few = hits_are_few (λ (h : Handle). h.index == i) (λ (h : Handle). h.serial) given (length given + 1)
-                  (λ n l. (given_is i n).1 (f n l)) in
+              (λ n l. (given_is i n).1 (f n l)) in
               omega arith
 
   occupied_is : (last i : ℕ) → Decides (is_index_taken last given s i) (IsOccupied last s i)

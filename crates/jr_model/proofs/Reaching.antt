@@ -130,7 +130,7 @@ module _ (c : Config) (given : List Handle) (s : State) (within : IsWithin c giv
   pub reached_if : (n o : ℕ) → IsFound n o → IsReached s o
   reached_if zero o f =
       let h =
-          (Decides-and (is_some (s.objects o)) (is_root c given s o) (itself _) (root_is o)).0 ((found_is 0 o).0 f).1 in
+      (Decides-and (is_some (s.objects o)) (is_root c given s o) (itself _) (root_is o)).0 ((found_is 0 o).0 f).1 in
       ⊎_elim (λ g. from_global g.0 g.1 g.2 h.0) (λ l. from_local l.0 l.1 l.2 h.0) h.1
   reached_if (suc n) o f =
       let h = (next_is n o).0 ((found_is (suc n) o).0 f).1 in

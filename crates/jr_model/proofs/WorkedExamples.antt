@@ -41,8 +41,8 @@ emptied c last es e = (l, counted (none Global) (none Weak))
     none : (k : RefKind) → references c last k (state es) ≡ 0
     none k =
         sum_same c.slots (λ i. 0)
-            (λ i. count_below (last + 1)
-            (λ n. is_there ((state es).refs (record { kind = k; serial = n; index = i; owner = 0 }))))
+        (λ i. count_below (last + 1)
+        (λ n. is_there ((state es).refs (record { kind = k; serial = n; index = i; owner = 0 }))))
         (λ i m. count_all_false (last + 1)
         (λ n. is_there ((state es).refs (record { kind = k; serial = n; index = i; owner = 0 })))
         (λ n m. standing_none c last es l parts.1 (record { kind = k; serial = n; index = i; owner = 0 })))
@@ -58,13 +58,13 @@ drop_is_legal = emptied one_thread last_serial reference_dropped refl
 pub finding_dropped_is_illegal : FindingDroppedIsIllegal
 finding_dropped_is_illegal t o l =
     let found = ((legal_append one_thread last_serial (plain_p ++ global_g ++ drop_g ++ by 0 (Gate Enter) ∷ [])
-        (by t (Look g (Object o)) ∷ [])).0 l).1.0.1.1 in
+    (by t (Look g (Object o)) ∷ [])).0 l).1.0.1.1 in
     cc
 
 pub creating_beside_is_illegal : CreatingBesideIsIllegal
 creating_beside_is_illegal t o h index l =
     let free = ((legal_append one_thread last_serial (plain_p ++ global_g ++ by 0 (Gate Enter) ∷ [])
-        (by t (Create h o) ∷ [])).0 l).1.0.1.3 g (sym index) in
+    (by t (Create h o) ∷ [])).0 l).1.0.1.3 g (sym index) in
     cc
 
 -- SERIALS
