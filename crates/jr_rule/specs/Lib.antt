@@ -9,3 +9,5 @@ pub mod Over
 pub mod Slots
 pub mod RowHistories
 pub mod Parting
+pub mod Sites
+pub mod SiteLaws

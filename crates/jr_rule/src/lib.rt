@@ -4,6 +4,7 @@
 mod cells;
 mod closing;
 mod closing_all;
+mod in_room;
 mod note;
 mod over;
 mod over_plain;
@@ -15,12 +16,14 @@ mod plain_cells;
 mod room;
 mod row;
 mod rule;
+mod site;
 mod summing;
 mod words;
 
 pub use cells::{Cells, StepKind};
 pub use closing::Left;
 pub use closing_all::AllLeft;
+pub use in_room::{InRoom, SiteSteps};
 pub use jr_model::{Role, Summary};
 pub use jr_steps::{
     GateLoad, Holdings, Known, KnownHeader, Move, OwnRange, SlotLoad, Steps, TopLoad,
@@ -35,3 +38,4 @@ pub use plain_cells::PlainCells;
 pub use room::Room;
 pub use row::RoomCells;
 pub use rule::View;
+pub use site::{PinnedNoteOf, Site, ThreadNumber};

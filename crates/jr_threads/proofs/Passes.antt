@@ -18,11 +18,12 @@ use Rattle.jr_rule.specs.declared.pass.Pass.{Pass}
 use Rattle.jr_rule.specs.declared.room.Room.{Room}
 use Rattle.jr_rule.specs.declared.row.Row.{Row}
 use Rattle.jr_rule.specs.Passes.{known_of, numbers_below, AreOpened, HasEachPass, HasPass, IsAt}
-use Rattle.jr_threads.specs.Sites.{passes_in, AreBack, IsBack, IsPassOf}
+use Rattle.jr_rule.specs.Sites.{IsPassOf}
+use Rattle.jr_threads.specs.Sites.{passes_in, AreBack, IsBack}
 
 -- a pass that came back from its site is one of the room's own, and outside
-pub is_back : (room : Room 4294967295) (p q : Pass) → IsPassOf (Some room.row.table.shared.table_id) room.row.config (known_of p).thread q → q.role ≡ Outside → IsBack room.row p q
-is_back room p q h out = record { at = record { row = (let e = h.site in cc); config = h.sizes; last = h.last ∙ sym room.last }; thread = h.own; outside = out }
+pub is_back : (room : Room 4294967295) (p q : Pass) → IsPassOf (Some room.row.table.shared.table_id) room.row.config 4294967295 (known_of p).thread q → q.role ≡ Outside → IsBack room.row p q
+is_back room p q h out = record { at = record { row = (let e = h.room_is in cc); config = h.sizes_are; last = h.last_is ∙ sym room.last }; thread = h.own; outside = out }
 
 -- what threads gave back, one by one
 pub all_back : {A : Type 0} (r : Row) (ps : List Pass) (es : List (Ended A)) → length es ≡ length ps → ((i : ℕ) (d : Ended A) → i < length ps → (p : Pass) × ((e : Pass) → get_or ps i e ≡ p) × IsBack r p (get_or es i d).pass) → AreBack r ps (passes_in es)

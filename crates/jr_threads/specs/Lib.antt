@@ -1,2 +1,1 @@
-pub mod SiteLaws
 pub mod Sites

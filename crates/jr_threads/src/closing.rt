@@ -6,8 +6,7 @@ ghost use Rattle.jr_rule.specs.Passes.{HasEachPass, known_of};
 ghost use Rattle.jr_rule.specs.Rooms.{IsOfRoom};
 ghost use Rattle.jr_threads.specs.Sites.{passes_in, IsClosedBehind};
 
-use crate::native::Ended;
-use crate::place::LAST;
+use crate::native::{Ended, LAST};
 use jr_model::Summary;
 use jr_rule::{Pass, Room};
 use std::alloc::{AllocError, Global};

@@ -3,9 +3,7 @@
 
 mod closing;
 mod native;
-mod place;
 mod running;
 
 pub use native::NativeCode;
-pub use place::{InRoom, Site};
 pub use running::{Ran, run_native};

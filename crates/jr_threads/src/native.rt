@@ -1,14 +1,18 @@
 //! What the threads of a room run, and one of them from its pass to its end.
-ghost use Rattle.std.specs.Prelude.{◌≡◌, true};
+ghost use Rattle.std.specs.Prelude.{◌≡◌};
 ghost use Rattle.jr_model.specs.declared.event.Role.TheVariants.{Outside};
 ghost use Rattle.jr_rule.specs.Passes.{IsOpened};
-ghost use Rattle.jr_threads.specs.Sites.{IsBack, IsPassOf, IsSiteOf};
+ghost use Rattle.jr_rule.specs.Sites.{IsPassOf, IsSiteOf};
+ghost use Rattle.jr_threads.specs.Sites.{IsBack};
 
-use crate::place::{InRoom, LAST, Site};
 use jr_env::Env;
-use jr_rule::{Pass, Room, RoomCells, RoomSteps, StepsOver};
+use jr_rule::{Pass, Room, Site, SiteSteps, ThreadNumber};
 use jr_steps::Steps;
-use std::marker::{Brand, PhantomData};
+use jr_word::LAST_SERIAL;
+use std::marker::Brand;
+
+/// The last serial: a slot or a local place gives as many handles, and one more.
+pub(crate) const LAST: u32 = LAST_SERIAL;
 
 /// Native code: what each thread of a room runs, over its env.
 pub trait NativeCode {
@@ -33,65 +37,23 @@ pub(crate) struct Ended<A: Drop> {
     pub(crate) pass: Pass,
 }
 
-/// The steps of a pass in the site's room.
-fn placed<'r, Q: Site>(room: &'r Room<LAST>, pass: Pass) -> StepsOver<RoomCells, InRoom<'r, Q>>
-    requires pass { IsOpened room.now.row pass }
-    requires site { IsSiteOf Q.room Q.sizes Q.thread room.now pass }
-    ensures { (result.role ≡ Outside) × (result.fresh ≡ true) }
-{
-    let StepsOver {
-        cells,
-        role,
-        fresh,
-        hint,
-        place,
-    } = RoomSteps::new(room, pass);
-    StepsOver {
-        cells,
-        role,
-        fresh,
-        hint,
-        place: InRoom {
-            room: place,
-            site: PhantomData,
-        },
-    }
-}
-
-/// The pass of steps in the site's room.
-fn taken_back<Q: Site>(steps: StepsOver<RoomCells, InRoom<'_, Q>>) -> Pass
-    ensures { IsPassOf Q.room Q.sizes Q.thread result × (result.role ≡ steps.entry.role) }
-{
-    let StepsOver {
-        cells,
-        role,
-        fresh,
-        hint,
-        place,
-    } = steps;
-    let steps = StepsOver {
-        cells,
-        role,
-        fresh,
-        hint,
-        place: place.room,
-    };
-    steps.into_pass()
-}
-
 /// Runs the native code in the site's thread.
-fn run_at<Q: Site, N: NativeCode>(room: &Room<LAST>, native: &N, pass: Pass) -> Ended<N::Answer>
+fn run_at<Q: Site, T: ThreadNumber, N: NativeCode>(
+    room: &Room<LAST>,
+    native: &N,
+    pass: Pass,
+) -> Ended<N::Answer>
     requires pass { IsOpened room.now.row pass }
-    requires site { IsSiteOf Q.room Q.sizes Q.thread room.now pass }
-    ensures { IsPassOf Q.room Q.sizes Q.thread result.pass × (result.pass.role ≡ Outside) }
+    requires site { IsSiteOf Q.room Q.sizes T.number room.now pass }
+    ensures { IsPassOf Q.room Q.sizes 4294967295 T.number result.pass × (result.pass.role ≡ Outside) }
 {
-    let steps = placed::<Q>(room, pass);
+    let steps = SiteSteps::<LAST, Q, T>::new(room, pass);
     let thread = steps.thread();
     let Ok(mut env) = Env::new(steps) else {
         unreachable!();
     };
     let answer = native.run(thread, &mut env);
-    let pass = taken_back(env.into_pass());
+    let pass = env.into_pass().into_pass();
     Ended { answer, pass }
 }
 
@@ -104,5 +66,5 @@ pub(crate) fn run_thread<N: NativeCode>(
     requires { IsOpened room.now.row pass }
     ensures { IsBack room.now.row pass result.pass }
 {
-    run_at::<Brand, N>(room, native, pass)
+    run_at::<Brand, Brand, N>(room, native, pass)
 }

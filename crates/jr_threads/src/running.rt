@@ -6,8 +6,7 @@ ghost use Rattle.jr_rule.specs.Passes.{AreOpened, IsOpened};
 ghost use Rattle.jr_threads.specs.Sites.{passes_in, AreBack, IsBack, IsClosedBehind};
 
 use crate::closing::{close, parted};
-use crate::native::{Ended, NativeCode, run_thread};
-use crate::place::LAST;
+use crate::native::{Ended, LAST, NativeCode, run_thread};
 use jr_model::Summary;
 use jr_rule::{Pass, Room};
 use jr_word::{Config, Fault};
