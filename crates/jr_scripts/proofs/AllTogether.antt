@@ -29,7 +29,7 @@ use Rattle.jr_rule.proofs.PassOver.{still_of}
 use Rattle.jr_rule.specs.Passes.{facts_of, holder_of, known_of, standing_of, IsAt, IsOpened, AreOpened, numbers_below, HasEachPass, HasPass, IsSeenIn, ClosesAll}
 use Rattle.jr_steps.proofs.StepFacts.{goes_did}
 use Rattle.jr_scripts.specs.declared.part.Job.{Job}
-use Rattle.jr_scripts.specs.declared.told.Site.{Ghosts}
+use Rattle.jr_rule.specs.declared.site.Site.{Ghosts}
 use Rattle.jr_scripts.specs.declared.part.ThreadRun.{ThreadRun}
 use Rattle.jr_gate.specs.Performing.{ThreadState, thread_state, thread_state_with}
 use Rattle.jr_env.specs.Deeds.{DoesDeed}

@@ -6,11 +6,11 @@ use Rattle.std.specs.PromisedHandle.{KeepsEach}
 use Rattle.std.specs.declared.thread.PromisedHandle.{PromisedHandle}
 use Rattle.std.specs.declared.thread.Promise as Promise
 use Rattle.jr_scripts.specs.declared.part.Job.{Job}
-use Rattle.jr_scripts.specs.declared.told.Site.{Ghosts}
+use Rattle.jr_rule.specs.declared.site.Site.{Ghosts}
 use Rattle.jr_scripts.specs.declared.part.ThreadRun.{ThreadRun}
 use Rattle.jr_scripts.specs.declared.starting.Doing.{Doing}
 use Rattle.jr_scripts.specs.declared.board.Posts.{Posts}
-use Rattle.jr_scripts.specs.declared.told.Told.{Told}
+use Rattle.jr_rule.specs.declared.site.PinnedNoteOf.{PinnedNoteOf}
 use Rattle.jr_scripts.specs.Layouts.{layout_of}
 use Rattle.jr_scripts.specs.AllRuns.{RanPass}
 use Rattle.jr_scripts.specs.Given.{IsGiven}
@@ -64,7 +64,7 @@ all_done g same hs rs xs js n count long each none so =
     (all_kept g same hs rs long (subst (λ m. KeepsEach g m hs rs) count each))
 
 -- each thread's notes are of the board that it was given
-pub all_over : {Q : Type 0} {G : Ghosts Q} (g : Promise.Ghosts (Doing Q G) (ThreadRun Q G)) → ((p : Doing Q G) (r : ThreadRun Q G) → g.kept_by p r → IsOver (layout_of p.board.now) r) → (b : Posts (Told Q G)) (hs : List (Thread G)) (rs : List (ThreadRun Q G)) (n : ℕ) → n ≡ length hs → length rs ≡ length hs → KeepsEach g n hs rs
+pub all_over : {Q : Type 0} {G : Ghosts Q} (g : Promise.Ghosts (Doing Q G) (ThreadRun Q G)) → ((p : Doing Q G) (r : ThreadRun Q G) → g.kept_by p r → IsOver (layout_of p.board.now) r) → (b : Posts (PinnedNoteOf Q G)) (hs : List (Thread G)) (rs : List (ThreadRun Q G)) (n : ℕ) → n ≡ length hs → length rs ≡ length hs → KeepsEach g n hs rs
     → All (λ (h : Thread G). h.promise.board.now ≡ b) hs → All (IsOver (layout_of b)) rs
 all_over g same b hs rs n count long each all i d l =
     let here : i < n = omega arith in

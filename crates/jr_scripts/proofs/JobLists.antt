@@ -6,7 +6,7 @@ use Rattle.std.proofs.lemmas.List.{append-nil}
 use Rattle.jr_syntax.specs.declared.thread.ThreadPart.{ThreadPart}
 use Rattle.jr_rule.specs.declared.pass.Pass.{Pass}
 use Rattle.jr_scripts.specs.declared.part.Job.{Job}
-use Rattle.jr_scripts.specs.declared.told.Site.{Ghosts}
+use Rattle.jr_rule.specs.declared.site.Site.{Ghosts}
 use Rattle.jr_scripts.specs.declared.part.ThreadRun.{ThreadRun}
 use Rattle.jr_scripts.specs.Text.{heading}
 use Rattle.jr_scripts.specs.Jobs.{AreJobsOf, IsDone, AreTold}

@@ -11,7 +11,7 @@ use Rattle.jr_rule.specs.declared.pass.Pass.{Pass}
 use Rattle.jr_rule.specs.declared.row.Row.{Row}
 use Rattle.jr_rule.specs.Passes.{AreOpened, numbers_below}
 use Rattle.jr_scripts.specs.declared.part.Job.{Job}
-use Rattle.jr_scripts.specs.declared.told.Site.{Ghosts}
+use Rattle.jr_rule.specs.declared.site.Site.{Ghosts}
 use Rattle.jr_scripts.specs.declared.part.ThreadRun.{ThreadRun}
 use Rattle.jr_scripts.specs.AllRuns.{lines_of_parts}
 use Rattle.jr_scripts.specs.Jobs.{HasRun, AreJobsOf, AreTold}

@@ -10,8 +10,8 @@ use Rattle.jr_scripts.specs.Layouts.{cell_number}
 use Rattle.jr_scripts.specs.Noting.{AreBelow, HasAllOf, IsBlank, HasNoted, StaysNoted, posted_by_number, posted_in, posted_noted, words_noted}
 use Rattle.jr_model.specs.History.{History}
 use Rattle.jr_rule.specs.Rooms.{seen_by_pinned}
-use Rattle.jr_scripts.specs.declared.told.Site.{Ghosts}
-use Rattle.jr_scripts.specs.declared.told.Told.{Told}
+use Rattle.jr_rule.specs.declared.site.Site.{Ghosts}
+use Rattle.jr_rule.specs.declared.site.PinnedNoteOf.{PinnedNoteOf}
 use Rattle.jr_scripts.specs.declared.part.ThreadRun.{ThreadRun}
 use Rattle.jr_scripts.specs.Posting.{Words, word_under, words_with}
 use Rattle.jr_scripts.specs.Telling.{has_seen, have_seen}
@@ -126,7 +126,7 @@ module _ {T : Type 0} where
 
 -- THE BOARD OF A ROOM
 
-module _ {Q : Type 0} {G : Ghosts Q} (numbers : List (List ℕ × ℕ)) (notes : List (Option (Note (Told Q G)))) where
+module _ {Q : Type 0} {G : Ghosts Q} (numbers : List (List ℕ × ℕ)) (notes : List (Option (Note (PinnedNoteOf Q G)))) where
   -- names that are noted below a stamp have a lower rank
   ranked : (stamp : ℕ) (words : Words) → AreBelow numbers notes stamp words → AllByRecursion (λ (x : List ℕ × ℕ). rank_noted numbers notes x.0 < stamp) words
   ranked stamp [] below = tt
@@ -143,7 +143,7 @@ module _ {Q : Type 0} {G : Ghosts Q} (numbers : List (List ℕ × ℕ)) (notes :
   entry_heard n w h x = (seen_by_pinned (x.posted).told.pinned, (ap (entry_of {Q = Q} {G = G}) x.is ∙ λ i. Some (x.word i, seen_by_pinned (x.posted).told.pinned)), x.says)
 
 -- what a thread's notes tell is what the board has whose notes have all of them
-pub told_by_board : {Q : Type 0} {G : Ghosts Q} (numbers : List (List ℕ × ℕ)) (notes : List (Option (Note (Told Q G)))) (r : ThreadRun Q G) → r.notes.posts.now.numbers.entries ≡ numbers → HasAllOf notes r.notes.is_lost r.notes.notes.items → IsToldBy (board_noted numbers notes) (rank_noted numbers notes) r
+pub told_by_board : {Q : Type 0} {G : Ghosts Q} (numbers : List (List ℕ × ℕ)) (notes : List (Option (Note (PinnedNoteOf Q G)))) (r : ThreadRun Q G) → r.notes.posts.now.numbers.entries ≡ numbers → HasAllOf notes r.notes.is_lost r.notes.notes.items → IsToldBy (board_noted numbers notes) (rank_noted numbers notes) r
 told_by_board numbers notes r same has = subst (λ z. IsToldBy (board_noted z notes) (rank_noted z notes) r) same (record {
   posted = λ words n w h x. entry_posted r.notes.posts.now.numbers.entries notes words n w h (told_by_all has (λ p e. (e.0, below_still r.notes.notes.items notes words refl has.kept (omega arith) e.1)) x);
   heard = λ n w h x. entry_heard r.notes.posts.now.numbers.entries notes n w h (told_by_all has (λ p e. e) x);

@@ -11,7 +11,7 @@ use Rattle.jr_model.specs.History.{History, role_of}
 use Rattle.jr_model.proofs.Stays.{did_nothing}
 use Rattle.jr_steps.specs.declared.steps.Steps.{Ghosts}
 use Rattle.jr_steps.specs.declared.known.Known.{Known}
-use Rattle.jr_steps.specs.Knowing.{AreOf, Facts, Holds, MayKnow, Standing, Went, anything, view, IsOf}
+use Rattle.jr_steps.specs.Knowing.{AreOf, Facts, Holds, MayKnow, Standing, Took, Went, anything, keeps, view, IsOf}
 use Rattle.jr_gate.specs.Performing.{ThreadState, thread_state, thread_state_with}
 use Rattle.jr_gate.specs.Stays.{IsOwnStay}
 use Rattle.jr_steps.specs.Holdings.{header_in}
@@ -49,8 +49,7 @@ use Rattle.jr_rule.specs.declared.over.StepsOver.{StepsOver}
 use Rattle.jr_rule.specs.declared.pinned_note.PinnedNote.{PinnedNote}
 use Rattle.jr_rule.specs.declared.row.RoomCells.{RoomCells}
 use Rattle.jr_rule.specs.Passes.{facts_of}
-use Rattle.jr_rule.specs.Rooms.{AreAsBefore, WasPinned, holder_over, seen_by_pinned}
-use Rattle.jr_scripts.specs.Pinned.{WasHeard}
+use Rattle.jr_rule.specs.Rooms.{AreAsBefore, LearnedPinned, WasPinned, holder_over, seen_by_pinned}
 
 -- two boards, and then another that tells more
 pub still_more : {B : Type 0} (layout : B → Layout) (tells : B → Account) {old mid new : B} → Keeps layout tells old mid → Keeps layout tells mid new → Keeps layout tells old new
@@ -331,15 +330,15 @@ module _ {P : Type 0} {G : CellGhosts RoomCells P} where
       record { stands_is = same.stands_is; hint_is = same.hint_is; leads = λ k knows m. (k, same.same k knows, refl, posted k.seen (told ∙ ap (λ (z : Known). z.seen) (sym knows.0))) }
 
   -- a look found a word, and what was told with it was heard
-  pub room_heard : {s u : StepsOver RoomCells P G} (account : Account) (n : List ℕ) (w : ℕ) (p : PinnedNote) → WasHeard s u p → ((h : History) → IsPrefix (seen_by_pinned p) h → account.heard n w h) → HasLookedFor (λ (x : StepsOver RoomCells P G). facts_of (holder_over x)) s u account n (Some w)
-  room_heard {u = u} account n w p h heard = record {
-    stands_is = h.step.stands_is;
-    hint_is = h.step.hint_is;
+  pub room_heard : {s u : StepsOver RoomCells P G} (account : Account) (n : List ℕ) (w : ℕ) (p : PinnedNote) → Took facts_of (holder_over s) (holder_over u) [] anything keeps → LearnedPinned p u → ((h : History) → IsPrefix (seen_by_pinned p) h → account.heard n w h) → HasLookedFor (λ (x : StepsOver RoomCells P G). facts_of (holder_over x)) s u account n (Some w)
+  room_heard {u = u} account n w p took learned heard = record {
+    stands_is = took.stands_is;
+    hint_is = took.hint_is;
     leads = λ k knows m.
-        let x = h.step.goes k knows tt in (
+        let x = took.goes k knows tt in (
           x.0,
           x.1,
           record { did = goes_did x.2; held = x.3; without = 1; most = omega arith; taken = (x.2).taken },
-          heard (x.0).seen (subst (λ (z : Known). IsPrefix (seen_by_pinned p) z.seen) (sym (x.1).0) h.learned),
+          heard (x.0).seen (subst (λ (z : Known). IsPrefix (seen_by_pinned p) z.seen) (sym (x.1).0) learned),
         );
   }

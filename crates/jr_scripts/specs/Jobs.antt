@@ -15,8 +15,8 @@ use Rattle.jr_scripts.specs.Posting.{Account, Words, said}
 use Rattle.jr_scripts.specs.declared.board.Posts.{Posts}
 use Rattle.jr_scripts.specs.declared.note.Note.{Note}
 use Rattle.jr_scripts.specs.declared.note.Posted.{Posted}
-use Rattle.jr_scripts.specs.declared.told.Site.{Ghosts}
-use Rattle.jr_scripts.specs.declared.told.Told.{Told}
+use Rattle.jr_rule.specs.declared.site.Site.{Ghosts}
+use Rattle.jr_rule.specs.declared.site.PinnedNoteOf.{PinnedNoteOf}
 use Rattle.jr_scripts.specs.Noting.{posted_noted}
 use Rattle.jr_rule.specs.Rooms.{seen_by_pinned}
 use Rattle.jr_scripts.specs.Telling.{account_told, talk_told}
@@ -78,17 +78,17 @@ stamp_of (Some p) = p.stamp
 stamp_of None = 0
 
 -- what was posted, and what its poster had seen
-abbrev pub entry_of : {Q : Type 0} {G : Ghosts Q} → Option (Posted (Told Q G)) → Option (ℕ × History)
+abbrev pub entry_of : {Q : Type 0} {G : Ghosts Q} → Option (Posted (PinnedNoteOf Q G)) → Option (ℕ × History)
 entry_of (Some p) = Some (p.word, seen_by_pinned p.told.pinned)
 entry_of None = None
 
 module _ {Q : Type 0} {G : Ghosts Q} where
   -- the board that is noted
-  abbrev pub board_noted : List (List ℕ × ℕ) → List (Option (Note (Told Q G))) → List ℕ → Option (ℕ × History)
+  abbrev pub board_noted : List (List ℕ × ℕ) → List (Option (Note (PinnedNoteOf Q G))) → List ℕ → Option (ℕ × History)
   board_noted numbers notes n = entry_of (posted_noted numbers notes n)
 
   -- the rank of a name is the stamp that is noted
-  abbrev pub rank_noted : List (List ℕ × ℕ) → List (Option (Note (Told Q G))) → List ℕ → ℕ
+  abbrev pub rank_noted : List (List ℕ × ℕ) → List (Option (Note (PinnedNoteOf Q G))) → List ℕ → ℕ
   rank_noted numbers notes n = stamp_of (posted_noted numbers notes n)
 
   -- the thread was not refused memory
@@ -110,7 +110,7 @@ module _ {Q : Type 0} {G : Ghosts Q} where
     pub named : (n : List ℕ) (x : ℕ × History) → board n ≡ Some x → IsSome (cell_number numbers n)
 
   -- the threads of the parts did their jobs, with notes of this board, and this is what is told of them
-  pub record HaveTold (board : Posts (Told Q G)) (js : List Job) (qs : List ThreadPart) (ps : List Pass) (text : List ℕ) : Type 0 where
+  pub record HaveTold (board : Posts (PinnedNoteOf Q G)) (js : List Job) (qs : List ThreadPart) (ps : List Pass) (text : List ℕ) : Type 0 where
     pub runs : List (ThreadRun Q G)
     pub ran : HaveRun (layout_of board) js runs
     pub alike : AreToldAlike board.numbers.entries qs runs ps text

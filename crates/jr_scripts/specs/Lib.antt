@@ -18,4 +18,3 @@ pub mod AllRuns
 pub mod Jobs
 pub mod Given
 pub mod Advancing
-pub mod Pinned

@@ -16,8 +16,7 @@ use crate::part::Job;
 use crate::printed::ending;
 use crate::runnable::{FIRST_PART, can_be_run};
 use crate::starting::run_threads;
-use crate::told::{Site, Told};
-use jr_rule::{Pass, Room, Summary};
+use jr_rule::{Pass, PinnedNoteOf, Room, Site, Summary};
 use jr_syntax::{Script, ThreadPart};
 use jr_word::{Fault, LAST_SERIAL};
 use std::alloc::{AllocError, Global};
@@ -77,7 +76,7 @@ fn jobs_of(
 }
 
 /// A board for the names that the parts post.
-fn board_of<Q: Site>(alloc: Global, parts: &[ThreadPart]) -> Result<Posts<Told<Q>>, Fault>
+fn board_of<Q: Site>(alloc: Global, parts: &[ThreadPart]) -> Result<Posts<PinnedNoteOf<Q>>, Fault>
     ensures ok { IfOk result (λ board. AddsPosted (commands_of parts.now) [] board.numbers.entries) }
     ensures err { IfErr result (λ e. e ≡ Memory) }
 {

@@ -10,8 +10,7 @@ use crate::board::Posts;
 use crate::notes::Notes;
 use crate::part::ThreadRun;
 use crate::printed::heading;
-use crate::told::{Site, Told};
-use jr_rule::Pass;
+use jr_rule::{Pass, PinnedNoteOf, Site};
 use jr_syntax::ThreadPart;
 use jr_word::Fault;
 use std::alloc::{AllocError, Global};
@@ -28,7 +27,7 @@ fn told_by<'a, Q: Site>(
     alloc: Global,
     parts: &[ThreadPart],
     mut runs: Vec<ThreadRun<'a, Q>>,
-    all: &Notes<'a, Told<Q>>,
+    all: &Notes<'a, PinnedNoteOf<Q>>,
 ) -> Result<(Vec<Pass>, Vec<u8>), Fault>
     requires long { length runs.items ≡ length parts.now }
     requires over { All (IsOver (layout_of all.now.posts.now)) runs.items }
@@ -62,7 +61,7 @@ fn told_by<'a, Q: Site>(
 pub(crate) fn told<'a, Q: Site>(
     alloc: Global,
     parts: &[ThreadPart],
-    board: &'a Posts<Told<Q>>,
+    board: &'a Posts<PinnedNoteOf<Q>>,
     runs: Vec<ThreadRun<'a, Q>>,
 ) -> Result<(Vec<Pass>, Vec<u8>), Fault>
     requires long { length runs.items ≡ length parts.now }

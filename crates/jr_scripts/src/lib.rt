@@ -31,7 +31,6 @@ mod runnable;
 mod single;
 mod starting;
 mod to_end;
-mod told;
 mod words;
 
 pub use all::run_all;

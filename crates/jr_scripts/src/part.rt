@@ -12,8 +12,7 @@ use crate::hold::Hold;
 use crate::notes::Notes;
 use crate::opening::opened_env;
 use crate::to_end::run_to_end;
-use crate::told::{Site, Told};
-use jr_rule::{Pass, Room, RoomSteps};
+use jr_rule::{Pass, PinnedNoteOf, Room, RoomSteps, Site};
 use jr_syntax::ThreadPart;
 use jr_word::Fault;
 use std::alloc::Global;
@@ -33,14 +32,14 @@ pub(crate) struct ThreadRun<'a, Q: Site> {
     pub(crate) pass: Pass,
     pub(crate) text: Vec<u8>,
     pub(crate) answer: Result<(), Fault>,
-    pub(crate) notes: Notes<'a, Told<Q>>,
+    pub(crate) notes: Notes<'a, PinnedNoteOf<Q>>,
 }
 
 /// Does a job, and frees the thread's local references at its end.
 pub(crate) fn run_job<'a, Q: Site, H: Hold, const LAST: u32>(
     alloc: Global,
     room: &Room<LAST>,
-    board: &'a Posts<Told<Q>>,
+    board: &'a Posts<PinnedNoteOf<Q>>,
     hold: &H,
     first: usize,
     turns: u64,

@@ -12,8 +12,7 @@ use crate::board::Posts;
 use crate::gathering::told;
 use crate::hold::Hold;
 use crate::part::{Job, ThreadRun, run_job};
-use crate::told::{Site, Told};
-use jr_rule::{Pass, Room};
+use jr_rule::{Pass, PinnedNoteOf, Room, Site};
 use jr_syntax::ThreadPart;
 use jr_word::Fault;
 use std::alloc::Global;
@@ -29,7 +28,7 @@ pub(crate) struct Doing<'a, Q: Site> {
     turns: u64,
     part: &'a ThreadPart,
     pass: Snapshot<Pass>,
-    board: &'a Posts<Told<Q>>,
+    board: &'a Posts<PinnedNoteOf<Q>>,
 }
 
 impl<'a, 'b, Q: Site> Promise<ThreadRun<'b, Q>> for Doing<'a, Q> {
@@ -41,7 +40,7 @@ fn start<'s, 'b: 's, Q: Site + Send + Sync, E, H: Hold + Sync, const LAST: u32>(
     alloc: Global,
     scope: &Scope<'s, E>,
     room: &'s Room<LAST>,
-    board: &'b Posts<Told<Q>>,
+    board: &'b Posts<PinnedNoteOf<Q>>,
     hold: &'s H,
     job: Job<'s>,
 ) -> Option<PromisedHandle<ThreadRun<'b, Q>, Doing<'s, Q>>>
@@ -89,7 +88,7 @@ fn run_jobs<'s, 'b: 's, Q: Site + Send + Sync, E, H: Hold + Sync, const LAST: u3
     alloc: Global,
     scope: &Scope<'s, E>,
     room: &'s Room<LAST>,
-    board: &'b Posts<Told<Q>>,
+    board: &'b Posts<PinnedNoteOf<Q>>,
     hold: &'s H,
     mut jobs: Vec<Job<'s>>,
 ) -> Result<Vec<ThreadRun<'b, Q>>, Fault>
@@ -120,7 +119,7 @@ fn told_jobs<'s, 'b: 's, Q: Site + Send + Sync, E, H: Hold + Sync, const LAST: u
     alloc: Global,
     scope: &Scope<'s, E>,
     room: &'s Room<LAST>,
-    board: &'b Posts<Told<Q>>,
+    board: &'b Posts<PinnedNoteOf<Q>>,
     hold: &'s H,
     parts: &[ThreadPart],
     jobs: Vec<Job<'s>>,
@@ -145,7 +144,7 @@ pub(crate) fn run_threads<
     rt: &R,
     alloc: Global,
     room: &'a Room<LAST>,
-    board: &'a Posts<Told<Q>>,
+    board: &'a Posts<PinnedNoteOf<Q>>,
     hold: &'a H,
     parts: &'a [ThreadPart],
     jobs: Vec<Job<'a>>,

@@ -4,14 +4,14 @@ use Rattle.jr_scripts.specs.Layouts.{layout_of}
 use Rattle.jr_scripts.specs.Telling.{account_told, have_seen}
 use Rattle.jr_scripts.proofs.Noted.{below_still, noted_at, told_still, words_more}
 use Rattle.jr_scripts.proofs.Speaking.{room_heard}
-use Rattle.jr_scripts.proofs.room_board.NotesToldBoardRoomSteps.look.Goals as goal
+use Rattle.jr_scripts.proofs.room_board.NotesPinnedNoteOfBoardRoomSteps.look.Goals as goal
 
 pub returns-clause-found : goal.returns-clause-found
 returns-clause-found g c =
     let board = c.hear.new.self in
     let posted = c.posted-posted.result.now in
-    let was : c.heard.result ≡ true = search rules in
-    room_heard (account_told board.is_lost board.posts.now.numbers.entries board.notes.items) c.args.name.now posted.word posted.told.pinned (c.heard.ensures.heard was)
+    let was : c.learned_by.result ≡ true = search rules in
+    room_heard (account_told board.is_lost board.posts.now.numbers.entries board.notes.items) c.args.name.now posted.word posted.told.pinned (c.learned_by.ensures.step was) (c.learned_by.ensures.learned was)
     (λ h seen. noted_at board.notes.items c.args.name.now c.in_ok-number.number posted c.in_ok-number.note.token.value posted.word (λ p. have_seen p.told h) (ap (λ (p : Posts _). p.numbers.entries) c.hear.ensures.same) c.in_ok-number.ensures.number refl seen c.posted-posted.ensures c.hear.ensures.noted)
 
 pub returns-clause-follows : goal.returns-clause-follows
