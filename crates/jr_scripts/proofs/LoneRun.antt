@@ -17,7 +17,7 @@ use Rattle.jr_scripts.specs.Posting.{said_alone}
 use Rattle.jr_scripts.specs.Explains.{Explained}
 use Rattle.jr_scripts.proofs.LoneWords.{heard_alone, on_board}
 use Rattle.jr_scripts.specs.Text.{heading, ending}
-use Rattle.jr_scripts.specs.Runs.{IsRun, RunsSingle, seeing_as, opening_of}
+use Rattle.jr_scripts.specs.Runs.{IsRun, RunsSingle, seeing, opening_moment}
 use Rattle.jr_scripts.specs.AllRuns.{IsPartOf, ArePartsOf, text_of_parts, IsRunOfAll}
 use Rattle.jr_scripts.proofs.Alone.{undisturbed}
 use Rattle.jr_scripts.proofs.AloneAnswers.{all_map, lone_pass, unbarred}
@@ -43,7 +43,7 @@ module _ (board : List ℕ → Option (ℕ × History)) (rank : List ℕ → ℕ
     -- behind what the thread has seen stands its look at the gate alone
     same_state : state whole ≡ state p.seen
     same_state =
-        let d : Did (seeing_as c last 0 p.seen) (seeing_as c last 0 whole) (Meet ∷ []) = record { config = refl; last = refl; thread = refl; legal = legal; begins = p.begins; own = p.own } in
+        let d : Did (seeing c last p.seen) (seeing c last whole) (Meet ∷ []) = record { config = refl; last = refl; thread = refl; legal = legal; begins = p.begins; own = p.own } in
         let rest = p.begins.0 in
         let own : AllByRecursion (λ e. e.thread ≡ 0) rest
         = all_back (λ (e : Event). e.thread ≡ 0) p.seen rest (subst (AllByRecursion (λ (e : Event). e.thread ≡ 0)) (sym p.begins.1) (all_map (λ e u. u.own) whole (undisturbed c last one whole legal))) in
@@ -54,10 +54,10 @@ module _ (board : List ℕ → Option (ℕ × History)) (rank : List ℕ → ℕ
     part_alone text posted is =
         let legal_seen : IsLegal c last p.seen = ((legal_append c last p.seen p.begins.0).0 (subst (IsLegal c last) (sym p.begins.1) legal)).0 in
         let all = undisturbed c last one p.seen legal_seen in
-        let lone : IsAlone (p.left).pass = subst IsAlone (sym p.saw) (lone_pass (seeing_as c last 0 p.seen) one refl all) in
+        let lone : IsAlone (p.left).pass = subst IsAlone (sym p.saw) (lone_pass (seeing c last p.seen) one refl all) in
         let x = p.explained in
-        let explained : Explained said_alone turns 3 (opening_of c last 0) part.commands lines p.told = record { place = x.place; words = x.words; done = x.done; explains = heard_alone x.explains (λ n has. let there = on_board x.explains n has in posted n there.0 there.1); ended = x.ended } in
-        let ended = ended_alone turns 3 (opening_of c last 0) p.told p.left part.commands lines explained p.freed lone in
+        let explained : Explained said_alone turns 3 (opening_moment c last) part.commands lines p.told = record { place = x.place; words = x.words; done = x.done; explains = heard_alone x.explains (λ n has. let there = on_board x.explains n has in posted n there.0 there.1); ended = x.ended } in
+        let ended = ended_alone turns 3 (opening_moment c last) p.told p.left part.commands lines explained p.freed lone in
         record {
           seen = p.seen;
           lines = lines;

@@ -21,13 +21,13 @@ use Rattle.jr_env.specs.Deeds.{DoesDeed}
 use Rattle.jr_scripts.specs.Text.{heading, ending}
 use Rattle.jr_scripts.specs.Posting.{said_alone}
 use Rattle.jr_scripts.specs.Explains.{Explained}
-use Rattle.jr_scripts.specs.Runs.{IsRun, running_to_end, seeing_as, opening_of}
+use Rattle.jr_scripts.specs.Runs.{IsRun, running_to_end, seeing, opening_moment}
 use Rattle.jr_scripts.proofs.Alone.{undisturbed}
 use Rattle.jr_scripts.proofs.AloneAnswers.{lone_pass, unbarred}
 use Rattle.jr_scripts.proofs.FreedAlone.{ended_alone}
 
 -- a pass of thread 0 in this room
-same_view : (c : Config) (last : ℕ) (k : Known) → k.config ≡ c → k.last ≡ last → k.thread ≡ 0 → view k ≡ seeing_as c last 0 k.seen
+same_view : (c : Config) (last : ℕ) (k : Known) → k.config ≡ c → k.last ≡ last → k.thread ≡ 0 → view k ≡ seeing c last k.seen
 same_view c last k config_is last_is thread_is =
     ap (λ x. record { config = x; last = k.last; thread = k.thread; seen = k.seen }) config_is
     ∙ (ap (λ x. record { config = c; last = x; thread = k.thread; seen = k.seen }) last_is
@@ -57,11 +57,11 @@ module _ {S : Type 0} {facts : S → Facts} (fits : AreOf facts) where
       let sum : v ≡ summary c last (state k.seen) = tells k x.1 ∙ (ap (λ d. summary d k.last (state k.seen)) config_of ∙ ap (λ l. summary c l (state k.seen)) last_of) in
       let end = thread_state (facts new) k g in
       let told = x.3.0 in
-      let from : Explained said_alone turns 3 (opening_of c last 0) part.commands lines told
+      let from : Explained said_alone turns 3 (opening_moment c last) part.commands lines told
       = subst (λ i. Explained said_alone turns 3 (thread_state_with false i k0 (fresh_frames c.locals)) part.commands lines told) hint
       (subst (λ b. Explained said_alone turns 3 (thread_state_with b (facts old).hint k0 (fresh_frames c.locals)) part.commands lines told) spent (subst (λ h. Explained said_alone turns 3 (thread_state (facts old) k0 h) part.commands lines told) fresh x.3.1)) in
       let all = undisturbed c last one k.seen legal in
-      let ended = ended_alone turns 3 (opening_of c last 0) told end part.commands lines from x.3.2 (lone_pass (view k) (ap (λ d. d.threads) config_of ∙ one) thread_of all) in
+      let ended = ended_alone turns 3 (opening_moment c last) told end part.commands lines from x.3.2 (lone_pass (view k) (ap (λ d. d.threads) config_of ∙ one) thread_of all) in
       record {
         seen = k.seen;
         lines = lines;

@@ -7,7 +7,7 @@ use Rattle.jr_word.specs.Config.{in_limits}
 use Rattle.jr_model.specs.declared.event.Act.{Act}
 use Rattle.jr_model.specs.declared.event.Act.TheVariants.{Meet}
 use Rattle.jr_model.specs.State.{summary}
-use Rattle.jr_model.specs.History.{History, state, mine, IsLegal}
+use Rattle.jr_model.specs.History.{History, state, mine, IsLegal, PassView}
 use Rattle.jr_model.specs.Laws.{KeepsTheLaws}
 use Rattle.jr_model.specs.Frames.{Frames, fresh_frames}
 use Rattle.jr_syntax.specs.declared.command.Command.{Command}
@@ -17,13 +17,14 @@ use Rattle.jr_syntax.specs.Script.{all_apart, posts_of}
 use Rattle.jr_rule.specs.declared.pass.Pass.{Pass}
 use Rattle.jr_rule.specs.Passes.{Holder, facts_of, holder_of, standing_of}
 use Rattle.jr_gate.specs.Performing.{ThreadState}
+use Rattle.jr_steps.specs.Holdings.{empty}
 use Rattle.jr_steps.specs.Knowing.{Spent}
 use Rattle.jr_env.specs.Deeds.{DoesDeed}
 use Rattle.jr_scripts.specs.Text.{heading, ending}
 use Rattle.jr_scripts.specs.Posted.{IsOfPosts, commands_of}
 use Rattle.jr_scripts.specs.Posting.{Speech, said}
 use Rattle.jr_scripts.specs.Explains.{Explained}
-use Rattle.jr_scripts.specs.Runs.{IsFreed, RunsSingle, running_to_end, seeing_as, opening_of}
+use Rattle.jr_scripts.specs.Runs.{IsFreed, RunsSingle, running_to_end}
 
 -- a thread ran these commands with its pass, which was spent first, freed its local references, and handed the pass back, not fresh
 pub record RanPass (speech : Speech) (turns first : ℕ) (commands : List Command) (old new : Pass) (answer : Result (Unit {0}) Fault) (text : List ℕ) : Type 0 where
@@ -32,6 +33,14 @@ pub record RanPass (speech : Speech) (turns first : ℕ) (commands : List Comman
   pub used_up : new.fresh ≡ false
   pub frames : Frames
   pub ran : DoesDeed facts_of spent (holder_of new) (fresh_frames (standing_of old).config.locals) frames (running_to_end speech turns first commands text) answer
+
+-- a pass of the thread that has seen this
+abbrev pub seeing_as : Config → ℕ → ℕ → History → PassView
+seeing_as c last t seen = record { config = c; last = last; thread = t; seen = seen }
+
+-- before the thread's first command: it has seen nothing, no local reference stands, its pass is spent, and its first search for a free slot begins at slot 0
+abbrev pub opening_of : Config → ℕ → ℕ → ThreadState
+opening_of c last t = record { pass = seeing_as c last t []; frames = fresh_frames c.locals; held = empty; fresh = false; hint = 0; taken = 0 }
 
 -- what closing the room adds: the first thread looks at the gate
 abbrev pub closing_acts : ℕ → List Act

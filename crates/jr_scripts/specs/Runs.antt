@@ -56,13 +56,13 @@ abbrev pub WritesDown : ℕ → Command → Result Reply Fault → Names → Nam
 WritesDown number c answer names names' words words' (Ok _) old new = (names' ≡ names_set c answer names) × (words' ≡ words_after names c answer words) × (new ≡ old ++ printed number c answer)
 WritesDown number c answer names names' words words' (Err _) old new = new ≡ old
 
--- a pass of the thread that has seen this
-abbrev pub seeing_as : Config → ℕ → ℕ → History → PassView
-seeing_as c last t seen = record { config = c; last = last; thread = t; seen = seen }
+-- a pass of thread 0 that has seen this
+abbrev pub seeing : Config → ℕ → History → PassView
+seeing c last seen = record { config = c; last = last; thread = 0; seen = seen }
 
--- before the thread's first command: it has seen nothing, no local reference stands, its pass is spent, and its first search for a free slot begins at slot 0
-abbrev pub opening_of : Config → ℕ → ℕ → ThreadState
-opening_of c last t = record { pass = seeing_as c last t []; frames = fresh_frames c.locals; held = empty; fresh = false; hint = 0; taken = 0 }
+-- before the first command: nothing has happened, no local reference stands, the pass is spent, and the first search for a free slot begins at slot 0
+abbrev pub opening_moment : Config → ℕ → ThreadState
+opening_moment c last = record { pass = seeing c last []; frames = fresh_frames c.locals; held = empty; fresh = false; hint = 0; taken = 0 }
 
 -- thread 0 did it, and it is no knock at a shut gate, no shut that others were in the way of, and no reservation that another was faster at
 pub record IsUnbarred (e : Event) : Type 0 where
@@ -78,12 +78,12 @@ pub record IsRun (turns last : ℕ) (c : Config) (part : ThreadPart) (text : Lis
   pub legal : IsLegal c last seen
   pub alone : AllByRecursion IsUnbarred seen
   pub told : ThreadState
-  pub explained : Explained said_alone turns 3 (opening_of c last 0) part.commands lines told
+  pub explained : Explained said_alone turns 3 (opening_moment c last) part.commands lines told
   pub answers : AnswersAlone explained.explains
   pub left : ThreadState
   pub freed : IsFreed turns told left
   pub freed_all : turns ≢ 0 → freed.answer ≡ Ok tt
-  pub saw : left.pass ≡ seeing_as c last 0 seen
+  pub saw : left.pass ≡ seeing c last seen
   pub text_is : text ≡ heading part.name ++ lines ++ ending (summary c last (state seen))
 
 -- the part of a script of one thread, whose sizes are within the limits, and which posts no name twice
