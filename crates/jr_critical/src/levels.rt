@@ -188,7 +188,7 @@ impl Levels {
     pub fn into_stay(self) -> Inside
         ensures { result ≡ stay_of self }
     {
-        let Levels { inside, levels: _ } = self;
+        let Levels { levels: _, inside } = self;
         inside
     }
 
