@@ -5,9 +5,9 @@ pub mod Rooms
 pub mod Cells
 pub mod CellLaws
 pub mod Sights
+pub mod Sites
+pub mod SiteLaws
 pub mod Over
 pub mod Slots
 pub mod RowHistories
 pub mod Parting
-pub mod Sites
-pub mod SiteLaws
