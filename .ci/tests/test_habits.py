@@ -65,6 +65,11 @@ class Habits(unittest.TestCase):
         self.assertEqual([it.partition("`")[2].partition("`")[0] for it in found], ["Gone", "src/gone.rt", "gone_too"])
         self.assertEqual({it.split(":")[1] for it in found}, {"3", "4"})
 
+    def test_pages_with_long_sentences(self):
+        with repository({"A.md": "# A\n\n" + "word " * 31 + "end.\n", "B.md": "# B\n\n| " + "x" * 700 + " |\n\n" + "`y y y` " * 20 + "end.\n", "C.md": "# C\n\n" + "y" * 601 + "\n"}):
+            found = {path: [*self.habits.sentences(path)] for path in ("A.md", "B.md", "C.md")}
+        self.assertEqual(found, {"A.md": ["A.md: a tenth of its sentences have 32 words and more (30 at the most)"], "B.md": [], "C.md": ["C.md: a line has 601 bytes (600 at the most): break it at its sentences, or make a list of it"]})
+
     def test_functions_that_take_memory(self):
         found = self.found(self.habits.takers, self.paths)
         self.assertEqual(len(found), 1)
