@@ -9,6 +9,7 @@ use crate::in_a_stay::has_levels;
 use crate::levels::stands_anew;
 use crate::objects::have_kinds;
 use crate::regions::{a_long_part, has_regions, have_no_regions};
+use crate::texts::spell_texts;
 use crate::undisturbed::is_undisturbed;
 use jr_env::Env;
 use jr_rule::{PlainSteps, Room};
@@ -32,6 +33,7 @@ pub(crate) enum Case {
     HasUnits,
     HaveNoCopies,
     GoesToAnother,
+    SpellTexts,
     Units(u32),
     Elements(u32),
     UnitsAndElements(u32, u32),
@@ -56,6 +58,7 @@ fn shows<S: Steps>(
         Case::HasUnits => has_units(rt, env),
         Case::HaveNoCopies => have_no_copies(rt, env, alloc),
         Case::GoesToAnother => goes_to_another(rt, env, alloc),
+        Case::SpellTexts => spell_texts(rt, alloc, env),
         Case::Units(count) => copies_units(rt, alloc, env, count),
         Case::Elements(count) => copies_elements(rt, alloc, env, count),
         Case::UnitsAndElements(units, elements) => copies_both(rt, alloc, env, units, elements),

@@ -38,4 +38,6 @@ mod regions;
 #[cfg(test)]
 mod side_by_side;
 #[cfg(test)]
+mod texts;
+#[cfg(test)]
 mod undisturbed;

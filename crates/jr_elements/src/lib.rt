@@ -3,6 +3,8 @@
 
 mod copying;
 mod elements;
+mod texts;
 
 pub use copying::{put_back, read_all};
 pub use elements::{Elements, elements_of};
+pub use texts::{text_of, utf16_of};

@@ -15,3 +15,4 @@ pub mod Elements
 pub mod Calling
 pub mod ArrayParts
 pub mod Copies
+pub mod Texts

@@ -11,6 +11,7 @@ mod meeting;
 mod objects;
 mod references;
 mod staying;
+mod texts;
 mod upgrades;
 
 pub use array_parts::SetArrayRegion;
