@@ -176,6 +176,14 @@ class Pages(unittest.TestCase):
         self.assertEqual(lines[3:], ["| [jr_env/stay](../crates/jr_env/src/stay.rt) | struct `Stay`, `Stay::delete` |", "| [jr_word/kind](../crates/jr_word/src/kind.rt) | `kind_of` |"])
         self.assertIn("crates/jr_word/src/kind.rt: the `///` of kind_of says E2 under `# Errors`, and the contract nothing", page.faults)
 
+    def test_refusals_have_their_rows(self):
+        table = {"docs/EMBEDDING.md": "| E2 | `Malformed` | a word | let it go |\n"}
+        for files, faults in ((table, []), ({}, ["docs/EMBEDDING.md: its table of refusals has no row of E2, `Malformed`"])):
+            with repository({**FILES, **files}):
+                page = script("reference").Page(Repository())
+                self.assertEqual([*page.refusals("faults")], ["", "E2 `Malformed`. ([jr_word/fault](../crates/jr_word/src/fault.rt))"])
+                self.assertEqual(page.faults, faults)
+
     def test_plan_of_the_reference(self):
         plan = "# Reference\n(refusals)\n\n## Calls\nabout\n(calls by the names of JNI)\nlaws: one two\njr_word: kind_of\n\n## (left out)\nwhy\njr_word: Kind.of part (a part)\n"
         with repository({**FILES, ".ci/reference.txt": plan}):
@@ -189,7 +197,8 @@ class Pages(unittest.TestCase):
             names = repo.reach(trusted.claimed(repo, ("jr_word kind_of:held",)))
             self.assertEqual(trusted.sums(repo, names)[:3], (3, 6, 1))
             claims = trusted.each_function(repo, "jr_word", lambda it: True)
-            self.assertEqual(trusted.table(repo, claims, "Call", "Where")[2:], ["| `kind_of` | [kind](../crates/jr_word/src/kind.rt) | 3 | 6 | 1 | 2 |"])
+            rows = trusted.table(repo, [*claims, *claims], "Call", "Where")[2:]
+            self.assertEqual(rows, ["| `kind_of` | [kind](../crates/jr_word/src/kind.rt) | 3 | 6 | 1 | 2 |", "| `kind_of` | kind | 3 | 6 | 1 | 2 |"])
             wanted = ["  crates/jr_word/specs/Words.antt: Pair 2, same 2, held 2", "  Rust types of jr_word: Fault, Kind"]
             self.assertEqual([*trusted.listed(repo, claims[0][2])], wanted)
 
