@@ -202,6 +202,13 @@ class Pages(unittest.TestCase):
             wanted = ["  crates/jr_word/specs/Words.antt: Pair 2, same 2, held 2", "  Rust types of jr_word: Fault, Kind"]
             self.assertEqual([*trusted.listed(repo, claims[0][2])], wanted)
 
+    def test_calls_of_a_stay_are_counted_beside_those_of_an_env(self):
+        with repository({**FILES, **STAYS}):
+            trusted, repo = script("trusted"), Repository()
+            claims = trusted.each_function(repo, "jr_env", lambda it: True)
+            self.assertEqual([it[0] for it in trusted.beside_stays(claims)], ["`Env::delete`"])
+            self.assertEqual(trusted.in_stays(repo, claims), "Each other call of a `Stay` rests on 0 to 0 lines more than the call of an env of its name. `.ci/trusted` lists them too.")
+
     def test_links(self):
         self.assertEqual(anchor("By `law`, and call"), "by-law-and-call")
         self.assertEqual(loose_links("# One\n[a](#one) [b](#two) <a id=\"three\"></a> [c](#three)"), ["two"])
