@@ -13,6 +13,6 @@ pub use jr_steps::Steps;
 pub use jr_threads::{NativeCode, Ran, run_native};
 pub use jr_weak::{Collected, Marker};
 pub use jr_word::{
-    Config, Elem, Fault, Handle, HandleParts, HeaderParts, Kind, LAST_SERIAL, LocalParts, RefKind,
-    SlotParts,
+    Config, Elem, Fault, FaultReport, Handle, HandleParts, HeaderParts, Kind, LAST_SERIAL,
+    LocalParts, RefKind, SlotParts,
 };

@@ -46,6 +46,25 @@ fn elements_within_and_past_the_end(rt: HostRuntime) -> Result<(), Fail> {
 }
 
 #[test]
+fn elements_are_written_as_a_slice(rt: HostRuntime) -> Result<(), Fail> {
+    let mut elements = elements_of(Vec::from_slice(rt.alloc(), &[10i64, -20, 30])?);
+    elements.as_mut_slice().reverse();
+    elements.as_mut_slice()[1] = i64::MIN;
+    are(&rt, &elements, &[30, i64::MIN, 10]);
+    Ok(())
+}
+
+#[test]
+fn modes_by_their_numbers(rt: HostRuntime) {
+    assert!(rt; Mode::of_code(0) == Some(Mode::Copy));
+    assert!(rt; Mode::of_code(1) == Some(Mode::Commit));
+    assert!(rt; Mode::of_code(2) == Some(Mode::Abort));
+    for code in [-1, 3, i32::MIN, i32::MAX] {
+        assert!(rt; Mode::of_code(code).is_none(), "{code}");
+    }
+}
+
+#[test]
 fn no_elements(rt: HostRuntime) -> Result<(), Fail> {
     let mut elements = elements_of(Vec::<bool>::new(rt.alloc()));
     are_copies(&rt, &elements, 0);

@@ -34,7 +34,9 @@ impl<E: Elem> Elements<E> {
     ghost use Rattle.std.specs.Prelude.{◌≡◌, ◌<◌, ◌≤◌, true, Ok, IfOk, IfErr, length, map, slice_index_or, slice_set};
     ghost use Rattle.jr_word.specs.declared.fault.Fault.TheVariants.{Range};
     ghost use Rattle.jr_model.specs.Objects.{elements_get, elements_set, elements_length};
+    ghost use Rattle.std.specs.Borrow.{sem};
     ghost use Rattle.jr_elements.specs.Copies.{AnswersAs, answer_in, kept};
+    ghost use Rattle.jr_elements.specs.LentElements.{lends_elements};
 
     /// The element at an index.
     ///
@@ -92,6 +94,14 @@ impl<E: Elem> Elements<E> {
         ensures { result.now ≡ self.now }
     {
         &self.items
+    }
+
+    /// The elements, to be written. The array has what is written once they are released with a mode that copies back.
+    pub fn as_mut_slice(&mut self) -> &mut [E]
+        ensures* writes_back { sem 𝓛 (lends_elements E.row E.Elem self.entry result) }
+        ensures value { result.now ≡ self.old }
+    {
+        &mut self.items
     }
 
     /// What a release by mode leaves of the elements: themselves where the mode is to commit, and else nothing.

@@ -283,81 +283,99 @@ fn answers_as_handles(rt: HostRuntime) {
     );
 }
 
-/// Each refusal, in the order of the numbers, and what it says in words.
+/// Each refusal, in the order of the numbers, and what a log says of it.
 const REFUSALS: [(Fault, &str); 23] = [
     (
         Fault::Null,
-        "NULL or a cleared weak reference, where an object is needed",
+        "E1: null, where an object is needed. Hand in a reference to an object.",
     ),
-    (Fault::Stale, "no reference of this word stands"),
-    (Fault::Foreign, "a local reference of another thread"),
+    (
+        Fault::Stale,
+        "E2: no reference of this word stands. Let go of the word: a deleted reference never stands again.",
+    ),
+    (
+        Fault::Foreign,
+        "E3: the word is a local reference of another thread. Hand a global reference from thread to thread.",
+    ),
     (
         Fault::WrongKind,
-        "a reference of another kind, or an object that is no string",
+        "E4: the word names something of another kind than the call is for. Ask get_object_ref_type or kind_of, and make the call for that.",
     ),
     (
         Fault::NotArray,
-        "no array, where an array is needed, or a write to a string",
+        "E5: the object is not an array. Ask kind_of, and make the call for that kind of object.",
     ),
     (
         Fault::WrongElement,
-        "an array of another element kind, or of objects in a critical call",
+        "E6: the array's elements are of another kind than the call is for. Ask kind_of, and make the call for that kind of object.",
     ),
     (
         Fault::Range,
-        "an index or a part outside of the array, string or copy",
+        "E7: an index, a part or a length doesn't fit the object. Ask for the length, which an object keeps.",
     ),
     (
         Fault::RowFull,
-        "each slot was occupied when the search came to it, or a moment later",
+        "E8: the search found no free slot. Delete global or weak references, cleared ones first.",
     ),
     (
         Fault::LocalsFull,
-        "no local place is left, or fewer than asked for, or 256 frames are open",
+        "E9: the thread has too little room for local references. Delete local references or pop a frame.",
     ),
     (
         Fault::SpaceFull(7),
-        "the request doesn't fit beside the words in use",
+        "E10: the request doesn't fit beside the words in use. 7 words are in use. Collect, and make the call again.",
     ),
-    (Fault::ObjectsFull, "every object number is present"),
+    (
+        Fault::ObjectsFull,
+        "E11: every object number is present. Collect, and make the call again.",
+    ),
     (
         Fault::Raced(7, 8),
-        "another thread reserved words meanwhile",
+        "E12: another thread reserved words meanwhile. 7 words were looked at, 8 found. Make the call again.",
     ),
     (
         Fault::Barred,
-        "a thread collects, or has announced that it will",
+        "E13: a collection keeps threads from coming in. Let other threads run, and make the call again.",
     ),
     (
-        Fault::Busy(7),
-        "threads are inside, knocking, announcing or collecting",
+        Fault::Busy(1),
+        "E14: other threads keep the collection from coming in. 1 thread is inside, knocking, announcing or collecting. Let them leave, and collect again.",
     ),
-    (Fault::NoFrame, "the base frame can't be popped"),
+    (
+        Fault::NoFrame,
+        "E15: the base frame can't be popped. Pop only frames that were pushed.",
+    ),
     (
         Fault::Memory,
-        "memory was refused, or a thread could not be started",
+        "E16: the system refused memory or a thread. Give memory back, and make the call again.",
     ),
     (
         Fault::Size,
-        "sizes outside of the limits, or a seventeenth level",
+        "E17: a size or a count is outside of its limits. Keep to the limits of Config and to sixteen levels.",
     ),
     (
         Fault::Value,
-        "a word that is none of the array's element kind",
+        "E18: the word is none of the array's element kind. Give a word of the kind.",
     ),
     (
         Fault::InCritical,
-        "a command that a critical region forbids, or that needs one",
+        "E19: the command is not allowed where the thread stands. End the critical region first, or open one.",
     ),
-    (Fault::Turns, "the turns ran out"),
-    (Fault::NotFresh, "the pass had an env already"),
+    (
+        Fault::Turns,
+        "E20: the turns ran out. Run the script with more turns.",
+    ),
+    (
+        Fault::NotFresh,
+        "E21: the pass had an env already. Make one env of each pass.",
+    ),
     (
         Fault::LeftInside(7),
-        "threads were inside, knocking, announcing or collecting at the close",
+        "E22: other threads kept the room from being closed. 7 threads are inside, knocking, announcing or collecting. Let them leave, and close the room that was handed back.",
     ),
     (
         Fault::Moved(7, 8),
-        "a thread went in or out before the announcement",
+        "E23: a thread went in or out before the announcement. 7 threads were looked at, 8 found. Let other threads run, and announce again.",
     ),
 ];
 
@@ -386,7 +404,9 @@ fn faults(rt: HostRuntime) -> Result<(), Fail> {
     for (i, (fault, text)) in REFUSALS.iter().enumerate() {
         let wanted = format!(in rt.alloc(); "E{}", i + 1)?;
         assert_eq!(rt; shown(rt.alloc(), *fault)?.as_str(), wanted.as_str());
-        assert_eq!(rt; fault.meaning(), *text);
+        let report = fault.report();
+        let said = format!(in rt.alloc(); "{report}")?;
+        assert_eq!(rt; said.as_str(), *text);
         has_number(&rt, *fault, i + 1);
     }
     Ok(())

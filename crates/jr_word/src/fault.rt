@@ -1,5 +1,6 @@
 //! Refusals.
 
+use crate::report::FaultReport;
 use thiserror::Error;
 
 /// Why a call is refused.
@@ -160,41 +161,68 @@ impl Fault {
         }
     }
 
-    /// What the refusal says, in words. The numbers that it carries are fields of its variant.
+    /// What the refusal says, in one clause of English without its numbers.
     pub fn meaning(self) -> &'static str {
         match self {
-            Fault::Null => "NULL or a cleared weak reference, where an object is needed",
+            Fault::Null => "null, where an object is needed",
             Fault::Stale => "no reference of this word stands",
-            Fault::Foreign => "a local reference of another thread",
-            Fault::WrongKind => "a reference of another kind, or an object that is no string",
-            Fault::NotArray => "no array, where an array is needed, or a write to a string",
-            Fault::WrongElement => {
-                "an array of another element kind, or of objects in a critical call"
-            }
-            Fault::Range => "an index or a part outside of the array, string or copy",
-            Fault::RowFull => {
-                "each slot was occupied when the search came to it, or a moment later"
-            }
-            Fault::LocalsFull => {
-                "no local place is left, or fewer than asked for, or 256 frames are open"
-            }
+            Fault::Foreign => "the word is a local reference of another thread",
+            Fault::WrongKind => "the word names something of another kind than the call is for",
+            Fault::NotArray => "the object is not an array",
+            Fault::WrongElement => "the array's elements are of another kind than the call is for",
+            Fault::Range => "an index, a part or a length doesn't fit the object",
+            Fault::RowFull => "the search found no free slot",
+            Fault::LocalsFull => "the thread has too little room for local references",
             Fault::SpaceFull(_) => "the request doesn't fit beside the words in use",
             Fault::ObjectsFull => "every object number is present",
             Fault::Raced(_, _) => "another thread reserved words meanwhile",
-            Fault::Barred => "a thread collects, or has announced that it will",
-            Fault::Busy(_) => "threads are inside, knocking, announcing or collecting",
+            Fault::Barred => "a collection keeps threads from coming in",
+            Fault::Busy(_) => "other threads keep the collection from coming in",
             Fault::NoFrame => "the base frame can't be popped",
-            Fault::Memory => "memory was refused, or a thread could not be started",
-            Fault::Size => "sizes outside of the limits, or a seventeenth level",
-            Fault::Value => "a word that is none of the array's element kind",
-            Fault::InCritical => "a command that a critical region forbids, or that needs one",
+            Fault::Memory => "the system refused memory or a thread",
+            Fault::Size => "a size or a count is outside of its limits",
+            Fault::Value => "the word is none of the array's element kind",
+            Fault::InCritical => "the command is not allowed where the thread stands",
             Fault::Turns => "the turns ran out",
             Fault::NotFresh => "the pass had an env already",
-            Fault::LeftInside(_) => {
-                "threads were inside, knocking, announcing or collecting at the close"
-            }
+            Fault::LeftInside(_) => "other threads kept the room from being closed",
             Fault::Moved(_, _) => "a thread went in or out before the announcement",
         }
+    }
+
+    /// What to do about the refusal, in a sentence.
+    pub fn advice(self) -> &'static str {
+        match self {
+            Fault::Null => "Hand in a reference to an object.",
+            Fault::Stale => "Let go of the word: a deleted reference never stands again.",
+            Fault::Foreign => "Hand a global reference from thread to thread.",
+            Fault::WrongKind => "Ask get_object_ref_type or kind_of, and make the call for that.",
+            Fault::NotArray | Fault::WrongElement => {
+                "Ask kind_of, and make the call for that kind of object."
+            }
+            Fault::Range => "Ask for the length, which an object keeps.",
+            Fault::RowFull => "Delete global or weak references, cleared ones first.",
+            Fault::LocalsFull => "Delete local references or pop a frame.",
+            Fault::SpaceFull(_) => "Collect, and make the call again.",
+            Fault::ObjectsFull => "Collect, and make the call again.",
+            Fault::Raced(_, _) => "Make the call again.",
+            Fault::Barred => "Let other threads run, and make the call again.",
+            Fault::Busy(_) => "Let them leave, and collect again.",
+            Fault::NoFrame => "Pop only frames that were pushed.",
+            Fault::Memory => "Give memory back, and make the call again.",
+            Fault::Size => "Keep to the limits of Config and to sixteen levels.",
+            Fault::Value => "Give a word of the kind.",
+            Fault::InCritical => "End the critical region first, or open one.",
+            Fault::Turns => "Run the script with more turns.",
+            Fault::NotFresh => "Make one env of each pass.",
+            Fault::LeftInside(_) => "Let them leave, and close the room that was handed back.",
+            Fault::Moved(_, _) => "Let other threads run, and announce again.",
+        }
+    }
+
+    /// The refusal as a log tells it: `{report}` prints the number, what it says with the numbers that it carries, and what to do.
+    pub fn report(self) -> FaultReport {
+        FaultReport { fault: self }
     }
 
     /// The status that JNI has for the refusal, if it has one.

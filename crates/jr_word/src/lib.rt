@@ -11,6 +11,7 @@ mod header;
 mod kind;
 mod local;
 mod narrow;
+mod report;
 mod slot;
 mod top;
 
@@ -22,5 +23,6 @@ pub use handle::{Handle, HandleParts, LAST_SERIAL, RefKind};
 pub use header::{Header, HeaderParts};
 pub use kind::Kind;
 pub use local::{LocalParts, LocalWord};
+pub use report::FaultReport;
 pub use slot::{SlotParts, SlotWord};
 pub use top::{TopParts, TopWord};
