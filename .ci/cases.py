@@ -61,13 +61,18 @@ def endings():
 
 
 def listed():
-    """Returns the path of each case that the README.md of its folder at the top has a line for, once for each line."""
+    """Returns the path of each case that the README.md of its folder at the top has a line for, once for each line. A line has a link, or stands in a table whose head names the folder."""
     found = []
     for top in FOLDERS:
+        folder = None
         for line in read(f"{top}/README.md").decode().split("\n"):
-            row = re.match(r"\| \[`(\w+)`\]\(((?:\w+/)*\1)\.(script|lines)\) \| \S", line)
-            if row and os.path.isfile(f"{top}/{row[2]}.{row[3]}"):
-                found.append(f"{top}/{row[2]}")
+            head = re.match(r"\| Case of `(\w+)/` \|", line)
+            folder = head[1] if head else folder if line.startswith("|") else None
+            row = re.match(r"\| \[`(\w+)`\]\(((?:\w+/)*\1)\.(?:script|lines)\) \| \S", line)
+            plain = re.match(r"\| `(\w+)` \| \S", line) if folder else None
+            path = f"{top}/{row[2]}" if row else f"{top}/{folder}/{plain[1]}" if plain else ""
+            if path and any(os.path.isfile(f"{path}.{it}") for it in ("script", "lines")):
+                found.append(path)
     return found
 
 

@@ -70,6 +70,31 @@ FILES = {
     "crates/jr_word/src/fault.rt": FAULTS,
     "docs/DEFINITIONS.md": "By hand: `Words.antt` (`held`, `gone`).\n",
 }
+CALL = """
+    /// Deletes a reference.
+    ///
+    /// # Errors
+    ///
+    /// %sE2 where there is none.
+    ///
+    /// Nothing has changed then.
+    ///
+    /// # Operations
+    ///
+    /// %s.
+    pub fn delete(&mut self) -> Result<(), Fault>
+        ensures call { held result }
+    {
+        Ok(())
+    }
+"""
+BARRED = "E13 where a thread is collecting at the entry, or has announced that it will; "
+STAYS = {
+    "crates.txt": "jr_word:\njr_env: jr_word\n",
+    "crates/jr_env/src/lib.rt": "#![tactic(auto)]\npub mod env;\npub mod stay;\n",
+    "crates/jr_env/src/env.rt": f"//! Env.\n\n/// An env.\npub struct Env {{}}\n\nimpl Env {{{CALL % (BARRED, 'Three')}}}\n",
+    "crates/jr_env/src/stay.rt": f"//! Stay.\n\n/// A stay.\npub struct Stay {{}}\n\nimpl Stay {{{CALL % ('', 'One')}}}\n",
+}
 WORDS = "jr_word.specs.Words"
 
 
@@ -130,6 +155,35 @@ class Pages(unittest.TestCase):
         self.assertIn("- **Asks**: asked: `A.Asked code`.", lines)
         self.assertEqual(page.faults, ["crates/jr_word/src/kind.rt: the `///` of kind_of says E2 under `# Errors`, and the contract nothing"])
 
+    def test_reference_of_a_call_in_a_stay(self):
+        with repository({**FILES, **STAYS}):
+            page = script("reference").Page(Repository())
+            env, stay = (page.calls["jr_env", it, "delete"] for it in ("Env", "Stay"))
+            self.assertEqual((page.outside(env), page.outside(stay)), (None, env))
+            lines = [*page.calls_of([stay], False)]
+        self.assertEqual(lines[1:], ["| Call of an env | Refused in a stay | Clauses of [jr_env/stay](../crates/jr_env/src/stay.rt), beside `call` |", "|---|---|---|", "| [`Env::delete`](#envdelete) | E2 |  |"])
+
+    def test_a_call_in_a_stay_that_says_other_refusals_is_told_by_itself(self):
+        other = {**STAYS, "crates/jr_env/src/stay.rt": STAYS["crates/jr_env/src/stay.rt"].replace("E2 where there is none", "E4 where there is none")}
+        with repository({**FILES, **other}):
+            page = script("reference").Page(Repository())
+            self.assertEqual(page.outside(page.calls["jr_env", "Stay", "delete"]), None)
+
+    def test_reference_by_names_alone(self):
+        with repository({**FILES, **STAYS}):
+            page = script("reference").Page(Repository())
+            lines = [*page.names(["type jr_env Stay", "jr_env Stay: delete", "jr_word: kind_of"])]
+        self.assertEqual(lines[3:], ["| [jr_env/stay](../crates/jr_env/src/stay.rt) | struct `Stay`, `Stay::delete` |", "| [jr_word/kind](../crates/jr_word/src/kind.rt) | `kind_of` |"])
+        self.assertIn("crates/jr_word/src/kind.rt: the `///` of kind_of says E2 under `# Errors`, and the contract nothing", page.faults)
+
+    def test_refusals_have_their_rows(self):
+        table = {"docs/EMBEDDING.md": "| E2 | `Malformed` | a word | let it go |\n"}
+        for files, faults in ((table, []), ({}, ["docs/EMBEDDING.md: its table of refusals has no row of E2, `Malformed`"])):
+            with repository({**FILES, **files}):
+                page = script("reference").Page(Repository())
+                self.assertEqual([*page.refusals("faults")], ["", "E2 `Malformed`. ([jr_word/fault](../crates/jr_word/src/fault.rt))"])
+                self.assertEqual(page.faults, faults)
+
     def test_plan_of_the_reference(self):
         plan = "# Reference\n(refusals)\n\n## Calls\nabout\n(calls by the names of JNI)\nlaws: one two\njr_word: kind_of\n\n## (left out)\nwhy\njr_word: Kind.of part (a part)\n"
         with repository({**FILES, ".ci/reference.txt": plan}):
@@ -143,9 +197,17 @@ class Pages(unittest.TestCase):
             names = repo.reach(trusted.claimed(repo, ("jr_word kind_of:held",)))
             self.assertEqual(trusted.sums(repo, names)[:3], (3, 6, 1))
             claims = trusted.each_function(repo, "jr_word", lambda it: True)
-            self.assertEqual(trusted.table(repo, claims, "Call", "Where")[2:], ["| `kind_of` | [kind](../crates/jr_word/src/kind.rt) | 3 | 6 | 1 | 2 |"])
+            rows = trusted.table(repo, [*claims, *claims], "Call", "Where")[2:]
+            self.assertEqual(rows, ["| `kind_of` | [kind](../crates/jr_word/src/kind.rt) | 3 | 6 | 1 | 2 |", "| `kind_of` | kind | 3 | 6 | 1 | 2 |"])
             wanted = ["  crates/jr_word/specs/Words.antt: Pair 2, same 2, held 2", "  Rust types of jr_word: Fault, Kind"]
             self.assertEqual([*trusted.listed(repo, claims[0][2])], wanted)
+
+    def test_calls_of_a_stay_are_counted_beside_those_of_an_env(self):
+        with repository({**FILES, **STAYS}):
+            trusted, repo = script("trusted"), Repository()
+            claims = trusted.each_function(repo, "jr_env", lambda it: True)
+            self.assertEqual([it[0] for it in trusted.beside_stays(claims)], ["`Env::delete`"])
+            self.assertEqual(trusted.in_stays(repo, claims), "Each other call of a `Stay` rests on 0 to 0 lines more than the call of an env of its name. `.ci/trusted` lists them too.")
 
     def test_links(self):
         self.assertEqual(anchor("By `law`, and call"), "by-law-and-call")

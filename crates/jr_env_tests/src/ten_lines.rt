@@ -2,7 +2,7 @@
 ghost use Rattle.jr_rule.specs.Passes.{IsOpened};
 
 use crate::envs::{LAST, next_pass};
-use jr::{Collected, Config, Env, Fault, Handle, Marker, Pass, Room, RoomSteps, Steps};
+use jr::{Collected, Config, Env, Fault, Handle, Pass, Room, RoomSteps};
 use std::alloc::Global;
 use std::test::Fail;
 
@@ -23,7 +23,7 @@ fn ten_lines(alloc: Global, room: &Room<LAST>, pass: Pass) -> Result<Seen, Fail>
     requires { IsOpened room.now.row pass }
 {
     let mut env = Env::new(RoomSteps::new(&room, pass)).map_err(|refused| refused.1)?;
-    let mut marker = Marker::new(alloc, env.held.steps.config())?;
+    let mut marker = env.marker(alloc)?;
     let array = env.new_array::<i32>(2)?;
     env.set_array_region(array, 0, &[3, 4])?;
     let weak = Handle::or_null(env.new_weak_global_ref(array)?);
