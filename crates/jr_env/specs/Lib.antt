@@ -6,6 +6,7 @@ pub mod Criticals
 pub mod Collections
 pub mod Censuses
 pub mod Tries
+pub mod Texts
 pub mod Works
 pub mod StayDeeds
 pub mod LentStays
@@ -15,4 +16,3 @@ pub mod Elements
 pub mod Calling
 pub mod ArrayParts
 pub mod Copies
-pub mod Texts
