@@ -47,8 +47,7 @@ pub trait StepsIn<Q: Site>: Steps {
 }
 
 impl<'r, const LAST: u32, Q: Site, T: ThreadNumber> StepsIn<Q>
-    for StepsOver<RoomCells, InRoom<'r, LAST, Q, T>>
-{
+    for StepsOver<RoomCells, InRoom<'r, LAST, Q, T>> {
     fn note(&mut self) -> NoteOf<Q>
         ensures same { IsUnchanged facts_over self.old self.new }
         ensures note { HasSeenJust facts_over self.old (seen_by_note result.note) }
