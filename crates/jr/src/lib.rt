@@ -8,7 +8,10 @@ pub use jr_env::{
     is_short_of_room, with_local_frame, with_patience,
 };
 pub use jr_model::{Mode, Summary};
-pub use jr_rule::{AllLeft, Left, Note, Pass, PinnedNote, PlainSteps, Role, Room, RoomSteps};
+pub use jr_rule::{
+    AllLeft, Left, Note, NoteOf, Pass, PinnedNote, PinnedNoteOf, PlainSteps, Role, Room, RoomSteps,
+    Site, SiteSteps, StepsIn, ThreadNumber,
+};
 pub use jr_steps::Steps;
 pub use jr_threads::{NativeCode, Ran, run_native};
 pub use jr_weak::{Collected, Marker};
