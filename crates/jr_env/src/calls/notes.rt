@@ -42,6 +42,7 @@ impl<S: Steps> Env<S> {
         let held = &mut self.held;
         held.steps.learn(note);
     }
+
     /// A pinned note of all that the env's thread has seen until now, from which several threads can learn it, each as often as it likes. The env stays as it was. An env in a room alone has this call.
     ///
     /// # Operations
