@@ -1,4 +1,5 @@
--- A look at the gate beside another pass or beside a note leaves an env as it must be, and so do steps that are as they were.
+-- A look at the gate beside another pass or beside a note leaves
+-- an env as it must be, and so do steps that are as they were.
 use Rattle.std.proofs.Common.{◌≡◌, Some, true, List, sym, ap, subst, ◌∙◌}
 use Rattle.std.specs.List.{AllByRecursion}
 use mathlib.Core.Logic.{∥∥₁_map}
@@ -20,24 +21,35 @@ abbrev facts : {P : Type 0} {G : Ghosts RoomCells P} → StepsOver RoomCells P G
 facts x = facts_of (holder_over x)
 
 -- a step over what a pass is made of, by acts that store no local word
-module _ {P : Type 0} {G : Ghosts RoomCells P} {s u : StepsOver RoomCells P G} {acts : List Act} (took : Took facts_of (holder_over s) (holder_over u) acts anything keeps) where
+module _ {P : Type 0} {G : Ghosts RoomCells P} {s u : StepsOver RoomCells P G} {acts : List Act}
+    (took : Took facts_of (holder_over s) (holder_over u) acts anything keeps) where
   -- the frames are the thread's own still
   pub own_looked : {t : Table} → AllByRecursion (λ a. spares_places a ≡ true) acts → AreOwn facts s t → AreOwn facts u t
   own_looked {t} spares own = record {
     owner = own.owner ∙ sym (ap (λ (x : Standing). x.thread) took.stands_is);
     last = own.last ∙ sym (ap (λ (x : Standing). x.last) took.stands_is);
     places = own.places ∙ sym (ap (λ (x : Standing). x.config.locals) took.stands_is);
-    agrees = ∥∥₁_map own.agrees (λ k. let x = took.goes k.0 k.1 tt in (x.0, x.1, holds_did k.0 x.0 t.frames acts (goes_did x.2) spares k.2));
+    agrees = ∥∥₁_map own.agrees (λ k. let x = took.goes k.0 k.1 tt in
+        (x.0, x.1, holds_did k.0 x.0 t.frames acts (goes_did x.2) spares k.2));
   }
 
 -- the frames are the own ones of steps that are as they were
-pub own_as_before : {P : Type 0} {G : Ghosts RoomCells P} {s u : StepsOver RoomCells P G} {t : Table} → AreAsBefore s u → AreOwn facts s t → AreOwn facts u t
+pub own_as_before : {P : Type 0} {G : Ghosts RoomCells P} {s u : StepsOver RoomCells P G} {t : Table} → AreAsBefore s u
+    → AreOwn facts s t → AreOwn facts u t
 own_as_before {s = s} {u} a own =
     let stands : (facts_of (holder_over u)).stands ≡ (facts_of (holder_over s)).stands =
-    λ i. record { room = Some (a.room i); config = (a.knows i).config; last = (a.knows i).last; thread = (a.knows i).thread; role = a.role i; fresh = a.fresh i } in
+    λ i. record {
+      room = Some (a.room i);
+      config = (a.knows i).config;
+      last = (a.knows i).last;
+      thread = (a.knows i).thread;
+      role = a.role i;
+      fresh = a.fresh i;
+    } in
     record {
       owner = own.owner ∙ sym (ap (λ (z : Standing). z.thread) stands);
       last = own.last ∙ sym (ap (λ (z : Standing). z.last) stands);
       places = own.places ∙ sym (ap (λ (z : Standing). z.config.locals) stands);
-      agrees = ∥∥₁_map own.agrees (λ k. (k.0, (k.1.0 ∙ sym a.knows, subst (λ (z : Standing). IsOf z k.0) (sym stands) k.1.1), k.2));
+      agrees = ∥∥₁_map own.agrees (λ k.
+          (k.0, (k.1.0 ∙ sym a.knows, subst (λ (z : Standing). IsOf z k.0) (sym stands) k.1.1), k.2));
     }

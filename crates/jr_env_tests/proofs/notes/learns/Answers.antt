@@ -8,5 +8,9 @@ returns-clause-room c = ap (λ (s : Standing). s.room) c.learn.ensures.step.stan
 
 pub returns-clause-stands : goal.returns-clause-stands
 returns-clause-stands c h o there =
-    let begins = c.learn.ensures.learned in
-    (begins.0, begins.1, λ none. c.references_stand_until_deleted.ensures.object _ _ h o (seen_by_note c.args.note) begins.0 _ begins.1 c.learn.ensures.seen.legal there none)
+    let begins = c.learn.ensures.learned in (
+      begins.0,
+      begins.1,
+      λ none. c.references_stand_until_deleted.ensures.object _ _ h o (seen_by_note c.args.note) begins.0 _ begins.1
+          c.learn.ensures.seen.legal there none,
+    )
