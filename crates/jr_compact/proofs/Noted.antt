@@ -2,7 +2,7 @@
 use Rattle.std.proofs.Common.{◌≡◌, ℕ, ◌+◌, ◌<◌, ◌≤◌, ◌==◌, Bool, true, false, cond, not, nat_eq}
 use Rattle.std.proofs.Common.{Option, Some, None, IsSome, List, [], ◌∷◌, ◌++◌, take, length, get_or}
 use Rattle.std.proofs.Common.{filter, sum_by, All, Contains, option_to_list, refl, sym, ap, subst}
-use Rattle.std.proofs.Common.{◌∙◌, arith, append-nil, append_assoc, take_all, ne_eqb, eq-eqb}
+use Rattle.std.proofs.Common.{◌∙◌, arith, take_all, ne_eqb, eq-eqb}
 use Rattle.std.proofs.lemmas.Bool.{eqb-false, eqb-true}
 use Rattle.std.proofs.lemmas.List.{map-append}
 use Rattle.std.proofs.lemmas.List.Elements.{All-nil, All-cons, All-append, All-weaker}
@@ -20,7 +20,7 @@ use Rattle.jr_model.proofs.InRoom.{in_room}
 use Rattle.jr_steps.specs.declared.known.Known.{Known}
 use Rattle.jr_steps.specs.declared.known.Holdings.{Holdings}
 use Rattle.jr_steps.specs.Holdings.{header_in}
-use Rattle.jr_steps.specs.Knowing.{AreOf, Facts, IsOf, MayKnow, Took, anything}
+use Rattle.jr_steps.specs.Knowing.{AreOf, Facts, MayKnow, Took, anything}
 use Rattle.jr_steps.specs.Knowing.{state_of, KnowsHeader, IsSettled, ShowsHeader}
 use Rattle.jr_steps.proofs.CollectorFacts.{tables_seen}
 use Rattle.jr_heap.proofs.Headers.{is_number}

@@ -1,5 +1,5 @@
 -- The calls of a region, for whatever was known, make one stay, which no collection disturbs.
-use Rattle.std.proofs.Common.{◌≡◌, ◌≢◌, ◌≤◌, ◌+◌, ◌∷◌, ◌++◌, [], ℕ, zero, suc, length, List, Option, Some, None}
+use Rattle.std.proofs.Common.{◌≡◌, ◌≤◌, ◌+◌, ◌∷◌, [], ℕ, zero, suc, length, List, Option, Some, None}
 use Rattle.std.proofs.Common.{Result, Ok, Err, IfErr, IfOk, IfNone, IfSome, inl, inr, refl, sym, ap, subst, ◌∙◌, arith}
 use Rattle.std.proofs.lemmas.List.{length-append, length-map}
 use Rattle.jr_word.specs.declared.config.Config.{Config}
@@ -8,7 +8,7 @@ use Rattle.jr_word.specs.declared.kind.Kind.{Kind}
 use Rattle.jr_model.specs.declared.event.Role.TheVariants.{Outside}
 use Rattle.jr_model.specs.declared.event.Act.{Act}
 use Rattle.jr_model.specs.declared.event.Act.TheVariants.{Gate}
-use Rattle.jr_model.specs.declared.event.GateAct.TheVariants.{Enter, Leave}
+use Rattle.jr_model.specs.declared.event.GateAct.TheVariants.{Leave}
 use Rattle.jr_model.specs.State.{State}
 use Rattle.jr_model.specs.Frames.{Frames}
 use Rattle.jr_model.specs.History.{by, Did, PassView}

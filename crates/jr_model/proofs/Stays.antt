@@ -10,7 +10,7 @@ use Rattle.jr_model.specs.declared.event.Event.{Event}
 use Rattle.jr_model.specs.declared.event.Act.{Act}
 use Rattle.jr_model.specs.declared.event.Act.TheVariants.{Gate, ShutBusy, Clear, Reserve}
 use Rattle.jr_model.specs.declared.event.Act.TheVariants.{New, Write, Drop, Settle, Meet}
-use Rattle.jr_model.specs.declared.event.GateAct.TheVariants.{Leave, Reopen}
+use Rattle.jr_model.specs.declared.event.GateAct.TheVariants.{Leave}
 use Rattle.jr_model.specs.State.{Contents, State, opening, HaveSameTables}
 use Rattle.jr_model.specs.Steps.{ActNeeds, act_after, after, written}
 use Rattle.jr_model.specs.History.{History, by, state_from, state, IsLegalFrom, IsLegal}

@@ -4,7 +4,6 @@ use mathlib.Core.List.{IsPrefix}
 use Rattle.jr_model.specs.declared.event.Act.{Act}
 use Rattle.jr_steps.specs.declared.known.Known.{Known}
 use Rattle.jr_steps.specs.Holdings.{InSpace}
-use Rattle.jr_steps.specs.Knowing.{view}
 use Rattle.jr_rule.specs.Rule.{view_of as seats, view_with, AreBeginnings, EachFits, SeatState, stepping_pass}
 use Rattle.jr_rule.specs.Rule.{noted_pass, others_of, Tells, IsAlone, IsNote, IsSeated, together, first_alone}
 use Rattle.jr_rule.proofs.Seats.{joined_is}

@@ -1,6 +1,6 @@
 -- WORDS THAT ONE THREAD STEPS ON, whoever keeps them:
 -- what is known of them, what a kind of step owes there, and what it tells.
-use Rattle.std.specs.Prelude.{◌≡◌, ◌<◌, ℕ, Bool, true, None, List, []}
+use Rattle.std.specs.Prelude.{◌≡◌, ◌<◌, ℕ, Bool, true, None, List}
 use Rattle.jr_word.specs.Config.{row_words}
 use Rattle.jr_model.specs.declared.event.Act.{Act}
 use Rattle.jr_model.specs.declared.event.Role.{Role}

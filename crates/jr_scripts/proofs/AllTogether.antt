@@ -1,12 +1,11 @@
 -- What all threads of a script did, in one history.
-use Rattle.std.proofs.Common.{◌≡◌, inl, inr, Option, ◌+◌, ◌<◌, ◌≤◌, ◌++◌, ℕ, zero, suc, true, false}
+use Rattle.std.proofs.Common.{◌≡◌, inl, inr, Option, ◌+◌, ◌<◌, ◌≤◌, ◌++◌, ℕ, zero, suc, false}
 use Rattle.std.proofs.Common.{List, [], ◌∷◌, map, length, Result, Ok, refl, sym, ap, subst, ◌∙◌, arith}
 use Rattle.std.proofs.lemmas.List.{append-nil}
 use Rattle.std.specs.List.{All, AllZip, AllByRecursion}
 use Rattle.std.proofs.lemmas.List.Elements.{recursion_from_All, All-from_recursion, All-head, All-tail}
 use Rattle.jr_word.specs.declared.config.Config.{Config}
 use Rattle.jr_word.specs.declared.fault.Fault.{Fault}
-use Rattle.jr_word.specs.Config.{in_limits}
 use Rattle.jr_model.specs.declared.event.Act.TheVariants.{Meet}
 use Rattle.jr_model.specs.declared.event.Role.TheVariants.{Outside}
 use Rattle.jr_model.specs.Laws.{KeepsTheLaws}

@@ -19,7 +19,7 @@ use Rattle.jr_scripts.specs.Names.{Names, word_posted}
 use Rattle.jr_scripts.specs.Places.{Place}
 use Rattle.jr_scripts.specs.Explains.{Explains, nothing, then}
 use Rattle.jr_scripts.specs.Posted.{IsPosted}
-use Rattle.jr_scripts.specs.Posting.{IsAnswered, Words, reply_to_wait, said}
+use Rattle.jr_scripts.specs.Posting.{IsAnswered, Words, said}
 use Rattle.jr_scripts.specs.Posting.{said_alone, word_under, words_after, words_with}
 use Rattle.jr_scripts.proofs.Speaking.{found_words}
 

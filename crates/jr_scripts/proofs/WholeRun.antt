@@ -1,5 +1,5 @@
 -- A script of one thread, from the opening state to the last line.
-use Rattle.std.proofs.Common.{◌≡◌, ℕ, Option, false, List, ◌++◌, Result, Ok, refl, sym, ap, subst, ◌∙◌}
+use Rattle.std.proofs.Common.{◌≡◌, ℕ, false, List, ◌++◌, Result, Ok, refl, sym, ap, subst, ◌∙◌}
 use Rattle.jr_word.specs.declared.config.Config.{Config}
 use Rattle.jr_word.specs.declared.fault.Fault.{Fault}
 use Rattle.jr_model.specs.declared.summary.Summary.{Summary}

@@ -1,5 +1,5 @@
 -- Runs of scripts of several threads, in one room and one history.
-use Rattle.std.specs.Prelude.{◌≡◌, Option, ◌+◌, ◌<◌, ◌≤◌, ◌^◌, ℕ, zero, suc}
+use Rattle.std.specs.Prelude.{◌≡◌, Option, ◌+◌, ◌<◌, ◌^◌, ℕ, zero, suc}
 use Rattle.std.specs.Prelude.{true, false, List, [], ◌∷◌, ◌++◌, length, Result}
 use mathlib.Core.List.{IsPrefix}
 use Rattle.jr_word.specs.declared.config.Config.{Config}

@@ -1,5 +1,5 @@
 -- Runs of whole threads and scripts, for whatever was known.
-use Rattle.std.specs.Prelude.{◌≡◌, ◌≢◌, ℕ, Option, true, false, List, [], ◌∷◌, ◌++◌, Result, Ok, Err}
+use Rattle.std.specs.Prelude.{◌≡◌, ◌≢◌, ℕ, true, false, List, [], ◌∷◌, ◌++◌, Result, Ok, Err}
 use Rattle.std.specs.List.{AllByRecursion}
 use Rattle.std.specs.declared.alloc.AllocError.{AllocError}
 use Rattle.jr_word.specs.declared.config.Config.{Config}

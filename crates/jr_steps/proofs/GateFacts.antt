@@ -1,5 +1,5 @@
 -- What the parts of a gate's word say of those who keep it closed.
-use Rattle.std.proofs.Common.{◌≡◌, ⊎_elim, ℕ, Bool, true, false, refl, ap}
+use Rattle.std.proofs.Common.{◌≡◌, ⊎_elim, ℕ, true, false, refl, ap}
 use Rattle.jr_word.specs.declared.config.Config.{Config}
 use Rattle.jr_word.specs.declared.gate.GateParts.{GateParts}
 use Rattle.jr_word.specs.declared.gate.GateState.{GateState}

@@ -1,7 +1,7 @@
 -- WHAT THE PARTS OF A WORD SAY of the machine's state.
 -- The rule of the row says it of each word, and a load shows it of the word that it found.
 use Rattle.std.specs.Prelude.{◌≡◌, ◌≢◌, ◌↔◌, ◌+◌, ◌<◌, ◌≤◌, ◌==◌, ◌&&◌, nat_lt, cond}
-use Rattle.std.specs.Prelude.{ℕ, Bool, true, false, IsTrue, Option, Some, None, length}
+use Rattle.std.specs.Prelude.{ℕ, Bool, true, false, Option, Some, None, length}
 use Rattle.jr_word.specs.declared.config.Config.{Config}
 use Rattle.jr_word.specs.declared.gate.GateParts.{GateParts}
 use Rattle.jr_word.specs.declared.gate.GateState.TheVariants.{Announced, Shut}

@@ -20,7 +20,7 @@ use Rattle.jr_model.proofs.Stays.{did_added, did_then, mine_did}
 use Rattle.jr_model.proofs.Windows.{window_stay, stepped_last}
 use Rattle.jr_steps.specs.declared.known.Known.{Known}
 use Rattle.jr_steps.specs.declared.known.Holdings.{Holdings}
-use Rattle.jr_steps.specs.Knowing.{AreOf, Facts, Goes, MayKnow, Sees, Standing, Took, CanReopen}
+use Rattle.jr_steps.specs.Knowing.{AreOf, Facts, Goes, MayKnow, Sees, Took, CanReopen}
 use Rattle.jr_steps.specs.Knowing.{IsClosedNow, anything, lets_go, standing_after, state_of, view}
 use Rattle.jr_steps.proofs.CollectorFacts.{tables_seen}
 use Rattle.jr_steps.proofs.StepFacts.{goes_stepped}

@@ -1,5 +1,5 @@
 use Rattle.std.proofs.Common.{◌≡◌, ◌≤◌, length, refl, rules, true, false, ◌<◌, ◌+◌, ◌++◌, ◌∙◌, ℕ, suc, Bool}
-use Rattle.std.proofs.Common.{cond, List, [], ◌∷◌, Option, Some, None, take, drop, get_or, sym, ap, subst, arith}
+use Rattle.std.proofs.Common.{cond, List, [], ◌∷◌, Some, None, take, drop, get_or, sym, ap}
 use Rattle.std.specs.Str.{bytes_eq}
 use Rattle.std.proofs.lemmas.List.{take-append-drop, take_all, take_more}
 use Rattle.jr_scripts.specs.Posting.{Words, word_under}

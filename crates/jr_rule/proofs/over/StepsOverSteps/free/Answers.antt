@@ -1,4 +1,4 @@
-use Rattle.std.proofs.Common.{◌≡◌, ℕ, rules, refl, sym, ap, subst, ◌∙◌, ◌==◌}
+use Rattle.std.proofs.Common.{◌≡◌, rules, refl, sym, ap, subst, ◌∙◌, ◌==◌}
 use Rattle.jr_word.specs.Slot.{slot_word}
 use Rattle.jr_rule.specs.Slots.{parts_once_free}
 use Rattle.jr_rule.proofs.ActEffects.{freeing_role, freeing_fresh}

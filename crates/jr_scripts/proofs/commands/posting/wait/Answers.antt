@@ -1,4 +1,4 @@
-use Rattle.std.proofs.Common.{Some, sym, ◌∙◌, subst, rules}
+use Rattle.std.proofs.Common.{Some, sym, ◌∙◌, subst}
 use Rattle.jr_scripts.specs.Posting.{WasInVain, word_under}
 use Rattle.jr_scripts.proofs.Speaking.{has_known, has_waited, keeps_all, known_words}
 use Rattle.jr_scripts.proofs.commands.posting.wait.Goals as goal

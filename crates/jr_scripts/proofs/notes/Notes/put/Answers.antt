@@ -1,4 +1,4 @@
-use Rattle.std.proofs.Common.{◌≡◌, suc, refl, ap, rules}
+use Rattle.std.proofs.Common.{◌≡◌, suc, refl, rules}
 use Rattle.jr_scripts.proofs.Noted.{noted_at}
 use Rattle.jr_scripts.proofs.notes.Notes.put.Goals as goal
 
