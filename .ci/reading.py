@@ -149,6 +149,9 @@ class Specs:
             code, indent = COMMENT.sub("", line).rstrip(), len(line) - len(line.lstrip())
             if code and indent == 0:
                 margin, around = (2, code) if code.startswith("module _") else (0, "")
+            elif around and not around.endswith(" where"):
+                around += "\n" + code
+                continue
             if indent <= margin and line.strip().startswith(("--", "infix", "pub mod", "module _")):
                 current = None
                 continue
@@ -172,7 +175,8 @@ class Specs:
         """Yields the constructors' names, each with its data's."""
         for it in self.definitions:
             for line in it.lines[1:] if "data " in it.lines[0] else ():
-                yield (self.module, line.split()[0]), it.name
+                if re.match(r"  \S", line):
+                    yield (self.module, line.split()[0]), it.name
 
     def said_by(self, definition):
         """Returns the names that a definition says, equation by equation, each with the words that its left side binds."""

@@ -70,6 +70,12 @@ class Habits(unittest.TestCase):
             found = {path: [*self.habits.sentences(path)] for path in ("A.md", "B.md", "C.md")}
         self.assertEqual(found, {"A.md": ["A.md: a tenth of its sentences have 32 words and more (30 at the most)"], "B.md": [], "C.md": ["C.md: a line has 601 bytes (600 at the most): break it at its sentences, or make a list of it"]})
 
+    def test_long_lines_of_proofs(self):
+        path = "crates/jr_word/proofs/One.antt"
+        with repository({path: "-- " + "→" * 117 + "\n-- " + "→" * 118 + "\nuse One.{" + "a, " * 40 + "a}\n"}):
+            found = [*self.habits.long_lines(path)]
+        self.assertEqual([it.partition(" (")[0] for it in found], [f"{path}:2: a line has 121 characters", f"{path}:3: a line has 131 characters"])
+
     def test_functions_that_take_memory(self):
         found = self.found(self.habits.takers, self.paths)
         self.assertEqual(len(found), 1)

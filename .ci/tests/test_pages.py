@@ -5,9 +5,10 @@ import unittest
 from shared import repository, script
 
 from pages import anchor, loose_links
-from reading import Repository
+from reading import Repository, Specs
 
-SPECS = """-- what is believed
+SPECS = """-- what is
+-- believed
 
 -- a pair
 pub record Pair : Type 0 where
@@ -113,6 +114,14 @@ class Sources(unittest.TestCase):
         self.assertEqual(definitions["held"].says, {(WORDS, "Pair"), (WORDS, "same")})
         self.assertTrue(definitions["same_self"].is_proof)
 
+    def test_definitions_go_on_over_lines(self):
+        text = "-- what is\n\nmodule _ (a : Pair)\n    (b : same a a) where\n  -- a way\n  pub data Way : Pair → Type 0 where\n    left : (c : Pair)\n        → Way c\n    right : Way a\n"
+        with repository({**FILES, "crates/jr_word/specs/Ways.antt": "use Rattle.jr_word.specs.Words.{Pair, same}\n" + text}):
+            file = Specs("crates/jr_word/specs/Ways.antt").read()
+        self.assertEqual([(it.name[1], len(it.lines)) for it in file.definitions], [("Way", 4)])
+        self.assertEqual(file.definitions[0].says, {(WORDS, "Pair"), (WORDS, "same")})
+        self.assertEqual([word for (_, word), _ in file.constructors()], ["left", "right"])
+
     def test_items_have_their_clauses(self):
         call = self.entries["", "kind_of"]
         self.assertEqual([(it.kind, it.name) for it in call.clauses], [("requires", "asked"), ("ensures", "held")])
@@ -141,7 +150,7 @@ class Pages(unittest.TestCase):
             self.assertEqual([*comments.lost()], ["docs/DEFINITIONS.md:1: Words.antt has no definition `gone`"])
             of_file, of_name = [*comments.told_of("Words.antt")], [*comments.told_of("held")]
         self.assertEqual(of_file, ["crates/jr_word/specs/Words.antt: what is believed", "  Pair: a pair", "  same, held: one and the other of it"])
-        self.assertEqual(of_name, ["crates/jr_word/specs/Words.antt:10: one and the other of it", "    abbrev pub held : Pair → Type 0", "    held a = same a a"])
+        self.assertEqual(of_name, ["crates/jr_word/specs/Words.antt:11: one and the other of it", "    abbrev pub held : Pair → Type 0", "    held a = same a a"])
 
     def test_reference_of_a_call(self):
         with repository(FILES):

@@ -17,7 +17,8 @@ module _ {S : Type 0} {facts : S → Facts} where
   no_turn_yet a f = does_nothing (λ p. (refl, none))
 
   -- one more got no turn
-  pub no_turn_again : {a b c : S} {f g h : Frames} {e : Fault} → DoesDeed facts a b f g getting_no_turn (Ok tt) → DoesDeed facts b c g h (announced_collection TRIES) (Err e) → DoesDeed facts a c f h getting_no_turn (Ok tt)
+  pub no_turn_again : {a b c : S} {f g h : Frames} {e : Fault} → DoesDeed facts a b f g getting_no_turn (Ok tt)
+      → DoesDeed facts b c g h (announced_collection TRIES) (Err e) → DoesDeed facts a c f h getting_no_turn (Ok tt)
   no_turn_again = does_both (λ p m n d e. (refl, again d.1 e))
 
 -- the marker fits as before

@@ -23,12 +23,17 @@ use Rattle.first_room.proofs.OneHistory.{Since, since}
 use Rattle.first_room.proofs.Played.{does_from}
 
 -- the note says what the first thread had seen as it had prepared
-pub is_prepared : (r : Row) (p : Pass) (now : Holder) (weak global : ℕ) (n : Note) → r.config ≡ SIZES → r.last ≡ LAST → IsOpened r p → p.thread ≡ 0
-    → HasCome preparing p now (weak, global) → ∥ ((k : Known) × (facts_of now).knows k) ∥₁ → HasSeenJust facts_of now (seen_by_note n) → ∥ HasPrepared global (seen_by_note n) ∥₁
+pub is_prepared : (r : Row) (p : Pass) (now : Holder) (weak global : ℕ) (n : Note) → r.config ≡ SIZES → r.last ≡ LAST
+    → IsOpened r p → p.thread ≡ 0
+    → HasCome preparing p now (weak, global)
+    → ∥ ((k : Known) × (facts_of now).knows k) ∥₁ → HasSeenJust facts_of now (seen_by_note n)
+    → ∥ HasPrepared global (seen_by_note n) ∥₁
 is_prepared r p now weak global n config_is last_is o first come some just =
     let x : ℕ × ℕ = (weak, global) in
-    let s = subst (λ t. Since preparing t x (stepping_pass now.seat.me)) first (since preparing r p now x config_is last_is o come) in
-    ∥∥₁_map some (λ k. (weak, s.left, s.plays, s.saw ∙ ap (seen_by 0) (sym (just k.0 k.1 ∙ ap (λ (z : Known). z.seen) k.1.0))))
+    let s = subst (λ t. Since preparing t x (stepping_pass now.seat.me)) first
+    (since preparing r p now x config_is last_is o come) in
+    ∥∥₁_map some (λ k.
+    (weak, s.left, s.plays, s.saw ∙ ap (seen_by 0) (sym (just k.0 k.1 ∙ ap (λ (z : Known). z.seen) k.1.0))))
 
 module _ {S : Type 0} {facts : S → Facts} where
   -- a call behind the making of a note is one before it
@@ -37,7 +42,8 @@ module _ {S : Type 0} {facts : S → Facts} where
   behind_note a b c f f' g u same d = does_from a b c f f' g u.stands_is u.hint_is (λ k. (u.same k).0) same d
 
   -- the word was handed over, and the note learned
-  pub learns : (a b : S) (f g : Frames) (w : ℕ) (n : Note) → Took facts a b [] anything keeps → HasSeen facts b (seen_by_note n) → g ≡ f → ∥ HasPrepared w (seen_by_note n) ∥₁
+  pub learns : (a b : S) (f g : Frames) (w : ℕ) (n : Note) → Took facts a b [] anything keeps
+      → HasSeen facts b (seen_by_note n) → g ≡ f → ∥ HasPrepared w (seen_by_note n) ∥₁
       → DoesDeed facts a b f g is_handed (Ok w)
   learns a b f g w n took learned same prepared = record {
     stands_is = record {
@@ -54,6 +60,19 @@ module _ {S : Type 0} {facts : S → Facts} where
           x.0,
           x.1,
           shown,
-          (w, refl, seen_by_note n, prepared, learned x.0 x.1, record { did = d; frames = same; held = x.3; fresh = ap (λ (z : Standing). z.fresh) took.stands_is; hint = took.hint_is }),
+          (
+            w,
+            refl,
+            seen_by_note n,
+            prepared,
+            learned x.0 x.1,
+            record {
+              did = d;
+              frames = same;
+              held = x.3;
+              fresh = ap (λ (z : Standing). z.fresh) took.stands_is;
+              hint = took.hint_is;
+            },
+          ),
         );
   }

@@ -1,5 +1,6 @@
 -- What the calls of each thread come to, over any steps, for whatever was known.
-use Rattle.std.proofs.Common.{◌≡◌, ◌<◌, ◌∙◌, ℕ, ℤ, Bool, Option, Some, None, [], ◌∷◌, Result, Ok, Err, IfOk, length, inl, refl, sym, ap, subst, arith}
+use Rattle.std.proofs.Common.{◌≡◌, ◌<◌, ◌∙◌, ℕ, ℤ, Bool, Option, Some, None, [], ◌∷◌, Result}
+use Rattle.std.proofs.Common.{Ok, Err, IfOk, length, inl, refl, sym, ap, subst, arith}
 use Rattle.std.specs.Int.{w32}
 use Rattle.std.specs.Prelude.{unwrap_or}
 use Rattle.jr_word.specs.declared.fault.Fault.{Fault}
@@ -23,16 +24,25 @@ use Rattle.jr_critical.specs.declared.levels.Levels.{Levels}
 use Rattle.jr_critical.specs.Levels.{GivesUpAll, Opens, Reaches, in_words, level_object, objects_of}
 use Rattle.jr_weak.specs.declared.collecting.Collected.{Collected}
 use Rattle.jr_env.specs.Collections.{collection}
-use Rattle.jr_env.specs.Deeds.{CarriedOut, Deed, DoesDeed, DoesOutside, after_exit, new_plain, new_array, new_object_array, new_reference, delete_reference, is_same_object, get_object_ref_type, push_local_frame, pop_local_frame, set_array_region, done, ◌>>=◌}
-use Rattle.first_room.specs.Calls.{clearing, collecting_in_turn, collecting_twice, is_handed, is_kept_out, preparing, reading_within, sharing, visiting, word_made}
+use Rattle.jr_env.specs.Deeds.{CarriedOut, Deed, DoesDeed, DoesOutside, after_exit, new_plain, new_array}
+use Rattle.jr_env.specs.Deeds.{new_object_array, new_reference, delete_reference, is_same_object}
+use Rattle.jr_env.specs.Deeds.{get_object_ref_type, push_local_frame, pop_local_frame, set_array_region, done, ◌>>=◌}
+use Rattle.first_room.specs.Calls.{clearing, collecting_in_turn, collecting_twice, is_handed}
+use Rattle.first_room.specs.Calls.{is_kept_out, preparing, reading_within, sharing, visiting, word_made}
 use Rattle.first_room.specs.Parts.{HasCome}
 
 module _ {S : Type 0} {facts : S → Facts} where
   -- the first thread's calls before it collects
-  pub prepared : (s0 s1 s2 s3 s4 s5 s6 s7 : S) (f0 f1 f2 f3 f4 f5 f6 f7 : Frames) (lost array : Handle) (weak global popped : Option Handle)
-      → (facts s0).stands.role ≡ Outside → DoesOutside facts s0 s1 f0 f1 (push_local_frame 4) (Ok tt) → DoesOutside facts s1 s2 f1 f2 (new_array Long 4) (Ok lost) → DoesOutside facts s2 s3 f2 f3 (new_reference Weak lost.0) (Ok weak)
-      → DoesOutside facts s3 s4 f3 f4 (new_array Int 3) (Ok array) → DoesOutside facts s4 s5 f4 f5 (set_array_region Int array.0 0 (10 ∷ 20 ∷ 30 ∷ [])) (Ok tt) → DoesOutside facts s5 s6 f5 f6 (new_reference Global array.0) (Ok global)
-      → DoesOutside facts s6 s7 f6 f7 (pop_local_frame 0) (Ok popped) → DoesDeed facts s0 s7 f0 f7 preparing (Ok (word_made weak, word_made global))
+  pub prepared : (s0 s1 s2 s3 s4 s5 s6 s7 : S) (f0 f1 f2 f3 f4 f5 f6 f7 : Frames) (lost array : Handle)
+      (weak global popped : Option Handle)
+      → (facts s0).stands.role ≡ Outside → DoesOutside facts s0 s1 f0 f1 (push_local_frame 4) (Ok tt)
+      → DoesOutside facts s1 s2 f1 f2 (new_array Long 4) (Ok lost)
+      → DoesOutside facts s2 s3 f2 f3 (new_reference Weak lost.0) (Ok weak)
+      → DoesOutside facts s3 s4 f3 f4 (new_array Int 3) (Ok array)
+      → DoesOutside facts s4 s5 f4 f5 (set_array_region Int array.0 0 (10 ∷ 20 ∷ 30 ∷ [])) (Ok tt)
+      → DoesOutside facts s5 s6 f5 f6 (new_reference Global array.0) (Ok global)
+      → DoesOutside facts s6 s7 f6 f7 (pop_local_frame 0) (Ok popped)
+      → DoesDeed facts s0 s7 f0 f7 preparing (Ok (word_made weak, word_made global))
   prepared s0 s1 s2 s3 s4 s5 s6 s7 f0 f1 f2 f3 f4 f5 f6 f7 lost array weak global popped out d1 d2 d3 d4 d5 d6 d7 =
       let a = d1.does out in
       let b = d2.does d1.outside in
@@ -41,44 +51,79 @@ module _ {S : Type 0} {facts : S → Facts} where
       let e = d5.does d4.outside in
       let f = d6.does d5.outside in
       let g = d7.does d6.outside in
-      does_then _ a (does_then _ b (does_then _ c (does_then _ d (does_then _ e (does_then _ f (did_reply (λ _. (word_made weak, word_made global)) popped g))))))
+      does_then _ a (does_then _ b (does_then _ c
+      (does_then _ d (does_then _ e (does_then _ f (did_reply (λ _. (word_made weak, word_made global)) popped g))))))
 
   -- its two collections
-  collected_twice : (s0 s1 s2 : S) (f0 f1 f2 : Frames) (inside : ℕ) (c : Collected) → (facts s0).stands.role ≡ Outside → DoesOutside facts s0 s1 f0 f1 collection (Err (Busy inside)) → DoesOutside facts s1 s2 f1 f2 collecting_in_turn (Ok c) → DoesDeed facts s0 s2 f0 f2 collecting_twice (Ok inside)
+  collected_twice : (s0 s1 s2 : S) (f0 f1 f2 : Frames) (inside : ℕ) (c : Collected) → (facts s0).stands.role ≡ Outside
+      → DoesOutside facts s0 s1 f0 f1 collection (Err (Busy inside))
+      → DoesOutside facts s1 s2 f1 f2 collecting_in_turn (Ok c)
+      → DoesDeed facts s0 s2 f0 f2 collecting_twice (Ok inside)
   collected_twice s0 s1 s2 f0 f1 f2 inside c out d1 d2 =
-      let kept_out : DoesDeed facts s0 s1 f0 f1 is_kept_out (Ok inside) = did_more (λ p q d. (inside, refl, d)) (d1.does out) in
+      let kept_out : DoesDeed facts s0 s1 f0 f1 is_kept_out (Ok inside) =
+      did_more (λ p q d. (inside, refl, d)) (d1.does out) in
       does_then _ kept_out (did_reply (λ _. inside) c (d2.does d1.outside))
 
   -- and those at its end
-  cleared_then : (s0 s1 s2 s3 : S) (f0 f1 f2 f3 : Frames) (weak global : ℕ) (cleared : Bool) (kind : ℕ) → (facts s0).stands.role ≡ Outside → DoesOutside facts s0 s1 f0 f1 (is_same_object weak 0) (Ok cleared)
-      → DoesOutside facts s1 s2 f1 f2 (delete_reference Global global) (Ok tt) → DoesOutside facts s2 s3 f2 f3 (get_object_ref_type global) (Ok kind) → DoesDeed facts s0 s3 f0 f3 (clearing weak global) (Ok (cleared, kind))
+  cleared_then : (s0 s1 s2 s3 : S) (f0 f1 f2 f3 : Frames) (weak global : ℕ) (cleared : Bool) (kind : ℕ)
+      → (facts s0).stands.role ≡ Outside → DoesOutside facts s0 s1 f0 f1 (is_same_object weak 0) (Ok cleared)
+      → DoesOutside facts s1 s2 f1 f2 (delete_reference Global global) (Ok tt)
+      → DoesOutside facts s2 s3 f2 f3 (get_object_ref_type global) (Ok kind)
+      → DoesDeed facts s0 s3 f0 f3 (clearing weak global) (Ok (cleared, kind))
   cleared_then s0 s1 s2 s3 f0 f1 f2 f3 weak global cleared kind out d1 d2 d3 =
-      does_then _ (d1.does out) (does_then _ (d2.does d1.outside) (did_reply (λ k. (cleared, k)) kind (d3.does d2.outside)))
+      does_then _ (d1.does out)
+      (does_then _ (d2.does d1.outside) (did_reply (λ k. (cleared, k)) kind (d3.does d2.outside)))
 
   -- THE FIRST THREAD'S CALLS
-  pub shared : (s0 s1 s2 s3 s4 s5 s6 s7 s8 s9 s10 s11 s12 : S) (f0 f1 f2 f3 f4 f5 f6 f7 f8 f9 f10 f11 f12 : Frames) (lost array : Handle) (weak global popped : Option Handle) (inside : ℕ) (c : Collected) (cleared : Bool) (kind : ℕ)
-      → (facts s0).stands.role ≡ Outside → DoesOutside facts s0 s1 f0 f1 (push_local_frame 4) (Ok tt) → DoesOutside facts s1 s2 f1 f2 (new_array Long 4) (Ok lost) → DoesOutside facts s2 s3 f2 f3 (new_reference Weak lost.0) (Ok weak)
-      → DoesOutside facts s3 s4 f3 f4 (new_array Int 3) (Ok array) → DoesOutside facts s4 s5 f4 f5 (set_array_region Int array.0 0 (10 ∷ 20 ∷ 30 ∷ [])) (Ok tt) → DoesOutside facts s5 s6 f5 f6 (new_reference Global array.0) (Ok global)
-      → DoesOutside facts s6 s7 f6 f7 (pop_local_frame 0) (Ok popped) → DoesOutside facts s7 s8 f7 f8 collection (Err (Busy inside)) → DoesOutside facts s8 s9 f8 f9 collecting_in_turn (Ok c) → DoesOutside facts s9 s10 f9 f10 (is_same_object (word_made weak) 0) (Ok cleared)
-      → DoesOutside facts s10 s11 f10 f11 (delete_reference Global (word_made global)) (Ok tt) → DoesOutside facts s11 s12 f11 f12 (get_object_ref_type (word_made global)) (Ok kind) → DoesDeed facts s0 s12 f0 f12 sharing (Ok (inside, cleared, kind))
-  shared s0 s1 s2 s3 s4 s5 s6 s7 s8 s9 s10 s11 s12 f0 f1 f2 f3 f4 f5 f6 f7 f8 f9 f10 f11 f12 lost array weak global popped inside c cleared kind out d1 d2 d3 d4 d5 d6 d7 d8 d9 d10 d11 d12 =
-      does_then {one = preparing} (λ words. collecting_twice >>= (λ n. clearing words.0 words.1 >>= (λ found. done (n, found.0, found.1)))) (prepared s0 s1 s2 s3 s4 s5 s6 s7 f0 f1 f2 f3 f4 f5 f6 f7 lost array weak global popped out d1 d2 d3 d4 d5 d6 d7)
-      (does_then {one = collecting_twice} (λ n. clearing (word_made weak) (word_made global) >>= (λ found. done (n, found.0, found.1))) (collected_twice s7 s8 s9 f7 f8 f9 inside c d7.outside d8 d9)
-      (did_reply {one = clearing (word_made weak) (word_made global)} (λ found. (inside, found.0, found.1)) (cleared, kind) (cleared_then s9 s10 s11 s12 f9 f10 f11 f12 (word_made weak) (word_made global) cleared kind d9.outside d10 d11 d12)))
+  pub shared : (s0 s1 s2 s3 s4 s5 s6 s7 s8 s9 s10 s11 s12 : S) (f0 f1 f2 f3 f4 f5 f6 f7 f8 f9 f10 f11 f12 : Frames)
+      (lost array : Handle) (weak global popped : Option Handle) (inside : ℕ) (c : Collected) (cleared : Bool)
+      (kind : ℕ)
+      → (facts s0).stands.role ≡ Outside → DoesOutside facts s0 s1 f0 f1 (push_local_frame 4) (Ok tt)
+      → DoesOutside facts s1 s2 f1 f2 (new_array Long 4) (Ok lost)
+      → DoesOutside facts s2 s3 f2 f3 (new_reference Weak lost.0) (Ok weak)
+      → DoesOutside facts s3 s4 f3 f4 (new_array Int 3) (Ok array)
+      → DoesOutside facts s4 s5 f4 f5 (set_array_region Int array.0 0 (10 ∷ 20 ∷ 30 ∷ [])) (Ok tt)
+      → DoesOutside facts s5 s6 f5 f6 (new_reference Global array.0) (Ok global)
+      → DoesOutside facts s6 s7 f6 f7 (pop_local_frame 0) (Ok popped)
+      → DoesOutside facts s7 s8 f7 f8 collection (Err (Busy inside))
+      → DoesOutside facts s8 s9 f8 f9 collecting_in_turn (Ok c)
+      → DoesOutside facts s9 s10 f9 f10 (is_same_object (word_made weak) 0) (Ok cleared)
+      → DoesOutside facts s10 s11 f10 f11 (delete_reference Global (word_made global)) (Ok tt)
+      → DoesOutside facts s11 s12 f11 f12 (get_object_ref_type (word_made global)) (Ok kind)
+      → DoesDeed facts s0 s12 f0 f12 sharing (Ok (inside, cleared, kind))
+  shared s0 s1 s2 s3 s4 s5 s6 s7 s8 s9 s10 s11 s12 f0 f1 f2 f3 f4 f5 f6 f7 f8 f9 f10 f11 f12 lost array weak global
+      popped inside c cleared kind out d1 d2 d3 d4 d5 d6 d7 d8 d9 d10 d11 d12 =
+      does_then {one = preparing}
+      (λ words. collecting_twice >>= (λ n. clearing words.0 words.1 >>= (λ found. done (n, found.0, found.1))))
+      (prepared s0 s1 s2 s3 s4 s5 s6 s7 f0 f1 f2 f3 f4 f5 f6 f7 lost array weak global popped out d1 d2 d3 d4 d5 d6 d7)
+      (does_then {one = collecting_twice} (λ n. clearing (word_made weak) (word_made global)
+      >>= (λ found. done (n, found.0, found.1))) (collected_twice s7 s8 s9 f7 f8 f9 inside c d7.outside d8 d9)
+      (did_reply {one = clearing (word_made weak) (word_made global)} (λ found. (inside, found.0, found.1))
+      (cleared, kind) (cleared_then s9 s10 s11 s12 f9 f10 f11 f12 (word_made weak) (word_made global) cleared kind
+      d9.outside d10 d11 d12)))
 
   -- the second thread's reading in a region, from its entry to its exit
   pub region_read : AreOf facts → (a b c d : S) (f f1 f2 g : Frames) (word : ℕ) (v : Levels) (x : ℕ)
       → (facts a).stands.role ≡ Outside → Opens facts a b f word get_array_critical (Ok v) → f1 ≡ f → f2 ≡ f → g ≡ f
-      → Reaches facts b c f1 v (λ c last t s. region_get c last t s Int (level_object v 0) 1) (Ok x) → GivesUpAll facts c d f2 v → DoesDeed facts a d f g (reading_within word) (Ok x)
+      → Reaches facts b c f1 v (λ c last t s. region_get c last t s Int (level_object v 0) 1) (Ok x)
+      → GivesUpAll facts c d f2 v → DoesDeed facts a d f g (reading_within word) (Ok x)
   region_read fits a b c d f f1 f2 g word v x out opened same same' same'' was_reached was_ended =
-      let reached = subst (λ h. Reaches facts b c h v (λ c last t s. region_get c last t s Int (level_object v 0) 1) (Ok x)) same was_reached in
+      let reached =
+      subst (λ h. Reaches facts b c h v (λ c last t s. region_get c last t s Int (level_object v 0) 1) (Ok x)) same
+      was_reached in
       let ended = subst (λ h. GivesUpAll facts c d h v) same' was_ended in
       let o = opened.2.stands_is in
       let r = reached.stands_is in
       let e = ended.stands_is in
       subst (λ h. DoesDeed facts a d f h (reading_within word) (Ok x)) (sym same'')
       (record {
-        stands_is = record { room = e.room ∙ (r.room ∙ o.room); config = e.config ∙ (r.config ∙ o.config); last = e.last ∙ (r.last ∙ o.last); thread = e.thread ∙ (r.thread ∙ o.thread); role = e.role ∙ sym out };
+        stands_is = record {
+          room = e.room ∙ (r.room ∙ o.room);
+          config = e.config ∙ (r.config ∙ o.config);
+          last = e.last ∙ (r.last ∙ o.last);
+          thread = e.thread ∙ (r.thread ∙ o.thread);
+          role = e.role ∙ sym out;
+        };
         did = λ k s n.
             let x1 = opened.2.ran k s n in
             let x2 = reached.ran x1.0 x1.1 (x1.3.0.0, x1.3.1) in
@@ -89,11 +134,16 @@ module _ {S : Type 0} {facts : S → Facts} where
               inl (
                 level_object v 0,
                 thread_state (facts b) x1.0 f,
-                (opened.0, opened.1, own_call facts fits (λ c. 1) (λ c last t s. get_array_critical c last t s opened.0) k x1.0 s x1.2),
+                (
+                  opened.0,
+                  opened.1,
+                  own_call facts fits (λ c. 1) (λ c last t s. get_array_critical c last t s opened.0) k x1.0 s x1.2,
+                ),
                 inl (
                   x,
                   thread_state (facts c) x2.0 f,
-                  own_call facts fits (λ c. 0) (λ c last t s. region_get c last t s Int (level_object v 0) 1) x1.0 x2.0 x1.1 x2.2,
+                  own_call facts fits (λ c. 0) (λ c last t s. region_get c last t s Int (level_object v 0) 1) x1.0 x2.0
+                      x1.1 x2.2,
                   inl (tt, thread_state (facts d) x3.0 f, x3.2, (refl, refl)),
                 ),
               ),
@@ -102,11 +152,16 @@ module _ {S : Type 0} {facts : S → Facts} where
 
   -- so that it did, whatever it was answered
   pub reads_within : AreOf facts → (a b c d : S) (f f1 f2 g : Table) (word : ℕ) (v w : Levels) (r : Result ℤ Fault)
-      → (facts a).stands.role ≡ Outside → Opens facts a b f.frames word get_array_critical (Ok v) → length (objects_of v) ≡ 1 → f1 ≡ f → f2 ≡ f1 → g ≡ f2 → w ≡ v
-      → (0 < length (objects_of v) → Reaches facts b c f1.frames v (λ c last t s. region_get c last t s Int (level_object v 0) 1) (in_words (signed_word w32) r))
-      → GivesUpAll facts c d f2.frames w → (facts d).stands.role ≡ Outside → IfOk r (λ x. DoesOutside facts a d f.frames g.frames (reading_within word) (Ok (signed_word w32 x)))
+      → (facts a).stands.role ≡ Outside → Opens facts a b f.frames word get_array_critical (Ok v)
+      → length (objects_of v) ≡ 1 → f1 ≡ f → f2 ≡ f1 → g ≡ f2 → w ≡ v
+      → (0 < length (objects_of v) → Reaches facts b c f1.frames v (λ c last t s.
+      region_get c last t s Int (level_object v 0) 1) (in_words (signed_word w32) r))
+      → GivesUpAll facts c d f2.frames w → (facts d).stands.role ≡ Outside
+      → IfOk r (λ x. DoesOutside facts a d f.frames g.frames (reading_within word) (Ok (signed_word w32 x)))
   reads_within fits a b c d f f1 f2 g word v w (Ok x) out opened one same1 same2 same left reached ended done = record {
-    does = λ o. region_read fits a b c d f.frames f1.frames f2.frames g.frames word v (signed_word w32 x) out opened (ap (λ (t : Table). t.frames) same1) (ap (λ (t : Table). t.frames) (same2 ∙ same1)) (ap (λ (t : Table). t.frames) (same ∙ (same2 ∙ same1)))
+    does = λ o. region_read fits a b c d f.frames f1.frames f2.frames g.frames word v (signed_word w32 x) out opened
+        (ap (λ (t : Table). t.frames) same1) (ap (λ (t : Table). t.frames) (same2 ∙ same1))
+        (ap (λ (t : Table). t.frames) (same ∙ (same2 ∙ same1)))
         (reached (omega arith)) (subst (λ u. GivesUpAll facts c d f2.frames u) left ended);
     left = λ no. absurd (no out);
     outside = done;
@@ -114,16 +169,24 @@ module _ {S : Type 0} {facts : S → Facts} where
   reads_within fits a b c d f f1 f2 g word v w (Err e) out opened one same1 same2 same left reached ended done = tt
 
   -- the second thread's calls
-  pub visited : (s s0 s1 s2 s3 s4 s5 : S) (f f0 f1 f2 f3 f4 f5 : Frames) (word : ℕ) (object array : Handle) (popped : Option Handle) (x : ℕ)
-      → DoesDeed facts s s0 f f0 is_handed (Ok word) → (facts s0).stands.role ≡ Outside → DoesOutside facts s0 s1 f0 f1 (push_local_frame 4) (Ok tt) → DoesOutside facts s1 s2 f1 f2 new_plain (Ok object) → DoesOutside facts s2 s3 f2 f3 (new_object_array 2 object.0) (Ok array)
-      → DoesOutside facts s3 s4 f3 f4 (pop_local_frame 0) (Ok popped) → DoesOutside facts s4 s5 f4 f5 (reading_within word) (Ok x) → DoesDeed facts s s5 f f5 visiting (Ok x)
+  pub visited : (s s0 s1 s2 s3 s4 s5 : S) (f f0 f1 f2 f3 f4 f5 : Frames) (word : ℕ) (object array : Handle)
+      (popped : Option Handle) (x : ℕ)
+      → DoesDeed facts s s0 f f0 is_handed (Ok word) → (facts s0).stands.role ≡ Outside
+      → DoesOutside facts s0 s1 f0 f1 (push_local_frame 4) (Ok tt) → DoesOutside facts s1 s2 f1 f2 new_plain (Ok object)
+      → DoesOutside facts s2 s3 f2 f3 (new_object_array 2 object.0) (Ok array)
+      → DoesOutside facts s3 s4 f3 f4 (pop_local_frame 0) (Ok popped)
+      → DoesOutside facts s4 s5 f4 f5 (reading_within word) (Ok x) → DoesDeed facts s s5 f f5 visiting (Ok x)
   visited s s0 s1 s2 s3 s4 s5 f f0 f1 f2 f3 f4 f5 word object array popped x handed out d1 d2 d3 d4 d5 =
       let read = d5.does d4.outside in
-      does_then _ handed (does_then _ (d1.does out) (does_then _ (d2.does d1.outside) (does_then _ (d3.does d2.outside) (does_then _ (d4.does d3.outside) read))))
+      does_then _ handed (does_then _ (d1.does out)
+      (does_then _ (d2.does d1.outside) (does_then _ (d3.does d2.outside) (does_then _ (d4.does d3.outside) read))))
 
   -- a deed from steps that differ in nothing that is known of them
-  module _ {A : Type 0} {r : Result A Fault} (a b c : S) (f f' g : Frames) (stands : (facts b).stands ≡ (facts a).stands) (hint : (facts b).hint ≡ (facts a).hint) (know : (k : Known) → (facts a).knows k → (facts b).knows k) (same : f' ≡ f) where
-    did_from : (deed : Deed A) (role : Role) → CarriedOut facts b c f' g role (Holds f') (Holds g) deed r → CarriedOut facts a c f g role (Holds f) (Holds g) deed r
+  module _ {A : Type 0} {r : Result A Fault} (a b c : S) (f f' g : Frames)
+      (stands : (facts b).stands ≡ (facts a).stands) (hint : (facts b).hint ≡ (facts a).hint)
+      (know : (k : Known) → (facts a).knows k → (facts b).knows k) (same : f' ≡ f) where
+    did_from : (deed : Deed A) (role : Role) → CarriedOut facts b c f' g role (Holds f') (Holds g) deed r
+        → CarriedOut facts a c f g role (Holds f) (Holds g) deed r
     did_from deed role x = record {
       stands_is = subst (λ (z : Standing). IsAsBefore (record z { role = role }) (facts c).stands) stands x.stands_is;
       did = λ k s n.
@@ -131,7 +194,8 @@ module _ {S : Type 0} {facts : S → Facts} where
             y.0,
             y.1,
             y.2,
-            subst (λ (z : Bool × ℕ × Frames). deed (thread_state_with z.0 z.1 k z.2) r (thread_state (facts c) y.0 g)) (λ i. ((stands i).fresh, hint i, same i)) y.3,
+            subst (λ (z : Bool × ℕ × Frames). deed (thread_state_with z.0 z.1 k z.2) r (thread_state (facts c) y.0 g))
+                (λ i. ((stands i).fresh, hint i, same i)) y.3,
           );
     }
 
@@ -146,30 +210,41 @@ module _ {S : Type 0} {facts : S → Facts} where
 
   module _ {a b : S} {f g : Frames} where
     -- a refusal by its name
-    pub refused_as : {A : Type 0} {deed : Deed A} {e e' : Fault} → e ≡ e' → DoesOutside facts a b f g deed (Err e) → DoesOutside facts a b f g deed (Err e')
+    pub refused_as : {A : Type 0} {deed : Deed A} {e e' : Fault} → e ≡ e' → DoesOutside facts a b f g deed (Err e)
+        → DoesOutside facts a b f g deed (Err e')
     refused_as {deed = deed} = subst (λ e. DoesOutside facts a b f g deed (Err e))
 
     -- calls with a word that is known by another name
-    pub same_on : (v v' w : ℕ) (r : Result Bool Fault) → v ≡ v' → DoesOutside facts a b f g (is_same_object v w) r → DoesOutside facts a b f g (is_same_object v' w) r
+    pub same_on : (v v' w : ℕ) (r : Result Bool Fault) → v ≡ v' → DoesOutside facts a b f g (is_same_object v w) r
+        → DoesOutside facts a b f g (is_same_object v' w) r
     same_on v v' w r = subst (λ n. DoesOutside facts a b f g (is_same_object n w) r)
 
-    pub deleted_on : (v v' : ℕ) (r : Result (Unit {0}) Fault) → v ≡ v' → DoesOutside facts a b f g (delete_reference Global v) r → DoesOutside facts a b f g (delete_reference Global v') r
+    pub deleted_on : (v v' : ℕ) (r : Result (Unit {0}) Fault) → v ≡ v'
+        → DoesOutside facts a b f g (delete_reference Global v) r
+        → DoesOutside facts a b f g (delete_reference Global v') r
     deleted_on v v' r = subst (λ n. DoesOutside facts a b f g (delete_reference Global n) r)
 
-    pub typed_on : (v v' : ℕ) (r : Result ℕ Fault) → v ≡ v' → DoesOutside facts a b f g (get_object_ref_type v) r → DoesOutside facts a b f g (get_object_ref_type v') r
+    pub typed_on : (v v' : ℕ) (r : Result ℕ Fault) → v ≡ v' → DoesOutside facts a b f g (get_object_ref_type v) r
+        → DoesOutside facts a b f g (get_object_ref_type v') r
     typed_on v v' r = subst (λ n. DoesOutside facts a b f g (get_object_ref_type n) r)
 
 -- what steps did the pass did that they are made of
-pub come : {S : Type 0} (holder : S → Holder) {A : Type 0} (story : Deed A) (made a b : S) (p : Pass) (now : Holder) (f g : Frames) (x : A)
-    → Spent (λ s. facts_of (holder s)) made a → DoesDeed (λ s. facts_of (holder s)) a b f g story (Ok x) → holder made ≡ holder_of p → now ≡ holder b → f ≡ fresh_frames (standing_of p).config.locals → HasCome story p now x
+pub come : {S : Type 0} (holder : S → Holder) {A : Type 0} (story : Deed A) (made a b : S) (p : Pass) (now : Holder)
+    (f g : Frames) (x : A)
+    → Spent (λ s. facts_of (holder s)) made a → DoesDeed (λ s. facts_of (holder s)) a b f g story (Ok x)
+    → holder made ≡ holder_of p → now ≡ holder b → f ≡ fresh_frames (standing_of p).config.locals
+    → HasCome story p now x
 come holder story made a b p now f g x spent d old new fresh =
-    let here : DoesDeed facts_of (holder a) (holder b) f g story (Ok x) = record { stands_is = d.stands_is; did = d.did } in
-    let spends : Spent facts_of (holder made) (holder a) = record { stands_is = spent.stands_is; hint_is = spent.hint_is; same = spent.same } in
+    let here : DoesDeed facts_of (holder a) (holder b) f g story (Ok x) =
+    record { stands_is = d.stands_is; did = d.did } in
+    let spends : Spent facts_of (holder made) (holder a) =
+    record { stands_is = spent.stands_is; hint_is = spent.hint_is; same = spent.same } in
     record {
       spent = holder a;
       spends = subst (λ z. Spent facts_of z (holder a)) old spends;
       frames = g;
-      did = subst (λ h. DoesDeed facts_of (holder a) now h g story (Ok x)) fresh (subst (λ z. DoesDeed facts_of (holder a) z f g story (Ok x)) (sym new) here);
+      did = subst (λ h. DoesDeed facts_of (holder a) now h g story (Ok x)) fresh
+          (subst (λ z. DoesDeed facts_of (holder a) z f g story (Ok x)) (sym new) here);
     }
 
 -- the word that stands for a reference, or NULL

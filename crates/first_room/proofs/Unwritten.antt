@@ -1,5 +1,7 @@
 -- Calls that write no element.
-use Rattle.std.proofs.Common.{◌≡◌, inl, inr, ℕ, zero, suc, Bool, true, false, not, cond, nat_lt, nat_le, ◌==◌, ◌||◌, ◌<◌, ◌+◌, Option, Some, None, List, [], ◌∷◌, ◌++◌, map, length, Result, Ok, Err, refl, sym, subst}
+use Rattle.std.proofs.Common.{◌≡◌, inl, inr, ℕ, zero, suc, Bool, true, false, not, cond}
+use Rattle.std.proofs.Common.{nat_lt, nat_le, ◌==◌, ◌||◌, ◌<◌, ◌+◌, Option, Some, None, List}
+use Rattle.std.proofs.Common.{[], ◌∷◌, ◌++◌, map, length, Result, Ok, Err, refl, sym, subst}
 use Rattle.std.specs.List.{AllByRecursion}
 use Rattle.jr_word.specs.declared.config.Config.{Config}
 use Rattle.jr_word.specs.declared.fault.Fault.{Fault}
@@ -8,7 +10,9 @@ use Rattle.jr_word.specs.declared.handle.RefKind.{RefKind}
 use Rattle.jr_word.specs.declared.kind.Kind.{Kind}
 use Rattle.jr_word.specs.declared.kind.Kind.TheVariants.{Objects}
 use Rattle.jr_model.specs.declared.event.Act.{Act}
-use Rattle.jr_model.specs.declared.event.Act.TheVariants.{Gate, Meet, ShutBusy, Clear, Delete, DeleteStale, Drop, Look, LocalDrop, New, Probe, Reserve, ReserveFull, ReserveLost, Settle, Write}
+use Rattle.jr_model.specs.declared.event.Act.TheVariants.{Gate, Meet, ShutBusy, Clear, Delete, DeleteStale}
+use Rattle.jr_model.specs.declared.event.Act.TheVariants.{Drop, Look, LocalDrop, New, Probe, Reserve}
+use Rattle.jr_model.specs.declared.event.Act.TheVariants.{ReserveFull, ReserveLost, Settle, Write}
 use Rattle.jr_model.specs.declared.event.GateAct.TheVariants.{Announce, Cancel, Reopen}
 use Rattle.jr_model.specs.declared.event.Found.{Found}
 use Rattle.jr_model.specs.declared.event.Found.TheVariants.{Object, Cleared, Stale}
@@ -17,10 +21,16 @@ use Rattle.jr_model.specs.declared.frames.TheConstants.{FRAMES}
 use Rattle.jr_model.specs.State.{Handle, State}
 use Rattle.jr_model.specs.CollectionCalls.{collection_acts}
 use Rattle.jr_model.specs.Frames.{Frames, free_places, last_frame, object_of, popped}
-use Rattle.jr_model.specs.Calls.{Call, act, decided, done, entered, for_object, one_of, refuse, refuse_if, some_act, ◌>>=◌, ◌>>◌}
-use Rattle.jr_model.specs.Checks.{Word, Nothing, Malformed, Parts, is_foreign, is_local, is_malformed, is_of_kind, is_out_of_bounds, type_found, type_local}
-use Rattle.jr_model.specs.Parts.{announce, collect, collect_announced, collected, create, created, created_with, delete_at, delete_found, found_closed, found_moved, found_object, frame_left, frame_to_pop, local_object, look, looked, not_null, probes, publish, refused_shuts, reserve, take_frame, type_at}
-use Rattle.jr_model.specs.References.{added, array_making, comparison, creation, made, new_local, popping, push_local_frame, removal, resolved, resolved_both, room_after, room_for, typing}
+use Rattle.jr_model.specs.Calls.{Call, act, decided, done, entered, for_object}
+use Rattle.jr_model.specs.Calls.{one_of, refuse, refuse_if, some_act, ◌>>=◌, ◌>>◌}
+use Rattle.jr_model.specs.Checks.{Word, Nothing, Malformed, Parts, is_foreign, is_local}
+use Rattle.jr_model.specs.Checks.{is_malformed, is_of_kind, is_out_of_bounds, type_found, type_local}
+use Rattle.jr_model.specs.Parts.{announce, collect, collect_announced, collected, create, created}
+use Rattle.jr_model.specs.Parts.{created_with, delete_at, delete_found, found_closed, found_moved}
+use Rattle.jr_model.specs.Parts.{found_object, frame_left, frame_to_pop, local_object, look, looked}
+use Rattle.jr_model.specs.Parts.{not_null, probes, publish, refused_shuts, reserve, take_frame, type_at}
+use Rattle.jr_model.specs.References.{added, array_making, comparison, creation, made, new_local, popping}
+use Rattle.jr_model.specs.References.{push_local_frame, removal, resolved, resolved_both, room_after, room_for, typing}
 use Rattle.jr_model.proofs.Exactly.{all_map, append_all}
 
 -- the act writes an element
@@ -51,11 +61,14 @@ refuse_if_spares : (b : Bool) (e : Fault) → Spares (refuse_if b e)
 refuse_if_spares true e = decided_spares (Err e)
 refuse_if_spares false e = decided_spares (Ok tt)
 
-bind_spares : {A B : Type 0} (first : Call A) (next : A → Call B) → Spares first → ((x : A) → Spares (next x)) → Spares (first >>= next)
-bind_spares first next p q f g acts answer (inl r) = subst NoWrite (sym r.4) (append_none r.2 r.3 (p f r.1 r.2 (Ok r.0) r.5) (q r.0 r.1 g r.3 answer r.6))
+bind_spares : {A B : Type 0} (first : Call A) (next : A → Call B) → Spares first → ((x : A) → Spares (next x))
+    → Spares (first >>= next)
+bind_spares first next p q f g acts answer (inl r) =
+    subst NoWrite (sym r.4) (append_none r.2 r.3 (p f r.1 r.2 (Ok r.0) r.5) (q r.0 r.1 g r.3 answer r.6))
 bind_spares first next p q f g acts answer (inr r) = p f g acts (Err r.0) r.2
 
-for_spares : {A : Type 0} (s : State) (o : ℕ) (next : Kind → ℕ → Call A) → ((k : Kind) (n : ℕ) → Spares (next k n)) → Spares (for_object s o next)
+for_spares : {A : Type 0} (s : State) (o : ℕ) (next : Kind → ℕ → Call A) → ((k : Kind) (n : ℕ) → Spares (next k n))
+    → Spares (for_object s o next)
 for_spares s o next p f g acts answer is = p is.0.kind (length is.0.words) f g acts answer is.2
 
 cond_spares : {A : Type 0} (b : Bool) (p q : Call A) → Spares p → Spares q → Spares (cond b p q)
@@ -72,7 +85,8 @@ checked b e next p = bind_spares (refuse_if b e) (λ _. next) (refuse_if_spares 
 
 pub entered_spares : {A : Type 0} (work : Call A) → Spares work → Spares (entered work)
 entered_spares work p f g acts answer (inl is) = subst NoWrite (sym is.0) (refl, (refl, tt))
-entered_spares work p f g acts answer (inr is) = subst NoWrite (sym is.1) (refl, append_none is.0 _ (p f g is.0 answer is.2) (refl, tt))
+entered_spares work p f g acts answer (inr is) =
+    subst NoWrite (sym is.1) (refl, append_none is.0 _ (p f g is.0 answer is.2) (refl, tt))
 
 -- WHAT REFERENCES NAME
 
@@ -102,14 +116,16 @@ not_null_spares None = decided_spares _
 type_at_spares : (a : Word) → Spares (type_at a)
 type_at_spares Nothing = decided_spares (Ok 0)
 type_at_spares Malformed = decided_spares (Ok 0)
-type_at_spares (Parts h) = cond_spares (is_local h) (λ old. done (type_local (object_of old h)) old) (look h >>= (λ r. done (type_found h.kind r)))
+type_at_spares (Parts h) = cond_spares (is_local h) (λ old. done (type_local (object_of old h)) old) (look h
+    >>= (λ r. done (type_found h.kind r)))
     (λ f g acts answer is. decided_spares (Ok (type_local (object_of f h))) f g acts answer is)
     (bind_spares (look h) _ (look_spares h) (λ r. decided_spares _))
 
 -- SLOTS
 
 probes_spare : Spares probes
-probes_spare f g acts answer is = subst NoWrite (sym is.1) (all_map (λ a. is_write a ≡ false) (λ (l : ℕ × Bool). Probe l.0 l.1) is.0 (λ l. refl))
+probes_spare f g acts answer is =
+    subst NoWrite (sym is.1) (all_map (λ a. is_write a ≡ false) (λ (l : ℕ × Bool). Probe l.0 l.1) is.0 (λ l. refl))
 
 created_with_spares : (k : RefKind) (o : ℕ) → Spares (created_with k o)
 created_with_spares k o f g acts answer is = subst NoWrite (sym is.2) (refl, tt)
@@ -117,11 +133,13 @@ created_with_spares k o f g acts answer is = subst NoWrite (sym is.2) (refl, tt)
 created_spares : (slots : ℕ) (k : RefKind) (o : Option ℕ) → Spares (created slots k o)
 created_spares slots k None = decided_spares (Ok None)
 created_spares slots k (Some o) = bind_spares (create slots k o) _
-    (λ f g acts answer is. bind_spares probes _ probes_spare (λ _. one_of_spares (created_with k o) (refuse fault.RowFull) (created_with_spares k o) (decided_spares _)) f g acts answer is.1)
+    (λ f g acts answer is. bind_spares probes _ probes_spare (λ _. one_of_spares (created_with k o)
+    (refuse fault.RowFull) (created_with_spares k o) (decided_spares _)) f g acts answer is.1)
     (λ h. decided_spares (Ok (Some h)))
 
 found_deleted : (h : Handle) → Spares (one_of (act (Delete h)) (act (DeleteStale h) >> refuse fault.Stale))
-found_deleted h = one_of_spares (act (Delete h)) _ (act_spares (Delete h) refl) (bind_spares (act (DeleteStale h)) _ (act_spares (DeleteStale h) refl) (λ _. decided_spares _))
+found_deleted h = one_of_spares (act (Delete h)) _ (act_spares (Delete h) refl)
+    (bind_spares (act (DeleteStale h)) _ (act_spares (DeleteStale h) refl) (λ _. decided_spares _))
 
 delete_found_spares : (h : Handle) (r : Found) → Spares (delete_found h r)
 delete_found_spares h Stale = decided_spares _
@@ -140,32 +158,39 @@ reserve_spares zero = decided_spares (Ok tt)
 reserve_spares (suc n) =
     one_of_spares (act (Reserve (suc n))) _ (act_spares (Reserve (suc n)) refl)
     (one_of_spares (some_act (ReserveFull (suc n)) >>= (λ u. refuse (fault.SpaceFull u))) _
-    (bind_spares (some_act (ReserveFull (suc n))) _ (some_act_spares (ReserveFull (suc n)) (λ u. refl)) (λ u. decided_spares _))
-    (bind_spares (some_act {X = ℕ × ℕ} (λ l. ReserveLost (suc n) l.0 l.1)) _ (some_act_spares {X = ℕ × ℕ} (λ l. ReserveLost (suc n) l.0 l.1) (λ l. refl)) (λ l. decided_spares _)))
+    (bind_spares (some_act (ReserveFull (suc n))) _ (some_act_spares (ReserveFull (suc n)) (λ u. refl)) (λ u.
+    decided_spares _))
+    (bind_spares (some_act {X = ℕ × ℕ} (λ l. ReserveLost (suc n) l.0 l.1)) _
+    (some_act_spares {X = ℕ × ℕ} (λ l. ReserveLost (suc n) l.0 l.1) (λ l. refl)) (λ l. decided_spares _)))
 
 pub publish_spares : (k : Kind) (ws : List ℕ) → Spares (publish k ws)
-publish_spares k ws = one_of_spares (some_act (λ o. New o k ws)) (refuse fault.ObjectsFull) (some_act_spares (λ o. New o k ws) (λ o. refl)) (decided_spares _)
+publish_spares k ws = one_of_spares (some_act (λ o. New o k ws)) (refuse fault.ObjectsFull)
+    (some_act_spares (λ o. New o k ws) (λ o. refl)) (decided_spares _)
 
 take_frame_spares : Spares take_frame
-take_frame_spares f g acts answer is = subst NoWrite (sym is.0) (all_map (λ a. is_write a ≡ false) (λ (r : LocalRef). LocalDrop r.handle.index) (last_frame f.frames) (λ r. refl))
+take_frame_spares f g acts answer is = subst NoWrite (sym is.0)
+    (all_map (λ a. is_write a ≡ false) (λ (r : LocalRef). LocalDrop r.handle.index) (last_frame f.frames) (λ r. refl))
 
 frame_to_pop_spares : Spares frame_to_pop
 frame_to_pop_spares f g acts answer is = refuse_if_spares (nat_lt (length f.frames) 2) fault.NoFrame f g acts answer is
 
 module _ (c : Config) (last thread : ℕ) where
   pub room_for_spares : (n : ℕ) → Spares (room_for c last thread n)
-  room_for_spares n f g acts answer is = refuse_if_spares (nat_lt (free_places last f) n) fault.LocalsFull f g acts answer is
+  room_for_spares n f g acts answer is =
+      refuse_if_spares (nat_lt (free_places last f) n) fault.LocalsFull f g acts answer is
 
   room_after_spares : (o : Option ℕ) → Spares (room_after c last thread o)
   room_after_spares None f g acts answer is = decided_spares (Ok tt) f g acts answer is
-  room_after_spares (Some o) f g acts answer is = refuse_if_spares (free_places last (popped f) == 0) fault.LocalsFull f g acts answer is
+  room_after_spares (Some o) f g acts answer is =
+      refuse_if_spares (free_places last (popped f) == 0) fault.LocalsFull f g acts answer is
 
   added_spares : (o : ℕ) → Spares (added c last thread o)
   added_spares o f g acts answer is = subst NoWrite (sym is.1) (refl, tt)
 
   new_local_spares : (o : Option ℕ) → Spares (new_local c last thread o)
   new_local_spares None = decided_spares (Ok None)
-  new_local_spares (Some o) = bind_spares (room_for c last thread 1) _ (room_for_spares 1) (λ _. bind_spares (added c last thread o) _ (added_spares o) (λ h. decided_spares (Ok (Some h))))
+  new_local_spares (Some o) = bind_spares (room_for c last thread 1) _ (room_for_spares 1) (λ _.
+      bind_spares (added c last thread o) _ (added_spares o) (λ h. decided_spares (Ok (Some h))))
 
   pub made_spares : (k : Kind) (ws : List ℕ) → Spares (made c last thread k ws)
   made_spares k ws =
@@ -197,13 +222,16 @@ module _ (c : Config) (last thread : ℕ) where
 
   pub removal_spares : (k : RefKind) (a : Word) → Spares (removal c k a)
   removal_spares k a =
-      checked (is_malformed a) fault.Stale _ (checked (not (is_of_kind k a)) fault.WrongKind _ (checked (is_out_of_bounds c a) fault.Stale _ (delete_at_spares a)))
+      checked (is_malformed a) fault.Stale _ (checked (not (is_of_kind k a)) fault.WrongKind _
+      (checked (is_out_of_bounds c a) fault.Stale _ (delete_at_spares a)))
 
   pub comparison_spares : (a b : Word) → Spares (comparison c last thread a b)
-  comparison_spares a b = bind_spares (resolved_both c last thread a b) _ (resolved_both_spares a b) (λ x. decided_spares _)
+  comparison_spares a b =
+      bind_spares (resolved_both c last thread a b) _ (resolved_both_spares a b) (λ x. decided_spares _)
 
   pub typing_spares : (a : Word) → Spares (typing c thread a)
-  typing_spares a = cond_spares (is_malformed a || is_out_of_bounds c a || is_foreign thread a) (done 0) (type_at a) (decided_spares (Ok 0)) (type_at_spares a)
+  typing_spares a = cond_spares (is_malformed a || is_out_of_bounds c a || is_foreign thread a) (done 0) (type_at a)
+      (decided_spares (Ok 0)) (type_at_spares a)
 
   pub popping_spares : (a : Word) → Spares (frame_to_pop >> (resolved c last thread a >>= popping c last thread))
   popping_spares a =
@@ -217,17 +245,21 @@ module _ (c : Config) (last thread : ℕ) where
 
   pub pushing_spares : (n : ℕ) → Spares (push_local_frame c last thread n)
   pushing_spares n =
-      bind_spares frame_left _ (λ f g acts answer is. refuse_if_spares (nat_le FRAMES (length f.frames)) fault.LocalsFull f g acts answer is) (λ _.
-      bind_spares (room_for c last thread n) _ (room_for_spares n) (λ _ f g acts answer is. subst NoWrite (sym is.0) tt))
+      bind_spares frame_left _ (λ f g acts answer is.
+      refuse_if_spares (nat_le FRAMES (length f.frames)) fault.LocalsFull f g acts answer is) (λ _.
+      bind_spares (room_for c last thread n) _ (room_for_spares n) (λ _ f g acts answer is.
+      subst NoWrite (sym is.0) tt))
 
 -- A COLLECTION
 
-collection_spares : (cleared : List Handle) (dropped : List ℕ) (used : ℕ) → NoWrite (collection_acts cleared dropped used)
+collection_spares : (cleared : List Handle) (dropped : List ℕ) (used : ℕ)
+    → NoWrite (collection_acts cleared dropped used)
 collection_spares cleared dropped used = (
   refl,
   append_none _ (Gate Reopen ∷ [])
       (append_none (map Clear cleared ++ map Drop dropped) (Settle used ∷ [])
-      (append_none (map Clear cleared) (map Drop dropped) (all_map _ Clear cleared (λ h. refl)) (all_map _ Drop dropped (λ o. refl)))
+      (append_none (map Clear cleared) (map Drop dropped) (all_map _ Clear cleared (λ h. refl))
+      (all_map _ Drop dropped (λ o. refl)))
       (refl, tt))
       (refl, tt),
 )
@@ -252,7 +284,8 @@ announce_spares =
     (one_of_spares found_closed _ closed_spares (bind_spares (act Meet) _ (act_spares Meet refl) (λ _. moved_spares)))))
 
 pub collect_spares : Spares collect
-collect_spares = one_of_spares collected _ collected_spares (bind_spares (some_act ShutBusy) _ (some_act_spares ShutBusy (λ n. refl)) (λ n. decided_spares _))
+collect_spares = one_of_spares collected _ collected_spares
+    (bind_spares (some_act ShutBusy) _ (some_act_spares ShutBusy (λ n. refl)) (λ n. decided_spares _))
 
 pub collect_announced_spares : (tries : ℕ) → Spares (collect_announced tries)
 collect_announced_spares tries =

@@ -14,7 +14,9 @@ use Rattle.jr_frames.specs.Reading.{IsReadAs}
 use Rattle.jr_gate.specs.Performing.{ThreadState}
 use Rattle.jr_weak.specs.declared.collecting.Collected.{Collected}
 use Rattle.jr_env.specs.Collections.{announced_collection, collection}
-use Rattle.jr_env.specs.Deeds.{Deed, done, new_plain, new_array, new_object_array, new_reference, delete_reference, is_same_object, get_object_ref_type, push_local_frame, pop_local_frame, set_array_region, ◌>>=◌, ◌>>◌}
+use Rattle.jr_env.specs.Deeds.{Deed, done, new_plain, new_array, new_object_array, new_reference}
+use Rattle.jr_env.specs.Deeds.{delete_reference, is_same_object, get_object_ref_type}
+use Rattle.jr_env.specs.Deeds.{push_local_frame, pop_local_frame, set_array_region, ◌>>=◌, ◌>>◌}
 use Rattle.jr_env.specs.StayDeeds.{within_by}
 use Rattle.first_room.specs.Moments.{first_moment, seen_by}
 
@@ -30,7 +32,8 @@ is_kept_out old answer new = (n : ℕ) × (answer ≡ Ok n) × collection old (E
 -- collections were announced, and got no turn, one after the other
 pub data GotNoTurn (old : ThreadState) : ThreadState → Type 0 where
   none : GotNoTurn old old
-  again : {mid new : ThreadState} {e : Fault} → GotNoTurn old mid → announced_collection TRIES mid (Err e) new → GotNoTurn old new
+  again : {mid new : ThreadState} {e : Fault} → GotNoTurn old mid → announced_collection TRIES mid (Err e) new
+      → GotNoTurn old new
 
 -- any number of them
 abbrev pub getting_no_turn : Deed (Unit {0})
@@ -42,7 +45,8 @@ collecting_in_turn = do
   getting_no_turn
   announced_collection TRIES
 
--- two arrays are made in a frame, and then a weak reference to the one and a global one to the other: the words of the two references
+-- two arrays are made in a frame, and then a weak reference to the one and a global one to the other:
+-- the words of the two references
 abbrev pub preparing : Deed (ℕ × ℕ)
 preparing = do
   push_local_frame 4
@@ -79,7 +83,8 @@ sharing = do
 
 -- THE FIRST THREAD HAS PREPARED, with this word of the global reference, and it had seen this by then
 abbrev pub HasPrepared : ℕ → History → Type 0
-HasPrepared global seen = (weak : ℕ) × (by_then : ThreadState) × preparing (first_moment 0) (Ok (weak, global)) by_then × (by_then.pass ≡ seen_by 0 seen)
+HasPrepared global seen = (weak : ℕ) × (by_then : ThreadState) × preparing (first_moment 0) (Ok (weak, global)) by_then
+    × (by_then.pass ≡ seen_by 0 seen)
 
 -- it may see more, and no more than that has changed
 pub record SeesMore (old new : ThreadState) : Type 0 where
@@ -89,13 +94,16 @@ pub record SeesMore (old new : ThreadState) : Type 0 where
   pub fresh : new.fresh ≡ old.fresh
   pub hint : new.hint ≡ old.hint
 
--- the word of the first thread's global reference was handed over with a note, and the note was learned: all that the first thread had seen by then is seen
+-- the word of the first thread's global reference was handed over with a note, and the note was learned:
+-- all that the first thread had seen by then is seen
 abbrev pub is_handed : Deed ℕ
-is_handed old answer new = (w : ℕ) × (answer ≡ Ok w) × (noted : History) × ∥ HasPrepared w noted ∥₁ × IsPrefix noted new.pass.seen × SeesMore old new
+is_handed old answer new = (w : ℕ) × (answer ≡ Ok w) × (noted : History)
+    × ∥ HasPrepared w noted ∥₁ × IsPrefix noted new.pass.seen × SeesMore old new
 
 -- a critical region is opened over the array that a word names: its object
 abbrev pub opens_region : ℕ → Deed ℕ
-opens_region w old answer new = (a : Word) × IsReadAs w a × within_by (λ c. 1) (λ c last t s. get_array_critical c last t s a) old answer new
+opens_region w old answer new =
+    (a : Word) × IsReadAs w a × within_by (λ c. 1) (λ c last t s. get_array_critical c last t s a) old answer new
 
 -- an element of the array that a word names is read in a critical region: the element's word
 abbrev pub reading_within : ℕ → Deed ℕ
@@ -105,7 +113,8 @@ reading_within global = do
   within_by (λ c. 0) (λ c last t s. region_release 1)
   done word
 
--- THE SECOND THREAD is handed the global reference's word, and makes two objects in a frame; and it reads an element of the array that the word names: the element's word
+-- THE SECOND THREAD is handed the global reference's word, and makes two objects in a frame;
+-- and it reads an element of the array that the word names: the element's word
 abbrev pub visiting : Deed ℕ
 visiting = do
   global ← is_handed

@@ -46,7 +46,10 @@ abbrev pub report_text : List (List ℕ) → List ℕ
 report_text [] = []
 report_text (l ∷ ls) = l ++ report_text ls
 
--- THE REPORT IS TRUE: there is one legal history of the machine, in which the first thread's calls and then its look at the gate as the room closes are all that it did, and the second thread's calls all that that one did; the numbers are the calls' answers, the element that was read is the one that was written, and what was left is what stands at the end
+-- THE REPORT IS TRUE: there is one legal history of the machine, in which the first thread's
+-- calls and then its look at the gate as the room closes are all that it did, and the second
+-- thread's calls all that that one did; the numbers are the calls' answers, the element that
+-- was read is the one that was written, and what was left is what stands at the end
 pub record IsTrueReport (r : Report) : Type 0 where
   pub whole : History
   pub legal : IsLegal SIZES LAST whole

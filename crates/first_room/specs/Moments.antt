@@ -10,6 +10,8 @@ use Rattle.jr_gate.specs.Performing.{ThreadState}
 abbrev pub seen_by : ℕ → History → PassView
 seen_by t seen = record { config = SIZES; last = LAST; thread = t; seen = seen }
 
--- before the thread's first call: it has seen nothing, no local reference stands, its pass is spent, and its first search for a free slot begins at slot 0
+-- before the thread's first call: it has seen nothing, no local reference stands,
+-- its pass is spent, and its first search for a free slot begins at slot 0
 abbrev pub first_moment : ℕ → ThreadState
-first_moment t = record { pass = seen_by t []; frames = fresh_frames SIZES.locals; held = empty; fresh = false; hint = 0; taken = 0 }
+first_moment t =
+    record { pass = seen_by t []; frames = fresh_frames SIZES.locals; held = empty; fresh = false; hint = 0; taken = 0 }

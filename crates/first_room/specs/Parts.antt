@@ -33,7 +33,8 @@ HasShared old new inside cleared kind = HasPlayed sharing old new (inside, clear
 abbrev pub HasVisited : Pass → Pass → ℤ → Type 0
 HasVisited old new read = HasPlayed visiting old new (signed_word w32 read)
 
--- A THREAD'S PART in the history: from its first moment on it did this, with this answer; and of its events the history has those, the ones at the close, and no others
+-- A THREAD'S PART in the history: from its first moment on it did this, with this answer;
+-- and of its events the history has those, the ones at the close, and no others
 pub record PlaysPart {A : Type 0} (whole : History) (t : ℕ) (story : Deed A) (x : A) (closing : List Act) : Type 0 where
   pub seen : History
   pub left : ThreadState

@@ -1,5 +1,6 @@
 -- The words that are used, and those of them that a collection frees.
-use Rattle.std.proofs.Common.{◌≡◌, ◌≤◌, ◌+◌, ℕ, Bool, true, false, not, Option, List, [], slice_index_or, sym, ap, ◌∙◌, arith}
+use Rattle.std.proofs.Common.{◌≡◌, ◌≤◌, ◌+◌, ℕ, Bool, true, false, not, Option}
+use Rattle.std.proofs.Common.{List, [], slice_index_or, sym, ap, ◌∙◌, arith}
 use Rattle.std.proofs.Math.Logic.{∥∥₁_elim}
 use Rattle.std.proofs.Props.{props}
 use mathlib.Core.Logic.{∥∥₁_map}
@@ -32,11 +33,16 @@ parts_of true z = omega arith
 parts_of false z = omega arith
 
 -- the words of the objects that are marked, and of those that aren't
-pub both_parts : (n : ℕ) (marks : List Bool) (objects : ℕ → Option Contents) → sum_below n (λ o. length_of (objects o)) ≡ sum_below n (λ o. length_of (marked marks objects o)) + sum_below n (λ o. length_of (unmarked marks objects o))
-both_parts n marks objects = sum_split n (λ o. length_of (marked marks objects o)) (λ o. length_of (unmarked marks objects o)) (λ o. length_of (objects o)) (λ o. parts_of (slice_index_or marks o false) (objects o))
+pub both_parts : (n : ℕ) (marks : List Bool) (objects : ℕ → Option Contents) → sum_below n (λ o. length_of (objects o))
+    ≡ sum_below n (λ o. length_of (marked marks objects o)) + sum_below n (λ o. length_of (unmarked marks objects o))
+both_parts n marks objects =
+    sum_split n (λ o. length_of (marked marks objects o)) (λ o. length_of (unmarked marks objects o))
+    (λ o. length_of (objects o)) (λ o. parts_of (slice_index_or marks o false) (objects o))
 
 -- so the words are, by those of the objects
-pub words_from : (c : Config) (s : State) (marks : List Bool) (x y : ObjectCounts) (w : Words) → IsExactly marks s → AreObjects c.objects s.objects x → AreObjects c.objects (unmarked marks s.objects) y → HaveWords x.words y.words w → w.used ≡ s.used → AreUsedWords c s w
+pub words_from : (c : Config) (s : State) (marks : List Bool) (x y : ObjectCounts) (w : Words) → IsExactly marks s
+    → AreObjects c.objects s.objects x → AreObjects c.objects (unmarked marks s.objects) y → HaveWords x.words y.words w
+    → w.used ≡ s.used → AreUsedWords c s w
 words_from c s marks x y w exactly present unreached have is =
     let both = both_parts (c.objects + 1) marks s.objects in
     let all = present.words in
@@ -57,14 +63,21 @@ words_on c w {s} {t} same are = record {
       let present = ap (λ (f : ℕ → Option Contents). sum_below (c.objects + 1) (λ o. length_of (f o))) same.objects in
       let lost = are.lost in
       let used = same.used in omega arith;
-  reached = let r = are.reached in (r.0, exactly_on r.0 same r.1, r.2 ∙ ap (λ (f : ℕ → Option Contents). sum_below (c.objects + 1) (λ o. length_of (marked r.0 f o))) (sym same.objects));
+  reached = let r = are.reached in (
+    r.0,
+    exactly_on r.0 same r.1,
+    r.2 ∙ ap (λ (f : ℕ → Option Contents). sum_below (c.objects + 1) (λ o. length_of (marked r.0 f o))) (sym
+        same.objects),
+  );
   freed = are.freed ∙ sym same.used;
 }
 
 module _ {S : Type 0} {facts : S → Facts} (fits : AreOf facts) where
   -- the objects' words are used
-  pub has_used : {a b : S} {most : Known → ℕ} {tells : Known → Type 0} (marks : List Bool) (x y : ObjectCounts) → MayKnow facts a CanReopen → LoadsTell facts most a b tells
-      → ((k : Known) → tells k → AreObjects k.config.objects (state_of k).objects x × AreObjects k.config.objects (unmarked marks (state_of k).objects) y) → MayKnow facts b (HasUsed x.words y.words)
+  pub has_used : {a b : S} {most : Known → ℕ} {tells : Known → Type 0} (marks : List Bool) (x y : ObjectCounts)
+      → MayKnow facts a CanReopen → LoadsTell facts most a b tells
+      → ((k : Known) → tells k → AreObjects k.config.objects (state_of k).objects x
+      × AreObjects k.config.objects (unmarked marks (state_of k).objects) y) → MayKnow facts b (HasUsed x.words y.words)
   has_used {b = b} marks x y may told counted = ∥∥₁_map (may_told may told) (λ k.
       let both = both_parts ((k.0).config.objects + 1) marks (state_of k.0).objects in
       let fit = (lengths_fit (k.0).config (k.0).last (k.0).seen (fits b k.0 k.1).legal).0 in
@@ -73,7 +86,9 @@ module _ {S : Type 0} {facts : S → Facts} (fits : AreOf facts) where
       let left = (z.1).words in (k.0, k.1, (k.2.0, omega arith, omega arith)))
 
   -- so they are fewer than the top says
-  pub used_most : {a b : S} (present unreached used : ℕ) → (facts a).stands.role ≡ Collecting → MayKnow facts a (HasUsed present unreached) → Took facts a b [] anything (λ j k. ShowsUsed used k × keeps j k) → (unreached ≤ present) × (present ≤ used)
+  pub used_most : {a b : S} (present unreached used : ℕ) → (facts a).stands.role ≡ Collecting
+      → MayKnow facts a (HasUsed present unreached) → Took facts a b [] anything (λ j k. ShowsUsed used k × keeps j k)
+      → (unreached ≤ present) × (present ≤ used)
   used_most {a} present unreached used collects may t = ∥∥₁_elim may (hlevel props) (λ k.
       let y = t.goes k.0 k.1 tt in
       let same = (same_tables y.2 ((fits a k.0 k.1).role ∙ collects)).used in
@@ -81,6 +96,9 @@ module _ {S : Type 0} {facts : S → Facts} (fits : AreOf facts) where
       let most = k.2.2 in (k.2.1, omega arith))
 
   -- THE TOP TELLS the rest
-  pub words_told : {a b : S} (present unreached : ℕ) (w : Words) → (facts a).stands.role ≡ Collecting → Took facts a b [] anything (λ j k. ShowsUsed w.used k × keeps j k) → HaveWords present unreached w → LoadsTell facts (λ j. 1) a b (λ k. HaveWords present unreached w × ShowsUsed w.used k)
+  pub words_told : {a b : S} (present unreached : ℕ) (w : Words) → (facts a).stands.role ≡ Collecting
+      → Took facts a b [] anything (λ j k. ShowsUsed w.used k × keeps j k) → HaveWords present unreached w
+      → LoadsTell facts (λ j. 1) a b (λ k. HaveWords present unreached w × ShowsUsed w.used k)
   words_told {a} present unreached w collects t have = told_so fits (λ j. 1) (λ k s. omega arith) (λ k s h. h)
-      (told_turn fits collects (told_none fits a {tells = anything} (λ k s. tt)) t (λ k can h. tt) (λ k k' shown. ap (λ (g : Holdings). g.moving) shown.1) (λ k k' s same last was shown. (have, shown.0)))
+      (told_turn fits collects (told_none fits a {tells = anything} (λ k s. tt)) t (λ k can h. tt)
+      (λ k k' shown. ap (λ (g : Holdings). g.moving) shown.1) (λ k k' s same last was shown. (have, shown.0)))

@@ -1,5 +1,6 @@
 -- What a census tells, as counts over the state of the machine.
-use Rattle.std.specs.Prelude.{◌≡◌, ◌+◌, ◌<◌, ◌≤◌, ◌==◌, ◌&&◌, ◌||◌, ◌^◌, ℕ, Bool, true, false, not, Option, Some, None, is_some, List, slice_index_or}
+use Rattle.std.specs.Prelude.{◌≡◌, ◌+◌, ◌<◌, ◌≤◌, ◌==◌, ◌&&◌, ◌||◌, ◌^◌, ℕ, Bool, true}
+use Rattle.std.specs.Prelude.{false, not, Option, Some, None, is_some, List, slice_index_or}
 use Rattle.jr_word.specs.declared.config.Config.{Config}
 use Rattle.jr_word.specs.declared.handle.RefKind.{RefKind}
 use Rattle.jr_word.specs.declared.handle.RefKind.TheVariants.{Global, Weak}
@@ -28,7 +29,8 @@ is_cleared _ = false
 
 -- how many references of the kind stand at the index so, of all serials
 abbrev pub at_index : ℕ → (Found → Bool) → RefKind → (Handle → Found) → ℕ → ℕ
-at_index last so kind refs i = count_below (last + 1) (λ n. so (refs (record { kind = kind; serial = n; index = i; owner = 0 })))
+at_index last so kind refs i =
+    count_below (last + 1) (λ n. so (refs (record { kind = kind; serial = n; index = i; owner = 0 })))
 
 -- the reference of the last serial at the index
 abbrev pub last_of : ℕ → RefKind → ℕ → Handle
@@ -36,7 +38,8 @@ last_of last kind i = record { kind = kind; serial = last; index = i; owner = 0 
 
 -- nothing is created at the index any more: a reference of the last serial was created there, and none of it stands
 abbrev pub is_retired : ℕ → State → ℕ → Bool
-is_retired last s i = (s.given (last_of last Global i) || s.given (last_of last Weak i)) && not (is_there (s.refs (last_of last Global i)) || is_there (s.refs (last_of last Weak i)))
+is_retired last s i = (s.given (last_of last Global i) || s.given (last_of last Weak i))
+    && not (is_there (s.refs (last_of last Global i)) || is_there (s.refs (last_of last Weak i)))
 
 -- SO MANY REFERENCES STAND at the indexes below n, and so many of these indexes are retired
 pub record AreSlots (n last : ℕ) (s : State) (x : Slots) : Type 0 where
@@ -89,11 +92,14 @@ unmarked marks objects o = unless (slice_index_or marks o false) (objects o)
 abbrev pub marked : List Bool → (ℕ → Option Contents) → ℕ → Option Contents
 marked marks objects o = unless (not (slice_index_or marks o false)) (objects o)
 
--- SO MANY WORDS THE OBJECTS HAVE THAT ARE REACHED: those that are marked, where marked means reached; they are the words that are used once all others are dropped and the top is set
+-- SO MANY WORDS THE OBJECTS HAVE THAT ARE REACHED: those that are marked, where marked means reached;
+-- they are the words that are used once all others are dropped and the top is set
 abbrev pub AreReached : Config → State → ℕ → Type 0
-AreReached c s n = (marks : List Bool) × IsExactly marks s × (n ≡ present_words c (record s { objects = marked marks s.objects }))
+AreReached c s n =
+    (marks : List Bool) × IsExactly marks s × (n ≡ present_words c (record s { objects = marked marks s.objects }))
 
--- SO MANY WORDS ARE USED, so many of them no present object has, so many have the objects that are reached, and so many are the others, which a collection frees
+-- SO MANY WORDS ARE USED, so many of them no present object has, so many have the
+-- objects that are reached, and so many are the others, which a collection frees
 pub record AreUsedWords (c : Config) (s : State) (x : Words) : Type 0 where
   pub used : x.used ≡ s.used
   pub lost : x.lost + present_words c s ≡ s.used
@@ -148,7 +154,8 @@ pub record IsRoomFor (h : Option HeaderParts) (x : ObjectCounts) : Type 0 where
   pub live : x.live ≤ 65535
   pub words : x.words + header_words h < 2 ^ 32
 
--- For the crate's own functions: the words that are used, of which the present objects have so many, and those that nothing reaches so many
+-- For the crate's own functions:
+-- the words that are used, of which the present objects have so many, and those that nothing reaches so many
 pub record HaveWords (present unreached : ℕ) (x : Words) : Type 0 where
   pub lost : x.lost + present ≡ x.used
   pub reached : x.reached + unreached ≡ present

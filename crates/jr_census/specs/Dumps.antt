@@ -16,9 +16,11 @@ HasSlots n last s slots = (i : ℕ) → i < n → SaysOfSlot last s.refs s.given
 
 -- the first n local places of a thread are kept, from a place of the notes on
 abbrev pub HasPlacesOf : ℕ → ℕ → (ℕ → Option ℕ) → List LocalParts → Type 0
-HasPlacesOf start n places notes = (p : ℕ) → p < n → local_parts (places p) ≡ slice_index_or notes (start + p) local.Free
+HasPlacesOf start n places notes =
+    (p : ℕ) → p < n → local_parts (places p) ≡ slice_index_or notes (start + p) local.Free
 
--- EACH LOCAL PLACE below n of the first threads is kept, with the object that its reference names: those of one thread behind those of the threads before it
+-- EACH LOCAL PLACE below n of the first threads is kept, with the object that its reference names:
+-- those of one thread behind those of the threads before it
 abbrev pub HasPlaces : ℕ → ℕ → State → List LocalParts → Type 0
 HasPlaces threads n s notes = (t : ℕ) → t < threads → HasPlacesOf (t * n) n (s.locals t) notes
 

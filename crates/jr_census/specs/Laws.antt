@@ -14,11 +14,13 @@ use Rattle.jr_census.specs.Taking.{IsCensusOf}
 
 -- SO MANY OBJECTS ARE LISTED, of each kind and together, and so many words they have
 pub record AreListed (numbers : List ℕ) (objects : ℕ → Option Contents) (x : ObjectCounts) : Type 0 where
-  pub kinds : (kind : Kind) → count_of x.kinds kind ≡ sum_by (λ o. if is_present_as kind (objects o) then 1 else 0) numbers
+  pub kinds : (kind : Kind)
+      → count_of x.kinds kind ≡ sum_by (λ o. if is_present_as kind (objects o) then 1 else 0) numbers
   pub live : x.live ≡ length numbers
   pub words : x.words ≡ sum_by (λ o. length_of (objects o)) numbers
 
--- A COLLECTION IS FORETOLD by a census of the state, where it drops these objects and leaves so many words used: the census told these objects as unreached, these words as reached, and as freed the others that were used
+-- A COLLECTION IS FORETOLD by a census of the state, where it drops these objects and leaves so many words used:
+-- the census told these objects as unreached, these words as reached, and as freed the others that were used
 pub record IsForetold (s : State) (x : Census) (dropped : List ℕ) (used : ℕ) : Type 0 where
   pub drops : AreListed dropped s.objects x.unreached
   pub leaves : x.words.reached ≡ used
@@ -26,7 +28,9 @@ pub record IsForetold (s : State) (x : Census) (dropped : List ℕ) (used : ℕ)
 
 -- a census of a state foretells each collection that leaves nothing out, where its shut finds the same tables
 abbrev pub CollectionIsForetold : Config → ℕ → Type 0
-CollectionIsForetold c last = (s : State) (x : Census) (t : ℕ) (before inside rest : History) (cleared : List Handle) (dropped : List ℕ) (used : ℕ)
+CollectionIsForetold c last = (s : State) (x : Census) (t : ℕ) (before inside rest : History) (cleared : List Handle)
+    (dropped : List ℕ) (used : ℕ)
     → IsCensusOf c last s x → HaveSameTables s (state before)
     → IsLegal c last (before ++ by t (Gate Shut) ∷ inside ++ by t (Gate Reopen) ∷ rest)
-    → mine inside t ≡ sweeping_acts cleared dropped used → IsWhole (state before) cleared dropped → IsForetold s x dropped used
+    → mine inside t ≡ sweeping_acts cleared dropped used → IsWhole (state before) cleared dropped
+    → IsForetold s x dropped used

@@ -20,7 +20,8 @@ use Rattle.jr_census.specs.Dumps.{HasObjects, HasPlaces, HasSlots}
 use Rattle.jr_census.specs.declared.objects.Objects.{Objects}
 use Rattle.jr_census.specs.Counts.{AreSlots, AreLocals, AreObjects, AreUsedWords, unmarked}
 
--- SO MANY OBJECTS ARE PRESENT THAT NOTHING REACHES, with the numbers up to n: those but the ones that are marked, where marked means reached
+-- SO MANY OBJECTS ARE PRESENT THAT NOTHING REACHES, with the numbers up to n:
+-- those but the ones that are marked, where marked means reached
 abbrev pub AreUnreached : ℕ → State → Objects → Type 0
 AreUnreached n s x = (marks : List Bool) × IsExactly marks s × AreObjects n (unmarked marks s.objects) x
 
@@ -32,8 +33,10 @@ pub record IsCensusOf (c : Config) (last : ℕ) (s : State) (x : Census) : Type 
   pub unreached : AreUnreached c.objects s x.unreached
   pub words : AreUsedWords c s x.words
 
--- THE DUMP IS THE STATE'S: each slot, each local place of each thread, and each object number is kept as it stands there
-pub record IsDumpOf (c : Config) (last : ℕ) (s : State) (noted : List SlotParts) (places : List LocalParts) (headers : List (Option HeaderParts)) (words : List ℕ) : Type 0 where
+-- THE DUMP IS THE STATE'S:
+-- each slot, each local place of each thread, and each object number is kept as it stands there
+pub record IsDumpOf (c : Config) (last : ℕ) (s : State) (noted : List SlotParts) (places : List LocalParts)
+    (headers : List (Option HeaderParts)) (words : List ℕ) : Type 0 where
   pub slots : HasSlots c.slots last s noted
   pub locals : HasPlaces c.threads c.locals s places
   pub objects : HasObjects c.objects s headers words
@@ -45,21 +48,25 @@ pub record ShutIn (old new : PassView) : Type 0 where
   pub from : IsPrefix old.seen before
   pub parts : new.seen ≡ before ++ by old.thread (Gate Shut) ∷ rest
 
--- IT WAS TOLD between two moments: the thread shut the gate and opened it, and did nothing else, and what is told is so of the state at that shut
+-- IT WAS TOLD between two moments:
+-- the thread shut the gate and opened it, and did nothing else, and what is told is so of the state at that shut
 pub record IsTold (old new : PassView) (tells : Config → ℕ → State → Type 0) : Type 0 where
   pub did : Did old new (Gate Shut ∷ Gate Reopen ∷ [])
   pub shut : ShutIn old new
   pub told : tells old.config old.last (state shut.before)
 
--- the operations of a census, but two at the gate: those of marking, a look at each slot, at each header, and at each local place of each thread, and one at the top
+-- the operations of a census, but two at the gate:
+-- those of marking, a look at each slot, at each header, and at each local place of each thread, and one at the top
 abbrev pub counting_steps : Config → ℕ
 counting_steps c = marking_steps c + (c.slots + c.objects + c.threads * c.locals) + 1
 
--- those of a dump: a look at each slot, at each local place of each thread, at each header, and at each word of the space
+-- those of a dump:
+-- a look at each slot, at each local place of each thread, at each header, and at each word of the space
 abbrev pub noting_steps : Config → ℕ
 noting_steps c = c.slots + c.threads * c.locals + (c.objects + c.words)
 
--- For the crate's own functions: what comes after the shut: what is told is so of the state then, and the gate is opened at last
+-- For the crate's own functions: what comes after the shut:
+-- what is told is so of the state then, and the gate is opened at last
 pub record ToldFrom (most : Config → ℕ) (tells : Config → ℕ → State → Type 0) (j k : Known) : Type 0 where
   pub opening : Known
   pub seen : SeesWithin (most j.config) j opening
@@ -69,12 +76,15 @@ pub record ToldFrom (most : Config → ℕ) (tells : Config → ℕ → State �
 module _ {S : Type 0} (facts : S → Facts) (most : Config → ℕ) (tells : Config → ℕ → State → Type 0) where
   -- For the crate's own functions: it was told, once the gate was shut
   abbrev pub TellsOnce : S → S → Type 0
-  TellsOnce old new = Went facts old new (standing_after (facts old).stands (Gate Reopen ∷ [])) CanReopen (λ j k. ToldFrom most tells j k) lets_go
+  TellsOnce old new = Went facts old new (standing_after (facts old).stands (Gate Reopen ∷ [])) CanReopen
+      (λ j k. ToldFrom most tells j k) lets_go
 
-  -- IT WAS TOLD BY A CALL, in its own window, by no more operations than the room's sizes say, and two; and nothing is held then
+  -- IT WAS TOLD BY A CALL, in its own window, by no more operations than the room's sizes say, and two;
+  -- and nothing is held then
   abbrev pub TakesTold : S → S → Type 0
   TakesTold old new = Went facts old new (facts old).stands anything (λ j k. IsTold (view j) (view k) tells)
-      (λ j k. lets_go j k × ((begun : History) × IsWindow (view j) (view k) (Gate Shut ∷ Gate Reopen ∷ []) begun) × TakesWithin (most j.config + 2) j k)
+      (λ j k. lets_go j k × ((begun : History) × IsWindow (view j) (view k) (Gate Shut ∷ Gate Reopen ∷ []) begun)
+      × TakesWithin (most j.config + 2) j k)
 
 module _ {S : Type 0} (facts : S → Facts) (old new : S) where
   -- For the crate's own functions: it was counted, once the gate was shut
@@ -87,8 +97,10 @@ module _ {S : Type 0} (facts : S → Facts) (old new : S) where
 
   -- For the crate's own functions: it was noted, once the gate was shut
   abbrev pub Notes : List SlotParts → List LocalParts → List (Option HeaderParts) → List ℕ → Type 0
-  Notes noted locals headers words = TellsOnce facts noting_steps (λ c last s. IsDumpOf c last s noted locals headers words) old new
+  Notes noted locals headers words =
+      TellsOnce facts noting_steps (λ c last s. IsDumpOf c last s noted locals headers words) old new
 
   -- A DUMP WAS TAKEN
   abbrev pub TakesDump : List SlotParts → List LocalParts → List (Option HeaderParts) → List ℕ → Type 0
-  TakesDump noted locals headers words = TakesTold facts noting_steps (λ c last s. IsDumpOf c last s noted locals headers words) old new
+  TakesDump noted locals headers words =
+      TakesTold facts noting_steps (λ c last s. IsDumpOf c last s noted locals headers words) old new

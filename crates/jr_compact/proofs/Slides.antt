@@ -21,7 +21,8 @@ pub record IsSlidTo (o place i : ℕ) (k k' : Known) : Type 0 where
   pub others : with_move k'.holdings None ≡ with_move k.holdings None
 
 -- the same of steps, no more than so many
-pub record SlidTo {S : Type 0} (facts : S → Facts) (o : ℕ) (h : HeaderParts) (place : ℕ) (old new : S) (most i : ℕ) : Type 0 where
+pub record SlidTo {S : Type 0} (facts : S → Facts) (o : ℕ) (h : HeaderParts) (place : ℕ) (old new : S)
+    (most i : ℕ) : Type 0 where
   pub stands_is : (facts new).stands ≡ (facts old).stands
   pub hint_is : (facts new).hint ≡ (facts old).hint
   pub did : Leads facts old new (CanSlide o h place) (SeesWithin most) (IsSlidTo o place i)
@@ -35,11 +36,15 @@ module _ {S : Type 0} {facts : S → Facts} (fits : AreOf facts) (o : ℕ) (h : 
     known_still k k' can s = ap (λ (g : Holdings). header_in o g.headers) s.others ∙ can.known
 
     -- an element that is still to be moved stands where its header says
-    pub later_there : (j : ℕ) → i ≤ j → j < h.length → MayKnow facts a (CanSlide o h place) → MayKnow facts b (IsThere o h j)
-    later_there j m l may = ∥∥₁_map may (λ k. let x = p.did k.0 k.1 k.2 in (x.0, x.1, there_left o j place i h x.0 (known_still k.0 x.0 k.2 x.3) l (x.3).done m))
+    pub later_there : (j : ℕ) → i ≤ j → j < h.length → MayKnow facts a (CanSlide o h place)
+        → MayKnow facts b (IsThere o h j)
+    later_there j m l may = ∥∥₁_map may (λ k. let x = p.did k.0 k.1 k.2 in
+        (x.0, x.1, there_left o j place i h x.0 (known_still k.0 x.0 k.2 x.3) l (x.3).done m))
 
     -- and a look at it changes nothing
-    pub slid_looked : {c : S} {v : ℕ} (j : ℕ) → i ≤ j → j < h.length → Took facts b c [] (IsThere o h j) (λ j' k. ShowsElement o j v k × keeps j' k) → SlidTo facts o h place a c (most + 1) i
+    pub slid_looked : {c : S} {v : ℕ} (j : ℕ) → i ≤ j → j < h.length
+        → Took facts b c [] (IsThere o h j) (λ j' k. ShowsElement o j v k × keeps j' k)
+        → SlidTo facts o h place a c (most + 1) i
     slid_looked j m l looked = record {
       stands_is = looked.stands_is ∙ p.stands_is;
       hint_is = looked.hint_is ∙ p.hint_is;
@@ -58,18 +63,26 @@ module _ {S : Type 0} {facts : S → Facts} (fits : AreOf facts) (o : ℕ) (h : 
 
     -- no more than a greater number of steps
     pub slid_within : (n : ℕ) → most ≤ n → SlidTo facts o h place a b n i
-    slid_within n few = record { stands_is = p.stands_is; hint_is = p.hint_is; did = λ k s can. let x = p.did k s can in (x.0, x.1, within_most n few x.2, x.3) }
+    slid_within n few = record {
+      stands_is = p.stands_is;
+      hint_is = p.hint_is;
+      did = λ k s can. let x = p.did k s can in (x.0, x.1, within_most n few x.2, x.3);
+    }
 
     -- the next element stands where its header says
     pub next_there : i < h.length → MayKnow facts a (CanSlide o h place) → MayKnow facts b (IsThere o h i)
-    next_there l may = ∥∥₁_map may (λ k. let x = p.did k.0 k.1 k.2 in (x.0, x.1, there_left o i place i h x.0 (known_still k.0 x.0 k.2 x.3) l (x.3).done (omega arith)))
+    next_there l may = ∥∥₁_map may (λ k. let x = p.did k.0 k.1 k.2 in
+        (x.0, x.1, there_left o i place i h x.0 (known_still k.0 x.0 k.2 x.3) l (x.3).done (omega arith)))
 
     -- and was looked at
-    module _ {c : S} {v : ℕ} (collects : (facts a).stands.role ≡ Collecting) (l : i < h.length) (looked : Took facts b c [] (IsThere o h i) (λ j k. ShowsElement o i v k × keeps j k)) where
-      seen_next : (k : Known) → (facts a).knows k → CanSlide o h place k → (k' : Known) × (facts c).knows k' × SeesWithin (most + 1) k k' × IsSlidTo o place i k k' × ShowsElement o i v k'
+    module _ {c : S} {v : ℕ} (collects : (facts a).stands.role ≡ Collecting) (l : i < h.length)
+        (looked : Took facts b c [] (IsThere o h i) (λ j k. ShowsElement o i v k × keeps j k)) where
+      seen_next : (k : Known) → (facts a).knows k → CanSlide o h place k → (k' : Known) × (facts c).knows k'
+          × SeesWithin (most + 1) k k' × IsSlidTo o place i k k' × ShowsElement o i v k'
       seen_next k s can =
           let x = p.did k s can in
-          let y = looked.goes x.0 x.1 (there_left o i place i h x.0 (known_still k x.0 can x.3) l (x.3).done (omega arith)) in (
+          let y =
+          looked.goes x.0 x.1 (there_left o i place i h x.0 (known_still k x.0 can x.3) l (x.3).done (omega arith)) in (
             y.0,
             y.1,
             within_more x.2 y.2,
@@ -80,7 +93,8 @@ module _ {S : Type 0} {facts : S → Facts} (fits : AreOf facts) (o : ℕ) (h : 
             y.3.0,
           )
 
-      can_move : (k k' : Known) → (facts a).knows k → CanSlide o h place k → Sees k k' → IsSlidTo o place i k k' → ShowsElement o i v k' → CanMove o h place i v k'
+      can_move : (k k' : Known) → (facts a).knows k → CanSlide o h place k → Sees k k' → IsSlidTo o place i k k'
+          → ShowsElement o i v k' → CanMove o h place i v k'
       can_move k k' s can g slid element =
           let same : HaveSameTables (state_of k) (state_of k') = tables_seen g ((fits a k s).role ∙ collects) in
           let room = can.room i l in
@@ -98,10 +112,12 @@ module _ {S : Type 0} {facts : S → Facts} (fits : AreOf facts) (o : ℕ) (h : 
 
       -- it may be moved
       pub next_movable : MayKnow facts a (CanSlide o h place) → MayKnow facts c (CanMove o h place i v)
-      next_movable may = ∥∥₁_map may (λ k. let x = seen_next k.0 k.1 k.2 in (x.0, x.1, can_move k.0 x.0 k.1 k.2 (x.2).sees x.3 x.4))
+      next_movable may =
+          ∥∥₁_map may (λ k. let x = seen_next k.0 k.1 k.2 in (x.0, x.1, can_move k.0 x.0 k.1 k.2 (x.2).sees x.3 x.4))
 
       -- one more element is moved
-      pub slid_more : {d : S} → Took facts c d [] (CanMove o h place i v) (ShowsMoved o place i) → SlidTo facts o h place a d (most + 1 + 1) (i + 1)
+      pub slid_more : {d : S} → Took facts c d [] (CanMove o h place i v) (ShowsMoved o place i)
+          → SlidTo facts o h place a d (most + 1 + 1) (i + 1)
       slid_more t = record {
         stands_is = t.stands_is ∙ (looked.stands_is ∙ p.stands_is);
         hint_is = t.hint_is ∙ (looked.hint_is ∙ p.hint_is);
@@ -120,14 +136,16 @@ module _ {S : Type 0} {facts : S → Facts} (fits : AreOf facts) (o : ℕ) (h : 
 
     module _ (all : i ≡ h.length) where
       can_place : (k k' : Known) → CanSlide o h place k → IsSlidTo o place i k k' → CanPlace o h place k'
-      can_place k k' can slid = record { known = known_still k k' can slid; done = subst (HasDone k'.holdings.moving o place) all slid.done }
+      can_place k k' can slid =
+          record { known = known_still k k' can slid; done = subst (HasDone k'.holdings.moving o place) all slid.done }
 
       -- the header may be set once all elements are moved
       pub placeable : MayKnow facts a (CanSlide o h place) → MayKnow facts b (CanPlace o h place)
       placeable may = ∥∥₁_map may (λ k. let x = p.did k.0 k.1 k.2 in (x.0, x.1, can_place k.0 x.0 k.2 x.3))
 
       -- and then the object is moved
-      pub slid_all : {c : S} → Took facts b c [] (CanPlace o h place) (ShowsPlaced o h place) → SawWithin facts (λ j. most + 1) a c (CanSlide o h place) (ShowsPlaced o h place)
+      pub slid_all : {c : S} → Took facts b c [] (CanPlace o h place) (ShowsPlaced o h place)
+          → SawWithin facts (λ j. most + 1) a c (CanSlide o h place) (ShowsPlaced o h place)
       slid_all t = record {
         stands_is = t.stands_is ∙ p.stands_is;
         hint_is = t.hint_is ∙ p.hint_is;

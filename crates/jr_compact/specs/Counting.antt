@@ -13,5 +13,7 @@ pub record SeesWithin (most : ℕ) (k k' : Known) : Type 0 where
   pub within : TakesWithin most k k'
 
 -- SEVERAL STEPS WITHOUT AN ACT WERE TAKEN, and no more than this says of what was known
-abbrev pub SawWithin : {S : Type 0} → (S → Facts) → (Known → ℕ) → S → S → (Known → Type 0) → (Known → Known → Type 0) → Type 0
-SawWithin facts most old new met shows = Went facts old new (facts old).stands met (λ j k. SeesWithin (most j) j k) shows
+abbrev pub SawWithin : {S : Type 0} → (S → Facts) → (Known → ℕ) → S → S → (Known → Type 0) → (Known → Known → Type 0)
+    → Type 0
+SawWithin facts most old new met shows =
+    Went facts old new (facts old).stands met (λ j k. SeesWithin (most j) j k) shows

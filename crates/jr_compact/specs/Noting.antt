@@ -33,7 +33,8 @@ pub record AreNoted (entries : List PlacedObject) (k : Known) : Type 0 where
   pub settled : IsSettled k
   pub each : All (IsNoted k) entries
   pub distinct : IsDistinct nat_eq (numbers_of entries)
-  pub complete : (o : ℕ) (x : Contents) → (state_of k).objects o ≡ Some x → 1 ≤ length x.words → Contains (numbers_of entries) o
+  pub complete : (o : ℕ) (x : Contents) → (state_of k).objects o ≡ Some x → 1 ≤ length x.words
+      → Contains (numbers_of entries) o
   pub sum : noted_words entries ≡ present_words k.config (state_of k)
 
 -- the object stands at the place, and of the others is known what was

@@ -1,5 +1,6 @@
 -- The last level is given up.
-use Rattle.std.proofs.Common.{◌≡◌, ◌==◌, ◌≤◌, ◌++◌, ◌+◌, ◌-◌, ℕ, zero, suc, true, false, Some, None, List, [], ◌∷◌, length, take, Ok, refl, sym, ap, subst, ◌∙◌, arith}
+use Rattle.std.proofs.Common.{◌≡◌, ◌==◌, ◌≤◌, ◌++◌, ◌+◌, ◌-◌, ℕ, zero, suc, true, false, Some, None}
+use Rattle.std.proofs.Common.{List, [], ◌∷◌, length, take, Ok, refl, sym, ap, subst, ◌∙◌, arith}
 use Rattle.std.proofs.lemmas.Bool.Decides.{nat_tests}
 use Rattle.std.proofs.lemmas.List.{length-append, length-map}
 use mathlib.Core.Logic.{∥∥₁_map}
@@ -39,7 +40,10 @@ last_of (x ∷ y ∷ xs) ys some e =
     let inner : length xs ≡ suc (length xs) - 1 = omega arith in
     let outer : suc (suc (length xs)) - 1 ≡ suc (length xs) = omega arith in
     let z = last_of (y ∷ xs) (take (length xs) (y ∷ xs)) (omega arith) (ap (λ n. take n (y ∷ xs)) inner) in
-    record { last = z.last; is = ap (λ l. x ∷ l) z.is ∙ ap (λ l. l ++ z.last ∷ []) (sym (e ∙ ap (λ n. take n (x ∷ y ∷ xs)) outer)) }
+    record {
+      last = z.last;
+      is = ap (λ l. x ∷ l) z.is ∙ ap (λ l. l ++ z.last ∷ []) (sym (e ∙ ap (λ n. take n (x ∷ y ∷ xs)) outer));
+    }
 
 one_more : {xs ys : List Level} → Longer xs ys → length xs ≡ length ys + 1
 one_more {xs} {ys} z = ap length z.is ∙ length-append ys (z.last ∷ [])
@@ -58,12 +62,14 @@ some_levels : (v : Levels) → 1 ≤ length (objects_of v) → 1 ≤ length v.le
 some_levels v some = subst (λ n. 1 ≤ n) (count v) some
 
 -- with a level left, a release is nothing
-more_left : (p : PassView) (f : Frames) (n : ℕ) → 2 ≤ n → IsLegal p.config p.last p.seen → Ran p p f f (region_release n) (Ok tt)
+more_left : (p : PassView) (f : Frames) (n : ℕ) → 2 ≤ n → IsLegal p.config p.last p.seen
+    → Ran p p f f (region_release n) (Ok tt)
 more_left p f zero few l = absurd (omega arith)
 more_left p f (suc zero) few l = absurd (omega arith)
 more_left p f (suc (suc n)) few l = ran_done p f tt l
 
-module _ {S : Type 0} {facts : S → Facts} {a : S} {t : Table} {v : Levels} (stand : Stand facts v a t) (ys : List Level) (rest : ys ≡ take (length v.levels.items - 1) v.levels.items) where
+module _ {S : Type 0} {facts : S → Facts} {a : S} {t : Table} {v : Levels} (stand : Stand facts v a t) (ys : List Level)
+    (rest : ys ≡ take (length v.levels.items - 1) v.levels.items) where
   abbrev longer : Longer v.levels.items ys
   longer = last_of v.levels.items ys (some_levels v stand.some) rest
 
@@ -83,8 +89,13 @@ module _ {S : Type 0} {facts : S → Facts} {a : S} {t : Table} {v : Levels} (st
       ran = λ k s m.
           let y = took.goes k s tt in
           let d = goes_did y.2 in
-          let left = ran_act t.frames (Gate Leave) (λ out. absurd cc) (λ out. stepped_last (goes_stepped y.2)) d in
-          (y.0, y.1, made_of (spend_step took (λ n i. refl) k s tt t.frames t.frames) (subst (λ n. Ran (view k) (view y.0) t.frames t.frames (region_release n) (Ok tt)) (sym one_level) left), (y.3, holds_did k y.0 t.frames (Gate Leave ∷ []) d (refl, tt) m.1));
+          let left = ran_act t.frames (Gate Leave) (λ out. absurd cc) (λ out. stepped_last (goes_stepped y.2)) d in (
+            y.0,
+            y.1,
+            made_of (spend_step took (λ n i. refl) k s tt t.frames t.frames) (subst
+                (λ n. Ran (view k) (view y.0) t.frames t.frames (region_release n) (Ok tt)) (sym one_level) left),
+            (y.3, holds_did k y.0 t.frames (Gate Leave ∷ []) d (refl, tt) m.1),
+          );
     }
 
     pub ready_left : StandsReady facts Outside b t
@@ -96,17 +107,24 @@ module _ {S : Type 0} {facts : S → Facts} {a : S} {t : Table} {v : Levels} (st
 
   module _ (left : (length ys == 0) ≡ false) (w : Levels) (same : w.levels.items ≡ ys) where
     known_left : (k : Known) → AreKnown v.levels.items k → AreKnown w.levels.items k
-    known_left k known = subst (λ l. AreKnown l k) (sym same) (known_before ys longer.last k (subst (λ l. AreKnown l k) longer.is known))
+    known_left k known =
+        subst (λ l. AreKnown l k) (sym same) (known_before ys longer.last k (subst (λ l. AreKnown l k) longer.is known))
 
     two_levels : 2 ≤ length (objects_of v)
-    two_levels = let e = one_more longer in let z = is_some (length ys) left in subst (λ n. 2 ≤ n) (sym (count v)) (omega arith)
+    two_levels = let e = one_more longer in let z = is_some (length ys) left in
+        subst (λ n. 2 ≤ n) (sym (count v)) (omega arith)
 
     pub closes_last : (fits : AreOf facts) → GivesUpLast facts a a t.frames v (Some w)
     closes_last fits = record {
       stands_is = record { room = refl; config = refl; last = refl; thread = refl; role = stand.ready.role_is };
       ran = λ k s m.
-          let l = (fits a k s).legal in
-          (k, s, made_of (spend_none (facts a) k t.frames t.frames l) (more_left (view k) t.frames (length (objects_of v)) two_levels l), ((known_left k m.0, refl), m.1));
+          let l = (fits a k s).legal in (
+            k,
+            s,
+            made_of (spend_none (facts a) k t.frames t.frames l)
+                (more_left (view k) t.frames (length (objects_of v)) two_levels l),
+            ((known_left k m.0, refl), m.1),
+          );
     }
 
     pub stand_left : w.inside ≡ v.inside → Stand facts w a t
@@ -118,7 +136,8 @@ module _ {S : Type 0} {facts : S → Facts} {a : S} {t : Table} {v : Levels} (st
     }
 
 -- all levels are given up
-module _ {S : Type 0} {facts : S → Facts} {a b : S} {t : Table} {v : Levels} (stand : Stand facts v a t) (took : Took facts a b (Gate Leave ∷ []) anything lets_go) where
+module _ {S : Type 0} {facts : S → Facts} {a b : S} {t : Table} {v : Levels} (stand : Stand facts v a t)
+    (took : Took facts a b (Gate Leave ∷ []) anything lets_go) where
   pub closes_all : GivesUpAll facts a b t.frames v
   closes_all = record {
     stands_is = record {
@@ -131,8 +150,12 @@ module _ {S : Type 0} {facts : S → Facts} {a b : S} {t : Table} {v : Levels} (
     ran = λ k s m.
         let y = took.goes k s tt in
         let d = goes_did y.2 in
-        let left = ran_act t.frames (Gate Leave) (λ out. absurd cc) (λ out. stepped_last (goes_stepped y.2)) d in
-        (y.0, y.1, made_of (spend_step took (λ n i. refl) k s tt t.frames t.frames) left, (y.3, holds_did k y.0 t.frames (Gate Leave ∷ []) d (refl, tt) m.1));
+        let left = ran_act t.frames (Gate Leave) (λ out. absurd cc) (λ out. stepped_last (goes_stepped y.2)) d in (
+          y.0,
+          y.1,
+          made_of (spend_step took (λ n i. refl) k s tt t.frames t.frames) left,
+          (y.3, holds_did k y.0 t.frames (Gate Leave ∷ []) d (refl, tt) m.1),
+        );
   }
 
   pub ready_outside : StandsReady facts Outside b t

@@ -1,5 +1,6 @@
 -- The object of a new level is found.
-use Rattle.std.proofs.Common.{◌≡◌, ℕ, Bool, true, false, ◌<◌, ◌≤◌, nat_le, Result, Ok, Err, refl, sym, ap, subst, ◌∙◌, arith}
+use Rattle.std.proofs.Common.{◌≡◌, ℕ, Bool, true, false, ◌<◌, ◌≤◌, nat_le}
+use Rattle.std.proofs.Common.{Result, Ok, Err, refl, sym, ap, subst, ◌∙◌, arith}
 use Rattle.std.proofs.lemmas.Bool.Decides.{nat_tests}
 use Rattle.std.specs.Result.{IsErrAnd}
 use Rattle.std.proofs.lemmas.Result.{err_from_is_err_and}
@@ -55,8 +56,10 @@ module _ (v : PassView) (f : Frames) (l : IsLegal v.config v.last v.seen) where
   abbrev elements : Bool → ℕ → ℕ → Call ℕ
   elements b n o = refuse_if b WrongElement >>= (λ u. room n o)
 
-  ran_array : (n o : ℕ) → Ran v v f f (refuse_if false NotArray >>= (λ u. elements false n o)) (answer_of (Ok tt) (nat_le LEVELS n) o)
-  ran_array n o = ran_passed false NotArray (λ u. elements false n o) refl (ran_passed false WrongElement (λ u. room n o) refl (ran_room (nat_le LEVELS n) o))
+  ran_array : (n o : ℕ)
+      → Ran v v f f (refuse_if false NotArray >>= (λ u. elements false n o)) (answer_of (Ok tt) (nat_le LEVELS n) o)
+  ran_array n o = ran_passed false NotArray (λ u. elements false n o) refl
+      (ran_passed false WrongElement (λ u. room n o) refl (ran_room (nat_le LEVELS n) o))
 
   ran_no_array : (b : Bool) (n o : ℕ) → Ran v v f f (refuse_if true NotArray >>= (λ u. elements b n o)) (Err NotArray)
   ran_no_array b n o = ran_refused v f true NotArray (λ u. elements b n o) refl tt l
@@ -65,10 +68,12 @@ module _ (v : PassView) (f : Frames) (l : IsLegal v.config v.last v.seen) where
   ran_no_text n o = ran_refused v f true WrongKind (λ u. room n o) refl tt l
 
   -- the checks take no step
-  pub ran_level : (wanted : Wanted) (k : Kind) (n o : ℕ) → Ran v v f f (level_checks wanted k n o) (level_answer wanted k n o)
+  pub ran_level : (wanted : Wanted) (k : Kind) (n o : ℕ)
+      → Ran v v f f (level_checks wanted k n o) (level_answer wanted k n o)
   ran_level Array kind.Plain n o = ran_no_array true n o
   ran_level Array kind.Text n o = ran_no_array true n o
-  ran_level Array kind.Objects n o = ran_passed false NotArray (λ u. elements true n o) refl (ran_refused v f true WrongElement (λ u. room n o) refl tt l)
+  ran_level Array kind.Objects n o = ran_passed false NotArray (λ u. elements true n o) refl
+      (ran_refused v f true WrongElement (λ u. room n o) refl tt l)
   ran_level Array kind.Boolean n o = ran_array n o
   ran_level Array kind.Byte n o = ran_array n o
   ran_level Array kind.Char n o = ran_array n o
@@ -91,34 +96,57 @@ next_at wanted n s o = for_object s o (λ k m. level_checks wanted k n o)
 
 module _ {S : Type 0} {facts : S → Facts} {a b : S} {f : Frames} (w : Word) (wanted : Wanted) (n : ℕ) where
   -- it names no object
-  pub level_not_found : {e : Fault} (answer : Result Level Fault) → IsErrAnd answer (λ y. y ≡ e) → FindsBeside facts a b f w (Err e) → FindsLevel facts a b f wanted n w answer
+  pub level_not_found : {e : Fault} (answer : Result Level Fault) → IsErrAnd answer (λ y. y ≡ e)
+      → FindsBeside facts a b f w (Err e) → FindsLevel facts a b f wanted n w answer
   level_not_found {e} answer given p =
       let why = err_from_is_err_and answer given in
-      subst (λ (z : Result Level Fault). FindsLevel facts a b f wanted n w z) (sym (why.1 ∙ ap (λ (y : Fault). Err y) why.2)) (record {
+      subst (λ (z : Result Level Fault). FindsLevel facts a b f wanted n w z)
+      (sym (why.1 ∙ ap (λ (y : Fault). Err y) why.2)) (record {
         stands_is = p.stands_is;
-        ran = λ k s m. let x = p.ran k s m in
-            (x.0, x.1, made_of (spending x.2) (ran_not_found (facts a).stands.config (facts a).stands.last (facts a).stands.thread w (state_of x.0) e (next_at wanted n (state_of x.0)) x.2.ran), (steps_keep_headers.kept k x.0 x.3.0, x.3.1));
+        ran = λ k s m. let x = p.ran k s m in (
+          x.0,
+          x.1,
+          made_of (spending x.2) (ran_not_found (facts a).stands.config (facts a).stands.last (facts a).stands.thread w
+              (state_of x.0) e (next_at wanted n (state_of x.0)) x.2.ran),
+          (steps_keep_headers.kept k x.0 x.3.0, x.3.1),
+        );
       })
 
   module _ (fits : AreOf facts) {o : ℕ} {h : HeaderParts} (p : FindsBeside facts a b f w (Ok (o, h))) where
     -- it names one, and the checks answer this
-    level_checked : (answer : Result Level Fault) → object_found answer ≡ level_answer wanted h.kind n o → ((j k : Known) → Learns o h j k → LearnsLevel answer j k) → FindsLevel facts a b f wanted n w answer
+    level_checked : (answer : Result Level Fault) → object_found answer ≡ level_answer wanted h.kind n o
+        → ((j k : Known) → Learns o h j k → LearnsLevel answer j k) → FindsLevel facts a b f wanted n w answer
     level_checked answer is learns = record {
       stands_is = p.stands_is;
       ran = λ k s m.
           let x = p.ran k s m in
-          let ran = ran_for x.0 o h (λ q i. level_checks wanted q n o) x.3.0.0 (ran_level (view x.0) f (fits b x.0 x.1).legal wanted h.kind n o) in
-          let whole = ran_found (facts a).stands.config (facts a).stands.last (facts a).stands.thread w (state_of x.0) o h.length h.kind (next_at wanted n (state_of x.0)) x.2.ran ran in
-          (x.0, x.1, made_of (spending x.2) (subst (λ (r : Result ℕ Fault). Ran (view k) (view x.0) f f (level_work wanted (facts a).stands.config (facts a).stands.last (facts a).stands.thread (state_of x.0) n w) r) (sym is) whole), (learns k x.0 x.3.0, x.3.1));
+          let ran = ran_for x.0 o h (λ q i. level_checks wanted q n o) x.3.0.0
+          (ran_level (view x.0) f (fits b x.0 x.1).legal wanted h.kind n o) in
+          let whole = ran_found (facts a).stands.config (facts a).stands.last (facts a).stands.thread w (state_of x.0) o
+          h.length h.kind (next_at wanted n (state_of x.0)) x.2.ran ran in (
+            x.0,
+            x.1,
+            made_of (spending x.2) (subst (λ (r : Result ℕ Fault). Ran (view k) (view x.0) f f (level_work wanted (facts
+                a).stands.config (facts a).stands.last (facts a).stands.thread (state_of x.0) n w) r) (sym is) whole),
+            (learns k x.0 x.3.0, x.3.1),
+          );
     }
 
-    pub level_found : kind_answer wanted h.kind ≡ Ok tt → nat_le LEVELS n ≡ false → FindsLevel facts a b f wanted n w (Ok (record { object = o; header = h }))
-    level_found kinds room = level_checked (Ok (record { object = o; header = h })) (sym (ap (λ r. answer_of r (nat_le LEVELS n) o) kinds ∙ ap (λ b. answer_of (Ok tt) b o) room)) (λ j k l. l)
+    pub level_found : kind_answer wanted h.kind ≡ Ok tt → nat_le LEVELS n ≡ false
+        → FindsLevel facts a b f wanted n w (Ok (record { object = o; header = h }))
+    level_found kinds room = level_checked (Ok (record { object = o; header = h }))
+        (sym (ap (λ r. answer_of r (nat_le LEVELS n) o) kinds ∙ ap (λ b. answer_of (Ok tt) b o) room)) (λ j k l. l)
 
-    pub level_too_many : kind_answer wanted h.kind ≡ Ok tt → nat_le LEVELS n ≡ true → FindsLevel facts a b f wanted n w (Err Size)
-    level_too_many kinds full = level_checked (Err Size) (sym (ap (λ r. answer_of r (nat_le LEVELS n) o) kinds ∙ ap (λ b. answer_of (Ok tt) b o) full)) (λ j k l. calls_keep_headers.learned j k o h l)
+    pub level_too_many : kind_answer wanted h.kind ≡ Ok tt → nat_le LEVELS n ≡ true
+        → FindsLevel facts a b f wanted n w (Err Size)
+    level_too_many kinds full = level_checked (Err Size)
+        (sym (ap (λ r. answer_of r (nat_le LEVELS n) o) kinds ∙ ap (λ b. answer_of (Ok tt) b o) full)) (λ j k l.
+        calls_keep_headers.learned j k o h l)
 
-    pub level_of_no_kind : {e : Fault} (answer : Result Level Fault) → IsErrAnd answer (λ y. y ≡ e) → kind_answer wanted h.kind ≡ Err e → FindsLevel facts a b f wanted n w answer
+    pub level_of_no_kind : {e : Fault} (answer : Result Level Fault) → IsErrAnd answer (λ y. y ≡ e)
+        → kind_answer wanted h.kind ≡ Err e → FindsLevel facts a b f wanted n w answer
     level_of_no_kind {e} answer given kinds =
         let why = err_from_is_err_and answer given in
-        subst (λ (z : Result Level Fault). FindsLevel facts a b f wanted n w z) (sym (why.1 ∙ ap (λ (y : Fault). Err y) why.2)) (level_checked (Err e) (sym (ap (λ r. answer_of r (nat_le LEVELS n) o) kinds)) (λ j k l. calls_keep_headers.learned j k o h l))
+        subst (λ (z : Result Level Fault). FindsLevel facts a b f wanted n w z)
+        (sym (why.1 ∙ ap (λ (y : Fault). Err y) why.2)) (level_checked (Err e)
+        (sym (ap (λ r. answer_of r (nat_le LEVELS n) o) kinds)) (λ j k l. calls_keep_headers.learned j k o h l))

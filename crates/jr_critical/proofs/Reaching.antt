@@ -1,5 +1,6 @@
 -- Calls at an element of a level's object.
-use Rattle.std.proofs.Common.{◌≡◌, ◌≢◌, ◌<◌, ℕ, true, false, not, nat_le, length, [], ◌∷◌, Result, Ok, Err, refl, sym, ap, ◌∙◌}
+use Rattle.std.proofs.Common.{◌≡◌, ◌≢◌, ◌<◌, ℕ, true, false, not, nat_le, length}
+use Rattle.std.proofs.Common.{[], ◌∷◌, Result, Ok, Err, refl, sym, ap, ◌∙◌}
 use Rattle.std.proofs.Math.Logic.{∥∥₁_elim}
 use Rattle.std.proofs.Props.{props}
 use mathlib.Core.Logic.{∥∥₁_map}
@@ -20,7 +21,8 @@ use Rattle.jr_model.specs.Checks.{is_read_as, is_text, same_element}
 use Rattle.jr_model.proofs.Agreement.{spares_places}
 use Rattle.jr_model.proofs.Runs.{ran_act, ran_some_act}
 use Rattle.jr_steps.specs.declared.known.Known.{Known}
-use Rattle.jr_steps.specs.Knowing.{AreOf, Facts, MayKnow, Standing, keeps, view, state_of, standing_after, KnowsHeader, Took}
+use Rattle.jr_steps.specs.Knowing.{AreOf, Facts, MayKnow, Standing, keeps, view}
+use Rattle.jr_steps.specs.Knowing.{state_of, standing_after, KnowsHeader, Took}
 use Rattle.jr_steps.proofs.StepFacts.{goes_did}
 use Rattle.jr_gate.specs.Performing.{Performed}
 use Rattle.jr_gate.proofs.SameRoom.{as_before, nothing_changed}
@@ -73,16 +75,22 @@ module _ (p : PassView) (f : Frames) (l : IsLegal p.config p.last p.seen) (k kin
   get_other e = ran_refused p f (not (is_read_as k kind)) WrongElement (λ u. get_rest o i n) (ap not e) tt l
 
   pub get_past : is_read_as k kind ≡ true → nat_le n i ≡ true → Ran p p f f (get_work k o i kind n) (Err Range)
-  get_past e past = ran_passed (not (is_read_as k kind)) WrongElement (λ u. get_rest o i n) (ap not e) (ran_refused p f (nat_le n i) Range (λ u. some_act (Read o i)) past tt l)
+  get_past e past = ran_passed (not (is_read_as k kind)) WrongElement (λ u. get_rest o i n) (ap not e)
+      (ran_refused p f (nat_le n i) Range (λ u. some_act (Read o i)) past tt l)
 
   pub set_text : (v : ℕ) → is_text kind ≡ true → Ran p p f f (set_work k o i v kind n) (Err NotArray)
   set_text v e = ran_refused p f (is_text kind) NotArray (λ u. set_rest k o i v kind n) e tt l
 
-  pub set_other : (v : ℕ) → is_text kind ≡ false → is_read_as k kind ≡ false → Ran p p f f (set_work k o i v kind n) (Err WrongElement)
-  set_other v t e = ran_passed (is_text kind) NotArray (λ u. set_rest k o i v kind n) t (ran_refused p f (not (is_read_as k kind)) WrongElement (λ u. set_last o i v n) (ap not e) tt l)
+  pub set_other : (v : ℕ) → is_text kind ≡ false → is_read_as k kind ≡ false
+      → Ran p p f f (set_work k o i v kind n) (Err WrongElement)
+  set_other v t e = ran_passed (is_text kind) NotArray (λ u. set_rest k o i v kind n) t
+      (ran_refused p f (not (is_read_as k kind)) WrongElement (λ u. set_last o i v n) (ap not e) tt l)
 
-  pub set_past : (v : ℕ) → is_text kind ≡ false → is_read_as k kind ≡ true → nat_le n i ≡ true → Ran p p f f (set_work k o i v kind n) (Err Range)
-  set_past v t e past = ran_passed (is_text kind) NotArray (λ u. set_rest k o i v kind n) t (ran_passed (not (is_read_as k kind)) WrongElement (λ u. set_last o i v n) (ap not e) (ran_refused p f (nat_le n i) Range (λ u. act (Write o i v)) past tt l))
+  pub set_past : (v : ℕ) → is_text kind ≡ false → is_read_as k kind ≡ true → nat_le n i ≡ true
+      → Ran p p f f (set_work k o i v kind n) (Err Range)
+  set_past v t e past = ran_passed (is_text kind) NotArray (λ u. set_rest k o i v kind n) t
+      (ran_passed (not (is_read_as k kind)) WrongElement (λ u. set_last o i v n) (ap not e)
+      (ran_refused p f (nat_le n i) Range (λ u. act (Write o i v)) past tt l))
 
 -- an object that is read as an element's kind, and is no string, has elements of that kind
 pub same_kind_of : (k l : Kind) → is_text l ≡ false → is_read_as k l ≡ true → same_element k l ≡ true
@@ -105,11 +113,16 @@ same_kind_of kind.Objects l t e = e
 same_kind_of kind.Text l t e = e
 
 module _ {p q : PassView} (f : Frames) (k kind : Kind) (o i n v : ℕ) where
-  pub get_there : is_read_as k kind ≡ true → nat_le n i ≡ false → Did p q (Read o i v ∷ []) → Ran p q f f (get_work k o i kind n) (Ok v)
-  get_there e near d = ran_passed (not (is_read_as k kind)) WrongElement (λ u. get_rest o i n) (ap not e) (ran_passed (nat_le n i) Range (λ u. some_act (Read o i)) near (ran_some_act f (λ x. Read o i x) v tt tt d))
+  pub get_there : is_read_as k kind ≡ true → nat_le n i ≡ false → Did p q (Read o i v ∷ [])
+      → Ran p q f f (get_work k o i kind n) (Ok v)
+  get_there e near d = ran_passed (not (is_read_as k kind)) WrongElement (λ u. get_rest o i n) (ap not e)
+      (ran_passed (nat_le n i) Range (λ u. some_act (Read o i)) near (ran_some_act f (λ x. Read o i x) v tt tt d))
 
-  pub set_there : is_text kind ≡ false → is_read_as k kind ≡ true → nat_le n i ≡ false → Did p q (Write o i v ∷ []) → Ran p q f f (set_work k o i v kind n) (Ok tt)
-  set_there t e near d = ran_passed (is_text kind) NotArray (λ u. set_rest k o i v kind n) t (ran_passed (not (is_read_as k kind)) WrongElement (λ u. set_last o i v n) (ap not e) (ran_passed (nat_le n i) Range (λ u. act (Write o i v)) near (ran_act f (Write o i v) tt tt d)))
+  pub set_there : is_text kind ≡ false → is_read_as k kind ≡ true → nat_le n i ≡ false → Did p q (Write o i v ∷ [])
+      → Ran p q f f (set_work k o i v kind n) (Ok tt)
+  set_there t e near d = ran_passed (is_text kind) NotArray (λ u. set_rest k o i v kind n) t
+      (ran_passed (not (is_read_as k kind)) WrongElement (λ u. set_last o i v n) (ap not e)
+      (ran_passed (nat_le n i) Range (λ u. act (Write o i v)) near (ran_act f (Write o i v) tt tt d)))
 
 -- THE STEPS
 
@@ -120,7 +133,8 @@ o_of v level = (level_at v level).object
 abbrev pub h_of : Levels → ℕ → HeaderParts
 h_of v level = (level_at v level).header
 
-pub held_at : (v : Levels) (level : ℕ) → level < length (objects_of v) → (k : Known) → AreKnown v.levels.items k → HoldsHeader (o_of v level) (h_of v level) k
+pub held_at : (v : Levels) (level : ℕ) → level < length (objects_of v) → (k : Known) → AreKnown v.levels.items k
+    → HoldsHeader (o_of v level) (h_of v level) k
 held_at v level inside k known = known_at v.levels.items level k (is_level v level inside) known
 
 module _ {S : Type 0} {facts : S → Facts} (fits : AreOf facts) (v : Levels) (level : ℕ) where
@@ -129,36 +143,63 @@ module _ {S : Type 0} {facts : S → Facts} (fits : AreOf facts) (v : Levels) (l
     may_at s = ∥∥₁_map s.known (λ k. (k.0, k.1, (held_at v level inside k.0 k.2.0).known))
 
     -- a refusal, by no step
-    pub reaches_not : {A : Type 0} (a : S) (f : Frames) (next : Kind → ℕ → Call A) (answer : Result A Fault) → ((p : PassView) → IsLegal p.config p.last p.seen → Ran p p f f (next (h_of v level).kind (h_of v level).length) answer)
-        → Performed facts a a f f 0 (KnowsLevels v f) (λ s. for_object s (o_of v level) next) answer (λ j k. keeps j k × KnowsLevels v f k)
+    pub reaches_not : {A : Type 0} (a : S) (f : Frames) (next : Kind → ℕ → Call A) (answer : Result A Fault)
+        → ((p : PassView) → IsLegal p.config p.last p.seen
+        → Ran p p f f (next (h_of v level).kind (h_of v level).length) answer)
+        → Performed facts a a f f 0 (KnowsLevels v f) (λ s. for_object s (o_of v level) next) answer (λ j k. keeps j k
+        × KnowsLevels v f k)
     reaches_not a f next answer each = record {
       stands_is = nothing_changed;
-      ran = λ k s m. let l = (fits a k s).legal in (k, s, made_of (spend_none (facts a) k f f l) (ran_for k (o_of v level) (h_of v level) next (held_at v level inside k m.0).shown (each (view k) l)), (refl, m));
+      ran = λ k s m. let l = (fits a k s).legal in (
+        k,
+        s,
+        made_of (spend_none (facts a) k f f l)
+            (ran_for k (o_of v level) (h_of v level) next (held_at v level inside k m.0).shown (each (view k) l)),
+        (refl, m),
+      );
     }
 
-    module _ {a b : S} {x : Act} {met : Known → Type 0} (meets : (k : Known) → HoldsHeader (o_of v level) (h_of v level) k → met k) (took : Took facts a b (x ∷ []) met keeps) (stays : x ≢ Gate Leave) (spares : spares_places x ≡ true) (same : standing_after (facts a).stands (x ∷ []) ≡ (facts a).stands) (within : (facts a).stands.role ≡ Within) where
+    module _ {a b : S} {x : Act} {met : Known → Type 0}
+        (meets : (k : Known) → HoldsHeader (o_of v level) (h_of v level) k → met k)
+        (took : Took facts a b (x ∷ []) met keeps) (stays : x ≢ Gate Leave) (spares : spares_places x ≡ true)
+        (same : standing_after (facts a).stands (x ∷ []) ≡ (facts a).stands)
+        (within : (facts a).stands.role ≡ Within) where
       -- one step at an element, for one thing that was known
-      known_reached : (f : Frames) (k : Known) (s : (facts a).knows k) (m : KnowsLevels v f k) → KnowsLevels v f (took.goes k s (meets k (held_at v level inside k m.0))).0
+      known_reached : (f : Frames) (k : Known) (s : (facts a).knows k) (m : KnowsLevels v f k)
+          → KnowsLevels v f (took.goes k s (meets k (held_at v level inside k m.0))).0
       known_reached f k s m =
           let y = took.goes k s (meets k (held_at v level inside k m.0)) in
-          let d = goes_did y.2 in
-          (known_later v.levels.items k y.0 (x ∷ []) d ((fits a k s).role ∙ within) (stays, tt) (steps_keep_headers.kept k y.0 y.3) m.0, holds_did k y.0 f (x ∷ []) d (spares, tt) m.1)
+          let d = goes_did y.2 in (
+            known_later v.levels.items k y.0 (x ∷ []) d ((fits a k s).role ∙ within) (stays, tt)
+                (steps_keep_headers.kept k y.0 y.3) m.0,
+            holds_did k y.0 f (x ∷ []) d (spares, tt) m.1,
+          )
 
-      pub reaches : {A : Type 0} → KeepsHint x → (f : Frames) (next : Kind → ℕ → Call A) (answer : Result A Fault) → ((p q : PassView) → Did p q (x ∷ []) → Ran p q f f (next (h_of v level).kind (h_of v level).length) answer)
-          → Performed facts a b f f 0 (KnowsLevels v f) (λ s. for_object s (o_of v level) next) answer (λ j k. keeps j k × KnowsLevels v f k)
+      pub reaches : {A : Type 0} → KeepsHint x → (f : Frames) (next : Kind → ℕ → Call A) (answer : Result A Fault)
+          → ((p q : PassView) → Did p q (x ∷ []) → Ran p q f f (next (h_of v level).kind (h_of v level).length) answer)
+          → Performed facts a b f f 0 (KnowsLevels v f) (λ s. for_object s (o_of v level) next) answer (λ j k. keeps j k
+          × KnowsLevels v f k)
       reaches hint f next answer each = record {
         stands_is = as_before _ (took.stands_is ∙ same);
         ran = λ k s m.
             let y = took.goes k s (meets k (held_at v level inside k m.0)) in
-            let r = known_reached f k s m in
-            (y.0, y.1, made_of (spend_step took hint k s (meets k (held_at v level inside k m.0)) f f) (ran_for y.0 (o_of v level) (h_of v level) next (held_at v level inside y.0 r.0).shown (each (view k) (view y.0) (goes_did y.2))), (y.3, r));
+            let r = known_reached f k s m in (
+              y.0,
+              y.1,
+              made_of (spend_step took hint k s (meets k (held_at v level inside k m.0)) f f)
+                  (ran_for y.0 (o_of v level) (h_of v level) next (held_at v level inside y.0 r.0).shown
+                  (each (view k) (view y.0) (goes_did y.2))),
+              (y.3, r),
+            );
       }
 
       -- the levels stand still
       pub stand_reached : {t : Table} → Stand facts v a t → Stand facts v b t
       stand_reached {t} s =
           let now = took.stands_is ∙ same in
-          let known : MayKnow facts b (KnowsLevels v t.frames) = ∥∥₁_map s.known (λ k. let y = took.goes k.0 k.1 (meets k.0 (held_at v level inside k.0 k.2.0)) in (y.0, y.1, known_reached t.frames k.0 k.1 k.2)) in
+          let known : MayKnow facts b (KnowsLevels v t.frames) =
+          ∥∥₁_map s.known (λ k. let y = took.goes k.0 k.1 (meets k.0 (held_at v level inside k.0 k.2.0)) in
+          (y.0, y.1, known_reached t.frames k.0 k.1 k.2)) in
           record {
             stay = (s.stay.0 ∙ sym (ap (λ (z : Standing). z.thread) now), ap (λ (z : Standing). z.role) now ∙ s.stay.1);
             ready = record {
@@ -176,9 +217,13 @@ module _ {S : Type 0} {facts : S → Facts} (fits : AreOf facts) (v : Levels) (l
           }
 
     -- the word that was read has the bits of the kind
-    pub word_fits : {a b : S} {t : Table} (k : Kind) (i x : ℕ) → is_read_as k (h_of v level).kind ≡ true → Stand facts v a t → Took facts a b (Read (o_of v level) i x ∷ []) (KnowsHeader (o_of v level) (h_of v level)) keeps → x < word_limit k
+    pub word_fits : {a b : S} {t : Table} (k : Kind) (i x : ℕ) → is_read_as k (h_of v level).kind ≡ true
+        → Stand facts v a t
+        → Took facts a b (Read (o_of v level) i x ∷ []) (KnowsHeader (o_of v level) (h_of v level)) keeps
+        → x < word_limit k
     word_fits {a} k i x e s took = ∥∥₁_elim s.known (hlevel props) (λ z.
         let m = held_at v level inside z.0 z.2.0 in
         let y = took.goes z.0 z.1 m.known in
-        let shown = object_later z.0 y.0 (Read (o_of v level) i x ∷ []) (goes_did y.2) ((fits a z.0 z.1).role ∙ s.ready.role_is) ((λ e. cc), tt) (o_of v level) (h_of v level) m.shown in
+        let shown = object_later z.0 y.0 (Read (o_of v level) i x ∷ []) (goes_did y.2)
+        ((fits a z.0 z.1).role ∙ s.ready.role_is) ((λ e. cc), tt) (o_of v level) (h_of v level) m.shown in
         read_below (state_of y.0) k (h_of v level).kind x e (read_word (o_of v level) i x (h_of v level) y.2 shown))

@@ -61,11 +61,14 @@ abbrev pub object_found : Result Level Fault → Result ℕ Fault
 object_found (Ok l) = Ok l.object
 object_found (Err e) = Err e
 
--- the header of a level that was found is known beside what the pass held, and a refusal lets each header be known that was
+-- the header of a level that was found is known beside what the
+-- pass held, and a refusal lets each header be known that was
 abbrev pub LearnsLevel : Result Level Fault → Known → Known → Type 0
 LearnsLevel (Ok l) j k = Learns l.object l.header j k
 LearnsLevel (Err e) j k = GoesOnKnowing j k
 
 -- the object for a new level was found in a stay, or refused, by at most one operation beside the acts
 abbrev pub FindsLevel : {S : Type 0} → (S → Facts) → S → S → Frames → Wanted → ℕ → Word → Result Level Fault → Type 0
-FindsLevel facts old new f wanted n a answer = Performed facts old new f f 1 (Holds f) (λ s. level_work wanted (facts old).stands.config (facts old).stands.last (facts old).stands.thread s n a) (object_found answer) (λ j k. LearnsLevel answer j k × Holds f k)
+FindsLevel facts old new f wanted n a answer = Performed facts old new f f 1 (Holds f)
+    (λ s. level_work wanted (facts old).stands.config (facts old).stands.last (facts old).stands.thread s n a)
+    (object_found answer) (λ j k. LearnsLevel answer j k × Holds f k)

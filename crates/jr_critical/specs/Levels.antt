@@ -1,5 +1,6 @@
 -- The levels of a critical region, over any steps and frames, for whatever was known.
-use Rattle.std.specs.Prelude.{◌≡◌, ◌<◌, ◌≤◌, ◌++◌, ◌∷◌, ℕ, Option, Some, None, Result, Ok, Err, List, [], map, length, slice_index_or}
+use Rattle.std.specs.Prelude.{◌≡◌, ◌<◌, ◌≤◌, ◌++◌, ◌∷◌, ℕ, Option, Some, None}
+use Rattle.std.specs.Prelude.{Result, Ok, Err, List, [], map, length, slice_index_or}
 use Rattle.std.specs.List.{AllByRecursion}
 use Rattle.jr_word.specs.declared.config.Config.{Config}
 use Rattle.jr_word.specs.declared.fault.Fault.{Fault}
@@ -33,7 +34,8 @@ objects_of v = map (λ (l : Level). l.object) v.levels.items
 
 -- the level of a number, one of no object beyond the last
 abbrev pub level_at : Levels → ℕ → Level
-level_at v i = slice_index_or v.levels.items i (record { object = 0; header = record { kind = Plain; length = 0; place = 0 } })
+level_at v i =
+    slice_index_or v.levels.items i (record { object = 0; header = record { kind = Plain; length = 0; place = 0 } })
 
 -- its object
 abbrev pub level_object : Levels → ℕ → ℕ
@@ -101,7 +103,8 @@ abbrev pub LeavesBefore : Levels → Option Levels → Type 0
 LeavesBefore v (Some w) = (l : Level) × (v.levels.items ≡ w.levels.items ++ l ∷ [])
 LeavesBefore v None = length (objects_of v) ≡ 1
 
--- A LEVEL WAS ADDED behind those that stood, each of which stays as it was: its number is how many they were, fewer than there may be
+-- A LEVEL WAS ADDED behind those that stood, each of which stays as it was:
+-- its number is how many they were, fewer than there may be
 pub record WasAdded (v w : Levels) (n : ℕ) : Type 0 where
   pub number : n ≡ length (objects_of v)
   pub fits : n < LEVELS
@@ -109,50 +112,72 @@ pub record WasAdded (v w : Levels) (n : ℕ) : Type 0 where
 
 -- whatever is known with the headers of the levels: this is the kind of the level's object still
 abbrev pub TellsKind : Levels → ℕ → Kind → Type 0
-TellsKind v i kind = (c : Config) (last t : ℕ) (k : Known) (f : Frames) → AreKnown v.levels.items k → region_kind c last t (state_of k) (level_object v i) f [] (Ok kind) f
+TellsKind v i kind = (c : Config) (last t : ℕ) (k : Known) (f : Frames) → AreKnown v.levels.items k
+    → region_kind c last t (state_of k) (level_object v i) f [] (Ok kind) f
 
 -- and this is its length
 abbrev pub TellsLength : Levels → ℕ → ℕ → Type 0
-TellsLength v i n = (c : Config) (last t : ℕ) (k : Known) (f : Frames) → AreKnown v.levels.items k → region_length c last t (state_of k) (level_object v i) f [] (Ok n) f
+TellsLength v i n = (c : Config) (last t : ℕ) (k : Known) (f : Frames) → AreKnown v.levels.items k
+    → region_length c last t (state_of k) (level_object v i) f [] (Ok n) f
 
 module _ {S : Type 0} (facts : S → Facts) where
-  -- THE LEVELS STAND over these steps and frames: the stay is the steps' own, there is a level at least, the thread stands ready within, and something that may be known has each level's header and agrees with the frames
+  -- THE LEVELS STAND over these steps and frames: the stay is the steps' own, there is a level at least, the
+  -- thread stands ready within, and something that may be known has each level's header and agrees with the frames
   pub record Stand (v : Levels) (s : S) (t : Table) : Type 0 where
     pub stay : IsOwnStay v.inside (facts s).stands
     pub ready : StandsReady facts Within s t
     pub some : 1 ≤ length (objects_of v)
     pub known : MayKnow facts s (KnowsLevels v t.frames)
 
-  -- A REGION WAS OPENED, or refused: for whatever was known something is known from which the thread did what the call does, with this answer, by at most one operation beside its acts. The stay goes on where it was opened, and has ended where it was refused
+  -- A REGION WAS OPENED, or refused: for whatever was known something is known from which
+  -- the thread did what the call does, with this answer, by at most one operation beside
+  -- its acts. The stay goes on where it was opened, and has ended where it was refused
   pub record HasOpened (old new : S) (f : Frames) (call : State → Call ℕ) (answer : Result Levels Fault) : Type 0 where
     pub stands_is : IsAsBefore (record ((facts old).stands) { role = role_opened answer }) (facts new).stands
-    pub ran : Leads facts old new (Holds f) (λ k k'. IsMade 1 (thread_state (facts old) k f) (thread_state (facts new) k' f) (call (state_of k')) (object_opened answer)) (λ j k. LearnsFirst answer j k × Holds f k)
+    pub ran : Leads facts old new (Holds f) (λ k k'. IsMade 1 (thread_state (facts old) k f)
+        (thread_state (facts new) k' f) (call (state_of k')) (object_opened answer)) (λ j k. LearnsFirst answer j k
+        × Holds f k)
 
   -- the same, by a reference word that was read
   abbrev pub Opens : S → S → Frames → ℕ → (Config → ℕ → ℕ → State → Word → Call ℕ) → Result Levels Fault → Type 0
-  Opens old new f w call answer = (a : Word) × IsReadAs w a × HasOpened old new f (λ s. call (facts old).stands.config (facts old).stands.last (facts old).stands.thread s a) answer
+  Opens old new f w call answer = (a : Word) × IsReadAs w a × HasOpened old new f
+      (λ s. call (facts old).stands.config (facts old).stands.last (facts old).stands.thread s a) answer
 
-  -- A REGION WAS OPENED IN A STAY that goes on, by a reference word that was read, or refused, by at most one operation beside the acts: the header of its level is known
+  -- A REGION WAS OPENED IN A STAY that goes on, by a reference word that was read, or
+  -- refused, by at most one operation beside the acts: the header of its level is known
   abbrev pub OpensWithin : S → S → Frames → ℕ → (Config → ℕ → ℕ → State → Word → Call ℕ) → Result Levels Fault → Type 0
-  OpensWithin old new f w call answer = (a : Word) × IsReadAs w a × Performed facts old new f f 1 (Holds f) (λ s. call (facts old).stands.config (facts old).stands.last (facts old).stands.thread s a) (object_opened answer) (λ j k. KnowsFirst answer f k)
+  OpensWithin old new f w call answer =
+      (a : Word) × IsReadAs w a × Performed facts old new f f 1 (Holds f) (λ s. call (facts old).stands.config
+      (facts old).stands.last (facts old).stands.thread s a) (object_opened answer) (λ j k. KnowsFirst answer f k)
 
-  -- A LEVEL WAS ADDED to these levels, or refused, in their stay, by at most one operation beside the acts: the header of each level is known
-  abbrev pub Nests : S → S → Frames → ℕ → (Config → ℕ → ℕ → State → List ℕ → Word → Call (ℕ × List ℕ)) → Levels → Levels → Result ℕ Fault → Type 0
-  Nests old new f w call v v' answer = (a : Word) × IsReadAs w a × Performed facts old new f f 1 (KnowsLevels v f) (λ s. call (facts old).stands.config (facts old).stands.last (facts old).stands.thread s (objects_of v) a) (level_nested answer v') (λ j k. KnowsLevels v' f k)
+  -- A LEVEL WAS ADDED to these levels, or refused, in their stay, by at most one operation beside the acts:
+  -- the header of each level is known
+  abbrev pub Nests : S → S → Frames → ℕ → (Config → ℕ → ℕ → State → List ℕ → Word → Call (ℕ × List ℕ)) → Levels → Levels
+      → Result ℕ Fault → Type 0
+  Nests old new f w call v v' answer = (a : Word) × IsReadAs w a
+      × Performed facts old new f f 1 (KnowsLevels v f) (λ s. call (facts old).stands.config (facts old).stands.last
+      (facts old).stands.thread s (objects_of v) a) (level_nested answer v') (λ j k. KnowsLevels v' f k)
 
-  -- A CALL AT AN ELEMENT of a level's object was made in their stay, by no operation beside its act: the pass holds what it held
-  abbrev pub Reaches : {A : Type 0} → S → S → Frames → Levels → (Config → ℕ → ℕ → State → Call A) → Result A Fault → Type 0
-  Reaches old new f v call answer = Performed facts old new f f 0 (KnowsLevels v f) (λ s. call (facts old).stands.config (facts old).stands.last (facts old).stands.thread s) answer (λ j k. keeps j k × KnowsLevels v f k)
+  -- A CALL AT AN ELEMENT of a level's object was made in their stay, by no operation beside its act:
+  -- the pass holds what it held
+  abbrev pub Reaches : {A : Type 0} → S → S → Frames → Levels → (Config → ℕ → ℕ → State → Call A) → Result A Fault
+      → Type 0
+  Reaches old new f v call answer = Performed facts old new f f 0 (KnowsLevels v f)
+      (λ s. call (facts old).stands.config (facts old).stands.last (facts old).stands.thread s) answer (λ j k. keeps j k
+      × KnowsLevels v f k)
 
   -- THE LAST LEVEL WAS GIVEN UP: with the first one the stay has ended, by one operation, and else no step was taken
   pub record GivesUpLast (old new : S) (f : Frames) (v : Levels) (left : Option Levels) : Type 0 where
     pub stands_is : IsAsBefore (record ((facts old).stands) { role = role_left left }) (facts new).stands
-    pub ran : Leads facts old new (KnowsLevels v f) (λ k k'. IsMade 0 (thread_state (facts old) k f) (thread_state (facts new) k' f) (region_release (length (objects_of v))) (Ok tt)) (λ j k. HoldsLeft left j k × Holds f k)
+    pub ran : Leads facts old new (KnowsLevels v f) (λ k k'. IsMade 0 (thread_state (facts old) k f)
+        (thread_state (facts new) k' f) (region_release (length (objects_of v))) (Ok tt)) (λ j k. HoldsLeft left j k
+        × Holds f k)
 
   -- ALL LEVELS WERE GIVEN UP at once: the stay has ended, by one operation, as where the first alone is given up
   pub record GivesUpAll (old new : S) (f : Frames) (v : Levels) : Type 0 where
     pub stands_is : IsAsBefore (record ((facts old).stands) { role = Outside }) (facts new).stands
-    pub ran : Leads facts old new (KnowsLevels v f) (λ k k'. IsMade 0 (thread_state (facts old) k f) (thread_state (facts new) k' f) (region_release 1) (Ok tt)) (λ j k. lets_go j k × Holds f k)
+    pub ran : Leads facts old new (KnowsLevels v f) (λ k k'. IsMade 0 (thread_state (facts old) k f)
+        (thread_state (facts new) k' f) (region_release 1) (Ok tt)) (λ j k. lets_go j k × Holds f k)
 
 -- the same of the steps and frames that a thread holds together, as contracts say it
 module _ {S : Type 0} {G : Ghosts S} where
@@ -169,24 +194,29 @@ module _ {S : Type 0} {G : Ghosts S} where
   StandOver v held = Stand G.facts v held.steps held.frames
 
   -- a region was opened, or refused, by a reference word that was read
-  abbrev pub OpensOver : Held S G → Held S G → ℕ → (Config → ℕ → ℕ → State → Word → Call ℕ) → Result Levels Fault → Type 0
+  abbrev pub OpensOver : Held S G → Held S G → ℕ → (Config → ℕ → ℕ → State → Word → Call ℕ) → Result Levels Fault
+      → Type 0
   OpensOver old new w call answer = Opens G.facts old.steps new.steps old.frames.frames w call answer
 
   -- a region was opened in a stay, or refused
-  abbrev pub OpensWithinOver : Held S G → Held S G → ℕ → (Config → ℕ → ℕ → State → Word → Call ℕ) → Result Levels Fault → Type 0
+  abbrev pub OpensWithinOver : Held S G → Held S G → ℕ → (Config → ℕ → ℕ → State → Word → Call ℕ) → Result Levels Fault
+      → Type 0
   OpensWithinOver old new w call answer = OpensWithin G.facts old.steps new.steps old.frames.frames w call answer
 
   -- a level was added to these levels, or refused
-  abbrev pub NestsOver : Held S G → Held S G → ℕ → (Config → ℕ → ℕ → State → List ℕ → Word → Call (ℕ × List ℕ)) → Levels → Levels → Result ℕ Fault → Type 0
+  abbrev pub NestsOver : Held S G → Held S G → ℕ → (Config → ℕ → ℕ → State → List ℕ → Word → Call (ℕ × List ℕ)) → Levels
+      → Levels → Result ℕ Fault → Type 0
   NestsOver old new w call v v' answer = Nests G.facts old.steps new.steps old.frames.frames w call v v' answer
 
   -- AN ELEMENT OF A LEVEL WAS READ as one of this kind, or refused
   abbrev pub ReadsAt : Held S G → Held S G → Levels → ℕ → Kind → ℕ → Result ℕ Fault → Type 0
-  ReadsAt old new v level kind index answer = Reaches G.facts old.steps new.steps old.frames.frames v (λ c last t s. region_get c last t s kind (level_object v level) index) answer
+  ReadsAt old new v level kind index answer = Reaches G.facts old.steps new.steps old.frames.frames v
+      (λ c last t s. region_get c last t s kind (level_object v level) index) answer
 
   -- AN ELEMENT OF A LEVEL WAS WRITTEN as one of this kind, or refused
   abbrev pub WritesAt : Held S G → Held S G → Levels → ℕ → Kind → ℕ → ℕ → Result (Unit {0}) Fault → Type 0
-  WritesAt old new v level kind index word answer = Reaches G.facts old.steps new.steps old.frames.frames v (λ c last t s. region_set c last t s kind (level_object v level) index word) answer
+  WritesAt old new v level kind index word answer = Reaches G.facts old.steps new.steps old.frames.frames v
+      (λ c last t s. region_set c last t s kind (level_object v level) index word) answer
 
   -- the last level was given up
   abbrev pub GivesUpLastOver : Held S G → Held S G → Levels → Option Levels → Type 0

@@ -7,4 +7,5 @@ use Rattle.jr_elements.specs.contracts.elements.Elements.{the_row}
 
 -- once the slice's loan ends, the elements are those that it shows last, as many as they were
 abbrev pub lends_elements : (E : RattleType) → Ghosts E.Denot → MutBor (List E.Denot) → MutBor (List E.Denot) → Fml
-lends_elements E G elements slice = Lends (the_row E G) (Array E 0) elements slice (refill (length elements.now) elements.now)
+lends_elements E G elements slice =
+    Lends (the_row E G) (Array E 0) elements slice (refill (length elements.now) elements.now)

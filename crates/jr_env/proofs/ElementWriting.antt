@@ -23,7 +23,8 @@ use Rattle.jr_model.proofs.Runs.{did_legal, ran_act, ran_done, ran_err, ran_refu
 use Rattle.jr_model.proofs.Stays.{did_then}
 use Rattle.jr_model.proofs.Windows.{window_then, window_within}
 use Rattle.jr_steps.specs.declared.known.Known.{Known}
-use Rattle.jr_steps.specs.Knowing.{AreOf, Facts, view, state_of, keeps, HasObject, HasOptional, Holds, IsWordNow, KnowsHeader, MayKnow, Took}
+use Rattle.jr_steps.specs.Knowing.{AreOf, Facts, view, state_of, keeps, HasObject}
+use Rattle.jr_steps.specs.Knowing.{HasOptional, Holds, IsWordNow, KnowsHeader, MayKnow, Took}
 use Rattle.jr_steps.proofs.StepFacts.{goes_did, present_stays}
 use Rattle.jr_gate.specs.Performing.{Performed}
 use Rattle.jr_gate.proofs.HandedOn.{handed_on}
@@ -42,7 +43,8 @@ use Rattle.jr_frames.proofs.FoundObject.{ran_for, spend_look}
 use Rattle.jr_frames.proofs.Steady.{steady_same, steady_then}
 
 -- what was seen after a call within a stay, with no act
-ran_ahead : {A : Type 0} {p q r : PassView} {f g : Frames} {call : Call A} (x : A) → Ran p q f g call (Ok x) → Did q r [] → role_of q ≡ Within → Ran p r f g call (Ok x)
+ran_ahead : {A : Type 0} {p q r : PassView} {f g : Frames} {call : Call A} (x : A) → Ran p q f g call (Ok x)
+    → Did q r [] → role_of q ≡ Within → Ran p r f g call (Ok x)
 ran_ahead {p = p} {r = r} x a d within =
     let w = window_then a.acts [] a.did d a.window (window_within [] d within tt) in
     record {
@@ -65,7 +67,8 @@ put_at i s x = not_null x.0 >>= element_at i (element_put i x.1) s
 module _ (c : Config) (last t : ℕ) (v w : Word) (i : ℕ) where
   pub steady_writing : IsSteady (λ s. element_writing c last t s v i w)
   steady_writing = steady_then (λ s. resolved_both c last t v w) (put_at i) (steady_same (resolved_both c last t v w))
-      (λ x. steady_then (λ s. not_null x.0) (λ s o. element_at i (element_put i x.1) s o) (steady_same (not_null x.0)) (λ o. steady_element i (element_put i x.1) o))
+      (λ x. steady_then (λ s. not_null x.0) (λ s o. element_at i (element_put i x.1) s o) (steady_same (not_null x.0))
+      (λ o. steady_element i (element_put i x.1) o))
 
 -- the resolution of two references
 abbrev pub resolving_both : {S : Type 0} → (S → Facts) → S → Word → Word → Call (Option ℕ × Option ℕ)
@@ -76,44 +79,65 @@ named_word : (z : Option ℕ) (k : Known) → HasOptional z k → IsWordNow Obje
 named_word None k p = inl refl
 named_word (Some o) k p = inr p
 
-optional_later : (k k' : Known) (z : Option ℕ) → Did (view k) (view k') [] → role_of (view k) ≡ Within → HasOptional z k → HasOptional z k'
+optional_later : (k k' : Known) (z : Option ℕ) → Did (view k) (view k') [] → role_of (view k) ≡ Within → HasOptional z k
+    → HasOptional z k'
 optional_later k k' None d w p = tt
 optional_later k k' (Some o) d w p = present_stays k k' [] o d w tt p
 
 -- the work of a writing
 abbrev Writes : {S : Type 0} → (S → Facts) → S → S → Frames → Word → ℕ → Word → Result (Unit {0}) Fault → Type 0
-Writes facts a b f v i w answer = Performed facts a b f f 1 (Holds f) (λ s. element_writing (facts a).stands.config (facts a).stands.last (facts a).stands.thread s v i w) answer (λ j k. Unit {0} × Holds f k)
+Writes facts a b f v i w answer = Performed facts a b f f 1 (Holds f)
+    (λ s. element_writing (facts a).stands.config (facts a).stands.last (facts a).stands.thread s v i w) answer (λ j k.
+    Unit {0} × Holds f k)
 
 module _ {S : Type 0} {facts : S → Facts} {a b : S} {f : Frames} (v w : Word) (i : ℕ) where
-  pub writes_no_reference : {e : Fault} (answer : Result (Unit {0}) Fault) → IsErrAnd answer (λ y. y ≡ e) → ResolvesBoth facts a b f (resolving_both facts a v w) (Err e) → Writes facts a b f v i w answer
+  pub writes_no_reference : {e : Fault} (answer : Result (Unit {0}) Fault) → IsErrAnd answer (λ y. y ≡ e)
+      → ResolvesBoth facts a b f (resolving_both facts a v w) (Err e) → Writes facts a b f v i w answer
   writes_no_reference {e} answer given p = handed_on answer given (record {
     stands_is = p.stands_is;
-    ran = λ k s m. let x = p.ran k s m in (x.0, x.1, made_of (spend_more 1 (spending x.2)) (ran_err (put_at i (state_of x.0)) e x.2.ran), (tt, x.3.1));
+    ran = λ k s m. let x = p.ran k s m in
+        (x.0, x.1, made_of (spend_more 1 (spending x.2)) (ran_err (put_at i (state_of x.0)) e x.2.ran), (tt, x.3.1));
   })
 
-  pub writes_null : {y z : Option ℕ} → y ≡ None → ResolvesBoth facts a b f (resolving_both facts a v w) (Ok (y, z)) → Writes facts a b f v i w (Err Null)
-  writes_null {z = z} is r = let p = subst (λ q. ResolvesBoth facts a b f (resolving_both facts a v w) (Ok (q, z))) is r in record {
-    stands_is = p.stands_is;
-    ran = λ k s m. let x = p.ran k s m in
-        let l = did_legal x.2.ran.acts x.2.ran.did in
-        (x.0, x.1, made_of (spend_more 1 (spending x.2)) (ran_then {next = put_at i (state_of x.0)} (None, z) x.2.ran (ran_err (element_at i (element_put i z) (state_of x.0)) Null (ran_refuse (view x.0) f Null tt l))), (tt, x.3.1));
-  }
+  pub writes_null : {y z : Option ℕ} → y ≡ None → ResolvesBoth facts a b f (resolving_both facts a v w) (Ok (y, z))
+      → Writes facts a b f v i w (Err Null)
+  writes_null {z = z} is r =
+      let p = subst (λ q. ResolvesBoth facts a b f (resolving_both facts a v w) (Ok (q, z))) is r in record {
+        stands_is = p.stands_is;
+        ran = λ k s m. let x = p.ran k s m in
+            let l = did_legal x.2.ran.acts x.2.ran.did in (
+              x.0,
+              x.1,
+              made_of (spend_more 1 (spending x.2)) (ran_then {next = put_at i (state_of x.0)} (None, z) x.2.ran
+                  (ran_err (element_at i (element_put i z) (state_of x.0)) Null (ran_refuse (view x.0) f Null tt l))),
+              (tt, x.3.1),
+            );
+      }
 
   -- the array may be looked at
-  pub may_look : {y z : Option ℕ} {o : ℕ} → y ≡ Some o → ResolvesBoth facts a b f (resolving_both facts a v w) (Ok (y, z)) → MayKnow facts a (Holds f) → MayKnow facts b (HasObject o)
-  may_look {z = z} is r some = let p = subst (λ q. ResolvesBoth facts a b f (resolving_both facts a v w) (Ok (q, z))) is r in ∥∥₁_map some (λ k. let x = p.ran k.0 k.1 k.2 in (x.0, x.1, x.3.2.0))
+  pub may_look : {y z : Option ℕ} {o : ℕ} → y ≡ Some o
+      → ResolvesBoth facts a b f (resolving_both facts a v w) (Ok (y, z)) → MayKnow facts a (Holds f)
+      → MayKnow facts b (HasObject o)
+  may_look {z = z} is r some =
+      let p = subst (λ q. ResolvesBoth facts a b f (resolving_both facts a v w) (Ok (q, z))) is r in
+      ∥∥₁_map some (λ k. let x = p.ran k.0 k.1 k.2 in (x.0, x.1, x.3.2.0))
 
 -- what is known after the look at the header
 abbrev pub Looked : ℕ → HeaderParts → Option ℕ → Frames → Known → Type 0
 Looked o h z f k = HoldsHeader o h k × HasOptional z k × Holds f k
 
-module _ {S : Type 0} {facts : S → Facts} (fits : AreOf facts) {a b c : S} {f : Frames} {o : ℕ} {h : HeaderParts} {y z : Option ℕ} (v w : Word) (i : ℕ) (is : y ≡ Some o) (both : ResolvesBoth facts a b f (resolving_both facts a v w) (Ok (y, z))) (within : (facts a).stands.role ≡ Within) (same : (facts c).stands ≡ (facts b).stands)
-    (look : Called facts b c (HasObject o) (λ j k. header (state_of k) o) (Ok (h.kind, h.length)) (by_steps 1 (Learns o h))) where
+module _ {S : Type 0} {facts : S → Facts} (fits : AreOf facts) {a b c : S} {f : Frames} {o : ℕ} {h : HeaderParts}
+    {y z : Option ℕ} (v w : Word) (i : ℕ) (is : y ≡ Some o)
+    (both : ResolvesBoth facts a b f (resolving_both facts a v w) (Ok (y, z))) (within : (facts a).stands.role ≡ Within)
+    (same : (facts c).stands ≡ (facts b).stands)
+    (look : Called facts b c (HasObject o) (λ j k. header (state_of k) o) (Ok (h.kind, h.length))
+    (by_steps 1 (Learns o h))) where
   resolves_there : ResolvesBoth facts a b f (resolving_both facts a v w) (Ok (Some o, z))
   resolves_there = subst (λ q. ResolvesBoth facts a b f (resolving_both facts a v w) (Ok (q, z))) is both
 
   -- the references, and then the header
-  pub looked : Performed facts a c f f 1 (Holds f) (λ s. resolving_both facts a v w) (Ok (Some o, z)) (λ j k. Looked o h z f k)
+  pub looked : Performed facts a c f f 1 (Holds f) (λ s. resolving_both facts a v w) (Ok (Some o, z)) (λ j k.
+      Looked o h z f k)
   looked = record {
     stands_is = still_before resolves_there.stands_is (as_before _ same);
     ran = λ k s m.
@@ -124,45 +148,70 @@ module _ {S : Type 0} {facts : S → Facts} (fits : AreOf facts) {a b c : S} {f 
         let role = (fits b x.0 x.1).role ∙ (resolves_there.stands_is.role ∙ within) in (
           u.0,
           u.1,
-          made_of (spend_last (spending x.2) (spend_look f same look x.0 x.1 x.3.2.0)) (ran_ahead (Some o, z) x.2.ran d role),
+          made_of (spend_last (spending x.2) (spend_look f same look x.0 x.1 x.3.2.0))
+              (ran_ahead (Some o, z) x.2.ran d role),
           (learnt o h x.0 u.0 u.3.0, optional_later x.0 u.0 z d role x.3.2.1, holds_did x.0 u.0 f [] d tt x.3.1),
         );
   }
 
-  pub may_write : ((g : Frames) → element_checks h.kind h.length i g [] (Ok tt) g) → {n : ℕ} → n ≡ element_word z → MayKnow facts a (Holds f) → MayKnow facts c (λ k. KnowsHeader o h k × IsWordNow h.kind n k)
+  pub may_write : ((g : Frames) → element_checks h.kind h.length i g [] (Ok tt) g) → {n : ℕ} → n ≡ element_word z
+      → MayKnow facts a (Holds f) → MayKnow facts c (λ k. KnowsHeader o h k × IsWordNow h.kind n k)
   may_write checks {n} word some = ∥∥₁_map some (λ k.
-      let x = looked.ran k.0 k.1 k.2 in
-      (x.0, x.1, (x.3.0.known, subst (λ q. IsWordNow q n x.0) (sym (checks_passed h.kind h.length i checks).0) (subst (λ q. IsWordNow Objects q x.0) (sym word) (named_word z x.0 x.3.1)))))
+      let x = looked.ran k.0 k.1 k.2 in (
+        x.0,
+        x.1,
+        (
+          x.3.0.known,
+          subst (λ q. IsWordNow q n x.0) (sym (checks_passed h.kind h.length i checks).0)
+              (subst (λ q. IsWordNow Objects q x.0) (sym word) (named_word z x.0 x.3.1)),
+        ),
+      ))
 
   -- there is no such element
-  pub writes_nothing : {e : Fault} (answer : Result (Unit {0}) Fault) → IsErrAnd answer (λ y. y ≡ e) → ((g : Frames) → element_checks h.kind h.length i g [] (Err e) g) → Writes facts a c f v i w answer
-  writes_nothing {e} answer given checks = handed_on answer given (let q = element_refused i (element_put i z) {facts = facts} fits c f o h e checks in record {
-    stands_is = looked.stands_is;
-    ran = λ k s m.
-        let x = looked.ran k s m in
-        let u = q.ran x.0 x.1 (x.3.0, x.3.2) in
-        let l = did_legal x.2.ran.acts x.2.ran.did in
-        (u.0, u.1, made_of (spend_first (spending x.2) (spending u.2)) (ran_then {next = put_at i (state_of u.0)} (Some o, z) x.2.ran (ran_then {next = element_at i (element_put i z) (state_of u.0)} o (ran_done (view x.0) f o l) u.2.ran)), (tt, u.3.1));
-  })
+  pub writes_nothing : {e : Fault} (answer : Result (Unit {0}) Fault) → IsErrAnd answer (λ y. y ≡ e)
+      → ((g : Frames) → element_checks h.kind h.length i g [] (Err e) g) → Writes facts a c f v i w answer
+  writes_nothing {e} answer given checks = handed_on answer given
+      (let q = element_refused i (element_put i z) {facts = facts} fits c f o h e checks in record {
+        stands_is = looked.stands_is;
+        ran = λ k s m.
+            let x = looked.ran k s m in
+            let u = q.ran x.0 x.1 (x.3.0, x.3.2) in
+            let l = did_legal x.2.ran.acts x.2.ran.did in (
+              u.0,
+              u.1,
+              made_of (spend_first (spending x.2) (spending u.2))
+                  (ran_then {next = put_at i (state_of u.0)} (Some o, z) x.2.ran (ran_then
+                  {next = element_at i (element_put i z) (state_of u.0)} o (ran_done (view x.0) f o l) u.2.ran)),
+              (tt, u.3.1),
+            );
+      })
 
-  pub writes_element : {d : S} {n : ℕ} → ((g : Frames) → element_checks h.kind h.length i g [] (Ok tt) g) → n ≡ element_word z → Took facts c d (Write o i n ∷ []) (λ k. KnowsHeader o h k × IsWordNow h.kind n k) keeps → Writes facts a d f v i w (Ok tt)
+  pub writes_element : {d : S} {n : ℕ} → ((g : Frames) → element_checks h.kind h.length i g [] (Ok tt) g)
+      → n ≡ element_word z → Took facts c d (Write o i n ∷ []) (λ k. KnowsHeader o h k × IsWordNow h.kind n k) keeps
+      → Writes facts a d f v i w (Ok tt)
   writes_element {d} {n} checks word t = record {
     stands_is = still_before looked.stands_is (as_before _ t.stands_is);
     ran = λ k s m.
         let x = looked.ran k s m in
-        let met : KnowsHeader o h x.0 × IsWordNow h.kind n x.0 = (x.3.0.known, subst (λ q. IsWordNow q n x.0) (sym (checks_passed h.kind h.length i checks).0) (subst (λ q. IsWordNow Objects q x.0) (sym word) (named_word z x.0 x.3.1))) in
+        let met : KnowsHeader o h x.0 × IsWordNow h.kind n x.0 = (
+          x.3.0.known,
+          subst (λ q. IsWordNow q n x.0) (sym (checks_passed h.kind h.length i checks).0)
+              (subst (λ q. IsWordNow Objects q x.0) (sym word) (named_word z x.0 x.3.1)),
+        ) in
         let u = t.goes x.0 x.1 met in
         let did = goes_did u.2 in
         let role = (fits c x.0 x.1).role ∙ (looked.stands_is.role ∙ within) in
         let shown = object_later x.0 u.0 (Write o i n ∷ []) did role ((λ e. cc), tt) o h x.3.0.shown in
         let l = did_legal x.2.ran.acts x.2.ran.did in
-        let put = subst (λ q. Ran (view x.0) (view u.0) f f (act (Write o i q)) (Ok tt)) word (ran_act f (Write o i n) tt tt did) in (
+        let put = subst (λ q. Ran (view x.0) (view u.0) f f (act (Write o i q)) (Ok tt)) word
+        (ran_act f (Write o i n) tt tt did) in (
           u.0,
           u.1,
           made_of (spend_first (spending x.2) (spend_step t (λ n i. refl) x.0 x.1 met f f))
               (ran_then {next = put_at i (state_of u.0)} (Some o, z) x.2.ran
               (ran_then {next = element_at i (element_put i z) (state_of u.0)} o (ran_done (view x.0) f o l)
-              (ran_then {next = λ q. element_put i z o} tt (ran_for u.0 o h (λ k n. element_checks k n i) shown (ran_checks h.kind h.length i (view x.0) f l checks)) put))),
+              (ran_then {next = λ q. element_put i z o} tt (ran_for u.0 o h (λ k n. element_checks k n i) shown
+              (ran_checks h.kind h.length i (view x.0) f l checks)) put))),
           (tt, holds_did x.0 u.0 f (Write o i n ∷ []) did (refl, tt) x.3.2),
         );
   }

@@ -33,24 +33,39 @@ module _ {S : Type 0} (facts : S → Facts) (a b : S) (f : Frames) where
     ran = λ k s m.
         let y = took.goes k s tt in
         let d = goes_did y.2 in
-        let left = ran_act f (Gate Leave) (λ out. absurd cc) (λ out. stepped_last (goes_stepped y.2)) d in
-        (y.0, y.1, made_of (spend_step took (λ n i. refl) k s tt f f) left, (y.3, holds_did k y.0 f (Gate Leave ∷ []) d (refl, tt) m));
+        let left = ran_act f (Gate Leave) (λ out. absurd cc) (λ out. stepped_last (goes_stepped y.2)) d in (
+          y.0,
+          y.1,
+          made_of (spend_step took (λ n i. refl) k s tt f f) left,
+          (y.3, holds_did k y.0 f (Gate Leave ∷ []) d (refl, tt) m),
+        );
   }
 
 module _ {S : Type 0} {facts : S → Facts} where
   -- a thread that stands ready outside can make a call
   pub can_call : {a : S} {t : Table} → StandsReady facts Outside a t → CanCall (facts a).stands
-  can_call r = record { spent = r.spent; not_knocking = λ e. let out = r.role_is in cc; not_announcing = λ e. let out = r.role_is in cc; not_collecting = λ e. let out = r.role_is in cc }
+  can_call r = record {
+    spent = r.spent;
+    not_knocking = λ e. let out = r.role_is in cc;
+    not_announcing = λ e. let out = r.role_is in cc;
+    not_collecting = λ e. let out = r.role_is in cc;
+  }
 
   -- the thread was within, and left
-  pub ends_stay : {a b : S} {t : Table} → CanCall (facts a).stands → (facts a).stands.role ≡ Within → AreOwn facts a t → Took facts a b (act_of_exit (facts a).stands.role ∷ []) anything lets_go → EndsStay facts a b t t
+  pub ends_stay : {a b : S} {t : Table} → CanCall (facts a).stands → (facts a).stands.role ≡ Within → AreOwn facts a t
+      → Took facts a b (act_of_exit (facts a).stands.role ∷ []) anything lets_go → EndsStay facts a b t t
   ends_stay {a} {b} can within own e =
-      let l : Took facts a b (Gate Leave ∷ []) anything lets_go = subst (λ (r : Role). Took facts a b (act_of_exit r ∷ []) anything lets_go) within e in
+      let l : Took facts a b (Gate Leave ∷ []) anything lets_go =
+      subst (λ (r : Role). Took facts a b (act_of_exit r ∷ []) anything lets_go) within e in
       record {
         same = λ out. absurd (let no_more = sym within ∙ out in cc);
         left = λ inside. l;
         frames = refl;
-        ready = record { role_is = ap (λ (s : Standing). s.role) l.stands_is; spent = ap (λ (s : Standing). s.fresh) l.stands_is ∙ can.spent; own = own_stepped (Gate Leave) refl own l };
+        ready = record {
+          role_is = ap (λ (s : Standing). s.role) l.stands_is;
+          spent = ap (λ (s : Standing). s.fresh) l.stands_is ∙ can.spent;
+          own = own_stepped (Gate Leave) refl own l;
+        };
         thread = ap (λ (s : Standing). s.thread) l.stands_is;
         config = ap (λ (s : Standing). s.config) l.stands_is;
       }

@@ -1,5 +1,6 @@
 -- The calls that enter no gate.
-use Rattle.std.proofs.Common.{◌≡◌, ◌⊎◌, ◌≤◌, ◌<◌, ◌==◌, ℕ, Bool, true, false, nat_lt, nat_le, List, [], ◌∷◌, ◌++◌, Result, Ok, Err, IfErr, length, inl, inr, refl, sym, ap, subst, ◌∙◌, arith}
+use Rattle.std.proofs.Common.{◌≡◌, ◌⊎◌, ◌≤◌, ◌<◌, ◌==◌, ℕ, Bool, true, false, nat_lt, nat_le, List, [], ◌∷◌}
+use Rattle.std.proofs.Common.{◌++◌, Result, Ok, Err, IfErr, length, inl, inr, refl, sym, ap, subst, ◌∙◌, arith}
 use Rattle.std.proofs.lemmas.Bool.Decides.{nat_tests}
 use mathlib.Core.Logic.{∥∥₁_map}
 use Rattle.jr_word.specs.declared.config.Config.{Config}
@@ -56,23 +57,34 @@ holds_pushed f k m p = m p ∙ sym (ap (object_where (λ r. r.handle.index == p)
 
 module _ {S : Type 0} {facts : S → Facts} where
   -- an empty frame more leaves a thread as ready
-  pub ready_pushed : {role : Role} {a : S} {t u : Table} → StandsReady facts role a t → u ≡ with_frames t (pushed t.frames) → StandsReady facts role a u
+  pub ready_pushed : {role : Role} {a : S} {t u : Table} → StandsReady facts role a t
+      → u ≡ with_frames t (pushed t.frames) → StandsReady facts role a u
   ready_pushed {role} {a} {t} r is = subst (StandsReady facts role a) (sym is) (record {
     role_is = r.role_is;
     spent = r.spent;
-    own = record { owner = r.own.owner; last = r.own.last; places = r.own.places; agrees = ∥∥₁_map r.own.agrees (λ k. (k.0, k.1, holds_pushed t.frames k.0 k.2)) };
+    own = record {
+      owner = r.own.owner;
+      last = r.own.last;
+      places = r.own.places;
+      agrees = ∥∥₁_map r.own.agrees (λ k. (k.0, k.1, holds_pushed t.frames k.0 k.2));
+    };
   })
 
   -- a deed, once a stay that was left has been ended
-  pub does_from : {o a b : S} {r t : Table} {g : Frames} {A : Type 0} {deed : Deed A} {answer : Result A Fault} → EndsStay facts o a r t → DoesDeed facts a b t.frames g deed answer → DoesOutside facts o b r.frames g deed answer
+  pub does_from : {o a b : S} {r t : Table} {g : Frames} {A : Type 0} {deed : Deed A} {answer : Result A Fault}
+      → EndsStay facts o a r t → DoesDeed facts a b t.frames g deed answer
+      → DoesOutside facts o b r.frames g deed answer
   does_from {o} {a} {b} {r} {t} {g} {deed = deed} {answer = answer} e d = record {
-    does = λ out. subst (λ (m : S). DoesDeed facts m b r.frames g deed answer) (e.same out) (subst (λ (x : Table). DoesDeed facts a b x.frames g deed answer) e.frames d);
+    does = λ out. subst (λ (m : S). DoesDeed facts m b r.frames g deed answer) (e.same out)
+        (subst (λ (x : Table). DoesDeed facts a b x.frames g deed answer) e.frames d);
     left = λ no. did_left (e.left no) (subst (λ (x : Table). DoesDeed facts a b x.frames g deed answer) e.frames d);
     outside = d.stands_is.role ∙ e.ready.role_is;
   }
 
   module _ (fits : AreOf facts) {o a : S} {r t : Table} (ended : EndsStay facts o a r t) where
-    does_apart : {A : Type 0} {g : Frames} {answer : Result A Fault} (work : Config → ℕ → ℕ → Call A) → ((c : Config) (thread : ℕ) → work c t.last thread t.frames [] answer g) → ((p : PassView) → IfErr answer (Grounds p.seen p)) → ((k : Known) → Holds t.frames k → Holds g k)
+    does_apart : {A : Type 0} {g : Frames} {answer : Result A Fault} (work : Config → ℕ → ℕ → Call A)
+        → ((c : Config) (thread : ℕ) → work c t.last thread t.frames [] answer g)
+        → ((p : PassView) → IfErr answer (Grounds p.seen p)) → ((k : Known) → Holds t.frames k → Holds g k)
         → DoesOutside facts o a r.frames g (call_apart work) answer
     does_apart {A} {g} {answer} work is grounds holds = does_from ended (record {
       stands_is = nothing_changed;
@@ -90,24 +102,51 @@ module _ {S : Type 0} {facts : S → Facts} where
           (k, s, holds k m, (made_of (spend_none (facts a) k t.frames g i.legal) ran, refl));
     })
 
-    pub ensures_room : (n : ℕ) → n ≤ free_places t.last t.frames → DoesOutside facts o a r.frames t.frames (call_apart (λ c last thread. ensure_local_capacity c last thread n)) (Ok tt)
-    ensures_room n l = does_apart (λ c last thread. ensure_local_capacity c last thread n) (λ c thread. passed_by (nat_lt (free_places t.last t.frames) n) LocalsFull t.frames (leaves_room n _ l)) (λ p. tt) (λ k m. m)
+    pub ensures_room : (n : ℕ) → n ≤ free_places t.last t.frames → DoesOutside facts o a r.frames t.frames
+        (call_apart (λ c last thread. ensure_local_capacity c last thread n)) (Ok tt)
+    ensures_room n l = does_apart (λ c last thread. ensure_local_capacity c last thread n) (λ c thread.
+        passed_by (nat_lt (free_places t.last t.frames) n) LocalsFull t.frames (leaves_room n _ l)) (λ p. tt) (λ k m. m)
 
-    pub lacks_places : (n : ℕ) → (n ≤ free_places t.last t.frames → ⊥) → DoesOutside facts o a r.frames t.frames (call_apart (λ c last thread. ensure_local_capacity c last thread n)) (Err LocalsFull)
-    lacks_places n lacks = does_apart (λ c last thread. ensure_local_capacity c last thread n) (λ c thread. refused_by (nat_lt (free_places t.last t.frames) n) LocalsFull t.frames (lacks_room n _ lacks)) (λ p. tt) (λ k m. m)
+    pub lacks_places : (n : ℕ) → (n ≤ free_places t.last t.frames → ⊥) → DoesOutside facts o a r.frames t.frames
+        (call_apart (λ c last thread. ensure_local_capacity c last thread n)) (Err LocalsFull)
+    lacks_places n lacks = does_apart (λ c last thread. ensure_local_capacity c last thread n) (λ c thread. refused_by
+        (nat_lt (free_places t.last t.frames) n) LocalsFull t.frames (lacks_room n _ lacks)) (λ p. tt) (λ k m. m)
 
     -- too many frames, or too few places
-    pub pushes_none : (n : ℕ) → (FRAMES ≤ length t.frames.frames) ⊎ (n ≤ free_places t.last t.frames → ⊥) → DoesOutside facts o a r.frames t.frames (call_apart (λ c last thread. push_local_frame c last thread n)) (Err LocalsFull)
-    pushes_none n (inl many) = does_apart (λ c last thread. push_local_frame c last thread n) (λ c thread. inr (LocalsFull, refl, refused_by (nat_le FRAMES (length t.frames.frames)) LocalsFull t.frames (at_most _ many))) (λ p. tt) (λ k m. m)
+    pub pushes_none : (n : ℕ) → (FRAMES ≤ length t.frames.frames) ⊎ (n ≤ free_places t.last t.frames → ⊥)
+        → DoesOutside facts o a r.frames t.frames (call_apart (λ c last thread. push_local_frame c last thread n)) (Err
+        LocalsFull)
+    pushes_none n (inl many) = does_apart (λ c last thread. push_local_frame c last thread n) (λ c thread. inr
+        (LocalsFull, refl, refused_by (nat_le FRAMES (length t.frames.frames)) LocalsFull t.frames (at_most _ many)))
+        (λ p. tt) (λ k m. m)
     pushes_none n (inr lacks) = go (nat_le FRAMES (length t.frames.frames)) refl
       where
-        go : (b : Bool) → nat_le FRAMES (length t.frames.frames) ≡ b → DoesOutside facts o a r.frames t.frames (call_apart (λ c last thread. push_local_frame c last thread n)) (Err LocalsFull)
-        go true e = does_apart (λ c last thread. push_local_frame c last thread n) (λ c thread. inr (LocalsFull, refl, refused_by (nat_le FRAMES (length t.frames.frames)) LocalsFull t.frames e)) (λ p. tt) (λ k m. m)
+        go : (b : Bool) → nat_le FRAMES (length t.frames.frames) ≡ b → DoesOutside facts o a r.frames t.frames
+            (call_apart (λ c last thread. push_local_frame c last thread n)) (Err LocalsFull)
+        go true e = does_apart (λ c last thread. push_local_frame c last thread n) (λ c thread.
+            inr (LocalsFull, refl, refused_by (nat_le FRAMES (length t.frames.frames)) LocalsFull t.frames e)) (λ p. tt)
+            (λ k m. m)
         go false e = does_apart (λ c last thread. push_local_frame c last thread n)
-            (λ c thread. inl (tt, t.frames, [], [], refl, passed_by (nat_le FRAMES (length t.frames.frames)) LocalsFull t.frames e, inr (LocalsFull, refl, refused_by (nat_lt (free_places t.last t.frames) n) LocalsFull t.frames (lacks_room n _ lacks)))) (λ p. tt) (λ k m. m)
+            (λ c thread. inl (
+              tt,
+              t.frames,
+              [],
+              [],
+              refl,
+              passed_by (nat_le FRAMES (length t.frames.frames)) LocalsFull t.frames e,
+              inr (
+                LocalsFull,
+                refl,
+                refused_by (nat_lt (free_places t.last t.frames) n) LocalsFull t.frames (lacks_room n _ lacks),
+              ),
+            )) (λ p. tt) (λ k m. m)
 
-    pub pushes : (n : ℕ) {u : Table} → length t.frames.frames < FRAMES → n ≤ free_places t.last t.frames → u ≡ with_frames t (pushed t.frames) → DoesOutside facts o a r.frames u.frames (call_apart (λ c last thread. push_local_frame c last thread n)) (Ok tt)
-    pushes n few l is = subst (λ (x : Table). DoesOutside facts o a r.frames x.frames (call_apart (λ c last thread. push_local_frame c last thread n)) (Ok tt)) (sym is)
+    pub pushes : (n : ℕ) {u : Table} → length t.frames.frames < FRAMES → n ≤ free_places t.last t.frames
+        → u ≡ with_frames t (pushed t.frames)
+        → DoesOutside facts o a r.frames u.frames (call_apart (λ c last thread. push_local_frame c last thread n)) (Ok
+        tt)
+    pushes n few l is = subst (λ (x : Table). DoesOutside facts o a r.frames x.frames
+        (call_apart (λ c last thread. push_local_frame c last thread n)) (Ok tt)) (sym is)
         (does_apart (λ c last thread. push_local_frame c last thread n)
         (λ c thread. inl (
           tt,
@@ -116,5 +155,13 @@ module _ {S : Type 0} {facts : S → Facts} where
           [],
           refl,
           passed_by (nat_le FRAMES (length t.frames.frames)) LocalsFull t.frames (fewer_frames _ few),
-          inl (tt, t.frames, [], [], refl, passed_by (nat_lt (free_places t.last t.frames) n) LocalsFull t.frames (leaves_room n _ l), (refl, refl, refl)),
+          inl (
+            tt,
+            t.frames,
+            [],
+            [],
+            refl,
+            passed_by (nat_lt (free_places t.last t.frames) n) LocalsFull t.frames (leaves_room n _ l),
+            (refl, refl, refl),
+          ),
         )) (λ p. tt) (λ k m. holds_pushed t.frames k m))

@@ -26,40 +26,70 @@ use Rattle.jr_gate.proofs.HandedOn.{handed_on}
 
 module _ {S : Type 0} {facts : S → Facts} where
   -- a call that takes nothing beside its acts takes no more than this
-  whole_more : {A : Type 0} {a b : S} {f g : Frames} {call : State → Call A} {answer : Result A Fault} (silent : ℕ) → CallsWhole facts a b f g 0 call answer → CallsWhole facts a b f g silent call answer
-  whole_more silent p = record { stands_is = p.stands_is; ran = λ k s m. let x = p.ran k s m in (x.0, x.1, made_of (spend_more silent (spending x.2)) x.2.ran, x.3) }
+  whole_more : {A : Type 0} {a b : S} {f g : Frames} {call : State → Call A} {answer : Result A Fault} (silent : ℕ)
+      → CallsWhole facts a b f g 0 call answer → CallsWhole facts a b f g silent call answer
+  whole_more silent p = record {
+    stands_is = p.stands_is;
+    ran = λ k s m. let x = p.ran k s m in (x.0, x.1, made_of (spend_more silent (spending x.2)) x.2.ran, x.3);
+  }
 
-  pub completes_more : {A : Type 0} {a b : S} {t u : Table} {call : State → Call A} {answer : Result A Fault} (silent : ℕ) → Completes facts a b t u 0 call answer → Completes facts a b t u silent call answer
-  completes_more silent p = record { call = λ out. whole_more silent (p.call out); left = λ no. let x = p.left no in (x.0, x.1, whole_more silent x.2); ready = p.ready }
+  pub completes_more : {A : Type 0} {a b : S} {t u : Table} {call : State → Call A} {answer : Result A Fault}
+      (silent : ℕ) → Completes facts a b t u 0 call answer → Completes facts a b t u silent call answer
+  completes_more silent p = record {
+    call = λ out. whole_more silent (p.call out);
+    left = λ no. let x = p.left no in (x.0, x.1, whole_more silent x.2);
+    ready = p.ready;
+  }
 
   module _ {A : Type 0} (work : Config → ℕ → ℕ → State → Call A) where
     -- an entry that found the gate shut
-    pub completes_barred : {a b : S} {t : Table} {e : Fault} → StandsReady facts Outside a t → (answer : Result A Fault) → IsErrAnd answer (λ y. y ≡ e) → (e ≡ Barred) × ActedTo facts a b (Gate Knock ∷ Gate Withdraw ∷ []) anything LetsGoInTwo
-        → Completes facts a b t t 0 (λ s. entered (work (facts a).stands.config (facts a).stands.last (facts a).stands.thread s)) answer
+    pub completes_barred : {a b : S} {t : Table} {e : Fault} → StandsReady facts Outside a t → (answer : Result A Fault)
+        → IsErrAnd answer (λ y. y ≡ e)
+        → (e ≡ Barred) × ActedTo facts a b (Gate Knock ∷ Gate Withdraw ∷ []) anything LetsGoInTwo
+        → Completes facts a b t t 0
+        (λ s. entered (work (facts a).stands.config (facts a).stands.last (facts a).stands.thread s)) answer
     completes_barred {t} r answer given why =
-        let p = handed_on answer (subst (λ y. IsErrAnd answer (λ z. z ≡ y)) why.0 given) (calls_barred work t.frames r.role_is why.1) in
-        record { call = λ out. p; left = λ no. absurd (no r.role_is); ready = ready_after {so = lets_go} r (same_owner t) p }
+        let p = handed_on answer (subst (λ y. IsErrAnd answer (λ z. z ≡ y)) why.0 given)
+        (calls_barred work t.frames r.role_is why.1) in
+        record {
+          call = λ out. p;
+          left = λ no. absurd (no r.role_is);
+          ready = ready_after {so = lets_go} r (same_owner t) p;
+        }
 
     -- work between an entry and its exit
-    pub completes : {a b c d : S} {t u : Table} (fits : AreOf facts) (silent : Config → ℕ) {so : Known → Known → Type 0} {answer : Result A Fault} → StandsReady facts Outside a t → Took facts a b (Gate Enter ∷ []) anything keeps
-        → Performed facts b c t.frames u.frames (silent (facts b).stands.config) (Holds t.frames) (work (facts b).stands.config (facts b).stands.last (facts b).stands.thread) answer (λ j k. so j k × Holds u.frames k)
-        → IsSteady (work (facts b).stands.config (facts b).stands.last (facts b).stands.thread) → KeepsOwner t u → Took facts c d (Gate Leave ∷ []) anything lets_go
-        → Completes facts a d t u (silent (facts a).stands.config) (λ s. entered (work (facts a).stands.config (facts a).stands.last (facts a).stands.thread s)) answer
-    completes fits silent {so = so} r e p steady o l = let q = calls_entered work fits silent {so = so} r.role_is e p steady l in record { call = λ out. q; left = λ no. absurd (no r.role_is); ready = ready_after {so = lets_go} r o q }
+    pub completes : {a b c d : S} {t u : Table} (fits : AreOf facts) (silent : Config → ℕ) {so : Known → Known → Type 0}
+        {answer : Result A Fault} → StandsReady facts Outside a t → Took facts a b (Gate Enter ∷ []) anything keeps
+        → Performed facts b c t.frames u.frames (silent (facts b).stands.config) (Holds t.frames) (work
+        (facts b).stands.config (facts b).stands.last (facts b).stands.thread) answer (λ j k. so j k × Holds u.frames k)
+        → IsSteady (work (facts b).stands.config (facts b).stands.last (facts b).stands.thread) → KeepsOwner t u
+        → Took facts c d (Gate Leave ∷ []) anything lets_go
+        → Completes facts a d t u (silent (facts a).stands.config)
+        (λ s. entered (work (facts a).stands.config (facts a).stands.last (facts a).stands.thread s)) answer
+    completes fits silent {so = so} r e p steady o l =
+        let q = calls_entered work fits silent {so = so} r.role_is e p steady l in
+        record { call = λ out. q; left = λ no. absurd (no r.role_is); ready = ready_after {so = lets_go} r o q }
 
     -- the same, once a stay that was left has been ended
-    pub completes_from : {o a b : S} {r t u : Table} (silent : Config → ℕ) {answer : Result A Fault} → EndsStay facts o a r t → Completes facts a b t u (silent (facts a).stands.config) (λ s. entered (work (facts a).stands.config (facts a).stands.last (facts a).stands.thread s)) answer
-        → Completes facts o b r u (silent (facts o).stands.config) (λ s. entered (work (facts o).stands.config (facts o).stands.last (facts o).stands.thread s)) answer
+    pub completes_from : {o a b : S} {r t u : Table} (silent : Config → ℕ) {answer : Result A Fault}
+        → EndsStay facts o a r t → Completes facts a b t u (silent (facts a).stands.config)
+        (λ s. entered (work (facts a).stands.config (facts a).stands.last (facts a).stands.thread s)) answer
+        → Completes facts o b r u (silent (facts o).stands.config)
+        (λ s. entered (work (facts o).stands.config (facts o).stands.last (facts o).stands.thread s)) answer
     completes_from {o} {a} {b} {r} {t} {u} silent {answer} e p = record {
       call = λ out.
-          subst (λ (m : S). CallsWhole facts m b r.frames u.frames (silent (facts m).stands.config) (λ s. entered (work (facts m).stands.config (facts m).stands.last (facts m).stands.thread s)) answer) (e.same out)
-          (subst (λ (x : Table). CallsWhole facts a b x.frames u.frames (silent (facts a).stands.config) (λ s. entered (work (facts a).stands.config (facts a).stands.last (facts a).stands.thread s)) answer) e.frames
+          subst (λ (m : S). CallsWhole facts m b r.frames u.frames (silent (facts m).stands.config) (λ s.
+          entered (work (facts m).stands.config (facts m).stands.last (facts m).stands.thread s)) answer) (e.same out)
+          (subst (λ (x : Table). CallsWhole facts a b x.frames u.frames (silent (facts a).stands.config)
+          (λ s. entered (work (facts a).stands.config (facts a).stands.last (facts a).stands.thread s)) answer) e.frames
           (p.call e.ready.role_is));
       left = λ no. (
         a,
         e.left no,
-        subst (λ (s : Standing). CallsWhole facts a b r.frames u.frames (silent s.config) (λ z. entered (work s.config s.last s.thread z)) answer) (e.left no).stands_is
-            (subst (λ (x : Table). CallsWhole facts a b x.frames u.frames (silent (facts a).stands.config) (λ s. entered (work (facts a).stands.config (facts a).stands.last (facts a).stands.thread s)) answer) e.frames
+        subst (λ (s : Standing). CallsWhole facts a b r.frames u.frames (silent s.config)
+            (λ z. entered (work s.config s.last s.thread z)) answer) (e.left no).stands_is
+            (subst (λ (x : Table). CallsWhole facts a b x.frames u.frames (silent (facts a).stands.config) (λ s.
+            entered (work (facts a).stands.config (facts a).stands.last (facts a).stands.thread s)) answer) e.frames
             (p.call e.ready.role_is)),
       );
       ready = p.ready;

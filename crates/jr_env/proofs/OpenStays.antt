@@ -1,5 +1,6 @@
 -- A stay that goes on from call to call, for whatever was known: which no collection disturbs.
-use Rattle.std.proofs.Common.{◌≡◌, ℕ, [], ◌∷◌, Result, Ok, Err, IfOk, IfErr, ⊎_elim, inl, inr, refl, sym, ap, subst, ◌∙◌}
+use Rattle.std.proofs.Common.{◌≡◌, ℕ, [], ◌∷◌, Result, Ok, Err, IfOk, IfErr}
+use Rattle.std.proofs.Common.{⊎_elim, inl, inr, refl, sym, ap, subst, ◌∙◌}
 use Rattle.jr_word.specs.declared.config.Config.{Config}
 use Rattle.jr_word.specs.declared.fault.Fault.{Fault}
 use Rattle.jr_word.specs.declared.fault.Fault.TheVariants.{Barred}
@@ -48,11 +49,20 @@ ran_in {q = q} f a = record {
   grounds = tt;
 }
 
-ran_shut : {p r : PassView} {begun : History} (f : Frames) → Did p r (Gate Knock ∷ Gate Withdraw ∷ []) → IsWindow p r (Gate Knock ∷ Gate Withdraw ∷ []) begun → Ran p r f f enter (Err Barred)
+ran_shut : {p r : PassView} {begun : History} (f : Frames) → Did p r (Gate Knock ∷ Gate Withdraw ∷ [])
+    → IsWindow p r (Gate Knock ∷ Gate Withdraw ∷ []) begun → Ran p r f f enter (Err Barred)
 ran_shut {begun = begun} f d w = record {
   acts = Gate Knock ∷ Gate Withdraw ∷ [];
   did = d;
-  is = inr (inl (tt, f, Gate Knock ∷ [], Gate Withdraw ∷ [], refl, (refl, refl, refl), inl (tt, f, Gate Withdraw ∷ [], [], refl, (refl, refl, refl), (refl, refl, refl))));
+  is = inr (inl (
+    tt,
+    f,
+    Gate Knock ∷ [],
+    Gate Withdraw ∷ [],
+    refl,
+    (refl, refl, refl),
+    inl (tt, f, Gate Withdraw ∷ [], [], refl, (refl, refl, refl), (refl, refl, refl)),
+  ));
   begun = begun;
   window = w;
   grounds = tt;
@@ -70,14 +80,21 @@ entered {old} {new} {f} {g} r = go r.is
 module _ {S : Type 0} {facts : S → Facts} where
   -- a thread that stands ready within can make a call
   pub can_within : {a : S} {t : Table} → StandsReady facts Within a t → CanCall (facts a).stands
-  can_within r = record { spent = r.spent; not_knocking = λ e. let within = r.role_is in cc; not_announcing = λ e. let within = r.role_is in cc; not_collecting = λ e. let within = r.role_is in cc }
+  can_within r = record {
+    spent = r.spent;
+    not_knocking = λ e. let within = r.role_is in cc;
+    not_announcing = λ e. let within = r.role_is in cc;
+    not_collecting = λ e. let within = r.role_is in cc;
+  }
 
 -- what the entry ensures, where it went in and where it was refused
 abbrev pub WentIn : {S : Type 0} → (S → Facts) → S → S → Result Inside Fault → Type 0
-WentIn facts a b answer = IfOk answer (λ i. IsOwnStay i (facts b).stands × Took facts a b (Gate Enter ∷ []) anything keeps)
+WentIn facts a b answer =
+    IfOk answer (λ i. IsOwnStay i (facts b).stands × Took facts a b (Gate Enter ∷ []) anything keeps)
 
 abbrev pub WasShut : {S : Type 0} → (S → Facts) → S → S → Result Inside Fault → Type 0
-WasShut facts a b answer = IfErr answer (λ e. (e ≡ Barred) × ActedTo facts a b (Gate Knock ∷ Gate Withdraw ∷ []) anything LetsGoInTwo)
+WasShut facts a b answer =
+    IfErr answer (λ e. (e ≡ Barred) × ActedTo facts a b (Gate Knock ∷ Gate Withdraw ∷ []) anything LetsGoInTwo)
 
 module _ {S : Type 0} (facts : S → Facts) (a b : S) (t : Table) where
   -- THE ENTRY
@@ -92,11 +109,16 @@ module _ {S : Type 0} (facts : S → Facts) (a b : S) (t : Table) where
       role = ap (λ (s : Standing). s.role) took.stands_is;
     };
     ran = λ k s m.
-        let y = took.goes k s tt in
-        (y.0, y.1, made_of (spend_step took (λ n i. refl) k s tt t.frames t.frames) (ran_in t.frames (goes_stepped y.2)), (y.3, holds_did k y.0 t.frames (Gate Enter ∷ []) (goes_did y.2) (refl, tt) m));
+        let y = took.goes k s tt in (
+          y.0,
+          y.1,
+          made_of (spend_step took (λ n i. refl) k s tt t.frames t.frames) (ran_in t.frames (goes_stepped y.2)),
+          (y.3, holds_did k y.0 t.frames (Gate Enter ∷ []) (goes_did y.2) (refl, tt) m),
+        );
   }
 
-  enters_barred : ActedTo facts a b (Gate Knock ∷ Gate Withdraw ∷ []) anything LetsGoInTwo → Enters facts a b t.frames (Err Barred)
+  enters_barred : ActedTo facts a b (Gate Knock ∷ Gate Withdraw ∷ []) anything LetsGoInTwo
+      → Enters facts a b t.frames (Err Barred)
   enters_barred took = record {
     stands_is = record {
       room = ap (λ (s : Standing). s.room) took.stands_is;
@@ -106,33 +128,45 @@ module _ {S : Type 0} (facts : S → Facts) (a b : S) (t : Table) where
       role = ap (λ (s : Standing). s.role) took.stands_is;
     };
     ran = λ k s m.
-        let y = took.leads k s tt in
-        (y.0, y.1, made_of (spend_barred took k s t.frames t.frames) (ran_shut t.frames y.2 y.3.2), (y.3.0.0, holds_did k y.0 t.frames (Gate Knock ∷ Gate Withdraw ∷ []) y.2 (refl, (refl, tt)) m));
+        let y = took.leads k s tt in (
+          y.0,
+          y.1,
+          made_of (spend_barred took k s t.frames t.frames) (ran_shut t.frames y.2 y.3.2),
+          (y.3.0.0, holds_did k y.0 t.frames (Gate Knock ∷ Gate Withdraw ∷ []) y.2 (refl, (refl, tt)) m),
+        );
   }
 
-  enters_so : (answer : Result Inside Fault) → WentIn facts a b answer → WasShut facts a b answer → Enters facts a b t.frames (answer_in (λ (i : Inside). tt) answer)
+  enters_so : (answer : Result Inside Fault) → WentIn facts a b answer → WasShut facts a b answer
+      → Enters facts a b t.frames (answer_in (λ (i : Inside). tt) answer)
   enters_so (Ok i) went shut = enters went.1
-  enters_so (Err e) went shut = subst (λ (x : Fault). Enters facts a b t.frames (Err x)) (sym shut.0) (enters_barred shut.1)
+  enters_so (Err e) went shut =
+      subst (λ (x : Fault). Enters facts a b t.frames (Err x)) (sym shut.0) (enters_barred shut.1)
 
   module _ (r : StandsReady facts Outside a t) where
-    shut_ready : ActedTo facts a b (Gate Knock ∷ Gate Withdraw ∷ []) anything LetsGoInTwo → StandsReady facts Outside b t
-    shut_ready took = (completes_barred {A = Unit {0}} (λ c last thread s. done tt) r (Err Barred) refl (refl, took)).ready
+    shut_ready : ActedTo facts a b (Gate Knock ∷ Gate Withdraw ∷ []) anything LetsGoInTwo
+        → StandsReady facts Outside b t
+    shut_ready took =
+        (completes_barred {A = Unit {0}} (λ c last thread s. done tt) r (Err Barred) refl (refl, took)).ready
 
-    pub own_entered : (answer : Result Inside Fault) → WentIn facts a b answer → WasShut facts a b answer → AreOwn facts b t
+    pub own_entered : (answer : Result Inside Fault) → WentIn facts a b answer → WasShut facts a b answer
+        → AreOwn facts b t
     own_entered (Ok i) went shut = (ready_entered r went.1).own
     own_entered (Err e) went shut = (shut_ready shut.1).own
 
-    pub can_entered : (answer : Result Inside Fault) → WentIn facts a b answer → WasShut facts a b answer → CanCall (facts b).stands
+    pub can_entered : (answer : Result Inside Fault) → WentIn facts a b answer → WasShut facts a b answer
+        → CanCall (facts b).stands
     can_entered (Ok i) went shut = can_within (ready_entered r went.1)
     can_entered (Err e) went shut = can_call (shut_ready shut.1)
 
-    pub refused_entered : (answer : Result Inside Fault) → WasShut facts a b answer → IfErr answer (λ e. (e ≡ Barred) × ((facts b).stands.role ≡ Outside))
+    pub refused_entered : (answer : Result Inside Fault) → WasShut facts a b answer
+        → IfErr answer (λ e. (e ≡ Barred) × ((facts b).stands.role ≡ Outside))
     refused_entered (Ok i) shut = tt
     refused_entered (Err e) shut = (shut.0, (shut_ready shut.1).role_is)
 
   -- THE EXIT
 
-  pub ready_left : StandsReady facts Within a t → Took facts a b (Gate Leave ∷ []) anything lets_go → StandsReady facts Outside b t
+  pub ready_left : StandsReady facts Within a t → Took facts a b (Gate Leave ∷ []) anything lets_go
+      → StandsReady facts Outside b t
   ready_left r took = record {
     role_is = ap (λ (s : Standing). s.role) took.stands_is;
     spent = ap (λ (s : Standing). s.fresh) took.stands_is ∙ r.spent;
@@ -151,40 +185,59 @@ module _ {S : Type 0} {G : Ghosts S} where
 
   -- the entry, once a stay that was left has been ended
   module _ (old mid new : Held S G) (ended : EndsStayOver old mid) (same : new.frames ≡ mid.frames) where
-    pub goes_in : (answer : Result Inside Fault) → WentIn G.facts mid.steps new.steps answer → WasShut G.facts mid.steps new.steps answer → (G.facts old.steps).stands.role ≡ Outside → EntersOver old new (answer_in (λ (i : Inside). tt) answer)
+    pub goes_in : (answer : Result Inside Fault) → WentIn G.facts mid.steps new.steps answer
+        → WasShut G.facts mid.steps new.steps answer → (G.facts old.steps).stands.role ≡ Outside
+        → EntersOver old new (answer_in (λ (i : Inside). tt) answer)
     goes_in answer went shut out =
-        subst (λ (a : S). Enters G.facts a new.steps old.frames.frames (answer_in (λ (i : Inside). tt) answer)) (ended.same out)
-        (subst (λ (t : Table). Enters G.facts mid.steps new.steps t.frames (answer_in (λ (i : Inside). tt) answer)) ended.frames (enters_so G.facts mid.steps new.steps mid.frames answer went shut))
+        subst (λ (a : S). Enters G.facts a new.steps old.frames.frames (answer_in (λ (i : Inside). tt) answer))
+        (ended.same out)
+        (subst (λ (t : Table). Enters G.facts mid.steps new.steps t.frames (answer_in (λ (i : Inside). tt) answer))
+        ended.frames (enters_so G.facts mid.steps new.steps mid.frames answer went shut))
 
     -- and once one that was left has been ended
-    pub goes_in_behind : (answer : Result Inside Fault) → WentIn G.facts mid.steps new.steps answer → WasShut G.facts mid.steps new.steps answer → BehindExit old (λ m. Enters G.facts m new.steps old.frames.frames (answer_in (λ (i : Inside). tt) answer))
+    pub goes_in_behind : (answer : Result Inside Fault) → WentIn G.facts mid.steps new.steps answer
+        → WasShut G.facts mid.steps new.steps answer
+        → BehindExit old (λ m. Enters G.facts m new.steps old.frames.frames (answer_in (λ (i : Inside). tt) answer))
     goes_in_behind answer went shut inside = (
       mid.steps,
       leaves G.facts old.steps mid.steps old.frames.frames (ended.left inside),
-      subst (λ (t : Table). Enters G.facts mid.steps new.steps t.frames (answer_in (λ (i : Inside). tt) answer)) ended.frames (enters_so G.facts mid.steps new.steps mid.frames answer went shut),
+      subst (λ (t : Table). Enters G.facts mid.steps new.steps t.frames (answer_in (λ (i : Inside). tt) answer))
+          ended.frames (enters_so G.facts mid.steps new.steps mid.frames answer went shut),
     )
 
-    pub stays_since : (answer : Result Inside Fault) → WentIn G.facts mid.steps new.steps answer → WasShut G.facts mid.steps new.steps answer → IfOk answer (λ i. (G.facts old.steps).stands.role ≡ Outside → StaysSince old new)
+    pub stays_since : (answer : Result Inside Fault) → WentIn G.facts mid.steps new.steps answer
+        → WasShut G.facts mid.steps new.steps answer
+        → IfOk answer (λ i. (G.facts old.steps).stands.role ≡ Outside → StaysSince old new)
     stays_since (Ok i) went shut = λ out. since_entry old new (same ∙ ended.frames) (goes_in (Ok i) went shut out)
     stays_since (Err e) went shut = tt
 
-  pub ends_as_one : (old new : Held S G) → new.frames ≡ old.frames → Took G.facts old.steps new.steps (Gate Leave ∷ []) anything lets_go → EndsAsOneStay old new
+  pub ends_as_one : (old new : Held S G) → new.frames ≡ old.frames
+      → Took G.facts old.steps new.steps (Gate Leave ∷ []) anything lets_go → EndsAsOneStay old new
   ends_as_one old new same took begun since i s m =
       let x = since i s m in
       let y = (leaves G.facts old.steps new.steps old.frames.frames took).ran x.0 x.1 x.3.1 in
-      let r = y.2.ran in
-      (y.0, y.1, one_stay_left x.2 (subst (Did (view x.0) (view y.0)) r.is.0 r.did) (subst (Ends (view x.0) (view y.0)) r.is.0 r.window.last refl), subst (λ (t : Table). Holds t.frames y.0) (sym same) y.3.1)
+      let r = y.2.ran in (
+        y.0,
+        y.1,
+        one_stay_left x.2 (subst (Did (view x.0) (view y.0)) r.is.0 r.did)
+            (subst (Ends (view x.0) (view y.0)) r.is.0 r.window.last refl),
+        subst (λ (t : Table). Holds t.frames y.0) (sym same) y.3.1,
+      )
 
   module _ (fits : AreOf G.facts) (old new : Held S G) where
     -- a work in a stay, with which it goes on
-    pub performs_on : {A : Type 0} (silent : ℕ) (so : Known → Known → Type 0) (asked : Config → ℕ → ℕ → State → Call A) {answer : Result A Fault} → IsInStay asked
-        → Performed G.facts old.steps new.steps old.frames.frames new.frames.frames silent (Holds old.frames.frames) (asked (G.facts old.steps).stands.config (G.facts old.steps).stands.last (G.facts old.steps).stands.thread) answer (λ j k. so j k × Holds new.frames.frames k)
+    pub performs_on : {A : Type 0} (silent : ℕ) (so : Known → Known → Type 0) (asked : Config → ℕ → ℕ → State → Call A)
+        {answer : Result A Fault} → IsInStay asked
+        → Performed G.facts old.steps new.steps old.frames.frames new.frames.frames silent (Holds old.frames.frames)
+        (asked (G.facts old.steps).stands.config (G.facts old.steps).stands.last (G.facts old.steps).stands.thread)
+        answer (λ j k. so j k × Holds new.frames.frames k)
         → StaysOn old new
     performs_on silent so asked {answer} law p begun since i s m =
         let x = since i s m in
         let y = p.ran x.0 x.1 x.3.1 in
         let r = y.2.ran in
         let at = (G.facts old.steps).stands in
-        let none = law at.config at.last at.thread (state_of y.0) old.frames.frames new.frames.frames r.acts answer r.is in
+        let none =
+        law at.config at.last at.thread (state_of y.0) old.frames.frames new.frames.frames r.acts answer r.is in
         let stay = stays_more x.2 r.acts r.did none in
         (y.0, y.1, stay, (one_stay stay, y.3.1))

@@ -27,7 +27,9 @@ module _ {S A : Type 0} (facts : S → Facts) (most : Config → ℕ) (tells : A
   TellsOr a b (Ok x) = TakesTold facts most (tells x) a b
   TellsOr a b (Err e) = (n : ℕ) × (e ≡ Busy n) × (1 ≤ n) × Took facts a b (ShutBusy n ∷ []) anything keeps
 
-  pub tells_or : (a b : S) (answer : Result A Fault) → IfOk answer (λ x. TakesTold facts most (tells x) a b) → IfErr answer (λ e. (n : ℕ) × (e ≡ Busy n) × (1 ≤ n) × Took facts a b (ShutBusy n ∷ []) anything keeps) → TellsOr a b answer
+  pub tells_or : (a b : S) (answer : Result A Fault) → IfOk answer (λ x. TakesTold facts most (tells x) a b)
+      → IfErr answer (λ e. (n : ℕ) × (e ≡ Busy n) × (1 ≤ n) × Took facts a b (ShutBusy n ∷ []) anything keeps)
+      → TellsOr a b answer
   tells_or a b (Ok x) ok err = ok
   tells_or a b (Err e) ok err = err
 
@@ -37,11 +39,13 @@ module _ {S A : Type 0} (facts : S → Facts) (most : Config → ℕ) (tells : A
     owner = r.owner ∙ sym (ap (λ (s : Standing). s.thread) m.stands_is);
     last = r.last ∙ sym (ap (λ (s : Standing). s.last) m.stands_is);
     places = r.places ∙ sym (ap (λ (s : Standing). s.config.locals) m.stands_is);
-    agrees = ∥∥₁_map r.agrees (λ k. let y = m.leads k.0 k.1 tt in (y.0, y.1, holds_did k.0 y.0 t.frames (Gate Shut ∷ Gate Reopen ∷ []) y.2.did (refl, (refl, tt)) k.2));
+    agrees = ∥∥₁_map r.agrees (λ k. let y = m.leads k.0 k.1 tt in
+        (y.0, y.1, holds_did k.0 y.0 t.frames (Gate Shut ∷ Gate Reopen ∷ []) y.2.did (refl, (refl, tt)) k.2));
   }
 
   -- THE THREAD STANDS READY OUTSIDE, as before
-  pub ready_told : {a b : S} {t : Table} (answer : Result A Fault) → StandsReady facts Outside a t → TellsOr a b answer → StandsReady facts Outside b t
+  pub ready_told : {a b : S} {t : Table} (answer : Result A Fault) → StandsReady facts Outside a t → TellsOr a b answer
+      → StandsReady facts Outside b t
   ready_told (Ok x) r m = record {
     role_is = ap (λ (s : Standing). s.role) m.stands_is ∙ r.role_is;
     spent = ap (λ (s : Standing). s.fresh) m.stands_is ∙ r.spent;
@@ -54,7 +58,8 @@ module _ {S A : Type 0} (facts : S → Facts) (most : Config → ℕ) (tells : A
   }
 
   module _ {a b : S} (t : Table) where
-    told_deed : (x : A) → TakesTold facts most (tells x) a b → DoesDeed facts a b t.frames t.frames (telling most tells) (Ok x)
+    told_deed : (x : A) → TakesTold facts most (tells x) a b
+        → DoesDeed facts a b t.frames t.frames (telling most tells) (Ok x)
     told_deed x m = record {
       stands_is = as_before (facts a).stands {f = (facts a).stands.fresh} m.stands_is;
       did = λ k s h.
@@ -75,10 +80,12 @@ module _ {S A : Type 0} (facts : S → Facts) (most : Config → ℕ) (tells : A
           );
     }
 
-    tells_deed : (answer : Result A Fault) → TellsOr a b answer → DoesDeed facts a b t.frames t.frames (telling most tells) answer
+    tells_deed : (answer : Result A Fault) → TellsOr a b answer
+        → DoesDeed facts a b t.frames t.frames (telling most tells) answer
     tells_deed (Ok x) m = told_deed x m
     tells_deed (Err e) m = let d = kept_out t e m.0 m.1 m.2 m.3 in record { stands_is = d.stands_is; did = d.did }
 
   -- THE DEED WAS DONE, once a stay that was left has been ended
-  pub does_tell : {o a b : S} {r t : Table} (answer : Result A Fault) → EndsStay facts o a r t → TellsOr a b answer → DoesOutside facts o b r.frames t.frames (telling most tells) answer
+  pub does_tell : {o a b : S} {r t : Table} (answer : Result A Fault) → EndsStay facts o a r t → TellsOr a b answer
+      → DoesOutside facts o b r.frames t.frames (telling most tells) answer
   does_tell {t = t} answer e m = does_from e (tells_deed t answer m)

@@ -1,5 +1,6 @@
 -- A collection of an env is the machine's, and leaves the thread ready.
-use Rattle.std.proofs.Common.{◌≡◌, ◌≤◌, ℕ, true, List, [], ◌∷◌, ◌++◌, map, length, Result, Ok, Err, IfOk, IfErr, inl, inr, refl, sym, ap, subst, ◌∙◌}
+use Rattle.std.proofs.Common.{◌≡◌, ◌≤◌, ℕ, true, List, [], ◌∷◌, ◌++◌, map, length, Result}
+use Rattle.std.proofs.Common.{Ok, Err, IfOk, IfErr, inl, inr, refl, sym, ap, subst, ◌∙◌}
 use Rattle.std.specs.List.{AllByRecursion}
 use mathlib.Core.Logic.{∥∥₁_map}
 use Rattle.jr_word.specs.declared.fault.Fault.{Fault}
@@ -42,29 +43,43 @@ drops_spare [] = tt
 drops_spare (o ∷ os) = (refl, drops_spare os)
 
 pub collection_spares : (hs : List Handle) (os : List ℕ) (used : ℕ) → AllSpare (collection_acts hs os used)
-collection_spares hs os used = (refl, append_all _ (sweeping_acts hs os used) (Gate Reopen ∷ []) (append_all _ (map Clear hs ++ map Drop os) (Settle used ∷ []) (append_all _ (map Clear hs) (map Drop os) (clears_spare hs) (drops_spare os)) (refl, tt)) (refl, tt))
+collection_spares hs os used = (
+  refl,
+  append_all _ (sweeping_acts hs os used) (Gate Reopen ∷ []) (append_all _ (map Clear hs ++ map Drop os) (Settle used
+      ∷ []) (append_all _ (map Clear hs) (map Drop os) (clears_spare hs) (drops_spare os)) (refl, tt)) (refl, tt),
+)
 
 -- one of the two that a call of the steps answers
 abbrev pub CollectsOr : {S : Type 0} → (S → Facts) → S → S → Result Collected Fault → Type 0
 CollectsOr facts a b (Ok x) = MakesCollection facts a b x.cleared x.dropped x.used
 CollectsOr facts a b (Err e) = (n : ℕ) × (e ≡ Busy n) × (1 ≤ n) × Took facts a b (ShutBusy n ∷ []) anything keeps
 
-pub collects_or : {S : Type 0} (facts : S → Facts) (a b : S) (answer : Result Collected Fault) → IfOk answer (λ c. MakesCollection facts a b c.cleared c.dropped c.used) → IfErr answer (λ e. (n : ℕ) × (e ≡ Busy n) × (1 ≤ n) × Took facts a b (ShutBusy n ∷ []) anything keeps) → CollectsOr facts a b answer
+pub collects_or : {S : Type 0} (facts : S → Facts) (a b : S) (answer : Result Collected Fault)
+    → IfOk answer (λ c. MakesCollection facts a b c.cleared c.dropped c.used)
+    → IfErr answer (λ e. (n : ℕ) × (e ≡ Busy n) × (1 ≤ n) × Took facts a b (ShutBusy n ∷ []) anything keeps)
+    → CollectsOr facts a b answer
 collects_or facts a b (Ok x) ok err = ok
 collects_or facts a b (Err e) ok err = err
 
 module _ {S : Type 0} {facts : S → Facts} where
   -- the frames are the thread's own still
-  own_collected : {a b : S} {t : Table} {cleared dropped used : ℕ} → AreOwn facts a t → MakesCollection facts a b cleared dropped used → AreOwn facts b t
+  own_collected : {a b : S} {t : Table} {cleared dropped used : ℕ} → AreOwn facts a t
+      → MakesCollection facts a b cleared dropped used → AreOwn facts b t
   own_collected {t = t} {used = used} r m = record {
     owner = r.owner ∙ sym (ap (λ (s : Standing). s.thread) m.went.stands_is);
     last = r.last ∙ sym (ap (λ (s : Standing). s.last) m.went.stands_is);
     places = r.places ∙ sym (ap (λ (s : Standing). s.config.locals) m.went.stands_is);
-    agrees = ∥∥₁_map r.agrees (λ k. let x = m.went.leads k.0 k.1 tt in (x.0, x.1, holds_did k.0 x.0 t.frames (collection_acts m.cleared m.dropped used) x.2.did (collection_spares m.cleared m.dropped used) k.2));
+    agrees = ∥∥₁_map r.agrees (λ k. let x = m.went.leads k.0 k.1 tt in (
+      x.0,
+      x.1,
+      holds_did k.0 x.0 t.frames (collection_acts m.cleared m.dropped used) x.2.did
+          (collection_spares m.cleared m.dropped used) k.2,
+    ));
   }
 
   -- THE THREAD STANDS READY OUTSIDE, as before
-  pub ready_collected : {a b : S} {t : Table} (answer : Result Collected Fault) → StandsReady facts Outside a t → CollectsOr facts a b answer → StandsReady facts Outside b t
+  pub ready_collected : {a b : S} {t : Table} (answer : Result Collected Fault) → StandsReady facts Outside a t
+      → CollectsOr facts a b answer → StandsReady facts Outside b t
   ready_collected (Ok x) r m = record {
     role_is = ap (λ (s : Standing). s.role) m.went.stands_is ∙ r.role_is;
     spent = ap (λ (s : Standing). s.fresh) m.went.stands_is ∙ r.spent;
@@ -77,13 +92,15 @@ module _ {S : Type 0} {facts : S → Facts} where
   }
 
   module _ {a b : S} (t : Table) where
-    collected_deed : (x : Collected) → MakesCollection facts a b x.cleared x.dropped x.used → DoesDeed facts a b t.frames t.frames collection (Ok x)
+    collected_deed : (x : Collected) → MakesCollection facts a b x.cleared x.dropped x.used
+        → DoesDeed facts a b t.frames t.frames collection (Ok x)
     collected_deed x m = record {
       stands_is = as_before (facts a).stands {f = (facts a).stands.fresh} m.went.stands_is;
       did = λ k s h.
           let y = m.went.leads k s tt in
           let acts = collection_acts m.cleared m.dropped x.used in
-          let count : ◌≡◌ {A = ℕ × ℕ × ℕ} (length m.cleared, length m.dropped, x.used) (x.cleared, x.dropped, x.used) = ap (λ n. (n, length m.dropped, x.used)) m.clears ∙ ap (λ n. (x.cleared, n, x.used)) m.drops in (
+          let count : ◌≡◌ {A = ℕ × ℕ × ℕ} (length m.cleared, length m.dropped, x.used) (x.cleared, x.dropped, x.used) =
+          ap (λ n. (n, length m.dropped, x.used)) m.clears ∙ ap (λ n. (x.cleared, n, x.used)) m.drops in (
             y.0,
             y.1,
             holds_did k y.0 t.frames acts y.2.did (collection_spares m.cleared m.dropped x.used) h,
@@ -109,7 +126,8 @@ module _ {S : Type 0} {facts : S → Facts} where
           );
     }
 
-    pub kept_out : (e : Fault) (n : ℕ) → e ≡ Busy n → 1 ≤ n → Took facts a b (ShutBusy n ∷ []) anything keeps → DoesDeed facts a b t.frames t.frames collection (Err e)
+    pub kept_out : (e : Fault) (n : ℕ) → e ≡ Busy n → 1 ≤ n → Took facts a b (ShutBusy n ∷ []) anything keeps
+        → DoesDeed facts a b t.frames t.frames collection (Err e)
     kept_out e n is some z = record {
       stands_is = as_before (facts a).stands {f = (facts a).stands.fresh} z.stands_is;
       did = λ k s h.
@@ -125,7 +143,8 @@ module _ {S : Type 0} {facts : S → Facts} where
               made = made_of (spend_step z (λ n i. refl) k s tt t.frames t.frames) (record {
                 acts = ShutBusy n ∷ [];
                 did = did;
-                is = inr (inl (n, t.frames, ShutBusy n ∷ [], [], refl, (n, refl, refl, refl), (refl, ap (λ f. Err f) is, refl)));
+                is = inr (inl
+                    (n, t.frames, ShutBusy n ∷ [], [], refl, (n, refl, refl, refl), (refl, ap (λ f. Err f) is, refl)));
                 begun = k.seen;
                 window = window_act (ShutBusy n) did tt tt;
                 grounds = subst (λ f. Grounds k.seen (view y.0) f) (sym is) tt;
@@ -135,10 +154,12 @@ module _ {S : Type 0} {facts : S → Facts} where
           );
     }
 
-    collects_deed : (answer : Result Collected Fault) → CollectsOr facts a b answer → DoesDeed facts a b t.frames t.frames collection answer
+    collects_deed : (answer : Result Collected Fault) → CollectsOr facts a b answer
+        → DoesDeed facts a b t.frames t.frames collection answer
     collects_deed (Ok x) m = collected_deed x m
     collects_deed (Err e) m = kept_out e m.0 m.1 m.2 m.3
 
   -- THE DEED WAS DONE, once a stay that was left has been ended
-  pub does_collection : {o a b : S} {r t : Table} (answer : Result Collected Fault) → EndsStay facts o a r t → CollectsOr facts a b answer → DoesOutside facts o b r.frames t.frames collection answer
+  pub does_collection : {o a b : S} {r t : Table} (answer : Result Collected Fault) → EndsStay facts o a r t
+      → CollectsOr facts a b answer → DoesOutside facts o b r.frames t.frames collection answer
   does_collection {t = t} answer e m = does_from e (collects_deed t answer m)

@@ -16,7 +16,9 @@ use Rattle.jr_census.specs.Taking.{IsCensusOf, IsDumpOf, IsTold, counting_steps,
 use Rattle.jr_env.specs.Collections.{IsKeptOut}
 use Rattle.jr_env.specs.Deeds.{Deed}
 
--- IT WAS TOLD: what is told is so of the state at the step that shut the gate. The thread shut it and opened it again, in its own window, and did nothing else. It takes no more operations than the sizes of the room say. The frames and the hint stay as they are, and afterwards the thread holds nothing
+-- IT WAS TOLD: what is told is so of the state at the step that shut the gate. The thread shut it and
+-- opened it again, in its own window, and did nothing else. It takes no more operations than the sizes
+-- of the room say. The frames and the hint stay as they are, and afterwards the thread holds nothing
 pub record WasTold (most : Config → ℕ) (tells : Config → ℕ → State → Type 0) (old new : ThreadState) : Type 0 where
   pub told : IsTold old.pass new.pass tells
   pub begun : History

@@ -17,7 +17,9 @@ use Rattle.jr_weak.specs.Markers.{room_of}
 use Rattle.jr_env.specs.declared.env.Env.{Env}
 use Rattle.jr_env.specs.Deeds.{Deed}
 
--- A COLLECTION WAS MADE: the machine's, which clears and drops so many, all that was to be in the state at its shut, and leaves so many words used. It takes no more operations than the sizes of the room say. The frames and the hint stay as they are, and afterwards the thread holds nothing
+-- A COLLECTION WAS MADE: the machine's, which clears and drops so many, all that was to be in the
+-- state at its shut, and leaves so many words used. It takes no more operations than the sizes of
+-- the room say. The frames and the hint stay as they are, and afterwards the thread holds nothing
 pub record IsCollected (old new : ThreadState) (c : Collected) : Type 0 where
   pub cleared : List Handle
   pub dropped : List ℕ
@@ -43,7 +45,9 @@ abbrev pub collection : Deed Collected
 collection old (Ok c) new = IsCollected old new c
 collection old (Err e) new = IsKeptOut old new e
 
--- AN ANNOUNCED COLLECTION WAS MADE: the machine's, after fewer refused shuts than there were tries, by no more operations than these shuts and the sizes of the room say. The frames and the hint stay as they are, and afterwards the thread holds nothing
+-- AN ANNOUNCED COLLECTION WAS MADE: the machine's, after fewer refused shuts than there
+-- were tries, by no more operations than these shuts and the sizes of the room say. The
+-- frames and the hint stay as they are, and afterwards the thread holds nothing
 pub record IsCollectedAnnounced (tries : ℕ) (old new : ThreadState) (c : Collected) : Type 0 where
   pub refused : List ℕ
   pub few : length refused < tries
@@ -52,7 +56,8 @@ pub record IsCollectedAnnounced (tries : ℕ) (old new : ThreadState) (c : Colle
   pub clears : length cleared ≡ c.cleared
   pub drops : length dropped ≡ c.dropped
   pub collects : CollectsAnnounced old.pass new.pass refused cleared dropped c.used
-  pub ran : Ran old.pass new.pass old.frames new.frames (parts.collect_announced tries) (Ok (c.cleared, c.dropped, c.used))
+  pub ran : Ran old.pass new.pass old.frames new.frames (parts.collect_announced tries)
+      (Ok (c.cleared, c.dropped, c.used))
   pub taken : new.taken ≤ old.taken + announced_steps refused old.pass.config
   pub fresh : new.fresh ≡ old.fresh
   pub hint : new.hint ≡ old.hint

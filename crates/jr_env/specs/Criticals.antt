@@ -1,4 +1,6 @@
--- What a critical region of an env is, and what the calls that open and end it leave, as a value that borrows the env (`Region`) or as levels beside it (`HasEntered`). That its calls make one region of the machine, undisturbed up to its end, the clauses of each say by the words of `StandingRegions`.
+-- What a critical region of an env is, and what the calls that open and end it leave, as a value that
+-- borrows the env (`Region`) or as levels beside it (`HasEntered`). That its calls make one region of
+-- the machine, undisturbed up to its end, the clauses of each say by the words of `StandingRegions`.
 use Rattle.std.specs.Prelude.{◌≡◌, ◌<◌, ◌≤◌, ℕ, Option, None, Result, Ok, Err, IfErr, length}
 use Rattle.std.specs.Borrow.{Fml, MutBor, RattleType, RestsIfErr, RestsIfNone}
 use Rattle.jr_word.specs.declared.config.Config.{Config}
@@ -41,35 +43,46 @@ module _ {S : Type 0} {G : steps.Ghosts S} where
   abbrev pub frames_of : Region S G → Table
   frames_of r = (held_of r).frames
 
-  -- A REGION WAS OPENED by this call, from outside: there is one level, of the object that the call found; and the thread is within, and the frames are as they were
-  pub record WasOpened (old : Env S G) (r : Region S G) (w : ℕ) (call : Config → ℕ → ℕ → State → Word → Call ℕ) : Type 0 where
+  -- A REGION WAS OPENED by this call, from outside: there is one level, of the object that the call found;
+  -- and the thread is within, and the frames are as they were
+  pub record WasOpened (old : Env S G) (r : Region S G) (w : ℕ)
+      (call : Config → ℕ → ℕ → State → Word → Call ℕ) : Type 0 where
     pub opens : IsOutside old → OpensOver old.held (held_of r) w call (Ok (levels_of r))
-    pub left : BehindExit old.held (λ mid. Opens G.facts mid (steps_of r) old.held.frames.frames w call (Ok (levels_of r)))
+    pub left : BehindExit old.held (λ mid.
+        Opens G.facts mid (steps_of r) old.held.frames.frames w call (Ok (levels_of r)))
     pub one : length (objects_of (levels_of r)) ≡ 1
     pub frames : frames_of r ≡ old.held.frames
     pub within : (G.facts (steps_of r)).stands.role ≡ Within
 
-  -- THESE LEVELS WERE ENTERED by this call, from outside: there is one, of the object that the call found; and they stand over the env, whose thread is within, and the frames are as they were
-  pub record HasEntered (old new : Env S G) (v : Levels) (w : ℕ) (call : Config → ℕ → ℕ → State → Word → Call ℕ) : Type 0 where
+  -- THESE LEVELS WERE ENTERED by this call, from outside: there is one, of the object that the call found;
+  -- and they stand over the env, whose thread is within, and the frames are as they were
+  pub record HasEntered (old new : Env S G) (v : Levels) (w : ℕ)
+      (call : Config → ℕ → ℕ → State → Word → Call ℕ) : Type 0 where
     pub opens : IsOutside old → OpensOver old.held new.held w call (Ok v)
     pub left : BehindExit old.held (λ mid. Opens G.facts mid new.held.steps old.held.frames.frames w call (Ok v))
     pub one : length (objects_of v) ≡ 1
     pub frames : new.held.frames ≡ old.held.frames
     pub stand : StandOver v new.held
 
-  -- NO REGION WAS OPENED by this call, but it was refused for this, from outside; and afterwards the thread stands outside, with the frames as they were
-  pub record WasRefused (old new : Env S G) (w : ℕ) (call : Config → ℕ → ℕ → State → Word → Call ℕ) (e : Fault) : Type 0 where
+  -- NO REGION WAS OPENED by this call, but it was refused for this, from outside;
+  -- and afterwards the thread stands outside, with the frames as they were
+  pub record WasRefused (old new : Env S G) (w : ℕ) (call : Config → ℕ → ℕ → State → Word → Call ℕ)
+      (e : Fault) : Type 0 where
     pub refuses : IsOutside old → OpensOver old.held new.held w call (Err e)
     pub left : BehindExit old.held (λ mid. Opens G.facts mid new.held.steps old.held.frames.frames w call (Err e))
     pub frames : new.held.frames ≡ old.held.frames
     pub outside : IsOutside new
 
-  -- A CALL AT THE LEVEL OF THIS NUMBER did this, if the level stands; and if it does not, the call was refused with E2, and the env is as it was
-  pub record AtLevel {A : Type 0} (old new : Region S G) (level : ℕ) (answer : Result A Fault) (call : Type 0) : Type 0 where
-    pub missing : length (objects_of (levels_of old)) ≤ level → (answer ≡ Err Stale) × ((env_of new).now ≡ (env_of old).now)
+  -- A CALL AT THE LEVEL OF THIS NUMBER did this, if the level stands;
+  -- and if it does not, the call was refused with E2, and the env is as it was
+  pub record AtLevel {A : Type 0} (old new : Region S G) (level : ℕ) (answer : Result A Fault)
+      (call : Type 0) : Type 0 where
+    pub missing : length (objects_of (levels_of old)) ≤ level
+        → (answer ≡ Err Stale) × ((env_of new).now ≡ (env_of old).now)
     pub did : level < length (objects_of (levels_of old)) → call
 
-  -- THE REGION ENDED with its only level: its thread left the gate and stands outside, with the frames as they were, and no collection disturbed the region since its entry
+  -- THE REGION ENDED with its only level: its thread left the gate and stands outside,
+  -- with the frames as they were, and no collection disturbed the region since its entry
   pub record HasEnded (r : Region S G) (new : Env S G) : Type 0 where
     pub call : GivesUpLastOver (held_of r) new.held (levels_of r) None
     pub last : LeavesBefore (levels_of r) None
@@ -79,9 +92,12 @@ module _ {S : Type 0} {G : steps.Ghosts S} where
 
 module _ (S : RattleType) (G : steps.Ghosts S.Denot) where
   -- who lent the env gets it back at the region's end; where none was opened, at once, as the refusal left it
-  abbrev pub rests_in : ℕ → (Config → ℕ → ℕ → State → Word → Call ℕ) → MutBor (Env S.Denot G) → Result (Region S.Denot G) Fault → Fml
-  rests_in w call old result = RestsIfErr (env.the_row S G) old (λ r. r.env.ghost_name) result (λ new. IfErr result (λ e. WasRefused old.now new w call e))
+  abbrev pub rests_in : ℕ → (Config → ℕ → ℕ → State → Word → Call ℕ) → MutBor (Env S.Denot G)
+      → Result (Region S.Denot G) Fault → Fml
+  rests_in w call old result = RestsIfErr (env.the_row S G) old (λ r. r.env.ghost_name) result (λ new.
+      IfErr result (λ e. WasRefused old.now new w call e))
 
-  -- who lent the env gets it back at the end of the region that is left; where none is, at once, as the region's end left it
+  -- who lent the env gets it back at the end of the region that is left;
+  -- where none is, at once, as the region's end left it
   abbrev pub rests_in_left : Region S.Denot G → Option (Region S.Denot G) → Fml
   rests_in_left r result = RestsIfNone (env.the_row S G) r.env (λ left. left.env.ghost_name) result (HasEnded r)

@@ -28,9 +28,11 @@ use Rattle.jr_gate.specs.Performing.{IsAsBefore, ThreadState, thread_state, IsMa
 abbrev pub Deed : Type 0 → Type 1
 Deed A = ThreadState → Result A Fault → ThreadState → Type 0
 
--- a call of the env: its events, and the answer that it may have; it takes one operation for each event, and at most so many more; and afterwards the thread holds nothing
+-- a call of the env: its events, and the answer that it may have;
+-- it takes one operation for each event, and at most so many more; and afterwards the thread holds nothing
 abbrev pub call_by : {A : Type 0} → (Config → ℕ) → (Config → ℕ → ℕ → State → Call A) → Deed A
-call_by silent asked old answer new = IsMade (silent old.pass.config) old new (asked old.pass.config old.pass.last old.pass.thread (state new.pass.seen)) answer × (new.held ≡ empty)
+call_by silent asked old answer new = IsMade (silent old.pass.config) old new
+    (asked old.pass.config old.pass.last old.pass.thread (state new.pass.seen)) answer × (new.held ≡ empty)
 
 -- a call that takes no operation but its events
 abbrev pub call : {A : Type 0} → (Config → ℕ → ℕ → State → Call A) → Deed A
@@ -38,19 +40,23 @@ call asked = call_by (λ c. 0) asked
 
 -- a call that enters no gate: it takes no operation and sees nothing, and but for the frames all is as it was
 abbrev pub call_apart : {A : Type 0} → (Config → ℕ → ℕ → Call A) → Deed A
-call_apart asked old answer new = IsMade 0 old new (asked old.pass.config old.pass.last old.pass.thread) answer × (new ≡ record old { frames = new.frames })
+call_apart asked old answer new = IsMade 0 old new (asked old.pass.config old.pass.last old.pass.thread) answer
+    × (new ≡ record old { frames = new.frames })
 
 -- a call that is handed a reference word, and takes at most so many operations beside its events
 abbrev pub call_on_by : {A : Type 0} → (Config → ℕ) → ℕ → (Config → ℕ → ℕ → State → Word → Call A) → Deed A
-call_on_by silent w asked old answer new = (a : Word) × IsReadAs w a × call_by silent (λ c last t s. asked c last t s a) old answer new
+call_on_by silent w asked old answer new =
+    (a : Word) × IsReadAs w a × call_by silent (λ c last t s. asked c last t s a) old answer new
 
 -- one that takes no operation but its events
 abbrev pub call_on : {A : Type 0} → ℕ → (Config → ℕ → ℕ → State → Word → Call A) → Deed A
 call_on w asked = call_on_by (λ c. 0) w asked
 
 -- a call that is handed two reference words, and takes at most so many operations beside its events
-abbrev pub call_on_both_by : {A : Type 0} → (Config → ℕ) → ℕ → ℕ → (Config → ℕ → ℕ → State → Word → Word → Call A) → Deed A
-call_on_both_by silent v w asked old answer new = (a b : Word) × IsReadAs v a × IsReadAs w b × call_by silent (λ c last t s. asked c last t s a b) old answer new
+abbrev pub call_on_both_by : {A : Type 0} → (Config → ℕ) → ℕ → ℕ → (Config → ℕ → ℕ → State → Word → Word → Call A)
+    → Deed A
+call_on_both_by silent v w asked old answer new =
+    (a b : Word) × IsReadAs v a × IsReadAs w b × call_by silent (λ c last t s. asked c last t s a b) old answer new
 
 -- one that takes no operation but its events
 abbrev pub call_on_both : {A : Type 0} → ℕ → ℕ → (Config → ℕ → ℕ → State → Word → Word → Call A) → Deed A
@@ -91,11 +97,13 @@ abbrev pub packed_if : Option Handle → Option HandleWord
 packed_if None = None
 packed_if (Some h) = Some (packed h)
 
--- NewPlain: a plain object and a local reference to it, with at most one operation for each object number beside its events
+-- NewPlain:
+-- a plain object and a local reference to it, with at most one operation for each object number beside its events
 abbrev pub new_plain : Deed HandleWord
 new_plain = answered_by packed (call_by (λ c. c.objects) (λ c last t s. references.new_plain c last t))
 
--- a new array or string of n words may take a look at the top, a store for each word and an exchange for each object number, beside its events
+-- a new array or string of n words may take a look at the top, a store
+-- for each word and an exchange for each object number, beside its events
 abbrev pub making_steps : ℕ → Config → ℕ
 making_steps n c = 1 + n + c.objects
 
@@ -105,11 +113,13 @@ new_array kind n = answered_by packed (call_by (making_steps n) (λ c last t s. 
 
 -- NewObjectArray: n times what the word names
 abbrev pub new_object_array : ℕ → ℕ → Deed HandleWord
-new_object_array n w = answered_by packed (call_on_by (making_steps n) w (λ c last t s a. references.new_object_array c last t n a))
+new_object_array n w =
+    answered_by packed (call_on_by (making_steps n) w (λ c last t s a. references.new_object_array c last t n a))
 
 -- NewString
 abbrev pub new_string : List ℕ → Deed HandleWord
-new_string units = answered_by packed (call_by (making_steps (length units)) (λ c last t s. references.new_string c last t units))
+new_string units =
+    answered_by packed (call_by (making_steps (length units)) (λ c last t s. references.new_string c last t units))
 
 -- NewGlobalRef, NewWeakGlobalRef
 abbrev pub new_reference : RefKind → ℕ → Deed (Option HandleWord)
@@ -163,15 +173,18 @@ get_string_length w = call_on_by (λ c. 1) w (λ c last t s a. objects.get_strin
 
 -- GetObjectArrayElement
 abbrev pub get_object_array_element : ℕ → ℕ → Deed (Option HandleWord)
-get_object_array_element w i = answered_by packed_if (call_on_by (λ c. 1) w (λ c last t s a. objects.get_object_array_element c last t s a i))
+get_object_array_element w i =
+    answered_by packed_if (call_on_by (λ c. 1) w (λ c last t s a. objects.get_object_array_element c last t s a i))
 
 -- SetObjectArrayElement
 abbrev pub set_object_array_element : ℕ → ℕ → ℕ → Deed (Unit {0})
-set_object_array_element v i w = call_on_both_by (λ c. 1) v w (λ c last t s a b. objects.set_object_array_element c last t s a i b)
+set_object_array_element v i w =
+    call_on_both_by (λ c. 1) v w (λ c last t s a b. objects.set_object_array_element c last t s a i b)
 
 -- GetBooleanArrayRegion and its like: the words of n elements from start on
 abbrev pub get_array_region : Kind → ℕ → ℕ → ℕ → Deed (List ℕ)
-get_array_region kind w start n = call_on_by (λ c. 1) w (λ c last t s a. objects.get_array_region c last t s kind a start n)
+get_array_region kind w start n =
+    call_on_by (λ c. 1) w (λ c last t s a. objects.get_array_region c last t s kind a start n)
 
 -- the answer of a call that reads words into a buffer: the words, or its refusal
 abbrev pub read_answer : Result (Unit {0}) Fault → List ℕ → Result (List ℕ) Fault
@@ -180,7 +193,8 @@ read_answer (Err e) ws = Err e
 
 -- SetBooleanArrayRegion and its like
 abbrev pub set_array_region : Kind → ℕ → ℕ → List ℕ → Deed (Unit {0})
-set_array_region kind w start vs = call_on_by (λ c. 1) w (λ c last t s a. objects.set_array_region c last t s kind a start vs)
+set_array_region kind w start vs =
+    call_on_by (λ c. 1) w (λ c last t s a. objects.set_array_region c last t s kind a start vs)
 
 -- GetBooleanArrayElements and its like: the words of all elements
 abbrev pub get_array_elements : Kind → ℕ → Deed (List ℕ)
@@ -190,10 +204,13 @@ get_array_elements kind w = call_on_by (λ c. 1) w (λ c last t s a. objects.get
 abbrev pub get_string_chars : ℕ → Deed (List ℕ)
 get_string_chars w = call_on_by (λ c. 1) w (λ c last t s a. objects.get_string_chars c last t s a)
 
--- ReleaseBooleanArrayElements and its like, of elements with these words: the words of those that are kept, if they are. To abort looks at no reference, takes no operation, sees nothing, and changes nothing
+-- ReleaseBooleanArrayElements and its like, of elements with these words: the words of those that are
+-- kept, if they are. To abort looks at no reference, takes no operation, sees nothing, and changes nothing
 abbrev pub release_array_elements : Kind → ℕ → List ℕ → Mode → Deed (Option (List ℕ))
-release_array_elements kind w vs Copy = call_on_by (λ c. 1) w (λ c last t s a. objects.release_array_elements c last t s kind a vs Copy)
-release_array_elements kind w vs Commit = call_on_by (λ c. 1) w (λ c last t s a. objects.release_array_elements c last t s kind a vs Commit)
+release_array_elements kind w vs Copy =
+    call_on_by (λ c. 1) w (λ c last t s a. objects.release_array_elements c last t s kind a vs Copy)
+release_array_elements kind w vs Commit =
+    call_on_by (λ c. 1) w (λ c last t s a. objects.release_array_elements c last t s kind a vs Commit)
 release_array_elements kind w vs Abort = done None
 
 -- the answer of a release, by the words of the elements that are kept; a refusal hands elements back beside it
@@ -207,17 +224,26 @@ abbrev pub free_locals : Deed (Unit {0})
 free_locals = call (λ c last t s. references.free_locals)
 
 module _ {S : Type 0} (facts : S → Facts) where
-  -- THE DEED WAS DONE, with this answer: for whatever was known and met the condition, something is known that it led to and that shows the other; and afterwards the thread has the role. A call, one in a stay, a region's opening, a collection, a script's command: each is this, of its own deed
-  pub record CarriedOut {A : Type 0} (old new : S) (before after : Frames) (role : Role) (met shown : Known → Type 0) (deed : Deed A) (answer : Result A Fault) : Type 0 where
+  -- THE DEED WAS DONE, with this answer: for whatever was known and met the condition, something is
+  -- known that it led to and that shows the other; and afterwards the thread has the role. A call, one
+  -- in a stay, a region's opening, a collection, a script's command: each is this, of its own deed
+  pub record CarriedOut {A : Type 0} (old new : S) (before after : Frames) (role : Role) (met shown : Known → Type 0)
+      (deed : Deed A) (answer : Result A Fault) : Type 0 where
     pub stands_is : IsAsBefore (record ((facts old).stands) { role = role }) (facts new).stands
-    pub did : Leads facts old new met (λ k k'. shown k') (λ k k'. deed (thread_state (facts old) k before) answer (thread_state (facts new) k' after))
+    pub did : Leads facts old new met (λ k k'. shown k') (λ k k'.
+        deed (thread_state (facts old) k before) answer (thread_state (facts new) k' after))
 
   -- the same, where the thread keeps its role and nothing but its frames is told of
   abbrev pub DoesDeed : {A : Type 0} → S → S → Frames → Frames → Deed A → Result A Fault → Type 0
-  DoesDeed old new before after deed answer = CarriedOut old new before after (facts old).stands.role (Holds before) (Holds after) deed answer
+  DoesDeed old new before after deed answer =
+      CarriedOut old new before after (facts old).stands.role (Holds before) (Holds after) deed answer
 
-  -- so was a call's, where the thread stood outside; where it stood in a stay that a region left, its exit was made, and then the call's deed; and afterwards it stands outside in any case
-  pub record DoesOutside {A : Type 0} (old new : S) (before after : Frames) (deed : Deed A) (answer : Result A Fault) : Type 0 where
-    pub does : (facts old).stands.role ≡ Outside → CarriedOut old new before after (facts old).stands.role (Holds before) (Holds after) deed answer
-    pub left : (facts old).stands.role ≢ Outside → CarriedOut old new before after Outside (Holds before) (Holds after) (after_exit deed) answer
+  -- so was a call's, where the thread stood outside; where it stood in a stay that a region left,
+  -- its exit was made, and then the call's deed; and afterwards it stands outside in any case
+  pub record DoesOutside {A : Type 0} (old new : S) (before after : Frames) (deed : Deed A)
+      (answer : Result A Fault) : Type 0 where
+    pub does : (facts old).stands.role ≡ Outside
+        → CarriedOut old new before after (facts old).stands.role (Holds before) (Holds after) deed answer
+    pub left : (facts old).stands.role ≢ Outside
+        → CarriedOut old new before after Outside (Holds before) (Holds after) (after_exit deed) answer
     pub outside : (facts new).stands.role ≡ Outside

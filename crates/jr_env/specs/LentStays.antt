@@ -1,4 +1,5 @@
--- What a stay of an env is, as a value that borrows the env, and what its calls did. That it is one stay of the machine, with no collection in it, the clauses say by the words of `OpenStays`.
+-- What a stay of an env is, as a value that borrows the env, and what its calls did.
+-- That it is one stay of the machine, with no collection in it, the clauses say by the words of `OpenStays`.
 use Rattle.std.specs.Prelude.{◌≡◌, Result, Ok, Err, IfErr}
 use Rattle.std.specs.Borrow.{Fml, MutBor, RattleType, RestsIfErr}
 use Rattle.jr_word.specs.declared.fault.Fault.{Fault}
@@ -35,7 +36,8 @@ module _ {S : Type 0} {G : steps.Ghosts S} where
     pub frames : frames_in r ≡ old.held.frames
     pub within : (G.facts (held_in r).steps).stands.role ≡ Within
 
-  -- NO STAY WAS ENTERED: the entry was refused by E13, from outside; and afterwards the thread stands outside, with the frames as they were
+  -- NO STAY WAS ENTERED: the entry was refused by E13, from outside;
+  -- and afterwards the thread stands outside, with the frames as they were
   pub record WasBarred (old new : Env S G) (e : Fault) : Type 0 where
     pub fault : e ≡ Barred
     pub enters : IsOutside old → EntersOver old.held new.held (Err e)
@@ -55,4 +57,5 @@ module _ {S : Type 0} {G : steps.Ghosts S} where
 module _ (S : RattleType) (G : steps.Ghosts S.Denot) where
   -- who lent the env gets it back at the stay's end; where none was entered, at once, as the refusal left it
   abbrev pub rests_within : MutBor (Env S.Denot G) → Result (Stay S.Denot G) Fault → Fml
-  rests_within old result = RestsIfErr (env.the_row S G) old (λ r. r.env.ghost_name) result (λ new. IfErr result (λ e. WasBarred old.now new e))
+  rests_within old result = RestsIfErr (env.the_row S G) old (λ r. r.env.ghost_name) result (λ new.
+      IfErr result (λ e. WasBarred old.now new e))

@@ -1,4 +1,5 @@
--- A stay that goes on from call to call, from the moment before its entry on, for whatever was known then: its thread entered and has not left, and no step of a collection comes.
+-- A stay that goes on from call to call, from the moment before its entry on, for whatever was known then:
+-- its thread entered and has not left, and no step of a collection comes.
 use Rattle.std.specs.Prelude.{◌≢◌, ℕ, Result, Ok, Err, List, []}
 use Rattle.jr_word.specs.declared.config.Config.{Config}
 use Rattle.jr_word.specs.declared.fault.Fault.{Fault}
@@ -19,7 +20,8 @@ use Rattle.jr_env.specs.StandingRegions.{WasUndisturbed}
 
 -- the work has no exit, whatever acts it has
 abbrev pub IsInStay : {A : Type 0} → (Config → ℕ → ℕ → State → Call A) → Type 0
-IsInStay {A} work = (c : Config) (last thread : ℕ) (s : State) (f g : Frames) (acts : List Act) (answer : Result A Fault) → work c last thread s f acts answer g → NoneLeaves acts
+IsInStay {A} work = (c : Config) (last thread : ℕ) (s : State) (f g : Frames) (acts : List Act)
+    (answer : Result A Fault) → work c last thread s f acts answer g → NoneLeaves acts
 
 -- where the thread stands behind an entry: within, and outside where it was refused
 abbrev pub role_entered : Result (Unit {0}) Fault → Role
@@ -32,15 +34,20 @@ HoldsEntered (Ok _) j k = keeps j k
 HoldsEntered (Err e) j k = lets_go j k
 
 module _ {S : Type 0} (facts : S → Facts) where
-  -- THE GATE WAS ENTERED, or the entry was refused: for whatever was known something is known from which the thread did just that, by no operation beside its acts
+  -- THE GATE WAS ENTERED, or the entry was refused:
+  -- for whatever was known something is known from which the thread did just that, by no operation beside its acts
   pub record Enters (old new : S) (f : Frames) (answer : Result (Unit {0}) Fault) : Type 0 where
     pub stands_is : IsAsBefore (record ((facts old).stands) { role = role_entered answer }) (facts new).stands
-    pub ran : Leads facts old new (Holds f) (λ k k'. IsMade 0 (thread_state (facts old) k f) (thread_state (facts new) k' f) enter answer) (λ j k. HoldsEntered answer j k × Holds f k)
+    pub ran : Leads facts old new (Holds f)
+        (λ k k'. IsMade 0 (thread_state (facts old) k f) (thread_state (facts new) k' f) enter answer) (λ j k.
+        HoldsEntered answer j k × Holds f k)
 
   -- THE GATE WAS LEFT, by one operation: the pass holds nothing any more
   pub record Leaves (old new : S) (f : Frames) : Type 0 where
     pub stands_is : IsAsBefore (record ((facts old).stands) { role = Outside }) (facts new).stands
-    pub ran : Leads facts old new (Holds f) (λ k k'. IsMade 0 (thread_state (facts old) k f) (thread_state (facts new) k' f) leave (Ok tt)) (λ j k. lets_go j k × Holds f k)
+    pub ran : Leads facts old new (Holds f)
+        (λ k k'. IsMade 0 (thread_state (facts old) k f) (thread_state (facts new) k' f) leave (Ok tt)) (λ j k.
+        lets_go j k × Holds f k)
 
 module _ {S : Type 0} {G : Ghosts S} where
   -- the gate was entered, or the entry was refused
@@ -53,17 +60,24 @@ module _ {S : Type 0} {G : Ghosts S} where
 
   -- where the thread stood in a stay that a region left, it made the exit, and from behind that this was done
   abbrev pub BehindExit : Held S G → (S → Type 0) → Type 0
-  BehindExit old done = (G.facts old.steps).stands.role ≢ Outside → (mid : S) × Leaves G.facts old.steps mid old.frames.frames × done mid
+  BehindExit old done =
+      (G.facts old.steps).stands.role ≢ Outside → (mid : S) × Leaves G.facts old.steps mid old.frames.frames × done mid
 
   -- this work was done in a stay, by so many operations beside its acts as it takes in the room's sizes
-  abbrev pub PerformsOver : {A : Type 0} → Held S G → Held S G → (Config → ℕ) → (Config → ℕ → ℕ → State → Call A) → Result A Fault → Type 0
+  abbrev pub PerformsOver : {A : Type 0} → Held S G → Held S G → (Config → ℕ) → (Config → ℕ → ℕ → State → Call A)
+      → Result A Fault → Type 0
   PerformsOver old new silent asked answer =
-      Performed G.facts old.steps new.steps old.frames.frames new.frames.frames (silent (G.facts old.steps).stands.config) (Holds old.frames.frames) (asked (G.facts old.steps).stands.config (G.facts old.steps).stands.last (G.facts old.steps).stands.thread) answer
+      Performed G.facts old.steps new.steps old.frames.frames new.frames.frames
+      (silent (G.facts old.steps).stands.config) (Holds old.frames.frames)
+      (asked (G.facts old.steps).stands.config (G.facts old.steps).stands.last (G.facts old.steps).stands.thread) answer
       (λ j k. Unit {0} × Holds new.frames.frames k)
 
-  -- A STAY STANDS SINCE THEN: whatever was known at the beginning leads to something known now between which its thread entered, and has not left. So all that was seen since its entry is one stay, and no event in it, of whatever thread, is a step of a collection
+  -- A STAY STANDS SINCE THEN: whatever was known at the beginning leads to something known
+  -- now between which its thread entered, and has not left. So all that was seen since its
+  -- entry is one stay, and no event in it, of whatever thread, is a step of a collection
   abbrev pub StaysSince : Held S G → Held S G → Type 0
-  StaysSince begun new = Leads G.facts begun.steps new.steps (Holds begun.frames.frames) (λ j k. HasStayed (view j) (view k)) (λ j k. IsOneStay (view j) (view k) [] × Holds new.frames.frames k)
+  StaysSince begun new = Leads G.facts begun.steps new.steps (Holds begun.frames.frames)
+      (λ j k. HasStayed (view j) (view k)) (λ j k. IsOneStay (view j) (view k) [] × Holds new.frames.frames k)
 
   -- THE STAY GOES ON by this call: since whatever moment it stood, it stands
   abbrev pub StaysOn : Held S G → Held S G → Type 0

@@ -1,4 +1,5 @@
--- A critical region that is opened in a stay: it has the stay's end from then on, and gives it back where its levels are given up alone.
+-- A critical region that is opened in a stay:
+-- it has the stay's end from then on, and gives it back where its levels are given up alone.
 use Rattle.std.specs.Prelude.{◌≡◌, ℕ, Ok, Err, length}
 use Rattle.jr_word.specs.declared.config.Config.{Config}
 use Rattle.jr_word.specs.declared.fault.Fault.{Fault}
@@ -25,15 +26,19 @@ module _ {S : Type 0} {G : Ghosts S} where
   abbrev pub StaysWithout : Held S G → Held S G → Levels → Type 0
   StaysWithout old new v = (begun : Held S G) → StandsSince begun old v → StaysSince begun new
 
-  -- A REGION WAS OPENED IN A STAY by this call: there is one level, of the object that the call found; the stay goes on with it, and the frames are as they were
-  pub record WasOpenedIn (old : Stay S G) (r : Region S G) (w : ℕ) (call : Config → ℕ → ℕ → State → Word → Call ℕ) : Type 0 where
+  -- A REGION WAS OPENED IN A STAY by this call: there is one level, of the object that the call found;
+  -- the stay goes on with it, and the frames are as they were
+  pub record WasOpenedIn (old : Stay S G) (r : Region S G) (w : ℕ)
+      (call : Config → ℕ → ℕ → State → Word → Call ℕ) : Type 0 where
     pub opens : OpensWithinOver (held_in old) (held_of r) w call (Ok (levels_of r))
     pub one : length (objects_of (levels_of r)) ≡ 1
     pub on : StaysWith (held_in old) (held_of r) (levels_of r)
     pub frames : frames_of r ≡ frames_in old
 
-  -- NO REGION WAS OPENED IN A STAY by this call, but it was refused for this; the stay goes on, and the frames are as they were
-  pub record WasNotOpenedIn (old new : Stay S G) (w : ℕ) (call : Config → ℕ → ℕ → State → Word → Call ℕ) (e : Fault) : Type 0 where
+  -- NO REGION WAS OPENED IN A STAY by this call, but it was refused for this;
+  -- the stay goes on, and the frames are as they were
+  pub record WasNotOpenedIn (old new : Stay S G) (w : ℕ) (call : Config → ℕ → ℕ → State → Word → Call ℕ)
+      (e : Fault) : Type 0 where
     pub refuses : OpensWithinOver (held_in old) (held_in new) w call (Err e)
     pub on : StaysOn (held_in old) (held_in new)
     pub frames : frames_in new ≡ frames_in old

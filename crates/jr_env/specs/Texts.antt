@@ -17,9 +17,11 @@ text_in (Ok (Some text)) = Ok (Some (string_bytes text))
 text_in (Ok None) = Ok None
 text_in (Err e) = Err e
 
--- A STRING OF THE TEXT WAS MADE, with this answer: a string of the units that spell it; or the memory for these was refused, and nothing was done
+-- A STRING OF THE TEXT WAS MADE, with this answer: a string of the units that spell it;
+-- or the memory for these was refused, and nothing was done
 abbrev pub MakesText : {S : Type 0} {G : Ghosts S} → Env S G → Env S G → List ℕ → Result Handle Fault → Type 0
-MakesText old new text answer = ((answer ≡ Err Memory) × (new ≡ old)) ⊎ ((units : List ℕ) × IsUtf16Of units text × Does old new (new_string units) answer)
+MakesText old new text answer = ((answer ≡ Err Memory) × (new ≡ old))
+    ⊎ ((units : List ℕ) × IsUtf16Of units text × Does old new (new_string units) answer)
 
 -- the answer is a text that units spell, none where they spell none, or a refusal of memory for it
 abbrev pub SpellsText : List ℕ → Result (Option (List ℕ)) Fault → Type 0
@@ -34,4 +36,5 @@ IsReadAsText (Err e) answer = answer ≡ Err e
 
 -- THE STRING WAS READ AS A TEXT, with this answer: its units were copied, and the answer is what they spell
 abbrev pub ReadsText : {S : Type 0} {G : Ghosts S} → Env S G → Env S G → ℕ → Result (Option (List ℕ)) Fault → Type 0
-ReadsText old new w answer = (units : Result (List ℕ) Fault) × Does old new (get_string_chars w) units × IsReadAsText units answer
+ReadsText old new w answer =
+    (units : Result (List ℕ) Fault) × Does old new (get_string_chars w) units × IsReadAsText units answer

@@ -25,10 +25,12 @@ use Rattle.jr_frames.specs.OverSteps.{CallsWhole}
 use Rattle.jr_frames.specs.Ready.{StandsReady}
 use Rattle.jr_env.specs.Deeds.{making_steps}
 
--- the pass holds the header of the new object beside what it held, and its range no more; and just what it held where there is no new object
+-- the pass holds the header of the new object beside what it held, and its range no more;
+-- and just what it held where there is no new object
 abbrev pub LearnsMade : Kind → ℕ → ℕ → Option ℕ → Known → Known → Type 0
 LearnsMade kind place n None j k = keeps j k
-LearnsMade kind place n (Some o) j k = k.holdings ≡ with_header (without_range_of (header_of kind place n) j.holdings) o (header_of kind place n)
+LearnsMade kind place n (Some o) j k =
+    k.holdings ≡ with_header (without_range_of (header_of kind place n) j.holdings) o (header_of kind place n)
 
 -- the same of a plain object, which has no range
 abbrev pub LearnsNew : Option ℕ → Known → Known → Type 0
@@ -47,15 +49,25 @@ frame_popping c last thread a = do
   popping c last thread x
 
 module _ {S : Type 0} (facts : S → Facts) where
-  -- a range of the pass's own, which has these words and is ready, became a new object with a local reference to it, or every number was found present: the pass holds the header of that very object and the range no more, and where the call was refused just what it held; the frames go on agreeing with the locals
+  -- a range of the pass's own, which has these words and is ready, became a new object with a local reference
+  -- to it, or every number was found present: the pass holds the header of that very object and the range no
+  -- more, and where the call was refused just what it held; the frames go on agreeing with the locals
   abbrev pub Refers : S → S → Frames → Frames → Kind → ℕ → ℕ → List ℕ → Result Handle Fault → Type 0
-  Refers old new f g kind place n words answer = Performed facts old new f g (facts old).stands.config.objects (λ k. Holds f k × IsReady kind place n k × (own_words place n k ≡ words)) (λ s. publish kind words >>= added (facts old).stands.config (facts old).stands.last (facts old).stands.thread) answer (λ j k. LearnsMade kind place n (object_made g answer) j k × Holds g k)
+  Refers old new f g kind place n words answer = Performed facts old new f g (facts old).stands.config.objects
+      (λ k. Holds f k × IsReady kind place n k × (own_words place n k ≡ words))
+      (λ s. publish kind words >>= added (facts old).stands.config (facts old).stands.last (facts old).stands.thread)
+      answer (λ j k. LearnsMade kind place n (object_made g answer) j k × Holds g k)
 
-  -- an array or string of these words and a local reference to it were made in a stay, and the frames go on agreeing with the locals
+  -- an array or string of these words and a local reference to it were
+  -- made in a stay, and the frames go on agreeing with the locals
   abbrev pub MakesArray : S → S → Frames → Frames → Kind → List ℕ → (Known → Type 0) → Result Handle Fault → Type 0
-  MakesArray old new f g kind words met answer = Performed facts old new f g (making_steps (length words) (facts old).stands.config) (λ k. Holds f k × met k) (λ s. made (facts old).stands.config (facts old).stands.last (facts old).stands.thread kind words) answer (λ j k. Unit {0} × Holds g k)
+  MakesArray old new f g kind words met answer =
+      Performed facts old new f g (making_steps (length words) (facts old).stands.config) (λ k. Holds f k × met k)
+      (λ s. made (facts old).stands.config (facts old).stands.last (facts old).stands.thread kind words) answer (λ j k.
+      Unit {0} × Holds g k)
 
-  -- a stay that was left was ended: where the thread stood outside nothing changed, and else it went out, by one step; and it stands ready outside, with the same frames
+  -- a stay that was left was ended: where the thread stood outside nothing changed, and else it went out, by one step;
+  -- and it stands ready outside, with the same frames
   pub record EndsStay (old new : S) (before after : Table) : Type 0 where
     pub same : (facts old).stands.role ≡ Outside → new ≡ old
     pub left : (facts old).stands.role ≢ Outside → Took facts old new (Gate Leave ∷ []) anything lets_go
@@ -64,10 +76,14 @@ module _ {S : Type 0} (facts : S → Facts) where
     pub thread : (facts new).stands.thread ≡ (facts old).stands.thread
     pub config : (facts new).stands.config ≡ (facts old).stands.config
 
-  -- a whole call was made, by at most so many operations beside its acts, from where the thread stood outside, or from behind the exit from a stay that was left; and the next can be in any case
-  pub record Completes {A : Type 0} (old new : S) (before after : Table) (silent : ℕ) (asked : State → Call A) (answer : Result A Fault) : Type 0 where
-    pub call : (facts old).stands.role ≡ Outside → CallsWhole facts old new before.frames after.frames silent asked answer
-    pub left : (facts old).stands.role ≢ Outside → (mid : S) × Took facts old mid (Gate Leave ∷ []) anything lets_go × CallsWhole facts mid new before.frames after.frames silent asked answer
+  -- a whole call was made, by at most so many operations beside its acts, from where the thread stood
+  -- outside, or from behind the exit from a stay that was left; and the next can be in any case
+  pub record Completes {A : Type 0} (old new : S) (before after : Table) (silent : ℕ) (asked : State → Call A)
+      (answer : Result A Fault) : Type 0 where
+    pub call : (facts old).stands.role ≡ Outside
+        → CallsWhole facts old new before.frames after.frames silent asked answer
+    pub left : (facts old).stands.role ≢ Outside → (mid : S) × Took facts old mid (Gate Leave ∷ []) anything lets_go
+        × CallsWhole facts mid new before.frames after.frames silent asked answer
     pub ready : StandsReady facts Outside new after
 
 -- the same of the steps and frames that a thread holds together, as contracts say it
@@ -77,6 +93,9 @@ module _ {S : Type 0} {G : Ghosts S} where
   EndsStayOver old new = EndsStay G.facts old.steps new.steps old.frames new.frames
 
   -- a whole call was made round this work, by so many operations beside its acts as it takes in the room's sizes
-  abbrev pub CompletesOver : {A : Type 0} → Held S G → Held S G → (Config → ℕ) → (Config → ℕ → ℕ → State → Call A) → Result A Fault → Type 0
+  abbrev pub CompletesOver : {A : Type 0} → Held S G → Held S G → (Config → ℕ) → (Config → ℕ → ℕ → State → Call A)
+      → Result A Fault → Type 0
   CompletesOver old new silent asked answer =
-      Completes G.facts old.steps new.steps old.frames new.frames (silent (G.facts old.steps).stands.config) (λ s. entered (asked (G.facts old.steps).stands.config (G.facts old.steps).stands.last (G.facts old.steps).stands.thread s)) answer
+      Completes G.facts old.steps new.steps old.frames new.frames (silent (G.facts old.steps).stands.config)
+      (λ s. entered (asked (G.facts old.steps).stands.config (G.facts old.steps).stands.last
+      (G.facts old.steps).stands.thread s)) answer

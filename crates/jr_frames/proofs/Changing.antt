@@ -1,5 +1,6 @@
 -- A table of which one place was changed.
-use Rattle.std.proofs.Common.{◌≡◌, ◌≢◌, ◌==◌, ◌-◌, ◌<◌, ℕ, Bool, true, false, cond, List, [], ◌∷◌, map, length, slice_set, refl, sym, ap, subst, ◌∙◌}
+use Rattle.std.proofs.Common.{◌≡◌, ◌≢◌, ◌==◌, ◌-◌, ◌<◌, ℕ, Bool, true, false, cond, List}
+use Rattle.std.proofs.Common.{[], ◌∷◌, map, length, slice_set, refl, sym, ap, subst, ◌∙◌}
 use Rattle.std.proofs.lemmas.List.{length-set, get_or-set_same, get_or-set_other}
 use Rattle.std.specs.List.{refill}
 use Rattle.arrayvec.specs.ArrayVec.{ArrayVec}
@@ -22,7 +23,8 @@ abbrev pub changed : Fields → ℕ → ArrayVec Place → Rings → Fields
 changed a free places rings = record { thread = a.thread; last = a.last; free = free; places = places; rings = rings }
 
 -- what holds of the new place, and of the others, holds of each place after the change
-pub after_set : (R : ℕ → Place → Type 0) (places new : List Place) (p : ℕ) (x : Place) → p < length places → new ≡ slice_set places p x → R p x → ((q : ℕ) → q ≢ p → R q (place_at places q)) → (q : ℕ) → R q (place_at new q)
+pub after_set : (R : ℕ → Place → Type 0) (places new : List Place) (p : ℕ) (x : Place) → p < length places
+    → new ≡ slice_set places p x → R p x → ((q : ℕ) → q ≢ p → R q (place_at places q)) → (q : ℕ) → R q (place_at new q)
 after_set R places new p x l is here others q = subst (λ ps. R q (place_at ps q)) (sym is) (go (q == p) refl)
   where
     go : (b : Bool) → (q == p) ≡ b → R q (place_at (slice_set places p x) q)
@@ -33,43 +35,59 @@ after_set R places new p x l is here others q = subst (λ ps. R q (place_at ps q
 
 -- the reference that a place shows
 abbrev pub shown : ℕ → ℕ → Place → LocalRef
-shown thread q y = record { handle = record { kind = Local; serial = given_of y - 1; index = q; owner = thread }; object = y.object }
+shown thread q y =
+    record { handle = record { kind = Local; serial = given_of y - 1; index = q; owner = thread }; object = y.object }
 
 cons_same : (r s : LocalRef) (xs ys : List LocalRef) → r ≡ s → xs ≡ ys → r ∷ xs ≡ s ∷ ys
 cons_same r s xs ys e f = cc
 
 -- references of other places are as they were
-pub refs_other : (thread : ℕ) (places new : List Place) (p : ℕ) → ((q : ℕ) → q ≢ p → place_at new q ≡ place_at places q) → (xs : List ℕ) → times p xs ≡ 0 → map (ref_at thread new) xs ≡ map (ref_at thread places) xs
+pub refs_other : (thread : ℕ) (places new : List Place) (p : ℕ) → ((q : ℕ) → q ≢ p → place_at new q ≡ place_at places q)
+    → (xs : List ℕ) → times p xs ≡ 0 → map (ref_at thread new) xs ≡ map (ref_at thread places) xs
 refs_other thread places new p same [] none = refl
 refs_other thread places new p same (x ∷ xs) none =
     let n = not_first p x xs none in
-    cons_same (shown thread x (place_at new x)) (shown thread x (place_at places x)) _ _ (ap (shown thread x) (same x n.0)) (refs_other thread places new p same xs n.1)
+    cons_same (shown thread x (place_at new x)) (shown thread x (place_at places x)) _ _
+    (ap (shown thread x) (same x n.0)) (refs_other thread places new p same xs n.1)
 
 frame_same : (r s : List LocalRef) (xs ys : List (List LocalRef)) → r ≡ s → xs ≡ ys → r ∷ xs ≡ s ∷ ys
 frame_same r s xs ys e f = cc
 
-pub frames_other : (thread : ℕ) (places new : List Place) (p : ℕ) → ((q : ℕ) → q ≢ p → place_at new q ≡ place_at places q) → (rs : List (List ℕ)) → times p (flat rs) ≡ 0 → map (map (ref_at thread new)) rs ≡ map (map (ref_at thread places)) rs
+pub frames_other : (thread : ℕ) (places new : List Place) (p : ℕ)
+    → ((q : ℕ) → q ≢ p → place_at new q ≡ place_at places q) → (rs : List (List ℕ)) → times p (flat rs) ≡ 0
+    → map (map (ref_at thread new)) rs ≡ map (map (ref_at thread places)) rs
 frames_other thread places new p same [] none = refl
 frames_other thread places new p same (xs ∷ rest) none =
-    frame_same _ _ _ _ (refs_other thread places new p same xs (none_left p xs (flat rest) none)) (frames_other thread places new p same rest (none_right p xs (flat rest) none))
+    frame_same _ _ _ _ (refs_other thread places new p same xs (none_left p xs (flat rest) none))
+    (frames_other thread places new p same rest (none_right p xs (flat rest) none))
 
-pub frames_same : (xs ys : List (List LocalRef)) (ns ms : List ℕ) → xs ≡ ys → ns ≡ ms → ◌≡◌ {A = Frames} (record { frames = xs; given = ns }) (record { frames = ys; given = ms })
+pub frames_same : (xs ys : List (List LocalRef)) (ns ms : List ℕ) → xs ≡ ys → ns ≡ ms
+    → ◌≡◌ {A = Frames} (record { frames = xs; given = ns }) (record { frames = ys; given = ms })
 frames_same xs ys ns ms e f = cc
 
 -- the places after a place is written through the slice of them
 abbrev pub with_place : ArrayVec Place → List Place → ℕ → (Place → Place) → ArrayVec Place
-with_place places seen i change = record { items = refill (length places.items) places.items (slice_set seen i (change (place_at seen i))) }
+with_place places seen i change =
+    record { items = refill (length places.items) places.items (slice_set seen i (change (place_at seen i))) }
 
-pub with_place_is : (places : ArrayVec Place) (seen : List Place) (i j : ℕ) (change : Place → Place) → seen ≡ places.items → i ≡ j
+pub with_place_is : (places : ArrayVec Place) (seen : List Place) (i j : ℕ) (change : Place → Place)
+    → seen ≡ places.items → i ≡ j
     → (with_place places seen i change).items ≡ slice_set places.items j (change (place_at places.items j))
 with_place_is places seen i j change same is =
     items-with_items places (slice_set seen i (change (place_at seen i))) (length-set seen i _ ∙ ap length same)
-    ∙ (ap (λ ps. slice_set ps i (change (place_at ps i))) same ∙ ap (λ k. slice_set places.items k (change (place_at places.items k))) is)
+    ∙ (ap (λ ps. slice_set ps i (change (place_at ps i))) same
+    ∙ ap (λ k. slice_set places.items k (change (place_at places.items k))) is)
 
-module _ (a : Fields) (free : List ℕ) (order : List (List ℕ)) (is : IsArranged a free order) (p : ℕ) (l : p < length a.places.items) (x : Place) (places : ArrayVec Place) (set : places.items ≡ slice_set a.places.items p x) where
-  pub changed_only : (free_now : List ℕ) (order_now : List (List ℕ)) (n : ℕ) (rings : Rings) → IsArranged (changed a n places rings) free_now order_now → IsOnly (table_of a order).frames p (object_in x) (table_of (changed a n places rings) order_now).frames
+module _ (a : Fields) (free : List ℕ) (order : List (List ℕ)) (is : IsArranged a free order) (p : ℕ)
+    (l : p < length a.places.items) (x : Place) (places : ArrayVec Place)
+    (set : places.items ≡ slice_set a.places.items p x) where
+  pub changed_only : (free_now : List ℕ) (order_now : List (List ℕ)) (n : ℕ) (rings : Rings)
+      → IsArranged (changed a n places rings) free_now order_now
+      → IsOnly (table_of a order).frames p (object_in x) (table_of (changed a n places rings) order_now).frames
   changed_only free_now order_now n rings now q =
       object_at_place (changed a n places rings) free_now order_now now q
-      ∙ after_set (λ q y. object_in y ≡ cond (p == q) (object_in x) (object_at (table_of a order).frames q)) a.places.items places.items p x l set
+      ∙ after_set (λ q y. object_in y ≡ cond (p == q) (object_in x) (object_at (table_of a order).frames q))
+      a.places.items places.items p x l set
       (sym (ap (λ b. cond b (object_in x) (object_at (table_of a order).frames p)) (eq_self p)))
-      (λ q ne. sym (object_at_place a free order is q) ∙ sym (ap (λ b. cond b (object_in x) (object_at (table_of a order).frames q)) (eq_other p q (λ e. ne (sym e))))) q
+      (λ q ne. sym (object_at_place a free order is q)
+      ∙ sym (ap (λ b. cond b (object_in x) (object_at (table_of a order).frames q)) (eq_other p q (λ e. ne (sym e))))) q

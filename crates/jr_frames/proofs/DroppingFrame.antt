@@ -34,18 +34,29 @@ module _ {S : Type 0} (facts : S → Facts) where
 
 module _ {S : Type 0} {facts : S → Facts} (fits : AreOf facts) where
   pub takes_nothing : {a : S} {t : Table} → StandsReady facts Within a t → IsTaking facts a a t t
-  takes_nothing {a} {t} r = record { acts = []; popping = pop_begins t.frames; ready = r; owner = same_owner t; drops = drops_nothing fits a t.frames }
+  takes_nothing {a} {t} r = record {
+    acts = [];
+    popping = pop_begins t.frames;
+    ready = r;
+    owner = same_owner t;
+    drops = drops_nothing fits a t.frames;
+  }
 
   module _ {a b : S} {t u : Table} (so : IsTaking facts a b t u) where
-    takes : (v : Table) (h : Handle) → oldest_handle (last_frame u.frames.frames) ≡ Some h → TakesOldest u.frames h → v.frames ≡ without_local u.frames h
-        → IsPopping t.frames (so.acts ++ LocalDrop h.index ∷ []) v.frames × (length (last_frame v.frames.frames) < length (last_frame u.frames.frames))
+    takes : (v : Table) (h : Handle) → oldest_handle (last_frame u.frames.frames) ≡ Some h → TakesOldest u.frames h
+        → v.frames ≡ without_local u.frames h
+        → IsPopping t.frames (so.acts ++ LocalDrop h.index ∷ []) v.frames
+        × (length (last_frame v.frames.frames) < length (last_frame u.frames.frames))
     takes v h oldest rest deleted =
         let next = pop_goes_on t.frames u.frames so.acts h so.popping oldest rest in
         let fewer = next.1 in
-        subst (λ (f : Frames). IsPopping t.frames (so.acts ++ LocalDrop h.index ∷ []) f × (length (last_frame f.frames) < length (last_frame u.frames.frames))) (sym deleted) (next.0, omega arith)
+        subst (λ (f : Frames). IsPopping t.frames (so.acts ++ LocalDrop h.index ∷ []) f
+        × (length (last_frame f.frames) < length (last_frame u.frames.frames))) (sym deleted) (next.0, omega arith)
 
     -- one more is taken out
-    pub takes_one : {c : S} (v : Table) (h : Handle) → oldest_handle (last_frame u.frames.frames) ≡ Some h → TakesOldest u.frames h → v.frames ≡ without_local u.frames h → KeepsOwner u v → Drops facts b c u.frames v.frames (dropping (LocalDrop h.index ∷ []))
+    pub takes_one : {c : S} (v : Table) (h : Handle) → oldest_handle (last_frame u.frames.frames) ≡ Some h
+        → TakesOldest u.frames h → v.frames ≡ without_local u.frames h → KeepsOwner u v
+        → Drops facts b c u.frames v.frames (dropping (LocalDrop h.index ∷ []))
         → IsTaking facts a c t v
     takes_one v h oldest rest deleted owner drops = record {
       acts = so.acts ++ LocalDrop h.index ∷ [];
@@ -55,8 +66,10 @@ module _ {S : Type 0} {facts : S → Facts} (fits : AreOf facts) where
       drops = drops_then so.drops drops;
     }
 
-  module _ {a b : S} {t u v : Table} (so : IsTaking facts a b t u) (empty : last_frame u.frames.frames ≡ []) (is : v ≡ with_frames u (popped u.frames)) where
+  module _ {a b : S} {t u v : Table} (so : IsTaking facts a b t u) (empty : last_frame u.frames.frames ≡ [])
+      (is : v ≡ with_frames u (popped u.frames)) where
     -- and then the frame itself
     pub takes_frame : Drops facts a b t.frames v.frames take_frame
     takes_frame = subst (λ (x : Table). Drops facts a b t.frames x.frames take_frame) (sym is)
-        (drops_as fits (pop_ends t.frames u.frames so.acts so.popping empty) (joined_before u.frames.frames empty) so.drops)
+        (drops_as fits (pop_ends t.frames u.frames so.acts so.popping empty) (joined_before u.frames.frames empty)
+        so.drops)

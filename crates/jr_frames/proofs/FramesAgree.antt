@@ -12,19 +12,23 @@ use Rattle.jr_steps.specs.Knowing.{view, state_of, HasObject, Holds}
 use Rattle.jr_frames.specs.Table.{IsOnly}
 
 -- the object of a local reference is present
-pub local_present : (k : Known) (f : Frames) (p o : ℕ) → IsLegal k.config k.last k.seen → Holds f k → object_at f p ≡ Some o → HasObject o k
+pub local_present : (k : Known) (f : Frames) (p o : ℕ) → IsLegal k.config k.last k.seen → Holds f k
+    → object_at f p ≡ Some o → HasObject o k
 local_present k f p o l a e = (named_is_present k.config k.last k.seen l).1 k.thread p o (a p ∙ e)
 
 -- frames that hold go on holding
-pub holds_did : (k k' : Known) (f : Frames) (acts : List Act) → Did (view k) (view k') acts → AllByRecursion (λ a. spares_places a ≡ true) acts → Holds f k → Holds f k'
+pub holds_did : (k k' : Known) (f : Frames) (acts : List Act) → Did (view k) (view k') acts
+    → AllByRecursion (λ a. spares_places a ≡ true) acts → Holds f k → Holds f k'
 holds_did k k' f acts d h m = agree_spared f acts d h m
 
-put_at : (l : ℕ → Option ℕ) (p : ℕ) (z : Option ℕ) (q : ℕ) → places_from l (act_of_put p z ∷ []) q ≡ cond (p == q) z (l q)
+put_at : (l : ℕ → Option ℕ) (p : ℕ) (z : Option ℕ) (q : ℕ)
+    → places_from l (act_of_put p z ∷ []) q ≡ cond (p == q) z (l q)
 put_at l p (Some o) q = refl
 put_at l p None q = refl
 
 -- frames that differ at the place of a store alone hold after it
-pub holds_put : (k k' : Known) (f g : Frames) (p : ℕ) (z : Option ℕ) → Did (view k) (view k') (act_of_put p z ∷ []) → IsOnly f p z g → Holds f k → Holds g k'
+pub holds_put : (k k' : Known) (f g : Frames) (p : ℕ) (z : Option ℕ) → Did (view k) (view k') (act_of_put p z ∷ [])
+    → IsOnly f p z g → Holds f k → Holds g k'
 holds_put k k' f g p z d only m q =
     ap (λ (l : ℕ → Option ℕ). l q) (places_did (act_of_put p z ∷ []) d)
     ∙ (put_at ((state_of k).locals k.thread) p z q

@@ -1,5 +1,6 @@
 -- How all local references are freed, one after the other.
-use Rattle.std.proofs.Common.{◌≡◌, ◌≤◌, ◌+◌, ℕ, zero, suc, Some, List, [], ◌∷◌, ◌++◌, take, length, slice_set, refl, sym, ap, subst, ◌∙◌, arith}
+use Rattle.std.proofs.Common.{◌≡◌, ◌≤◌, ◌+◌, ℕ, zero, suc, Some, List, [], ◌∷◌, ◌++◌}
+use Rattle.std.proofs.Common.{take, length, slice_set, refl, sym, ap, subst, ◌∙◌, arith}
 use Rattle.std.proofs.lemmas.List.{append_assoc, append-nil, length-map, take_all}
 use Rattle.std.specs.List.{AllByRecursion}
 use Rattle.jr_model.specs.declared.event.Act.{Act}
@@ -16,7 +17,8 @@ abbrev AreEmpty : List (List LocalRef) → Type 0
 AreEmpty fs = AllByRecursion (λ rs. rs ≡ []) fs
 
 -- where the frames before one are empty, its oldest reference is the oldest of all
-drop_first : (h : Handle) (k : ℕ) (fs : List (List LocalRef)) → AreEmpty (take k fs) → oldest_handle (frame_at fs k) ≡ Some h
+drop_first : (h : Handle) (k : ℕ) (fs : List (List LocalRef)) → AreEmpty (take k fs)
+    → oldest_handle (frame_at fs k) ≡ Some h
     → drop_all (joined fs) ≡ LocalDrop h.index ∷ drop_all (joined (slice_set fs k (without_oldest (frame_at fs k))))
 drop_first h zero [] before e = absurd cc
 drop_first h zero ([] ∷ xs) before e = absurd cc
@@ -25,7 +27,8 @@ drop_first h (suc k) [] before e = absurd cc
 drop_first h (suc k) (x ∷ xs) before e =
     ap (λ rs. drop_all (rs ++ joined xs)) before.0
     ∙ (drop_first h k xs before.1 e
-    ∙ sym (ap (λ rs. LocalDrop h.index ∷ drop_all (rs ++ joined (slice_set xs k (without_oldest (frame_at xs k))))) before.0))
+    ∙ sym (ap (λ rs. LocalDrop h.index ∷ drop_all (rs ++ joined (slice_set xs k (without_oldest (frame_at xs k)))))
+    before.0))
 
 -- the frames before one don't change with it
 before_same : (k : ℕ) (rs : List LocalRef) (fs : List (List LocalRef)) → take k (slice_set fs k rs) ≡ take k fs
@@ -89,19 +92,22 @@ free_goes_on f now k acts h free oldest takes = (
   record {
     taken =
         free.taken
-        ∙ (ap (λ l. acts ++ l) (drop_first h k now.frames free.before oldest ∙ ap (λ fs. LocalDrop h.index ∷ drop_all (joined fs)) (sym takes))
+        ∙ (ap (λ l. acts ++ l) (drop_first h k now.frames free.before oldest
+        ∙ ap (λ fs. LocalDrop h.index ∷ drop_all (joined fs)) (sym takes))
         ∙ sym (append_assoc acts (LocalDrop h.index ∷ []) _));
     before = subst AreEmpty (sym (ap (take k) takes ∙ before_same k _ now.frames)) free.before;
     depth = length-map now.frames _ ∙ free.depth;
     given = free.given;
   },
-  fewer_refs (LocalDrop h.index) (all_refs now) (all_refs (without_local now h)) (drop_first h k now.frames free.before oldest ∙ ap (λ fs. LocalDrop h.index ∷ drop_all (joined fs)) (sym takes)),
+  fewer_refs (LocalDrop h.index) (all_refs now) (all_refs (without_local now h))
+      (drop_first h k now.frames free.before oldest ∙ ap (λ fs. LocalDrop h.index ∷ drop_all (joined fs)) (sym takes)),
 )
 
 pub free_turns : FreeTurns
 free_turns f now k acts free empty = record {
   taken = free.taken;
-  before = let next : suc k ≡ k + 1 = omega arith in subst (λ n. AreEmpty (take n now.frames)) next (one_more k now.frames free.before empty);
+  before = let next : suc k ≡ k + 1 = omega arith in
+      subst (λ n. AreEmpty (take n now.frames)) next (one_more k now.frames free.before empty);
   depth = free.depth;
   given = free.given;
 }
@@ -109,13 +115,26 @@ free_turns f now k acts free empty = record {
 pub free_empties : FreeEmpties
 free_empties f now acts free =
     let same = free.depth in
-    let none : all_refs now ≡ [] = none_joined now.frames (subst AreEmpty (take_all (length f.frames) now.frames (omega arith)) free.before) in
-    record { taken = sym (free.taken ∙ (ap (λ rs. acts ++ drop_all rs) none ∙ append-nil acts)); none = none; given = free.given }
+    let none : all_refs now ≡ [] =
+    none_joined now.frames (subst AreEmpty (take_all (length f.frames) now.frames (omega arith)) free.before) in
+    record {
+      taken = sym (free.taken ∙ (ap (λ rs. acts ++ drop_all rs) none ∙ append-nil acts));
+      none = none;
+      given = free.given;
+    }
 
 pub empty_is_popped : EmptyIsPopped
 empty_is_popped f now acts emptied two =
-    let all = all_none now.frames emptied.none in
-    (last_none now.frames all, one_left now.frames two, record { taken = emptied.taken; none = none_joined (frames_before now.frames) (before_none now.frames all); given = emptied.given })
+    let all = all_none now.frames emptied.none in (
+      last_none now.frames all,
+      one_left now.frames two,
+      record {
+        taken = emptied.taken;
+        none = none_joined (frames_before now.frames) (before_none now.frames all);
+        given = emptied.given;
+      },
+    )
 
 pub free_ends : FreeEnds
-free_ends f now acts emptied one = (emptied.taken, refl, frames_same _ _ _ _ (alone now.frames (all_none now.frames emptied.none) one) emptied.given)
+free_ends f now acts emptied one =
+    (emptied.taken, refl, frames_same _ _ _ _ (alone now.frames (all_none now.frames emptied.none) one) emptied.given)

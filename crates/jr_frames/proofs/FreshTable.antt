@@ -1,5 +1,7 @@
 -- A table that is new.
-use Rattle.std.proofs.Common.{◌≡◌, ◌≢◌, ◌==◌, ◌&&◌, ◌+◌, ◌-◌, ◌^◌, ◌<◌, ◌≤◌, ⊎_elim, ℕ, zero, suc, true, false, not, if◌then◌else◌, nat_le, List, [], ◌∷◌, ◌++◌, map, replicate, length, refl, sym, ap, subst, ◌∙◌, lit≤, arith}
+use Rattle.std.proofs.Common.{◌≡◌, ◌≢◌, ◌==◌, ◌&&◌, ◌+◌, ◌-◌, ◌^◌, ◌<◌, ◌≤◌, ⊎_elim, ℕ, zero}
+use Rattle.std.proofs.Common.{suc, true, false, not, if◌then◌else◌, nat_le, List, [], ◌∷◌, ◌++◌}
+use Rattle.std.proofs.Common.{map, replicate, length, refl, sym, ap, subst, ◌∙◌, lit≤, arith}
 use Rattle.std.proofs.lemmas.List.{length-replicate}
 use Rattle.std.proofs.lemmas.Bool.{cases_lt}
 use Rattle.std.proofs.lemmas.Bool.Decides.{nat_tests}
@@ -29,16 +31,19 @@ length_up k (suc m) = ap suc (length_up (suc k) m)
 
 times_under : (q k m : ℕ) → q < k → times q (count_up k m) ≡ 0
 times_under q k zero l = refl
-times_under q k (suc m) l = times_there q k (count_up (suc k) m) (λ e. absurd (omega arith)) ∙ times_under q (suc k) m (omega arith)
+times_under q k (suc m) l =
+    times_there q k (count_up (suc k) m) (λ e. absurd (omega arith)) ∙ times_under q (suc k) m (omega arith)
 
 times_over : (q k m : ℕ) → k + m ≤ q → times q (count_up k m) ≡ 0
 times_over q k zero l = refl
-times_over q k (suc m) l = times_there q k (count_up (suc k) m) (λ e. absurd (omega arith)) ∙ times_over q (suc k) m (omega arith)
+times_over q k (suc m) l =
+    times_there q k (count_up (suc k) m) (λ e. absurd (omega arith)) ∙ times_over q (suc k) m (omega arith)
 
 times_among : (q k m : ℕ) → k ≤ q → q < k + m → times q (count_up k m) ≡ 1
 times_among q k zero l h = absurd (omega arith)
 times_among q k (suc m) l h = ⊎_elim
-    (λ (less : k < q). times_there q k (count_up (suc k) m) (λ e. absurd (omega arith)) ∙ times_among q (suc k) m (omega arith) (omega arith))
+    (λ (less : k < q). times_there q k (count_up (suc k) m) (λ e. absurd (omega arith))
+    ∙ times_among q (suc k) m (omega arith) (omega arith))
     (λ (more : q ≤ k). let same : k ≡ q = omega arith in
     let here = times_here q (count_up (suc k) m) in
     let under = times_under q (suc k) m (omega arith) in
@@ -80,7 +85,8 @@ given_none : (n : ℕ) → map given_of (replicate n unused) ≡ replicate n 0
 given_none zero = refl
 given_none (suc n) = ap (λ l. 0 ∷ l) (given_none n)
 
-module _ (thread last n : ℕ) (places : ArrayVec Place) (rings : Rings) (are : places.items ≡ replicate n unused) (fresh : AreFresh n rings.links.items) where
+module _ (thread last n : ℕ) (places : ArrayVec Place) (rings : Rings) (are : places.items ≡ replicate n unused)
+    (fresh : AreFresh n rings.links.items) where
   abbrev pub fresh_inside : Fields
   fresh_inside = record { thread = thread; last = last; free = n; places = places; rings = rings }
 
@@ -98,7 +104,8 @@ module _ (thread last n : ℕ) (places : ArrayVec Place) (rings : Rings) (are : 
 
   idle_now : (q : ℕ) → q < n → is_idle last places.items q ≡ true
   idle_now q l =
-      ap (λ k. nat_le (q + 1) k && (not (is_taken places.items q) && nat_le (given_of (place_at places.items q)) last)) size_is
+      ap (λ k. nat_le (q + 1) k && (not (is_taken places.items q) && nat_le (given_of (place_at places.items q)) last))
+      size_is
       ∙ (ap (λ b. nat_le (q + 1) n && (not b && nat_le (given_of (place_at places.items q)) last)) (not_taken_now q)
       ∙ (ap (λ k. nat_le (q + 1) n && (not false && nat_le k last)) (given_now q) ∙ here q n last l))
     where
@@ -108,7 +115,8 @@ module _ (thread last n : ℕ) (places : ArrayVec Place) (rings : Rings) (are : 
   idle_times : (q : ℕ) → times q (count_up 0 n) ≡ (if is_idle last places.items q then 1 else 0)
   idle_times q = ⊎_elim
       (λ (l : q < n). times_among q 0 n (omega arith) (omega arith) ∙ sym (ap (λ b. if b then 1 else 0) (idle_now q l)))
-      (λ (g : n ≤ q). times_over q 0 n (omega arith) ∙ sym (ap (λ b. if b then 1 else 0) (not_idle last places.items q (let size = size_is in omega arith))))
+      (λ (g : n ≤ q). times_over q 0 n (omega arith)
+      ∙ sym (ap (λ b. if b then 1 else 0) (not_idle last places.items q (let size = size_is in omega arith))))
       (cases_lt q n)
 
   pub fresh_shows : n ≤ MOST_LOCALS → last < 2 ^ 32 → IsArranged fresh_inside (count_up 0 n) ([] ∷ [])
@@ -124,8 +132,18 @@ module _ (thread last n : ℕ) (places : ArrayVec Place) (rings : Rings) (are : 
         size = omega arith;
         some_frame = lit≤ tt;
         few_frames = lit≤ tt;
-        rings = subst (λ k. Follow rings.links.items k (count_up 0 n ++ k ∷ []) × (Follow rings.links.items (suc k) (suc k ∷ []) × Unit {0})) (sym size)
-            (follow_all n rings.links.items fresh n refl, ((subst (λ k. newer_at rings.links.items k ≡ k) next fresh.empty.0, subst (λ k. older_at rings.links.items k ≡ k) next fresh.empty.1, tt), tt));
+        rings = subst (λ k. Follow rings.links.items k (count_up 0 n ++ k ∷ [])
+            × (Follow rings.links.items (suc k) (suc k ∷ []) × Unit {0})) (sym size) (
+              follow_all n rings.links.items fresh n refl,
+              (
+                (
+                  subst (λ k. newer_at rings.links.items k ≡ k) next fresh.empty.0,
+                  subst (λ k. older_at rings.links.items k ≡ k) next fresh.empty.1,
+                  tt,
+                ),
+                tt,
+              ),
+            );
         once = λ q. sym (ap (λ b. if b then 1 else 0) (not_taken_now q));
         idle = idle_times;
         count = sym (length_up 0 n);

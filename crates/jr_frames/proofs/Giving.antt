@@ -1,5 +1,6 @@
 -- A ring is walked round until a place of it would give a handle again.
-use Rattle.std.proofs.Common.{◌≡◌, ◌≢◌, ◌||◌, ◌<◌, ◌≤◌, ℕ, suc, Bool, true, false, nat_le, List, [], ◌∷◌, ◌++◌, length, refl, sym, ap, subst, ◌∙◌, arith}
+use Rattle.std.proofs.Common.{◌≡◌, ◌≢◌, ◌||◌, ◌<◌, ◌≤◌, ℕ, suc, Bool, true, false, nat_le}
+use Rattle.std.proofs.Common.{List, [], ◌∷◌, ◌++◌, length, refl, sym, ap, subst, ◌∙◌, arith}
 use Rattle.std.specs.List.{AllByRecursion}
 use Rattle.std.proofs.lemmas.Bool.Decides.{nat_tests}
 use Rattle.jr_frames.specs.declared.place.Place.{Place}
@@ -32,8 +33,19 @@ gives_later : (given last : ℕ) (rest : Bool) → last < given → (nat_le give
 gives_later given last rest l = ap (λ b. b || rest) (let e : nat_le given last ≡ false = grind (arith, nat_tests) in e)
 
 module _ (links : List Link) (places : List Place) (last end : ℕ) where
-  pub left_begins : (place : ℕ) → IsRing links (length places) end → place ≡ newer_at links end → IsLeft links places last end place
-  left_begins place ring at = record { rest = ring_of links (length places) end; from = end; follows = ring.follows; at = at; low = ring.low; short = ring.short; past = ring.past; within = ring.within; same = refl }
+  pub left_begins : (place : ℕ) → IsRing links (length places) end → place ≡ newer_at links end
+      → IsLeft links places last end place
+  left_begins place ring at = record {
+    rest = ring_of links (length places) end;
+    from = end;
+    follows = ring.follows;
+    at = at;
+    low = ring.low;
+    short = ring.short;
+    past = ring.past;
+    within = ring.within;
+    same = refl;
+  }
 
   module _ (place : ℕ) (left : IsLeft links places last end place) where
     -- nothing is left at the end
@@ -62,10 +74,13 @@ module _ (links : List Link) (places : List Place) (last end : ℕ) where
       pub left_within : place < length links
       left_within = let low = left_low in let past = left.past in let within = left.within in omega arith
 
-      pub left_found : given_of (place_at places place) ≤ last → true ≡ gives_again last places (ring_of links (length places) end)
-      left_found l = let next = next_of left.rest refl in sym (left.same ∙ (ap (gives_again last places) next.1 ∙ gives_here _ last _ l))
+      pub left_found : given_of (place_at places place) ≤ last
+          → true ≡ gives_again last places (ring_of links (length places) end)
+      left_found l = let next = next_of left.rest refl in
+          sym (left.same ∙ (ap (gives_again last places) next.1 ∙ gives_here _ last _ l))
 
-      pub left_goes_on : (q : ℕ) → last < given_of (place_at places place) → q ≡ newer_at links place → IsLeft links places last end q
+      pub left_goes_on : (q : ℕ) → last < given_of (place_at places place) → q ≡ newer_at links place
+          → IsLeft links places last end q
       left_goes_on q high at =
           let next = next_of left.rest refl in
           let short : length left.rest ≡ suc (length next.0) = ap length next.1 in
@@ -83,15 +98,20 @@ module _ (links : List Link) (places : List Place) (last end : ℕ) where
           }
 
       -- and less is left than before
-      pub left_smaller : (q : ℕ) → q ≡ newer_at links place → length (until links end (length places) q) < length (until links end (length places) place)
+      pub left_smaller : (q : ℕ) → q ≡ newer_at links place
+          → length (until links end (length places) q) < length (until links end (length places) place)
       left_smaller q at =
           let next = next_of left.rest refl in
           let f = subst (λ l. Follow links left.from (l ++ end ∷ [])) next.1 left.follows in
-          let all = all_apart (length places) end (place ∷ next.0) left.past (subst (AllByRecursion (λ p. p < length places)) next.1 left.low) in
+          let all = all_apart (length places) end (place ∷ next.0) left.past
+          (subst (AllByRecursion (λ p. p < length places)) next.1 left.low) in
           let short : length left.rest ≡ suc (length next.0) = ap length next.1 in
           let fits = left.short in
-          let now : until links end (length places) place ≡ place ∷ next.0 = ap (until links end (length places)) left.at ∙ until_end links end (length places) left.from (place ∷ next.0) all (omega arith) f in
-          let later : until links end (length places) q ≡ next.0 = ap (until links end (length places)) at ∙ until_end links end (length places) place next.0 all.1 (omega arith) f.2 in
+          let now : until links end (length places) place ≡ place ∷ next.0 =
+          ap (until links end (length places)) left.at
+          ∙ until_end links end (length places) left.from (place ∷ next.0) all (omega arith) f in
+          let later : until links end (length places) q ≡ next.0 = ap (until links end (length places)) at
+          ∙ until_end links end (length places) place next.0 all.1 (omega arith) f.2 in
           let first : length (until links end (length places) place) ≡ suc (length next.0) = ap length now in
           let second : length (until links end (length places) q) ≡ length next.0 = ap length later in
           omega arith

@@ -1,5 +1,6 @@
 -- The object that the table of places shows for a handle.
-use Rattle.std.proofs.Common.{◌≡◌, ◌≢◌, ◌==◌, ◌&&◌, ◌+◌, ◌-◌, ◌<◌, ◌≤◌, ⊎_elim, ℕ, Bool, true, false, not, cond, List, length, Some, None, IsSome, refl, sym, ap, subst, ◌∙◌, arith}
+use Rattle.std.proofs.Common.{◌≡◌, ◌≢◌, ◌==◌, ◌&&◌, ◌+◌, ◌-◌, ◌<◌, ◌≤◌, ⊎_elim, ℕ, Bool, true, false, not}
+use Rattle.std.proofs.Common.{cond, List, length, Some, None, IsSome, refl, sym, ap, subst, ◌∙◌, arith}
 use Rattle.std.proofs.lemmas.List.{get_or_past}
 use Rattle.std.proofs.lemmas.Bool.{cases_lt}
 use Rattle.std.proofs.lemmas.Bool.Decides.{nat_tests}
@@ -23,34 +24,44 @@ some_true false o s = absurd cc
 -- no reference stands beyond the places
 pub taken_index : (places : List Place) (p : ℕ) → is_taken places p ≡ true → p < length places
 taken_index places p e = ⊎_elim (λ (l : p < length places). l)
-    (λ (g : length places ≤ p). let none = get_or_past places p unused g in let no : false ≡ true = subst (λ (x : Place). not (x.object == 0) ≡ true) none e in absurd cc)
+    (λ (g : length places ≤ p). let none = get_or_past places p unused g in
+    let no : false ≡ true = subst (λ (x : Place). not (x.object == 0) ≡ true) none e in absurd cc)
     (cases_lt p (length places))
 
 module _ (a : Fields) (free : List ℕ) (order : List (List ℕ)) (is : IsArranged a free order) (h : Handle) where
   -- the handle stands, and it is the one that its place shows
-  pub stands : IsSome (object_of (table_of a order).frames h) → (is_taken a.places.items h.index ≡ true) × ((ref_at a.thread a.places.items h.index).handle ≡ h)
+  pub stands : IsSome (object_of (table_of a order).frames h)
+      → (is_taken a.places.items h.index ≡ true) × ((ref_at a.thread a.places.items h.index).handle ≡ h)
   stands some =
       let both = some_true _ _ (subst (λ o. IsSome o) (object_of_handle a free order is h) some) in
       (and_left _ _ both, handle_true _ h (and_right (is_taken a.places.items h.index) _ both))
 
-  pub named_object : (place_at a.places.items h.index).object ≢ 0 → h.kind ≡ Local → h.serial + 1 ≡ given_of (place_at a.places.items h.index) → h.owner ≡ a.thread
+  pub named_object : (place_at a.places.items h.index).object ≢ 0 → h.kind ≡ Local
+      → h.serial + 1 ≡ given_of (place_at a.places.items h.index) → h.owner ≡ a.thread
       → object_of (table_of a order).frames h ≡ Some (place_at a.places.items h.index).object
   named_object ne kind serial owner =
-      let same : (ref_at a.thread a.places.items h.index).handle ≡ h = same_parts Local h.kind _ h.serial h.index h.index a.thread h.owner (sym kind) (omega arith) refl (sym owner) in
+      let same : (ref_at a.thread a.places.items h.index).handle ≡ h =
+      same_parts Local h.kind _ h.serial h.index h.index a.thread h.owner (sym kind) (omega arith) refl (sym owner) in
       object_of_handle a free order is h
-      ∙ ap (λ b. cond (not b && same_handle (ref_at a.thread a.places.items h.index).handle h) (Some (place_at a.places.items h.index).object) None) (not_zero _ ne)
+      ∙ ap (λ b. cond (not b && same_handle (ref_at a.thread a.places.items h.index).handle h)
+      (Some (place_at a.places.items h.index).object) None) (not_zero _ ne)
       ∙ ap (λ k. cond (same_handle k h) (Some (place_at a.places.items h.index).object) None) same
       ∙ ap (λ b. cond b (Some (place_at a.places.items h.index).object) None) (handle_self h)
 
   pub empty_object : (place_at a.places.items h.index).object ≡ 0 → object_of (table_of a order).frames h ≡ None
   empty_object e =
       object_of_handle a free order is h
-      ∙ ap (λ n. cond (not (n == 0) && same_handle (ref_at a.thread a.places.items h.index).handle h) (Some (place_at a.places.items h.index).object) None) e
+      ∙ ap (λ n. cond (not (n == 0) && same_handle (ref_at a.thread a.places.items h.index).handle h)
+      (Some (place_at a.places.items h.index).object) None) e
 
-  pub unnamed_object : ((h.kind ≡ Local) × (h.serial + 1 ≡ given_of (place_at a.places.items h.index)) × (h.owner ≡ a.thread) → ⊥) → object_of (table_of a order).frames h ≡ None
+  pub unnamed_object : ((h.kind ≡ Local) × (h.serial + 1 ≡ given_of (place_at a.places.items h.index))
+      × (h.owner ≡ a.thread) → ⊥) → object_of (table_of a order).frames h ≡ None
   unnamed_object other = object_of_handle a free order is h ∙ go _ refl
     where
-      go : (b : Bool) → (is_taken a.places.items h.index && same_handle (ref_at a.thread a.places.items h.index).handle h) ≡ b → cond (is_taken a.places.items h.index && same_handle (ref_at a.thread a.places.items h.index).handle h) (Some (place_at a.places.items h.index).object) None ≡ None
+      go : (b : Bool)
+          → (is_taken a.places.items h.index && same_handle (ref_at a.thread a.places.items h.index).handle h) ≡ b
+          → cond (is_taken a.places.items h.index && same_handle (ref_at a.thread a.places.items h.index).handle h)
+          (Some (place_at a.places.items h.index).object) None ≡ None
       go true e =
           let same = handle_true _ h (and_right (is_taken a.places.items h.index) _ e) in
           let once : 1 ≤ given_of (place_at a.places.items h.index) = is.given h.index (and_left _ _ e) in

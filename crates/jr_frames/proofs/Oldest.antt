@@ -1,5 +1,7 @@
 -- The oldest reference of a frame.
-use Rattle.std.proofs.Common.{◌≡◌, ◌≢◌, ◌==◌, ◌+◌, ◌-◌, ◌<◌, ◌≤◌, ℕ, zero, suc, Bool, true, false, not, if◌then◌else◌, IsSome, Some, List, [], ◌∷◌, ◌++◌, map, length, slice_index_or, slice_set, refl, sym, ap, subst, ◌∙◌, arith}
+use Rattle.std.proofs.Common.{◌≡◌, ◌≢◌, ◌==◌, ◌+◌, ◌-◌, ◌<◌, ◌≤◌, ℕ, zero, suc, Bool, true, false}
+use Rattle.std.proofs.Common.{not, if◌then◌else◌, IsSome, Some, List, [], ◌∷◌, ◌++◌, map, length}
+use Rattle.std.proofs.Common.{slice_index_or, slice_set, refl, sym, ap, subst, ◌∙◌, arith}
 use Rattle.std.proofs.lemmas.List.{map-set}
 use Rattle.std.proofs.Math.ListN.{get_or-map}
 use Rattle.jr_word.specs.declared.handle.RefKind.TheVariants.{Local}
@@ -25,9 +27,11 @@ bit_true true n m e l = (refl, omega arith)
 bit_true false n m e l = absurd (omega arith)
 
 -- the ring of an end
-ring_at : (links : List Link) (first k end : ℕ) (rs : List (List ℕ)) → k < length rs → first + k ≡ end → AreRings links first rs → Follow links end (list_at rs k ++ end ∷ [])
+ring_at : (links : List Link) (first k end : ℕ) (rs : List (List ℕ)) → k < length rs → first + k ≡ end
+    → AreRings links first rs → Follow links end (list_at rs k ++ end ∷ [])
 ring_at links first zero end [] l e r = absurd (omega arith)
-ring_at links first zero end (x ∷ xs) l e r = let same : first ≡ end = omega arith in subst (λ n. Follow links n (x ++ n ∷ [])) same r.0
+ring_at links first zero end (x ∷ xs) l e r = let same : first ≡ end = omega arith in
+    subst (λ n. Follow links n (x ++ n ∷ [])) same r.0
 ring_at links first (suc k) end [] l e r = absurd (omega arith)
 ring_at links first (suc k) end (x ∷ xs) l e r = ring_at links (suc first) k end xs (omega arith) (omega arith) r.1
 
@@ -42,13 +46,15 @@ both : (x y : List ℕ) (s t : List (List ℕ)) → x ≡ y → s ≡ t → x �
 both x y s t e f = cc
 
 -- the first number of a list is taken out of it, where it is in no other
-set_without : (p k : ℕ) (rest : List ℕ) (rs : List (List ℕ)) → list_at rs k ≡ p ∷ rest → times p (flat rs) ≤ 1 → map (without p) rs ≡ slice_set rs k rest
+set_without : (p k : ℕ) (rest : List ℕ) (rs : List (List ℕ)) → list_at rs k ≡ p ∷ rest → times p (flat rs) ≤ 1
+    → map (without p) rs ≡ slice_set rs k rest
 set_without p zero rest [] e one = refl
 set_without p zero rest (x ∷ xs) e one =
     let all = times_append p x (flat xs) in
     let here : times p x ≡ 1 + times p rest = ap (times p) e ∙ times_here p rest in
     let later : times p rest ≡ 0 = omega arith in
-    both _ _ _ _ (ap (without p) e ∙ (without_here p rest ∙ without_none p rest later)) (map_without_none p xs (omega arith))
+    both _ _ _ _ (ap (without p) e ∙ (without_here p rest ∙ without_none p rest later))
+    (map_without_none p xs (omega arith))
 set_without p (suc k) rest [] e one = refl
 set_without p (suc k) rest (x ∷ xs) e one =
     let all = times_append p x (flat xs) in
@@ -65,7 +71,8 @@ abbrev pub tail_of : List ℕ → List ℕ
 tail_of [] = []
 tail_of (x ∷ xs) = xs
 
-module _ (a : Fields) (free : List ℕ) (order : List (List ℕ)) (is : IsArranged a free order) (k : ℕ) (low : k < length order) (end : ℕ) (at_end : end ≡ length a.places.items + 1 + k) where
+module _ (a : Fields) (free : List ℕ) (order : List (List ℕ)) (is : IsArranged a free order) (k : ℕ)
+    (low : k < length order) (end : ℕ) (at_end : end ≡ length a.places.items + 1 + k) where
   follows : Follow a.rings.links.items end (list_at order k ++ end ∷ [])
   follows = ring_at a.rings.links.items (suc (length a.places.items)) k end order low (omega arith) is.rings.1
 
@@ -73,7 +80,11 @@ module _ (a : Fields) (free : List ℕ) (order : List (List ℕ)) (is : IsArrang
   oldest_of p rest e =
       let here : times p (list_at order k) ≡ 1 + times p rest = ap (times p) e ∙ times_here p rest in
       let all = times_at p k order in
-      record { at = e; taken = (bit_true (is_taken a.places.items p) (times p (flat order)) (times p rest) (is.once p) (omega arith)).0 }
+      record {
+        at = e;
+        taken =
+            (bit_true (is_taken a.places.items p) (times p (flat order)) (times p rest) (is.once p) (omega arith)).0;
+      }
 
   -- a frame is empty where its end follows itself
   pub closed_empty : newer_at a.rings.links.items end ≡ end → list_at order k ≡ []
@@ -82,18 +93,22 @@ module _ (a : Fields) (free : List ℕ) (order : List (List ℕ)) (is : IsArrang
       go : (xs : List ℕ) → list_at order k ≡ xs → list_at order k ≡ []
       go [] e = e
       go (p ∷ rest) e =
-          let ahead : newer_at a.rings.links.items end ≡ p = (subst (λ l. Follow a.rings.links.items end (l ++ end ∷ [])) e follows).0 in
+          let ahead : newer_at a.rings.links.items end ≡ p =
+          (subst (λ l. Follow a.rings.links.items end (l ++ end ∷ [])) e follows).0 in
           let below = taken_index a.places.items p (oldest_of p rest e).taken in
           let same : end ≡ p = sym closed ∙ ahead in
           absurd (omega arith)
 
-  pub open_oldest : newer_at a.rings.links.items end ≢ end → IsOldest a order k (newer_at a.rings.links.items end) (tail_of (list_at order k))
+  pub open_oldest : newer_at a.rings.links.items end ≢ end
+      → IsOldest a order k (newer_at a.rings.links.items end) (tail_of (list_at order k))
   open_oldest other = go (list_at order k) refl
     where
-      go : (xs : List ℕ) → list_at order k ≡ xs → IsOldest a order k (newer_at a.rings.links.items end) (tail_of (list_at order k))
+      go : (xs : List ℕ) → list_at order k ≡ xs
+          → IsOldest a order k (newer_at a.rings.links.items end) (tail_of (list_at order k))
       go [] e = absurd (other (subst (λ l. Follow a.rings.links.items end (l ++ end ∷ [])) e follows).0)
       go (p ∷ rest) e =
-          let ahead : newer_at a.rings.links.items end ≡ p = (subst (λ l. Follow a.rings.links.items end (l ++ end ∷ [])) e follows).0 in
+          let ahead : newer_at a.rings.links.items end ≡ p =
+          (subst (λ l. Follow a.rings.links.items end (l ++ end ∷ [])) e follows).0 in
           subst (λ q. IsOldest a order k q (tail_of (list_at order k))) (sym ahead)
           (subst (IsOldest a order k p) (sym (ap tail_of e)) (oldest_of p rest e))
 
@@ -114,7 +129,8 @@ module _ (a : Fields) (free : List ℕ) (order : List (List ℕ)) (is : IsArrang
     abbrev pub handle_of : Handle
     handle_of = record { kind = Local; serial = given_of (place_at a.places.items p) - 1; index = p; owner = a.thread }
 
-    refs_are : frame_at (table_of a order).frames.frames k ≡ ref_at a.thread a.places.items p ∷ map (ref_at a.thread a.places.items) rest
+    refs_are : frame_at (table_of a order).frames.frames k
+        ≡ ref_at a.thread a.places.items p ∷ map (ref_at a.thread a.places.items) rest
     refs_are = frame_is ∙ ap (map (ref_at a.thread a.places.items)) oldest.at
 
     pub is_oldest : oldest_handle (frame_at (table_of a order).frames.frames k) ≡ Some handle_of
@@ -124,13 +140,16 @@ module _ (a : Fields) (free : List ℕ) (order : List (List ℕ)) (is : IsArrang
     oldest_stands =
         let given = oldest_given in
         let back : given_of (place_at a.places.items p) - 1 + 1 ≡ given_of (place_at a.places.items p) = omega arith in
-        subst (λ o. IsSome o) (sym (named_object a free order is handle_of (some_object p oldest.taken) refl back refl)) refl
+        subst (λ o. IsSome o) (sym (named_object a free order is handle_of (some_object p oldest.taken) refl back refl))
+        refl
       where
         some_object : (q : ℕ) → is_taken a.places.items q ≡ true → (place_at a.places.items q).object ≢ 0
-        some_object q e none = absurd (let zero_is : is_taken a.places.items q ≡ false = ap (λ n. not (n == 0)) none in cc)
+        some_object q e none =
+            absurd (let zero_is : is_taken a.places.items q ≡ false = ap (λ n. not (n == 0)) none in cc)
 
     once_in_all : times p (flat order) ≤ 1
-    once_in_all = let e : times p (flat order) ≡ 1 = is.once p ∙ ap (λ b. if b then 1 else 0) oldest.taken in omega arith
+    once_in_all = let e : times p (flat order) ≡ 1 = is.once p ∙ ap (λ b. if b then 1 else 0) oldest.taken in
+        omega arith
 
     pub takes_oldest : TakesOldestOf (table_of a order).frames k handle_of
     takes_oldest =

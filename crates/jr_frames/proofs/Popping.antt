@@ -10,7 +10,8 @@ use Rattle.jr_frames.proofs.Changing.{frames_same}
 use Rattle.jr_frames.specs.Popping.{PopBegins, PopGoesOn, PopEnds}
 
 -- the acts of a list whose oldest has this handle
-pub drop_oldest : (h : Handle) (rs : List LocalRef) → oldest_handle rs ≡ Some h → drop_all rs ≡ LocalDrop h.index ∷ drop_all (without_oldest rs)
+pub drop_oldest : (h : Handle) (rs : List LocalRef) → oldest_handle rs ≡ Some h
+    → drop_all rs ≡ LocalDrop h.index ∷ drop_all (without_oldest rs)
 drop_oldest h [] e = absurd cc
 drop_oldest h (r ∷ rs) e = let same : r.handle ≡ h = cc in ap (λ (k : Handle). LocalDrop k.index ∷ drop_all rs) same
 
@@ -26,7 +27,8 @@ pop_goes_on f now acts h pop oldest takes = (
   record {
     taken =
         pop.taken
-        ∙ (ap (λ l. acts ++ l) (drop_oldest h (last_frame now.frames) oldest ∙ ap (λ rs. LocalDrop h.index ∷ drop_all rs) (sym takes.rest))
+        ∙ (ap (λ l. acts ++ l) (drop_oldest h (last_frame now.frames) oldest
+        ∙ ap (λ rs. LocalDrop h.index ∷ drop_all rs) (sym takes.rest))
         ∙ sym (append_assoc acts (LocalDrop h.index ∷ []) _));
     before = takes.before ∙ pop.before;
     depth = length-map now.frames _ ∙ pop.depth;

@@ -1,5 +1,6 @@
 -- Free places and frames that the table shows are those that it is seen as.
-use Rattle.std.proofs.Common.{◌≡◌, ◌==◌, ◌&&◌, ◌+◌, ◌-◌, ◌≤◌, ℕ, suc, Bool, true, false, not, if◌then◌else◌, nat_le, List, [], ◌∷◌, ◌++◌, map, length, refl, sym, ap, subst, ◌∙◌, arith}
+use Rattle.std.proofs.Common.{◌≡◌, ◌==◌, ◌&&◌, ◌+◌, ◌-◌, ◌≤◌, ℕ, suc, Bool, true, false, not, if◌then◌else◌}
+use Rattle.std.proofs.Common.{nat_le, List, [], ◌∷◌, ◌++◌, map, length, refl, sym, ap, subst, ◌∙◌, arith}
 use Rattle.std.proofs.lemmas.List.{get_or_past}
 use Rattle.std.proofs.lemmas.Bool.Decides.{nat_tests}
 use Rattle.jr_model.specs.declared.frames.LocalRef.{LocalRef}
@@ -38,20 +39,25 @@ tail_of [] = []
 tail_of (xs ∷ rest) = rest
 
 module _ {a : Fields} {free : List ℕ} {order : List (List ℕ)} (is : IsArranged a free order) where
-  pub times_all : (q : ℕ) → times q (flat (free ∷ order)) ≡ (if is_idle a.last a.places.items q then 1 else 0) + (if is_taken a.places.items q then 1 else 0)
+  pub times_all : (q : ℕ) → times q (flat (free ∷ order))
+      ≡ (if is_idle a.last a.places.items q then 1 else 0) + (if is_taken a.places.items q then 1 else 0)
   times_all q = let e = times_append q free (flat order) in let i = is.idle q in let o = is.once q in omega arith
 
   pub times_below : (q : ℕ) → length a.places.items ≤ q → times q (flat (free ∷ order)) ≡ 0
   times_below q l =
       times_all q
-      ∙ ap (λ b. (if b then 1 else 0) + (if is_taken a.places.items q then 1 else 0)) (not_idle a.last a.places.items q l)
+      ∙ ap (λ b. (if b then 1 else 0) + (if is_taken a.places.items q then 1 else 0)) (not_idle a.last a.places.items q
+      l)
       ∙ ap (λ b. 0 + (if b then 1 else 0)) (not_taken a.places.items q l)
 
   pub times_one : (q : ℕ) → times q (flat (free ∷ order)) ≤ 1
-  times_one q = let e = times_all q in let o = one_of (nat_le (q + 1) (length a.places.items)) (is_taken a.places.items q) (nat_le (given_of (place_at a.places.items q)) a.last) in omega arith
+  times_one q = let e = times_all q in let o = one_of (nat_le (q + 1) (length a.places.items))
+      (is_taken a.places.items q) (nat_le (given_of (place_at a.places.items q)) a.last) in omega arith
 
-  both_are : rings_from a.rings.links.items (length a.places.items) (length a.places.items) (length (free ∷ order)) ≡ free ∷ order
-  both_are = rings_are a.rings.links.items (length a.places.items) (length a.places.items) (free ∷ order) (omega arith) times_below times_one is.rings
+  both_are : rings_from a.rings.links.items (length a.places.items) (length a.places.items) (length (free ∷ order))
+      ≡ free ∷ order
+  both_are = rings_are a.rings.links.items (length a.places.items) (length a.places.items) (free ∷ order) (omega arith)
+      times_below times_one is.rings
 
   pub free_is : free_of a ≡ free
   free_is = ap head_of both_are

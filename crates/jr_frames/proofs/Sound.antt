@@ -1,5 +1,6 @@
 -- The frames that the table shows are sound.
-use Rattle.std.proofs.Common.{◌≡◌, ◌==◌, ◌+◌, ◌-◌, ◌≤◌, ℕ, Bool, true, false, if◌then◌else◌, List, [], ◌∷◌, map, refl, sym, subst, ◌∙◌, arith}
+use Rattle.std.proofs.Common.{◌≡◌, ◌==◌, ◌+◌, ◌-◌, ◌≤◌, ℕ, Bool, true, false, if◌then◌else◌}
+use Rattle.std.proofs.Common.{List, [], ◌∷◌, map, refl, sym, subst, ◌∙◌, arith}
 use Rattle.std.proofs.lemmas.List.{length-map}
 use Rattle.std.proofs.Math.ListN.{get_or-map}
 use Rattle.std.specs.List.{AllByRecursion}
@@ -24,7 +25,8 @@ module _ (a : Fields) (free : List ℕ) (order : List (List ℕ)) (is : IsArrang
   AreTakenOnce xs = (q : ℕ) → times q xs ≤ (if is_taken a.places.items q then 1 else 0)
 
   first_taken : (x : ℕ) (xs : List ℕ) → AreTakenOnce (x ∷ xs) → (is_taken a.places.items x ≡ true) × (times x xs ≡ 0)
-  first_taken x xs once = let l = once x in let e = times_here x xs in bit_one (is_taken a.places.items x) (times x xs) (omega arith)
+  first_taken x xs once = let l = once x in let e = times_here x xs in
+      bit_one (is_taken a.places.items x) (times x xs) (omega arith)
 
   rest_taken : (x : ℕ) (xs : List ℕ) → AreTakenOnce (x ∷ xs) → AreTakenOnce xs
   rest_taken x xs once q = less_one (x == q) (times q xs) _ (once q)
@@ -36,7 +38,8 @@ module _ (a : Fields) (free : List ℕ) (order : List (List ℕ)) (is : IsArrang
     own_places xs (rest_taken x xs once),
   )
 
-  last_handles : (xs : List ℕ) → AreTakenOnce xs → AllByRecursion (IsNewest (table_of a order).frames) (map (ref_at a.thread a.places.items) xs)
+  last_handles : (xs : List ℕ) → AreTakenOnce xs
+      → AllByRecursion (IsNewest (table_of a order).frames) (map (ref_at a.thread a.places.items) xs)
   last_handles [] once = tt
   last_handles (x ∷ xs) once =
       let some = is.given x (first_taken x xs once).0 in
@@ -51,8 +54,11 @@ module _ (a : Fields) (free : List ℕ) (order : List (List ℕ)) (is : IsArrang
 
   pub sound : AreSound (table_of a order).frames
   sound = record {
-    some_frame = let n = length-map order (map (ref_at a.thread a.places.items)) in let l = is.some_frame in omega arith;
-    few_frames = let n = length-map order (map (ref_at a.thread a.places.items)) in let l = is.few_frames in omega arith;
+    some_frame = let n = length-map order (map (ref_at a.thread a.places.items)) in let l = is.some_frame in
+        omega arith;
+    few_frames = let n = length-map order (map (ref_at a.thread a.places.items)) in let l = is.few_frames in
+        omega arith;
     apart = subst HaveOwnPlaces (sym refs_are) (own_places (flat order) all_taken);
-    newest = subst (AllByRecursion (IsNewest (table_of a order).frames)) (sym refs_are) (last_handles (flat order) all_taken);
+    newest = subst (AllByRecursion (IsNewest (table_of a order).frames)) (sym refs_are)
+        (last_handles (flat order) all_taken);
   }

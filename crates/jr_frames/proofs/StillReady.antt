@@ -16,7 +16,8 @@ use Rattle.jr_model.specs.Frames.{fresh_frames, object_at}
 use Rattle.jr_model.specs.Calls.{Call}
 use Rattle.jr_model.proofs.Agreement.{spares_places}
 use Rattle.jr_steps.specs.declared.known.Known.{Known}
-use Rattle.jr_steps.specs.Knowing.{Facts, Standing, fresh_from, anything, keeps, Holds, HasNoLocals, MayKnow, Took, Spent}
+use Rattle.jr_steps.specs.Knowing.{Facts, Standing, fresh_from, anything, keeps}
+use Rattle.jr_steps.specs.Knowing.{Holds, HasNoLocals, MayKnow, Took, Spent}
 use Rattle.jr_steps.proofs.StepFacts.{goes_did}
 use Rattle.jr_gate.specs.Performing.{Performed, IsAsBefore}
 use Rattle.jr_frames.specs.Table.{Table}
@@ -40,7 +41,8 @@ never_fresh (_ ∷ acts) = never_fresh acts
 
 module _ {S : Type 0} {facts : S → Facts} where
   -- frames of a thread that stands as before, of the same owner, which go on agreeing, are its own still
-  own_after : {a b : S} {t u : Table} → AreOwn facts a t → KeepsOwner t u → IsAsBefore (facts a).stands (facts b).stands → MayKnow facts b (Holds u.frames) → AreOwn facts b u
+  own_after : {a b : S} {t u : Table} → AreOwn facts a t → KeepsOwner t u → IsAsBefore (facts a).stands (facts b).stands
+      → MayKnow facts b (Holds u.frames) → AreOwn facts b u
   own_after r o same agrees = record {
     owner = o.thread ∙ (r.owner ∙ sym same.thread);
     last = o.last ∙ (r.last ∙ sym same.last);
@@ -49,23 +51,32 @@ module _ {S : Type 0} {facts : S → Facts} where
   }
 
   -- after a reference was resolved the frames are the thread's own still
-  pub own_resolved : {a b : S} {t : Table} {work : Call (Option ℕ)} {answer : Result (Option ℕ) Fault} → AreOwn facts a t → Resolves facts a b t.frames work answer → AreOwn facts b t
-  own_resolved {t = t} r p = own_after r (same_owner t) p.stands_is (∥∥₁_map r.agrees (λ k. let x = p.ran k.0 k.1 k.2 in (x.0, x.1, x.3.1)))
+  pub own_resolved : {a b : S} {t : Table} {work : Call (Option ℕ)} {answer : Result (Option ℕ) Fault}
+      → AreOwn facts a t → Resolves facts a b t.frames work answer → AreOwn facts b t
+  own_resolved {t = t} r p =
+      own_after r (same_owner t) p.stands_is (∥∥₁_map r.agrees (λ k. let x = p.ran k.0 k.1 k.2 in (x.0, x.1, x.3.1)))
 
   -- after a call the frames are as ready as before
-  pub ready_after : {A : Type 0} {a b : S} {t u : Table} {role : Role} {silent : ℕ} {so : Known → Known → Type 0} {work : State → Call A} {answer : Result A Fault} → StandsReady facts role a t → KeepsOwner t u
-      → Performed facts a b t.frames u.frames silent (Holds t.frames) work answer (λ j k. so j k × Holds u.frames k) → StandsReady facts role b u
+  pub ready_after : {A : Type 0} {a b : S} {t u : Table} {role : Role} {silent : ℕ} {so : Known → Known → Type 0}
+      {work : State → Call A} {answer : Result A Fault} → StandsReady facts role a t → KeepsOwner t u
+      → Performed facts a b t.frames u.frames silent (Holds t.frames) work answer (λ j k. so j k × Holds u.frames k)
+      → StandsReady facts role b u
   ready_after r o p = record {
     role_is = p.stands_is.role ∙ r.role_is;
-    spent = ∥∥₁_elim r.own.agrees (hlevel props) (λ k. let x = p.ran k.0 k.1 k.2 in x.2.spent.fresh ∙ (ap (λ b. fresh_from b x.2.ran.acts) r.spent ∙ never_fresh x.2.ran.acts));
+    spent = ∥∥₁_elim r.own.agrees (hlevel props) (λ k. let x = p.ran k.0 k.1 k.2 in
+        x.2.spent.fresh ∙ (ap (λ b. fresh_from b x.2.ran.acts) r.spent ∙ never_fresh x.2.ran.acts));
     own = own_after r.own o p.stands_is (∥∥₁_map r.own.agrees (λ k. let x = p.ran k.0 k.1 k.2 in (x.0, x.1, x.3.1)));
   }
 
-  pub ready_called : {A : Type 0} {a b : S} {t u : Table} {role : Role} {work : Call A} {answer : Result A Fault} → StandsReady facts role a t → KeepsOwner t u → Calls facts a b t.frames u.frames work answer → StandsReady facts role b u
+  pub ready_called : {A : Type 0} {a b : S} {t u : Table} {role : Role} {work : Call A} {answer : Result A Fault}
+      → StandsReady facts role a t → KeepsOwner t u → Calls facts a b t.frames u.frames work answer
+      → StandsReady facts role b u
   ready_called r o p = ready_after {so = keeps} r o p
 
   -- a thread whose pass was fresh, and is spent
-  pub ready_new : {a b : S} (t : Table) → Spent facts a b → t ≡ fresh_table (facts b).stands → (facts a).stands.role ≡ Outside → ((k : Known) → (facts a).knows k → HasNoLocals k) → MayKnow facts a anything → StandsReady facts Outside b t
+  pub ready_new : {a b : S} (t : Table) → Spent facts a b → t ≡ fresh_table (facts b).stands
+      → (facts a).stands.role ≡ Outside → ((k : Known) → (facts a).knows k → HasNoLocals k) → MayKnow facts a anything
+      → StandsReady facts Outside b t
   ready_new {b = b} t spent is out unused some = record {
     role_is = ap (λ (s : Standing). s.role) spent.stands_is ∙ out;
     spent = ap (λ (s : Standing). s.fresh) spent.stands_is;
@@ -73,17 +84,20 @@ module _ {S : Type 0} {facts : S → Facts} where
       owner = ap (λ (u : Table). u.thread) is;
       last = ap (λ (u : Table). u.last) is;
       places = ap (λ (u : Table). length u.frames.given) is ∙ length-replicate (facts b).stands.config.locals 0;
-      agrees = ∥∥₁_map some (λ k. (k.0, (spent.same k.0).0 k.1, λ p. unused k.0 k.1 p ∙ sym (ap (λ (u : Table). object_at u.frames p) is)));
+      agrees = ∥∥₁_map some (λ k.
+          (k.0, (spent.same k.0).0 k.1, λ p. unused k.0 k.1 p ∙ sym (ap (λ (u : Table). object_at u.frames p) is)));
     };
   }
 
   -- after a step that stores no local word the frames are the thread's own still
-  pub own_stepped : {a b : S} {t : Table} {shows : Known → Known → Type 0} (act : Act) → spares_places act ≡ true → AreOwn facts a t → Took facts a b (act ∷ []) anything shows → AreOwn facts b t
+  pub own_stepped : {a b : S} {t : Table} {shows : Known → Known → Type 0} (act : Act) → spares_places act ≡ true
+      → AreOwn facts a t → Took facts a b (act ∷ []) anything shows → AreOwn facts b t
   own_stepped {t = t} act spares r e = record {
     owner = r.owner ∙ sym (ap (λ (s : Standing). s.thread) e.stands_is);
     last = r.last ∙ sym (ap (λ (s : Standing). s.last) e.stands_is);
     places = r.places ∙ sym (ap (λ (s : Standing). s.config.locals) e.stands_is);
-    agrees = ∥∥₁_map r.agrees (λ k. let x = e.goes k.0 k.1 tt in (x.0, x.1, holds_did k.0 x.0 t.frames (act ∷ []) (goes_did x.2) (spares, tt) k.2));
+    agrees = ∥∥₁_map r.agrees (λ k. let x = e.goes k.0 k.1 tt in
+        (x.0, x.1, holds_did k.0 x.0 t.frames (act ∷ []) (goes_did x.2) (spares, tt) k.2));
   }
 
   module _ {a b : S} {t : Table} (r : StandsReady facts Outside a t) where

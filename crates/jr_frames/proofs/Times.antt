@@ -1,5 +1,7 @@
 -- How many times a number is in a list.
-use Rattle.std.proofs.Common.{◌≡◌, ◌≢◌, ◌==◌, ◌+◌, ◌<◌, ◌≤◌, ⊎_elim, ℕ, zero, suc, Bool, true, false, not, cond, if◌then◌else◌, List, [], ◌∷◌, ◌++◌, map, filter, length, refl, sym, ap, subst, ◌∙◌, zero-add, arith}
+use Rattle.std.proofs.Common.{◌≡◌, ◌≢◌, ◌==◌, ◌+◌, ◌<◌, ◌≤◌, ⊎_elim, ℕ, zero, suc, Bool, true}
+use Rattle.std.proofs.Common.{false, not, cond, if◌then◌else◌, List, [], ◌∷◌, ◌++◌, map}
+use Rattle.std.proofs.Common.{filter, length, refl, sym, ap, subst, ◌∙◌, zero-add, arith}
 use Rattle.std.proofs.lemmas.Bool.{cases_lt}
 use Rattle.std.specs.List.{AllByRecursion}
 use Rattle.jr_model.specs.Maps.{sum_below}
@@ -10,7 +12,8 @@ use Rattle.jr_frames.specs.Arrangements.{times, flat}
 
 pub times_append : (p : ℕ) (xs ys : List ℕ) → times p (xs ++ ys) ≡ times p xs + times p ys
 times_append p [] ys = omega arith
-times_append p (x ∷ xs) ys = let rest : times p (xs ++ ys) ≡ times p xs + times p ys = times_append p xs ys in omega arith
+times_append p (x ∷ xs) ys = let rest : times p (xs ++ ys) ≡ times p xs + times p ys = times_append p xs ys in
+    omega arith
 
 pub times_here : (x : ℕ) (xs : List ℕ) → times x (x ∷ xs) ≡ 1 + times x xs
 times_here x xs = ap (λ b. (if b then 1 else 0) + times x xs) (eq_self x)
@@ -23,8 +26,10 @@ pub not_first : (p x : ℕ) (xs : List ℕ) → times p (x ∷ xs) ≡ 0 → (x 
 not_first p x xs none = go (x == p) refl
   where
     go : (b : Bool) → (x == p) ≡ b → (x ≢ p) × (times p xs ≡ 0)
-    go true e = let n : 1 + times p xs ≡ 0 = subst (λ b. (if b then 1 else 0) + times p xs ≡ 0) e none in absurd (omega arith)
-    go false e = let n : 0 + times p xs ≡ 0 = subst (λ b. (if b then 1 else 0) + times p xs ≡ 0) e none in (eq_false x p e, omega arith)
+    go true e = let n : 1 + times p xs ≡ 0 = subst (λ b. (if b then 1 else 0) + times p xs ≡ 0) e none in
+        absurd (omega arith)
+    go false e = let n : 0 + times p xs ≡ 0 = subst (λ b. (if b then 1 else 0) + times p xs ≡ 0) e none in
+        (eq_false x p e, omega arith)
 
 pub all_other : (p : ℕ) (xs : List ℕ) → times p xs ≡ 0 → AllByRecursion (λ y. y ≢ p) xs
 all_other p [] none = tt
@@ -58,10 +63,12 @@ sum_times n (x ∷ xs) below =
 sum_at_most : (n : ℕ) (f : ℕ → ℕ) → ((p : ℕ) → f p ≤ 1) → sum_below n f ≤ n
 unfolding sum_below
 sum_at_most zero f one = omega arith
-sum_at_most (suc n) f one = let rest : sum_below n f ≤ n = sum_at_most n f one in let here : f n ≤ 1 = one n in omega arith
+sum_at_most (suc n) f one = let rest : sum_below n f ≤ n = sum_at_most n f one in let here : f n ≤ 1 = one n in
+    omega arith
 
 -- a list of numbers below n, none twice, is no longer than n
-pub few_numbers : (n : ℕ) (xs : List ℕ) → ((p : ℕ) → n ≤ p → times p xs ≡ 0) → ((p : ℕ) → times p xs ≤ 1) → length xs ≤ n
+pub few_numbers : (n : ℕ) (xs : List ℕ) → ((p : ℕ) → n ≤ p → times p xs ≡ 0) → ((p : ℕ) → times p xs ≤ 1)
+    → length xs ≤ n
 few_numbers n xs below one = let s = sum_times n xs below in let m = sum_at_most n (λ p. times p xs) one in omega arith
 
 -- a list without a number
@@ -78,7 +85,8 @@ pub times_without_other : (p q : ℕ) → q ≢ p → (xs : List ℕ) → times 
 times_without_other p q ne [] = refl
 times_without_other p q ne (x ∷ xs) = go (x == p) refl (times_without_other p q ne xs)
   where
-    go : (b : Bool) → (x == p) ≡ b → times q (without p xs) ≡ times q xs → times q (cond (not b) (x ∷ without p xs) (without p xs)) ≡ times q (x ∷ xs)
+    go : (b : Bool) → (x == p) ≡ b → times q (without p xs) ≡ times q xs
+        → times q (cond (not b) (x ∷ without p xs) (without p xs)) ≡ times q (x ∷ xs)
     go true e rest = rest ∙ sym (times_there q x xs (λ f. ne (sym f ∙ eq_true x p e)))
     go false e rest = ap (λ n. (if x == q then 1 else 0) + n) rest
 
@@ -86,32 +94,37 @@ pub times_without_self : (p : ℕ) (xs : List ℕ) → times p (without p xs) �
 times_without_self p [] = refl
 times_without_self p (x ∷ xs) = go (x == p) refl (times_without_self p xs)
   where
-    go : (b : Bool) → (x == p) ≡ b → times p (without p xs) ≡ 0 → times p (cond (not b) (x ∷ without p xs) (without p xs)) ≡ 0
+    go : (b : Bool) → (x == p) ≡ b → times p (without p xs) ≡ 0
+        → times p (cond (not b) (x ∷ without p xs) (without p xs)) ≡ 0
     go true e rest = rest
     go false e rest = times_there p x (without p xs) (eq_false x p e) ∙ rest
 
 pub without_none : (p : ℕ) (xs : List ℕ) → times p xs ≡ 0 → without p xs ≡ xs
 without_none p [] none = refl
-without_none p (x ∷ xs) none = let n = not_first p x xs none in without_other p x xs n.0 ∙ ap (λ l. x ∷ l) (without_none p xs n.1)
+without_none p (x ∷ xs) none = let n = not_first p x xs none in
+    without_other p x xs n.0 ∙ ap (λ l. x ∷ l) (without_none p xs n.1)
 
 -- one is taken out
 pub length_without : (p : ℕ) (xs : List ℕ) → times p xs ≡ 1 → length (without p xs) + 1 ≡ length xs
 length_without p [] one = absurd (omega arith)
 length_without p (x ∷ xs) one = go (x == p) refl (length_without p xs)
   where
-    go : (b : Bool) → (x == p) ≡ b → (times p xs ≡ 1 → length (without p xs) + 1 ≡ length xs) → length (cond (not b) (x ∷ without p xs) (without p xs)) + 1 ≡ suc (length xs)
+    go : (b : Bool) → (x == p) ≡ b → (times p xs ≡ 1 → length (without p xs) + 1 ≡ length xs)
+        → length (cond (not b) (x ∷ without p xs) (without p xs)) + 1 ≡ suc (length xs)
     go true e rest =
         let n : 1 + times p xs ≡ 1 = subst (λ b. (if b then 1 else 0) + times p xs ≡ 1) e one in
         let none : times p xs ≡ 0 = omega arith in
         let same : length (without p xs) ≡ length xs = ap length (without_none p xs none) in
         omega arith
-    go false e rest = let n : 0 + times p xs ≡ 1 = subst (λ b. (if b then 1 else 0) + times p xs ≡ 1) e one in let r = rest (omega arith) in omega arith
+    go false e rest = let n : 0 + times p xs ≡ 1 = subst (λ b. (if b then 1 else 0) + times p xs ≡ 1) e one in
+        let r = rest (omega arith) in omega arith
 
 pub flat_without : (p : ℕ) (rs : List (List ℕ)) → flat (map (without p) rs) ≡ without p (flat rs)
 flat_without p [] = refl
 flat_without p (xs ∷ rest) = ap (λ l. without p xs ++ l) (flat_without p rest) ∙ sym (filtered xs)
   where
-    step : (b : Bool) (x : ℕ) (l m : List ℕ) → l ≡ m ++ without p (flat rest) → cond b (x ∷ l) l ≡ cond b (x ∷ m) m ++ without p (flat rest)
+    step : (b : Bool) (x : ℕ) (l m : List ℕ) → l ≡ m ++ without p (flat rest)
+        → cond b (x ∷ l) l ≡ cond b (x ∷ m) m ++ without p (flat rest)
     step true x l m e = ap (λ z. x ∷ z) e
     step false x l m e = e
 

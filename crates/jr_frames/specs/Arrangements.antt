@@ -1,5 +1,6 @@
 -- How places and rings show frames.
-use Rattle.std.specs.Prelude.{◌≡◌, ◌≤◌, ◌<◌, ◌+◌, ◌-◌, ◌^◌, ◌==◌, ℕ, suc, if◌then◌else◌, IsTrue, List, [], ◌∷◌, ◌++◌, map, length}
+use Rattle.std.specs.Prelude.{◌≡◌, ◌≤◌, ◌<◌, ◌+◌, ◌-◌, ◌^◌, ◌==◌, ℕ, suc}
+use Rattle.std.specs.Prelude.{if◌then◌else◌, IsTrue, List, [], ◌∷◌, ◌++◌, map, length}
 use Rattle.jr_word.specs.declared.config.TheConstants.Config.{MOST_LOCALS}
 use Rattle.jr_model.specs.declared.frames.TheConstants.{FRAMES}
 use Rattle.jr_frames.specs.Table.{Table}
@@ -23,11 +24,16 @@ free_of a = ring_of a.rings.links.items (length a.places.items) (length a.places
 
 -- the places of each frame, the oldest frame first, and in each the oldest reference first
 abbrev pub order_of : Fields → List (List ℕ)
-order_of a = rings_from a.rings.links.items (length a.places.items) (suc (length a.places.items)) (length a.rings.links.items - length a.places.items - 1)
+order_of a = rings_from a.rings.links.items (length a.places.items) (suc (length a.places.items))
+    (length a.rings.links.items - length a.places.items - 1)
 
 -- frames of references at these places
 abbrev pub table_of : Fields → List (List ℕ) → Table
-table_of a order = record { frames = record { frames = map (map (ref_at a.thread a.places.items)) order; given = map given_of a.places.items }; thread = a.thread; last = a.last }
+table_of a order = record {
+  frames = record { frames = map (map (ref_at a.thread a.places.items)) order; given = map given_of a.places.items };
+  thread = a.thread;
+  last = a.last;
+}
 
 abbrev pub table : Fields → Table
 table a = table_of a (order_of a)
@@ -42,8 +48,10 @@ pub record IsArranged (a : Fields) (free : List ℕ) (order : List (List ℕ)) :
   pub some_frame : 1 ≤ length order
   pub few_frames : length order ≤ FRAMES
   pub rings : AreRings a.rings.links.items (length a.places.items) (free ∷ order)
-  pub once : (p : ℕ) → times p (flat order) ≡ (if is_taken a.places.items p then 1 else 0)  -- a taken place is in one frame, once
-  pub idle : (p : ℕ) → times p free ≡ (if is_idle a.last a.places.items p then 1 else 0)  -- a free place is in the ring of the free ones, once
+  -- a taken place is in one frame, once
+  pub once : (p : ℕ) → times p (flat order) ≡ (if is_taken a.places.items p then 1 else 0)
+  -- a free place is in the ring of the free ones, once
+  pub idle : (p : ℕ) → times p free ≡ (if is_idle a.last a.places.items p then 1 else 0)
   pub count : a.free ≡ length free
 
 abbrev pub IsTable : Fields → Type 0

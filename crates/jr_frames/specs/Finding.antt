@@ -33,10 +33,15 @@ LearnsFound (Ok x) j k = Learns x.0 x.1 j k
 LearnsFound (Err e) j k = keeps j k
 
 module _ {S : Type 0} (facts : S → Facts) where
-  -- what a reference names was found in a stay, by at most one operation beside the acts: the pass knows its header, and the frames go on agreeing with the locals
+  -- what a reference names was found in a stay, by at most one operation beside the acts:
+  -- the pass knows its header, and the frames go on agreeing with the locals
   abbrev pub Finds : S → S → Frames → Word → Result (ℕ × HeaderParts) Fault → Type 0
-  Finds old new f a answer = Performed facts old new f f 1 (Holds f) (λ s. finding (facts old).stands.config (facts old).stands.last (facts old).stands.thread s a) (found_parts answer) (λ j k. IfOk answer (λ x. HoldsHeader x.0 x.1 k) × Holds f k)
+  Finds old new f a answer = Performed facts old new f f 1 (Holds f)
+      (λ s. finding (facts old).stands.config (facts old).stands.last (facts old).stands.thread s a)
+      (found_parts answer) (λ j k. IfOk answer (λ x. HoldsHeader x.0 x.1 k) × Holds f k)
 
   -- the same, with just what the pass holds then
   abbrev pub FindsBeside : S → S → Frames → Word → Result (ℕ × HeaderParts) Fault → Type 0
-  FindsBeside old new f a answer = Performed facts old new f f 1 (Holds f) (λ s. finding (facts old).stands.config (facts old).stands.last (facts old).stands.thread s a) (found_parts answer) (λ j k. LearnsFound answer j k × Holds f k)
+  FindsBeside old new f a answer = Performed facts old new f f 1 (Holds f)
+      (λ s. finding (facts old).stands.config (facts old).stands.last (facts old).stands.thread s a)
+      (found_parts answer) (λ j k. LearnsFound answer j k × Holds f k)

@@ -8,7 +8,8 @@ use Rattle.jr_model.specs.Frames.{Frames, all_refs, drop_all, last_frame, popped
 use Rattle.jr_model.specs.References.{freeing}
 use Rattle.jr_frames.specs.Table.{oldest_handle, frame_at, TakesOldestOf}
 
--- A PART OF A FREE: these acts took the references of the frames before number k, and the oldest ones of frame k, one after the other, and nothing else is changed
+-- A PART OF A FREE: these acts took the references of the frames before number k,
+-- and the oldest ones of frame k, one after the other, and nothing else is changed
 pub record IsFreeing (f : Frames) (k : ℕ) (acts : List Act) (now : Frames) : Type 0 where
   pub taken : drop_all (all_refs f) ≡ acts ++ drop_all (all_refs now)
   pub before : AllByRecursion (λ rs. rs ≡ []) (take k now.frames)
@@ -34,7 +35,8 @@ FreeGoesOn = (f now : Frames) (k : ℕ) (acts : List Act) (h : Handle) → IsFre
 
 -- where none is left in it, the next frame has its turn
 abbrev pub FreeTurns : Type 0
-FreeTurns = (f now : Frames) (k : ℕ) (acts : List Act) → IsFreeing f k acts now → frame_at now.frames k ≡ [] → IsFreeing f (k + 1) acts now
+FreeTurns = (f now : Frames) (k : ℕ) (acts : List Act) → IsFreeing f k acts now → frame_at now.frames k ≡ []
+    → IsFreeing f (k + 1) acts now
 
 -- after the last frame no reference is left
 abbrev pub FreeEmpties : Type 0
@@ -43,8 +45,10 @@ FreeEmpties = (f now : Frames) (acts : List Act) → IsFreeing f (length f.frame
 -- then each frame above the base frame is empty and is taken away, and there is one frame fewer
 abbrev pub EmptyIsPopped : Type 0
 EmptyIsPopped = (f now : Frames) (acts : List Act) → IsEmptied f acts now → 2 ≤ length now.frames
-    → (last_frame now.frames ≡ []) × (length now.frames ≡ suc (length (popped now).frames)) × IsEmptied f acts (popped now)
+    → (last_frame now.frames ≡ []) × (length now.frames ≡ suc (length (popped now).frames))
+    × IsEmptied f acts (popped now)
 
 -- and where the base frame alone is left, all is as the machine's free leaves it
 abbrev pub FreeEnds : Type 0
-FreeEnds = (f now : Frames) (acts : List Act) → IsEmptied f acts now → length now.frames ≡ 1 → freeing f acts (Ok tt) now
+FreeEnds =
+    (f now : Frames) (acts : List Act) → IsEmptied f acts now → length now.frames ≡ 1 → freeing f acts (Ok tt) now

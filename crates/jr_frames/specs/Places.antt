@@ -22,8 +22,12 @@ is_taken places p = not ((place_at places p).object == 0)
 
 -- the place is there, and free
 abbrev pub is_idle : ℕ → List Place → ℕ → Bool
-is_idle last places p = nat_le (p + 1) (length places) && (not (is_taken places p) && nat_le (given_of (place_at places p)) last)
+is_idle last places p =
+    nat_le (p + 1) (length places) && (not (is_taken places p) && nat_le (given_of (place_at places p)) last)
 
 -- the reference at a place, by the last handle that the place gave
 abbrev pub ref_at : ℕ → List Place → ℕ → LocalRef
-ref_at thread places p = record { handle = record { kind = Local; serial = given_of (place_at places p) - 1; index = p; owner = thread }; object = (place_at places p).object }
+ref_at thread places p = record {
+  handle = record { kind = Local; serial = given_of (place_at places p) - 1; index = p; owner = thread };
+  object = (place_at places p).object;
+}

@@ -7,7 +7,8 @@ use Rattle.jr_model.specs.Frames.{Frames, drop_all, last_frame, frames_before, p
 use Rattle.jr_model.specs.Parts.{take_frame}
 use Rattle.jr_frames.specs.Table.{oldest_handle, TakesOldest}
 
--- A PART OF A POP: these acts took the oldest references out of the last frame, one after the other, and nothing else is changed
+-- A PART OF A POP:
+-- these acts took the oldest references out of the last frame, one after the other, and nothing else is changed
 pub record IsPopping (f : Frames) (acts : List Act) (now : Frames) : Type 0 where
   pub taken : drop_all (last_frame f.frames) ≡ acts ++ drop_all (last_frame now.frames)
   pub before : frames_before now.frames ≡ frames_before f.frames
@@ -25,6 +26,8 @@ PopGoesOn = (f now : Frames) (acts : List Act) (h : Handle) → IsPopping f acts
     → IsPopping f (acts ++ LocalDrop h.index ∷ []) (without_local now h)
     × (length (last_frame now.frames) ≡ suc (length (last_frame (without_local now h).frames)))
 
--- and where none is left, its acts are those of the machine's pop, whose frames are left once the empty frame is taken away
+-- and where none is left, its acts are those of the machine's
+-- pop, whose frames are left once the empty frame is taken away
 abbrev pub PopEnds : Type 0
-PopEnds = (f now : Frames) (acts : List Act) → IsPopping f acts now → last_frame now.frames ≡ [] → take_frame f acts (Ok tt) (popped now)
+PopEnds = (f now : Frames) (acts : List Act) → IsPopping f acts now → last_frame now.frames ≡ []
+    → take_frame f acts (Ok tt) (popped now)

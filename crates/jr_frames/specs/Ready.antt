@@ -11,7 +11,8 @@ pub record KeepsOwner (old new : Table) : Type 0 where
   pub places : length new.frames.given ≡ length old.frames.given
 
 module _ {S : Type 0} (facts : S → Facts) where
-  -- THE FRAMES ARE THE THREAD'S OWN: they have as many places as the room gives a thread, and its last serial, and they may agree with the thread's locals
+  -- THE FRAMES ARE THE THREAD'S OWN: they have as many places as the room gives
+  -- a thread, and its last serial, and they may agree with the thread's locals
   pub record AreOwn (s : S) (t : Table) : Type 0 where
     pub owner : t.thread ≡ (facts s).stands.thread
     pub last : t.last ≡ (facts s).stands.last

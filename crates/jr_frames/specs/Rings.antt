@@ -1,5 +1,6 @@
 -- Rings of places, each closed by an end.
-use Rattle.std.specs.Prelude.{◌≡◌, ◌<◌, ◌+◌, ◌-◌, ◌==◌, ℕ, zero, suc, cond, if◌then◌else◌, List, [], ◌∷◌, ◌++◌, length, slice_index_or}
+use Rattle.std.specs.Prelude.{◌≡◌, ◌<◌, ◌+◌, ◌-◌, ◌==◌, ℕ, zero, suc, cond}
+use Rattle.std.specs.Prelude.{if◌then◌else◌, List, [], ◌∷◌, ◌++◌, length, slice_index_or}
 use Rattle.jr_frames.specs.declared.rings.Link.{Link}
 
 -- a link beyond the last
@@ -26,7 +27,8 @@ IsPutLast old end place new = (mid : List Link) × IsJoined old (older_at old en
 
 -- a place was put first in the ring of an end
 abbrev pub IsPutFirst : List Link → ℕ → ℕ → List Link → Type 0
-IsPutFirst old end place new = (mid : List Link) × IsJoined old place (newer_at old end) mid × IsJoined mid end place new
+IsPutFirst old end place new =
+    (mid : List Link) × IsJoined old place (newer_at old end) mid × IsJoined mid end place new
 
 -- from x, the numbers of the list follow one another
 abbrev pub Follow : List Link → ℕ → List ℕ → Type 0

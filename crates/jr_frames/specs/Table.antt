@@ -1,5 +1,6 @@
 -- The local references of a thread, as its table keeps them.
-use Rattle.std.specs.Prelude.{◌≡◌, ◌<◌, ◌==◌, ℕ, cond, IsTrue, Option, Some, None, List, [], ◌∷◌, length, slice_index, slice_index_or, slice_set}
+use Rattle.std.specs.Prelude.{◌≡◌, ◌<◌, ◌==◌, ℕ, cond, IsTrue, Option, Some, None, List}
+use Rattle.std.specs.Prelude.{[], ◌∷◌, length, slice_index, slice_index_or, slice_set}
 use Rattle.jr_word.specs.declared.handle.RefKind.TheVariants.{Local}
 use Rattle.jr_model.specs.declared.frames.LocalRef.{LocalRef}
 use Rattle.jr_model.specs.State.{Handle}
@@ -15,7 +16,8 @@ pub record Table : Type 0 where
 pub record IsNext (t : Table) (h : Handle) : Type 0 where
   pub place : h.index < length t.frames.given
   pub free : IsTrue (is_free t.last t.frames h.index)
-  pub handle : h ≡ record { kind = Local; serial = slice_index t.frames.given h.index; index = h.index; owner = t.thread }
+  pub handle : h
+      ≡ record { kind = Local; serial = slice_index t.frames.given h.index; index = h.index; owner = t.thread }
 
 -- at one place alone something else stands
 abbrev pub IsOnly : Frames → ℕ → Option ℕ → Frames → Type 0

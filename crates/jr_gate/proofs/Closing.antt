@@ -14,7 +14,8 @@ use Rattle.jr_steps.specs.Knowing.{Facts, anything, keeps, lets_go, Goes, IsClos
 -- who is refused a shut was told of one thread at least
 counted : {k k' : Known} (n : ℕ) → Goes k (ShutBusy n ∷ []) k' → 1 ≤ n
 counted {k} {k'} n g =
-    let legal = (legal_push k.config k.last (k.seen ++ g.between) (by k.thread (ShutBusy n))).0 (subst (IsLegal k.config k.last) g.seen g.legal) in
+    let legal = (legal_push k.config k.last (k.seen ++ g.between) (by k.thread (ShutBusy n))).0
+    (subst (IsLegal k.config k.last) g.seen g.legal) in
     legal.1.1.2
 
 module _ {S : Type 0} {facts : S → Facts} {old new : S} (some : MayKnow facts old anything) where
@@ -24,8 +25,14 @@ module _ {S : Type 0} {facts : S → Facts} {old new : S} (some : MayKnow facts 
       ∥∥₁_elim some le_prop each
 
   pub shut_closes : Took facts old new (Gate Shut ∷ []) anything lets_go → MayKnow facts new CanReopen
-  shut_closes t = ∥∥₁_map some (λ k. let g = t.goes k.0 k.1 tt in (g.0, g.1, (shut_closed g.2, ap (λ (z : Holdings). z.moving) g.3)))
+  shut_closes t = ∥∥₁_map some (λ k. let g = t.goes k.0 k.1 tt in
+      (g.0, g.1, (shut_closed g.2, ap (λ (z : Holdings). z.moving) g.3)))
 
 module _ {S : Type 0} {facts : S → Facts} {old new : S} where
-  pub shut_shows : Took facts old new (Gate Shut ∷ []) anything lets_go → Took facts old new (Gate Shut ∷ []) anything (λ j k. IsClosedNow k × lets_go j k)
-  shut_shows t = record { stands_is = t.stands_is; hint_is = t.hint_is; goes = λ k s m. let g = t.goes k s m in (g.0, g.1, g.2, (shut_closed g.2, g.3)) }
+  pub shut_shows : Took facts old new (Gate Shut ∷ []) anything lets_go
+      → Took facts old new (Gate Shut ∷ []) anything (λ j k. IsClosedNow k × lets_go j k)
+  shut_shows t = record {
+    stands_is = t.stands_is;
+    hint_is = t.hint_is;
+    goes = λ k s m. let g = t.goes k s m in (g.0, g.1, g.2, (shut_closed g.2, g.3));
+  }

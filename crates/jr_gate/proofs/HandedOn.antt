@@ -11,7 +11,9 @@ use Rattle.jr_steps.specs.Knowing.{Facts}
 use Rattle.jr_gate.specs.Performing.{Performed}
 
 module _ {S : Type 0} {facts : S → Facts} where
-  pub handed_on : {A : Type 0} {a b : S} {f g : Frames} {silent : ℕ} {met : Known → Type 0} {shows : Known → Known → Type 0} {call : State → Call A} {e : Fault} (r : Result A Fault) → IsErrAnd r (λ y. y ≡ e)
+  pub handed_on : {A : Type 0} {a b : S} {f g : Frames} {silent : ℕ} {met : Known → Type 0}
+      {shows : Known → Known → Type 0} {call : State → Call A} {e : Fault} (r : Result A Fault)
+      → IsErrAnd r (λ y. y ≡ e)
       → Performed facts a b f g silent met call (Err e) shows → Performed facts a b f g silent met call r shows
   handed_on {a} {b} {f} {g} {silent} {met} {shows} {call} r h p =
       let x = err_from_is_err_and r h in

@@ -28,8 +28,13 @@ still_before p q = record {
 -- all but whether the pass is fresh
 pub but_fresh : {s t : Standing} → IsAsBefore s t → t ≡ record s { fresh = t.fresh }
 but_fresh {s} {t} p =
-    ap (λ z. record { room = z; config = t.config; last = t.last; thread = t.thread; role = t.role; fresh = t.fresh }) p.room
-    ∙ (ap (λ z. record { room = s.room; config = z; last = t.last; thread = t.thread; role = t.role; fresh = t.fresh }) p.config
-    ∙ (ap (λ z. record { room = s.room; config = s.config; last = z; thread = t.thread; role = t.role; fresh = t.fresh }) p.last
-    ∙ (ap (λ z. record { room = s.room; config = s.config; last = s.last; thread = z; role = t.role; fresh = t.fresh }) p.thread
-    ∙ ap (λ z. record { room = s.room; config = s.config; last = s.last; thread = s.thread; role = z; fresh = t.fresh }) p.role)))
+    ap (λ z. record { room = z; config = t.config; last = t.last; thread = t.thread; role = t.role; fresh = t.fresh })
+    p.room
+    ∙ (ap (λ z. record { room = s.room; config = z; last = t.last; thread = t.thread; role = t.role; fresh = t.fresh })
+    p.config
+    ∙ (ap (λ z.
+    record { room = s.room; config = s.config; last = z; thread = t.thread; role = t.role; fresh = t.fresh }) p.last
+    ∙ (ap (λ z. record { room = s.room; config = s.config; last = s.last; thread = z; role = t.role; fresh = t.fresh })
+    p.thread
+    ∙ ap (λ z. record { room = s.room; config = s.config; last = s.last; thread = s.thread; role = z; fresh = t.fresh })
+    p.role)))

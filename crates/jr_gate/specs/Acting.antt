@@ -15,5 +15,8 @@ abbrev pub KeepsInTwo : Known → Known → Type 0
 KeepsInTwo j k = keeps j k × Takes 2 j k
 
 -- several steps were taken, in this window, which show this
-abbrev pub ActedTo : {S : Type 0} → (S → Facts) → S → S → List Act → (Known → Type 0) → (Known → Known → Type 0) → Type 0
-ActedTo facts old new acts met shows = Went facts old new (standing_after (facts old).stands acts) met (λ k k'. Did (view k) (view k') acts) (λ k k'. shows k k' × (begun : History) × IsWindow (view k) (view k') acts begun)
+abbrev pub ActedTo : {S : Type 0} → (S → Facts) → S → S → List Act → (Known → Type 0) → (Known → Known → Type 0)
+    → Type 0
+ActedTo facts old new acts met shows =
+    Went facts old new (standing_after (facts old).stands acts) met (λ k k'. Did (view k) (view k') acts) (λ k k'.
+    shows k k' × (begun : History) × IsWindow (view k) (view k') acts begun)

@@ -26,11 +26,14 @@ module _ {S : Type 0} (facts : S → Facts) (old new : S) (e : Fault) where
 
   -- the look found it open, and another thread closed it before the exchange
   abbrev pub WasClosedBetween : Type 0
-  WasClosedBetween = (n : ℕ) × (e ≡ Busy n) × (1 ≤ n) × ActedTo facts old new (Meet ∷ ShutBusy n ∷ []) anything (FindsClosed KeepsInTwo)
+  WasClosedBetween = (n : ℕ) × (e ≡ Busy n) × (1 ≤ n)
+      × ActedTo facts old new (Meet ∷ ShutBusy n ∷ []) anything (FindsClosed KeepsInTwo)
 
   -- both found it open, with one count and with another
   abbrev pub WasMovedBetween : Type 0
-  WasMovedBetween = (looked : ℕ) × (found : ℕ) × (e ≡ Moved looked found) × (looked ≢ found) × ActedTo facts old new (Meet ∷ Meet ∷ []) anything (λ j k. GateHasMoved j.seen (view k) looked found × KeepsInTwo j k)
+  WasMovedBetween = (looked : ℕ) × (found : ℕ) × (e ≡ Moved looked found) × (looked ≢ found)
+      × ActedTo facts old new (Meet ∷ Meet ∷ []) anything (λ j k. GateHasMoved j.seen (view k) looked found
+      × KeepsInTwo j k)
 
   -- IT WAS NOT ANNOUNCED, for one of the three
   abbrev pub WasNotAnnounced : Type 0

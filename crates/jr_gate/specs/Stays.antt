@@ -1,4 +1,6 @@
--- Whose a stay, a collection and an announcement are: by the number of the thread and the role of the steps, and nothing else. One that the thread had earlier, or that a thread of this number has in another room, is its own, too: what is done in a stay rests on the role, whichever is handed in.
+-- Whose a stay, a collection and an announcement are: by the number of the thread and the role of the
+-- steps, and nothing else. One that the thread had earlier, or that a thread of this number has in
+-- another room, is its own, too: what is done in a stay rests on the role, whichever is handed in.
 use Rattle.std.specs.Prelude.{◌≡◌}
 use Rattle.jr_model.specs.declared.event.Role.TheVariants.{Within, Announcing, Collecting}
 use Rattle.jr_steps.specs.Knowing.{Standing}

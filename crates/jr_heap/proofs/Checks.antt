@@ -1,5 +1,6 @@
 -- What a call refuses before its acts.
-use Rattle.std.proofs.Common.{◌≡◌, ◌<◌, ◌≤◌, ◌^◌, ℕ, Bool, true, false, nat_lt, nat_le, List, [], Result, Err, inl, inr, refl, arith}
+use Rattle.std.proofs.Common.{◌≡◌, ◌<◌, ◌≤◌, ◌^◌, ℕ, Bool, true, false, nat_lt}
+use Rattle.std.proofs.Common.{nat_le, List, [], Result, Err, inl, inr, refl, arith}
 use Rattle.std.proofs.lemmas.Bool.{ltb-true}
 use Rattle.std.proofs.lemmas.Bool.Decides.{nat_tests}
 use Rattle.jr_word.specs.declared.fault.Fault.{Fault}
@@ -11,11 +12,13 @@ use Rattle.jr_model.specs.Frames.{Frames}
 use Rattle.jr_model.specs.Calls.{Call, ◌>>◌, refuse_if}
 use Rattle.jr_model.specs.Checks.{is_value}
 
-pub stop : {A : Type 0} (b : Bool) (e : Fault) (next : Call A) (f : Frames) → b ≡ true → (refuse_if b e >> next) f [] (Err e) f
+pub stop : {A : Type 0} (b : Bool) (e : Fault) (next : Call A) (f : Frames) → b ≡ true
+    → (refuse_if b e >> next) f [] (Err e) f
 stop true e next f is = inr (e, refl, (refl, refl, refl))
 stop false e next f is = absurd cc
 
-pub pass : {A : Type 0} (b : Bool) (e : Fault) (next : Call A) (f : Frames) (acts : List Act) (answer : Result A Fault) → b ≡ false → next f acts answer f → (refuse_if b e >> next) f acts answer f
+pub pass : {A : Type 0} (b : Bool) (e : Fault) (next : Call A) (f : Frames) (acts : List Act) (answer : Result A Fault)
+    → b ≡ false → next f acts answer f → (refuse_if b e >> next) f acts answer f
 pass true e next f acts answer is p = absurd cc
 pass false e next f acts answer is p = inl (tt, f, [], acts, refl, (refl, refl, refl), p)
 
@@ -29,7 +32,8 @@ less : (v n : ℕ) → v < n → nat_lt v n ≡ true
 less v n l = grind (arith, nat_tests)
 
 -- a word of the kind, but for the object that it names
-pub word_is : (s : State) (kind : Kind) (v : ℕ) → is_value kind v ≡ true → (kind ≡ Objects → IsWord s Objects v) → IsWord s kind v
+pub word_is : (s : State) (kind : Kind) (v : ℕ) → is_value kind v ≡ true → (kind ≡ Objects → IsWord s Objects v)
+    → IsWord s kind v
 word_is s Plain v e m = absurd cc
 word_is s Boolean v e m = ltb-true v 2 e
 word_is s Byte v e m = ltb-true v (2 ^ 8) e

@@ -1,5 +1,6 @@
 -- Reads and writes at their moments.
-use Rattle.std.proofs.Common.{◌≡◌, ◌<◌, ◌++◌, ℕ, zero, suc, Some, List, [], ◌∷◌, length, slice_get, slice_set, refl, sym, ap, ◌∙◌, append_assoc, arith}
+use Rattle.std.proofs.Common.{◌≡◌, ◌<◌, ◌++◌, ℕ, zero, suc, Some, List, [], ◌∷◌, length}
+use Rattle.std.proofs.Common.{slice_get, slice_set, refl, sym, ap, ◌∙◌, append_assoc, arith}
 use Rattle.jr_model.specs.declared.event.Act.TheVariants.{Read, Write}
 use Rattle.jr_model.specs.State.{State}
 use Rattle.jr_model.specs.Steps.{written}
@@ -32,8 +33,11 @@ writes_element old new o i v d =
     let a = one_act (Write o i v) d in
     let n = a.needs.1 in
     let e = by old.thread (Write o i v) in
-    let there : (state (a.before ++ e ∷ [])).objects o ≡ Some (record { kind = n.1.kind; words = slice_set n.1.words i v })
-    = ap (λ (s : State). s.objects o) (state_push a.before e) ∙ (at_number_self (state a.before).objects o (written ((state a.before).objects o) i v) ∙ ap (λ z. written z i v) n.2) in
+    let there : (state (a.before ++ e ∷ [])).objects o
+    ≡ Some (record { kind = n.1.kind; words = slice_set n.1.words i v })
+    = ap (λ (s : State). s.objects o) (state_push a.before e)
+    ∙ (at_number_self (state a.before).objects o (written ((state a.before).objects o) i v)
+    ∙ ap (λ z. written z i v) n.2) in
     record {
       moment = a.before ++ e ∷ [];
       from = prefix_trans old.seen a.before (a.before ++ e ∷ []) a.from (e ∷ [], refl);

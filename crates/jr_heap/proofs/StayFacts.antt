@@ -1,5 +1,6 @@
 -- What stays so in a stay.
-use Rattle.std.proofs.Common.{◌≡◌, ◌≢◌, ℕ, List, Option, Some, None, IsSome, refl, inl, inr, ⊎_elim, ap, subst, sym, ◌∙◌}
+use Rattle.std.proofs.Common.{◌≡◌, ◌≢◌, ℕ, List, Option, Some, None, IsSome}
+use Rattle.std.proofs.Common.{refl, inl, inr, ⊎_elim, ap, subst, sym, ◌∙◌}
 use Rattle.std.specs.List.{AllByRecursion}
 use Rattle.jr_word.specs.declared.header.HeaderParts.{HeaderParts}
 use Rattle.jr_word.specs.declared.kind.Kind.{Kind}
@@ -33,7 +34,8 @@ word_still s s' still Int v w = w
 word_still s s' still Long v w = w
 word_still s s' still Text v w = w
 
-module _ (k k' : Known) (acts : List Act) (d : Did (view k) (view k') acts) (within : role_of (view k) ≡ Within) (stays : NoLeave acts) where
+module _ (k k' : Known) (acts : List Act) (d : Did (view k) (view k') acts) (within : role_of (view k) ≡ Within)
+    (stays : NoLeave acts) where
   pub still : IsStill (state_of k) (state_of k')
   still = still_did acts d within stays
 
@@ -51,7 +53,8 @@ module _ (k k' : Known) (acts : List Act) (d : Did (view k) (view k') acts) (wit
 
   -- so does a header that is known, where the pass holds what it held
   pub header_later : (o : ℕ) (h : HeaderParts) → k'.holdings ≡ k.holdings → HoldsHeader o h k → HoldsHeader o h k'
-  header_later o h e x = record { known = ap (λ (g : Holdings). header_in o g.headers) e ∙ x.known; shown = object_later o h x.shown }
+  header_later o h e x =
+      record { known = ap (λ (g : Holdings). header_in o g.headers) e ∙ x.known; shown = object_later o h x.shown }
 
 pub shown_present : (o : ℕ) (h : HeaderParts) (k : Known) → ShowsObject o h k → HasObject o k
 shown_present o h k x = subst (λ y. IsSome y) (sym x.is) refl

@@ -1,5 +1,6 @@
 -- What the calls of the heap do, for whatever was known.
-use Rattle.std.specs.Prelude.{◌≡◌, ◌≢◌, ◌⊎◌, ◌==◌, ◌+◌, ◌-◌, ◌≤◌, ℕ, zero, suc, nat_lt, cond, Result, Ok, Err, IfOk, Some, None, List, [], length, replicate}
+use Rattle.std.specs.Prelude.{◌≡◌, ◌≢◌, ◌⊎◌, ◌==◌, ◌+◌, ◌-◌, ◌≤◌, ℕ, zero, suc, nat_lt, cond}
+use Rattle.std.specs.Prelude.{Result, Ok, Err, IfOk, Some, None, List, [], length, replicate}
 use Rattle.jr_word.specs.declared.fault.Fault.{Fault}
 use Rattle.jr_word.specs.declared.fault.Fault.TheVariants.{SpaceFull, Raced}
 use Rattle.jr_word.specs.declared.header.HeaderParts.{HeaderParts}
@@ -10,11 +11,15 @@ use Rattle.jr_model.specs.Frames.{Frames}
 use Rattle.jr_model.specs.Calls.{Call, Ran, done}
 use Rattle.jr_steps.specs.declared.known.Known.{Known}
 use Rattle.jr_steps.specs.Holdings.{words_at, header_in, with_range, with_header}
-use Rattle.jr_steps.specs.Knowing.{Facts, Leads, view, state_of, keeps, without_range_of, KnowsHeader, IsFilled, IsWordNow, ShowsObject, ShowsUsed, Takes}
+use Rattle.jr_steps.specs.Knowing.{Facts, Leads, view, state_of, keeps, without_range_of}
+use Rattle.jr_steps.specs.Knowing.{KnowsHeader, IsFilled, IsWordNow, ShowsObject, ShowsUsed, Takes}
 
 module _ {S : Type 0} (facts : S → Facts) where
-  -- A CALL WAS MADE in a stay, which leaves the hint as it was: for whatever was known and meets the condition, something is known from which the thread did what the call does, with this answer, and left the frames as they were; and it shows this. The call may name what was known and what is
-  pub record Called {A : Type 0} (old new : S) (met : Known → Type 0) (call : Known → Known → Call A) (answer : Result A Fault) (shows : Known → Known → Type 0) : Type 0 where
+  -- A CALL WAS MADE in a stay, which leaves the hint as it was: for whatever was known and meets the
+  -- condition, something is known from which the thread did what the call does, with this answer, and
+  -- left the frames as they were; and it shows this. The call may name what was known and what is
+  pub record Called {A : Type 0} (old new : S) (met : Known → Type 0) (call : Known → Known → Call A)
+      (answer : Result A Fault) (shows : Known → Known → Type 0) : Type 0 where
     pub hint_is : (facts new).hint ≡ (facts old).hint
     pub ran : Leads facts old new met (λ k k'. (f : Frames) → Ran (view k) (view k') f f (call k k') answer) shows
 
@@ -55,10 +60,12 @@ IsOwn place n k = length (own_words place n k) ≡ n
 abbrev pub IsReady : Kind → ℕ → ℕ → Known → Type 0
 IsReady kind place n k = IsFilled (header_of kind place n) k
 
--- what a reservation of n words gives: so many words of the pass's own at the place, where it had none, and just those below their end are used then
+-- what a reservation of n words gives:
+-- so many words of the pass's own at the place, where it had none, and just those below their end are used then
 abbrev pub Gains : ℕ → ℕ → Known → Known → Type 0
 Gains zero place j k = keeps j k
-Gains (suc n) place j k = (ws : List ℕ) × (length ws ≡ suc n) × (k.holdings ≡ with_range j.holdings place ws) × (words_at place j.holdings.ranges ≡ []) × ShowsUsed (place + suc n) k
+Gains (suc n) place j k = (ws : List ℕ) × (length ws ≡ suc n) × (k.holdings ≡ with_range j.holdings place ws)
+    × (words_at place j.holdings.ranges ≡ []) × ShowsUsed (place + suc n) k
 
 -- the refusal is none of a lost race
 abbrev pub IsNotRaced : Fault → Type 0
@@ -90,9 +97,13 @@ Fills place n v = FillsWith place (replicate n v)
 abbrev pub number_at_turn : ℕ → ℕ → ℕ → ℕ
 number_at_turn first turn objects = cond (nat_lt (first + turn) objects) (first + turn + 1) (first + turn - objects + 1)
 
--- what a publication shows: the object has the words of the range, which is the pass's own no more, and its header, of an object of which the pass knew none, is known from now on; and a refused one takes nothing from the pass
+-- what a publication shows: the object has the words of the range, which is the pass's own no more, and its header,
+-- of an object of which the pass knew none, is known from now on; and a refused one takes nothing from the pass
 abbrev pub Publishes : Kind → ℕ → ℕ → Result ℕ Fault → Known → Known → Type 0
-Publishes kind place n (Ok o) j k = ((state_of k).objects o ≡ Some (record { kind = kind; words = own_words place n j })) × (k.holdings ≡ with_header (without_range_of (header_of kind place n) j.holdings) o (header_of kind place n)) × (header_in o j.holdings.headers ≡ None)
+Publishes kind place n (Ok o) j k =
+    ((state_of k).objects o ≡ Some (record { kind = kind; words = own_words place n j }))
+    × (k.holdings ≡ with_header (without_range_of (header_of kind place n) j.holdings) o (header_of kind place n))
+    × (header_in o j.holdings.headers ≡ None)
 Publishes kind place n (Err e) j k = keeps j k
 
 -- a publication takes one exchange at the least, and one for each of n numbers where it is refused
@@ -111,7 +122,8 @@ HasKind o kind k = (x : Contents) × ((state_of k).objects o ≡ Some x) × (x.k
 
 -- what a look at a header shows: the pass knows it from then on, and it is the one that it knew before, if any
 abbrev pub Learns : ℕ → HeaderParts → Known → Known → Type 0
-Learns o h j k = ShowsObject o h k × (k.holdings ≡ with_header j.holdings o h) × ((g : HeaderParts) → header_in o j.holdings.headers ≡ Some g → g ≡ h)
+Learns o h j k = ShowsObject o h k × (k.holdings ≡ with_header j.holdings o h)
+    × ((g : HeaderParts) → header_in o j.holdings.headers ≡ Some g → g ≡ h)
 
 -- what a call at an element leaves: the object has this kind and length still, and the pass holds what it held
 abbrev pub LeavesObject : ℕ → HeaderParts → Known → Known → Type 0
@@ -136,7 +148,8 @@ MayBeNamed kind v k = kind ≡ Objects → IsWordNow Objects v k
 abbrev pub MayBeNamedIn : ℕ → ℕ → Known → Type 0
 MayBeNamedIn o v k = (x : Contents) → (state_of k).objects o ≡ Some x → MayBeNamed x.kind v k
 
--- the element that was read is a word of the kind: in an object array 0, or the number of an object that is present then
+-- the element that was read is a word of the kind:
+-- in an object array 0, or the number of an object that is present then
 abbrev pub ReadsOfKind : Kind → Result ℕ Fault → Known → Type 0
 ReadsOfKind kind answer k = IfOk answer (λ v. IsWordNow kind v k)
 

@@ -1,5 +1,6 @@
 -- Tests make objects of a kind, and read and write them.
-use Rattle.std.proofs.Common.{zero, suc, ◌≡◌, ◌++◌, ℕ, Bool, true, false, not, nat_le, length, ◌||◌, Option, Some, None, IsSome, List, [], ◌∷◌, Result, Ok, Err, IfOk, inl, inr, refl, sym, ap, subst, ◌∙◌}
+use Rattle.std.proofs.Common.{zero, suc, ◌≡◌, ◌++◌, ℕ, Bool, true, false, not, nat_le, length, ◌||◌, Option, Some}
+use Rattle.std.proofs.Common.{None, IsSome, List, [], ◌∷◌, Result, Ok, Err, IfOk, inl, inr, refl, sym, ap, subst, ◌∙◌}
 use mathlib.Core.Logic.{∥∥₁_map}
 use Rattle.jr_word.specs.declared.fault.Fault.{Fault}
 use Rattle.jr_word.specs.declared.fault.Fault.TheVariants.{NotArray, Range, Value}
@@ -16,7 +17,8 @@ use Rattle.jr_model.specs.Parts.{header, publish, read_element, write_element}
 use Rattle.jr_model.specs.Checks.{is_plain, is_text, is_value}
 use Rattle.jr_steps.specs.declared.known.Known.{Known}
 use Rattle.jr_steps.specs.Knowing.{AreOf, Facts, MayKnow, view, state_of, HasObject}
-use Rattle.jr_heap.specs.Heap.{Called, HasKind, IsOwn, IsReady, Publishes, own_words, Relearns, MayBeNamed, MayBeNamedIn}
+use Rattle.jr_heap.specs.Heap.{Called, HasKind, IsOwn, IsReady, Publishes}
+use Rattle.jr_heap.specs.Heap.{own_words, Relearns, MayBeNamed, MayBeNamedIn}
 use Rattle.jr_heap.proofs.Elements.{read_rest, write_rest, write_last}
 use Rattle.jr_heap.proofs.StayFacts.{NoLeave, still}
 
@@ -26,29 +28,38 @@ read_stays_in o i v = ((λ e. cc), tt)
 write_stays_in : (o i v : ℕ) → NoLeave (Write o i v ∷ [])
 write_stays_in o i v = ((λ e. cc), tt)
 
-refused_none : (b : Bool) (e : Fault) (f g : Frames) (acts : List Act) (answer : Result (Unit {0}) Fault) → refuse_if b e f acts answer g → acts ≡ []
+refused_none : (b : Bool) (e : Fault) (f g : Frames) (acts : List Act) (answer : Result (Unit {0}) Fault)
+    → refuse_if b e f acts answer g → acts ≡ []
 refused_none true e f g acts answer p = p.0
 refused_none false e f g acts answer p = p.0
 
-rest_stays : {A : Type 0} (b : Bool) (e : Fault) (next : Call A) (f g : Frames) (acts : List Act) (answer : Result A Fault) → ((h : Frames) (xs : List Act) → next h xs answer g → NoLeave xs) → (refuse_if b e >> next) f acts answer g → NoLeave acts
-rest_stays b e next f g acts answer stays (inl p) = subst NoLeave (sym (p.4 ∙ ap (λ xs. xs ++ p.3) (refused_none b e f p.1 p.2 (Ok p.0) p.5))) (stays p.1 p.3 p.6)
+rest_stays : {A : Type 0} (b : Bool) (e : Fault) (next : Call A) (f g : Frames) (acts : List Act)
+    (answer : Result A Fault) → ((h : Frames) (xs : List Act) → next h xs answer g → NoLeave xs)
+    → (refuse_if b e >> next) f acts answer g → NoLeave acts
+rest_stays b e next f g acts answer stays (inl p) =
+    subst NoLeave (sym (p.4 ∙ ap (λ xs. xs ++ p.3) (refused_none b e f p.1 p.2 (Ok p.0) p.5))) (stays p.1 p.3 p.6)
 rest_stays b e next f g acts answer stays (inr p) = subst NoLeave (sym (refused_none b e f g acts (Err p.0) p.2)) tt
 
-read_stays : (s : State) (o i : ℕ) (f g : Frames) (acts : List Act) (answer : Result ℕ Fault) → read_element s o i f acts answer g → NoLeave acts
+read_stays : (s : State) (o i : ℕ) (f g : Frames) (acts : List Act) (answer : Result ℕ Fault)
+    → read_element s o i f acts answer g → NoLeave acts
 read_stays s o i f g acts answer p =
     let n = length p.0.words in
     rest_stays (is_plain p.0.kind) NotArray (read_rest o i n) f g acts answer
-    (λ h xs q. rest_stays (nat_le n i) Range (some_act (Read o i)) h g xs answer (λ h' ys r. subst NoLeave (sym r.1) (read_stays_in o i r.0)) q) p.2
+    (λ h xs q. rest_stays (nat_le n i) Range (some_act (Read o i)) h g xs answer
+    (λ h' ys r. subst NoLeave (sym r.1) (read_stays_in o i r.0)) q) p.2
 
-write_stays : (s : State) (o i v : ℕ) (f g : Frames) (acts : List Act) (answer : Result (Unit {0}) Fault) → write_element s o i v f acts answer g → NoLeave acts
+write_stays : (s : State) (o i v : ℕ) (f g : Frames) (acts : List Act) (answer : Result (Unit {0}) Fault)
+    → write_element s o i v f acts answer g → NoLeave acts
 write_stays s o i v f g acts answer p =
     let n = length p.0.words in
     let kind = p.0.kind in
     rest_stays (is_plain kind || is_text kind) NotArray (write_rest kind o i v n) f g acts answer
     (λ h xs q. rest_stays (nat_le n i) Range (write_last kind o i v) h g xs answer
-    (λ h' ys r. rest_stays (not (is_value kind v)) Value (act (Write o i v)) h' g ys answer (λ h2 zs t. subst NoLeave (sym t.0) (write_stays_in o i v)) r) q) p.2
+    (λ h' ys r. rest_stays (not (is_value kind v)) Value (act (Write o i v)) h' g ys answer
+    (λ h2 zs t. subst NoLeave (sym t.0) (write_stays_in o i v)) r) q) p.2
 
-kind_later : (k k' : Known) (acts : List Act) (o : ℕ) (kind : Kind) → Did (view k) (view k') acts → role_of (view k) ≡ Within → NoLeave acts → HasKind o kind k → HasKind o kind k'
+kind_later : (k k' : Known) (acts : List Act) (o : ℕ) (kind : Kind) → Did (view k) (view k') acts
+    → role_of (view k) ≡ Within → NoLeave acts → HasKind o kind k → HasKind o kind k'
 kind_later k k' acts o kind d w q x = let y = (still k k' acts d w q).objects o x.0 x.1 in (y.0, y.1, y.2 ∙ x.2)
 
 pub kind_present : (o : ℕ) (kind : Kind) (k : Known) → HasKind o kind k → HasObject o k
@@ -65,31 +76,54 @@ module _ {S : Type 0} (facts : S → Facts) (fits : AreOf facts) (a : S) (o : �
   pub may_be_read : MayKnow facts a (HasKind o kind) → MayKnow facts a (HasObject o)
   may_be_read may = ∥∥₁_map may (λ k. (k.0, k.1, kind_present o kind k.0 k.2))
 
-  pub may_be_written : (v : ℕ) → ((k : Known) → MayBeNamed kind v k) → MayKnow facts a (HasKind o kind) → MayKnow facts a (λ k. HasObject o k × MayBeNamedIn o v k)
-  may_be_written v named may = ∥∥₁_map may (λ k. (k.0, k.1, (kind_present o kind k.0 k.2, kind_of_some k.0 o kind v k.2 (named k.0))))
+  pub may_be_written : (v : ℕ) → ((k : Known) → MayBeNamed kind v k) → MayKnow facts a (HasKind o kind)
+      → MayKnow facts a (λ k. HasObject o k × MayBeNamedIn o v k)
+  may_be_written v named may =
+      ∥∥₁_map may (λ k. (k.0, k.1, (kind_present o kind k.0 k.2, kind_of_some k.0 o kind v k.2 (named k.0))))
 
   module _ (b : S) (w : (facts a).stands.role ≡ Within) where
-    pub kind_looked_up : {shows : Known → Known → Type 0} (answer : Result (Kind × ℕ) Fault) → Called facts a b (HasObject o) (λ j k. header (state_of k) o) answer shows → MayKnow facts a (HasKind o kind) → MayKnow facts b (HasKind o kind)
+    pub kind_looked_up : {shows : Known → Known → Type 0} (answer : Result (Kind × ℕ) Fault)
+        → Called facts a b (HasObject o) (λ j k. header (state_of k) o) answer shows → MayKnow facts a (HasKind o kind)
+        → MayKnow facts b (HasKind o kind)
     kind_looked_up answer c may = ∥∥₁_map may (λ k.
         let r = c.ran k.0 k.1 (kind_present o kind k.0 k.2) in
-        let f = r.2 (record { frames = []; given = [] }) in
-        (r.0, r.1, kind_later k.0 r.0 f.acts o kind f.did ((fits a k.0 k.1).role ∙ w) (subst NoLeave (sym (f.is.2.0)) tt) k.2))
+        let f = r.2 (record { frames = []; given = [] }) in (
+          r.0,
+          r.1,
+          kind_later k.0 r.0 f.acts o kind f.did ((fits a k.0 k.1).role ∙ w) (subst NoLeave (sym (f.is.2.0)) tt) k.2,
+        ))
 
-    pub kind_read : {shows : Known → Known → Type 0} (i : ℕ) (answer : Result ℕ Fault) → Called facts a b (HasObject o) (λ j k. read_element (state_of k) o i) answer shows → MayKnow facts a (HasKind o kind) → MayKnow facts b (HasKind o kind)
+    pub kind_read : {shows : Known → Known → Type 0} (i : ℕ) (answer : Result ℕ Fault)
+        → Called facts a b (HasObject o) (λ j k. read_element (state_of k) o i) answer shows
+        → MayKnow facts a (HasKind o kind) → MayKnow facts b (HasKind o kind)
     kind_read i answer c may = ∥∥₁_map may (λ k.
         let r = c.ran k.0 k.1 (kind_present o kind k.0 k.2) in
-        let f = r.2 (record { frames = []; given = [] }) in
-        (r.0, r.1, kind_later k.0 r.0 f.acts o kind f.did ((fits a k.0 k.1).role ∙ w) (read_stays (state_of r.0) o i _ _ f.acts answer f.is) k.2))
+        let f = r.2 (record { frames = []; given = [] }) in (
+          r.0,
+          r.1,
+          kind_later k.0 r.0 f.acts o kind f.did ((fits a k.0 k.1).role ∙ w)
+              (read_stays (state_of r.0) o i _ _ f.acts answer f.is) k.2,
+        ))
 
-    pub kind_written : (i v : ℕ) (answer : Result (Unit {0}) Fault) → ((k : Known) → MayBeNamed kind v k) → Called facts a b (λ k. HasObject o k × MayBeNamedIn o v k) (λ j k. write_element (state_of k) o i v) answer (Relearns o) → MayKnow facts a (HasKind o kind) → MayKnow facts b (HasKind o kind)
+    pub kind_written : (i v : ℕ) (answer : Result (Unit {0}) Fault) → ((k : Known) → MayBeNamed kind v k) → Called facts
+        a b (λ k. HasObject o k × MayBeNamedIn o v k) (λ j k. write_element (state_of k) o i v) answer (Relearns o)
+        → MayKnow facts a (HasKind o kind) → MayKnow facts b (HasKind o kind)
     kind_written i v answer named c may = ∥∥₁_map may (λ k.
         let r = c.ran k.0 k.1 (kind_present o kind k.0 k.2, kind_of_some k.0 o kind v k.2 (named k.0)) in
-        let f = r.2 (record { frames = []; given = [] }) in
-        (r.0, r.1, kind_later k.0 r.0 f.acts o kind f.did ((fits a k.0 k.1).role ∙ w) (write_stays (state_of r.0) o i v _ _ f.acts answer f.is) k.2))
+        let f = r.2 (record { frames = []; given = [] }) in (
+          r.0,
+          r.1,
+          kind_later k.0 r.0 f.acts o kind f.did ((fits a k.0 k.1).role ∙ w)
+              (write_stays (state_of r.0) o i v _ _ f.acts answer f.is) k.2,
+        ))
 
 -- what was published is of the kind
-pub kind_made : {S : Type 0} (facts : S → Facts) (a b : S) (kind : Kind) (place n : ℕ) (answer : Result ℕ Fault) → Called facts a b (IsReady kind place n) (λ j k. publish kind (own_words place n j)) answer (Publishes kind place n answer) → MayKnow facts a (IsReady kind place n) → IfOk answer (λ o. MayKnow facts b (HasKind o kind))
-kind_made facts a b kind place n (Ok o) c may = ∥∥₁_map may (λ k. let r = c.ran k.0 k.1 k.2 in (r.0, r.1, (record { kind = kind; words = own_words place n k.0 }, r.3.0, refl)))
+pub kind_made : {S : Type 0} (facts : S → Facts) (a b : S) (kind : Kind) (place n : ℕ) (answer : Result ℕ Fault)
+    → Called facts a b (IsReady kind place n) (λ j k. publish kind (own_words place n j)) answer
+    (Publishes kind place n answer) → MayKnow facts a (IsReady kind place n)
+    → IfOk answer (λ o. MayKnow facts b (HasKind o kind))
+kind_made facts a b kind place n (Ok o) c may = ∥∥₁_map may (λ k. let r = c.ran k.0 k.1 k.2 in
+    (r.0, r.1, (record { kind = kind; words = own_words place n k.0 }, r.3.0, refl)))
 kind_made facts a b kind place n (Err e) c may = tt
 
 -- a plain object has no words

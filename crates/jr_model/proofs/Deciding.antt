@@ -1,5 +1,7 @@
 -- What the machine's tests decide: whether an event may come, and whether a history is legal.
-use Rattle.std.proofs.Common.{◌≡◌, ◌≢◌, ◌⊎◌, ◌↔◌, inl, inr, ℕ, ◌+◌, ◌<◌, ◌≤◌, ◌==◌, ◌^◌, min, Bool, true, false, IsTrue, not, cond, if◌then◌else◌, ◌&&◌, ◌||◌, Option, Some, None, is_some, List, [], ◌∷◌, length, slice_get, refl, sym, ap, subst, ◌∙◌, arith, nat_le, Decides}
+use Rattle.std.proofs.Common.{◌≡◌, ◌≢◌, ◌⊎◌, ◌↔◌, inl, inr, ℕ, ◌+◌, ◌<◌, ◌≤◌, ◌==◌, ◌^◌, min, Bool, true, false}
+use Rattle.std.proofs.Common.{IsTrue, not, cond, if◌then◌else◌, ◌&&◌, ◌||◌, Option, Some, None, is_some, List}
+use Rattle.std.proofs.Common.{[], ◌∷◌, length, slice_get, refl, sym, ap, subst, ◌∙◌, arith, nat_le, Decides}
 use Rattle.std.proofs.Math.Nat.{min-eq_left, min_comm}
 use Rattle.std.specs.List.{list_any, list_all}
 use Rattle.std.proofs.lemmas.Bool.{cases_lt, le-leb, leb-true}
@@ -14,19 +16,29 @@ use Rattle.jr_model.specs.declared.event.Found.{Found}
 use Rattle.jr_model.specs.declared.event.Found.TheVariants.{Object, Cleared, Stale}
 use Rattle.jr_model.specs.declared.event.Event.{Event}
 use Rattle.jr_model.specs.declared.event.Act.{Act}
-use Rattle.jr_model.specs.declared.event.Act.TheVariants.{Gate, ShutBusy, Create, Look, Probe, Delete, DeleteStale, Clear, LocalPut, LocalDrop, Reserve, ReserveFull, ReserveLost, New, Read, Write, Drop, Settle, Meet}
+use Rattle.jr_model.specs.declared.event.Act.TheVariants.{Gate, ShutBusy, Create, Look, Probe, Delete, DeleteStale}
+use Rattle.jr_model.specs.declared.event.Act.TheVariants.{Clear, LocalPut, LocalDrop, Reserve, ReserveFull}
+use Rattle.jr_model.specs.declared.event.Act.TheVariants.{ReserveLost, New, Read, Write, Drop, Settle, Meet}
 use Rattle.jr_model.specs.declared.event.GateAct.{GateAct}
-use Rattle.jr_model.specs.declared.event.GateAct.TheVariants.{Enter, Knock, Leave, Withdraw, Announce, Cancel, Shut, Reopen}
-use Rattle.jr_model.specs.State.{Handle, same_kind, same_handle, Contents, State, opening, NobodyCloses, SomebodyCloses, is_barring, is_outside, is_there, not_outside, present_words, IsWord, AreWords, IsClosed, IsReached, IsOccupied}
+use Rattle.jr_model.specs.declared.event.GateAct.TheVariants.{Enter, Knock, Leave, Withdraw}
+use Rattle.jr_model.specs.declared.event.GateAct.TheVariants.{Announce, Cancel, Shut, Reopen}
+use Rattle.jr_model.specs.State.{Handle, same_kind, same_handle, Contents, State, opening, NobodyCloses}
+use Rattle.jr_model.specs.State.{SomebodyCloses, is_barring, is_outside, is_there, not_outside}
+use Rattle.jr_model.specs.State.{present_words, IsWord, AreWords, IsClosed, IsReached, IsOccupied}
 use Rattle.jr_model.specs.Steps.{MayShut, IsInRow, FromRole, GateNeeds, ActNeeds, Needs, act_after, after}
 use Rattle.jr_model.specs.History.{History, state, state_from, IsLegal, IsLegalFrom}
 use Rattle.jr_model.specs.Checks.{is_objects, is_text}
-use Rattle.jr_model.specs.Decided.{below, same_role, same_answer, is_word, may_shut, from_role, somebody_closes, is_closed_at, gate_may, is_in_row, is_given, is_standing, is_index_taken, has_word, takes_word, is_lost, is_weak_to, act_may, may, given_after, given_from, may_from, LegalIsDecided, EventIsDecided}
+use Rattle.jr_model.specs.Decided.{below, same_role, same_answer, is_word, may_shut, from_role}
+use Rattle.jr_model.specs.Decided.{somebody_closes, is_closed_at, gate_may, is_in_row, is_given, is_standing}
+use Rattle.jr_model.specs.Decided.{is_index_taken, has_word, takes_word, is_lost, is_weak_to, act_may, may}
+use Rattle.jr_model.specs.Decided.{given_after, given_from, may_from, LegalIsDecided, EventIsDecided}
 use Rattle.jr_model.proofs.Counts.{beyond_after, not_true}
 use Rattle.jr_model.proofs.InRoom.{in_room_act, in_room_opening}
 use Rattle.jr_model.proofs.Updates.{at_handle, handle_true}
-use Rattle.jr_model.proofs.Listed.{implies, unless, three, four, itself, any_of, all_at, some_of, any_below, all_below, hits_are_few}
-use Rattle.jr_model.proofs.Reaching.{IsWithin, same_kind_is, same_handle_is, same_found_is, word_there_is, is_objects_is, listed, reached_is}
+use Rattle.jr_model.proofs.Listed.{implies, unless, three, four, itself, any_of}
+use Rattle.jr_model.proofs.Listed.{all_at, some_of, any_below, all_below, hits_are_few}
+use Rattle.jr_model.proofs.Reaching.{IsWithin, same_kind_is, same_handle_is, same_found_is}
+use Rattle.jr_model.proofs.Reaching.{word_there_is, is_objects_is, listed, reached_is}
 
 leb_is : (a b : ℕ) → Decides (nat_le a b) (a ≤ b)
 leb_is a b = (leb-true a b, le-leb a b)
@@ -185,19 +197,22 @@ module _ (c : Config) (given : List Handle) (s : State) (within : IsWithin c giv
 
   -- of more serials than handles that were given one was not
   all_given : (last i : ℕ)
-      → Decides (list_all (is_given given i) (below (min (last + 1) (length given + 1)))) ((n : ℕ) → n ≤ last → (h : Handle) × (h.index ≡ i) × (h.serial ≡ n) × (s.given h ≡ true))
+      → Decides (list_all (is_given given i) (below (min (last + 1) (length given + 1)))) ((n : ℕ) → n ≤ last
+      → (h : Handle) × (h.index ≡ i) × (h.serial ≡ n) × (s.given h ≡ true))
   all_given last i = go (cases_lt (last + 1) (length given + 1))
     where
       upto : (m : ℕ) → Decides (list_all (is_given given i) (below m)) ((n : ℕ) → n < m → Given i n)
       upto = all_below {P = Given i} (is_given given i) (given_is i)
 
       go : (last + 1 < length given + 1) ⊎ (length given + 1 ≤ last + 1)
-          → Decides (list_all (is_given given i) (below (min (last + 1) (length given + 1)))) ((n : ℕ) → n ≤ last → Given i n)
+          → Decides (list_all (is_given given i) (below (min (last + 1) (length given + 1)))) ((n : ℕ) → n ≤ last
+          → Given i n)
       go (inl l) = let is : min (last + 1) (length given + 1) ≡ last + 1 = min-eq_left (omega arith) in
           rw is (Decides-like _ (λ f n l. f n (omega arith)) (λ f n l. f n (omega arith)) (upto (last + 1)))
       go (inr l) =
           let least : min (length given + 1) (last + 1) ≡ length given + 1 = min-eq_left (omega arith) in
-          let is : min (last + 1) (length given + 1) ≡ length given + 1 = min_comm (last + 1) (length given + 1) ∙ least in
+          let is : min (last + 1) (length given + 1) ≡ length given + 1 =
+          min_comm (last + 1) (length given + 1) ∙ least in
           rw is (Decides-like _ (λ f. absurd (full f)) (λ f n l. f n (omega arith)) (upto (length given + 1)))
         where
           full : ((n : ℕ) → n < length given + 1 → Given i n) → ⊥
@@ -323,8 +338,10 @@ module _ (c : Config) (last : ℕ) where
       go (may c last given s e) (may_is c given s w last e)
       (λ n. from_is (given_after given e.act) (after s e) es (within_after given s e w n))
     where
-      go : (b : Bool) → Decides b (Needs c last s e) → (Needs c last s e → Decides (may_from c last (given_after given e.act) (after s e) es) (IsLegalFrom c last (after s e) es))
-          → Decides (b && may_from c last (given_after given e.act) (after s e) es) (Needs c last s e × IsLegalFrom c last (after s e) es)
+      go : (b : Bool) → Decides b (Needs c last s e) → (Needs c last s e
+          → Decides (may_from c last (given_after given e.act) (after s e) es) (IsLegalFrom c last (after s e) es))
+          → Decides (b && may_from c last (given_after given e.act) (after s e) es) (Needs c last s e
+          × IsLegalFrom c last (after s e) es)
       go true d more = let n = d.0 refl in let r = more n in (λ e. (n, r.0 e), λ h. r.1 h.1)
       go false d more = (λ e. absurd cc, λ h. absurd (let never = d.1 h.0 in cc))
 

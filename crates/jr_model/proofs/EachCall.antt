@@ -1,16 +1,19 @@
 -- Each call, by the laws over all calls: it moves the frames, its refusals change nothing, and they are true.
-use Rattle.std.proofs.Common.{◌≡◌, ◌≢◌, ℕ, zero, suc, ◌<◌, ◌+◌, ◌==◌, ◌||◌, Bool, not, nat_le, Option, Some, None, List, [], ◌∷◌, ◌++◌, length, map, replicate, Result, refl, sym, ap, subst, ◌∙◌}
+use Rattle.std.proofs.Common.{◌≡◌, ◌≢◌, ℕ, zero, suc, ◌<◌, ◌+◌, ◌==◌, ◌||◌, Bool, not, nat_le, Option, Some, None}
+use Rattle.std.proofs.Common.{List, [], ◌∷◌, ◌++◌, length, map, replicate, Result, refl, sym, ap, subst, ◌∙◌}
 use Rattle.std.proofs.lemmas.List.{append-nil, length-replicate}
 use Rattle.std.specs.List.{AllByRecursion}
 use Rattle.jr_word.specs.declared.fault.Fault.{Fault}
-use Rattle.jr_word.specs.declared.fault.Fault.TheVariants.{Barred, Busy, NotArray, WrongElement, WrongKind, Range, Value}
+use Rattle.jr_word.specs.declared.fault.Fault.TheVariants.{Barred, Busy, NotArray, WrongElement}
+use Rattle.jr_word.specs.declared.fault.Fault.TheVariants.{WrongKind, Range, Value}
 use Rattle.jr_word.specs.declared.fault.Fault.TheVariants as fault
 use Rattle.jr_word.specs.declared.config.Config.{Config}
 use Rattle.jr_word.specs.declared.handle.RefKind.{RefKind}
 use Rattle.jr_word.specs.declared.kind.Kind.{Kind}
 use Rattle.jr_word.specs.declared.kind.Kind.TheVariants.{Plain, Objects, Text}
 use Rattle.jr_model.specs.declared.event.Act.{Act}
-use Rattle.jr_model.specs.declared.event.Act.TheVariants.{Clear, Delete, DeleteStale, Drop, Gate, New, Read, Reserve, ReserveFull, ReserveLost, Settle, ShutBusy, Write}
+use Rattle.jr_model.specs.declared.event.Act.TheVariants.{Clear, Delete, DeleteStale, Drop, Gate, New, Read, Reserve}
+use Rattle.jr_model.specs.declared.event.Act.TheVariants.{ReserveFull, ReserveLost, Settle, ShutBusy, Write}
 use Rattle.jr_model.specs.declared.event.GateAct.TheVariants.{Cancel, Enter, Knock, Leave, Reopen, Withdraw}
 use Rattle.jr_model.specs.declared.event.Found.{Found}
 use Rattle.jr_model.specs.declared.event.Found.TheVariants.{Object, Cleared, Stale}
@@ -19,22 +22,35 @@ use Rattle.jr_model.specs.declared.frames.Mode.TheVariants.{Copy, Commit, Abort}
 use Rattle.jr_model.specs.State.{Handle, State}
 use Rattle.jr_model.specs.Frames.{Frames, stays}
 use Rattle.jr_model.specs.Calls.{◌>>=◌, ◌>>◌, act, one_of, refuse, some_act}
-use Rattle.jr_model.specs.Checks.{Word, Nothing, Malformed, Parts, is_array, is_plain, is_read_as, is_text, is_value, same_element}
-use Rattle.jr_model.specs.Parts.{collect, collect_announced, collected, create, created, delete, delete_at, delete_found, delete_local_at, enter, publish, read, read_acts, reserve, write, write_acts}
+use Rattle.jr_model.specs.Checks.{Word, Nothing, Malformed, Parts, is_array, is_plain}
+use Rattle.jr_model.specs.Checks.{is_read_as, is_text, is_value, same_element}
+use Rattle.jr_model.specs.Parts.{collect, collect_announced, collected, create, created}
+use Rattle.jr_model.specs.Parts.{delete, delete_at, delete_found, delete_local_at, enter}
+use Rattle.jr_model.specs.Parts.{publish, read, read_acts, reserve, write, write_acts}
 use Rattle.jr_model.specs.References.{delete_local, freeing, made, new_local, resolved}
-use Rattle.jr_model.specs.Objects.{copying_back, length_reading, nest_array, nest_string, region_get, region_release, region_set, release_array_elements}
+use Rattle.jr_model.specs.Objects.{copying_back, length_reading, nest_array, nest_string}
+use Rattle.jr_model.specs.Objects.{region_get, region_release, region_set, release_array_elements}
 use Rattle.jr_model.specs.CollectionCalls.{collection_acts}
-use Rattle.jr_model.specs.AllCalls.{AnswerKind, AnswerOf, CallOf, PartOf, means, part_means, words_asked, words_asked_by_part}
+use Rattle.jr_model.specs.AllCalls.{AnswerKind, AnswerOf, CallOf, PartOf, means}
+use Rattle.jr_model.specs.AllCalls.{part_means, words_asked, words_asked_by_part}
 use Rattle.jr_model.specs.Moves.{CallsMoveFrames}
 use Rattle.jr_model.specs.RefusedCalls.{RefusalsChangeNothing, RefusedPartsChangeNothing}
 use Rattle.jr_model.specs.TrueRefusals.{CallsRefuseTruly, PartsRefuseTruly}
 use Rattle.jr_model.proofs.Exactly.{all_map, append_all}
-use Rattle.jr_model.proofs.Composed.{Gives, Refusing, act_gives, act_then, at_most_gives, bind_gives, cond_gives, done_gives, either_gives, object_gives, refuse_gives, some_act_gives, some_act_then, weaker_gives}
+use Rattle.jr_model.proofs.Composed.{Gives, Refusing, act_gives, act_then, at_most_gives}
+use Rattle.jr_model.proofs.Composed.{bind_gives, cond_gives, done_gives, either_gives, object_gives}
+use Rattle.jr_model.proofs.Composed.{refuse_gives, some_act_gives, some_act_then, weaker_gives}
 use Rattle.jr_model.proofs.ShownRefusals.{LosesOnly, LoseOnly, refused_at}
-use Rattle.jr_model.proofs.Lawful.{IsInside, IsLawful, IsPrelude, IsWork, Moved, NoLeave, Precede, Refused, answered, before, bind_prelude, in_memory, in_region, in_stay, leads_then, leaves_once, moved, moves, one_act, outside, prelude, safe, same_leads, some_act_of, sure, surely}
-use Rattle.jr_model.proofs.Preludes.{act_prelude, announce_prelude, both_prelude, check, closed_prelude, done_prelude, element_prelude, level_array_prelude, level_string_prelude, look_prelude, looked_at_prelude, not_null_prelude, part_prelude, probes_prelude, refuse_prelude, resolved_prelude, room_prelude, shuts_prelude, some_act_prelude, type_prelude}
+use Rattle.jr_model.proofs.Lawful.{IsInside, IsLawful, IsPrelude, IsWork, Moved, NoLeave, Precede, Refused, answered}
+use Rattle.jr_model.proofs.Lawful.{before, bind_prelude, in_memory, in_region, in_stay, leads_then, leaves_once, moved}
+use Rattle.jr_model.proofs.Lawful.{moves, one_act, outside, prelude, safe, same_leads, some_act_of, sure, surely}
+use Rattle.jr_model.proofs.Preludes.{act_prelude, announce_prelude, both_prelude, check, closed_prelude, done_prelude}
+use Rattle.jr_model.proofs.Preludes.{element_prelude, level_array_prelude, level_string_prelude, look_prelude}
+use Rattle.jr_model.proofs.Preludes.{looked_at_prelude, not_null_prelude, part_prelude, probes_prelude, refuse_prelude}
+use Rattle.jr_model.proofs.Preludes.{resolved_prelude, room_prelude, shuts_prelude, some_act_prelude, type_prelude}
 use Rattle.jr_model.proofs.TrueRefusals.{truly}
-use Rattle.jr_model.proofs.Moves.{added_sure, drop_sure, freeing_sure, new_local_work, popping_work, pushing_work, resolved_popping}
+use Rattle.jr_model.proofs.Moves.{added_sure, drop_sure, freeing_sure, new_local_work}
+use Rattle.jr_model.proofs.Moves.{popping_work, pushing_work, resolved_popping}
 
 reads_inside : (asked : ℕ) → (o start : ℕ) (vs : List ℕ) → AllByRecursion (IsInside asked) (read_acts o start vs)
 reads_inside asked o start [] = tt
@@ -44,33 +60,46 @@ writes_inside : (asked : ℕ) → (o start : ℕ) (vs : List ℕ) → AllByRecur
 writes_inside asked o start [] = tt
 writes_inside asked o start (v ∷ vs) = (tt, writes_inside asked o (start + 1) vs)
 
-sweeps_inside : (asked : ℕ) → (cleared : List Handle) (dropped : List ℕ) (used : ℕ) → AllByRecursion (IsInside asked) (collection_acts cleared dropped used)
+sweeps_inside : (asked : ℕ) → (cleared : List Handle) (dropped : List ℕ) (used : ℕ)
+    → AllByRecursion (IsInside asked) (collection_acts cleared dropped used)
 sweeps_inside asked cleared dropped used = (
   tt,
   append_all (IsInside asked) (map Clear cleared ++ map Drop dropped ++ Settle used ∷ []) (Gate Reopen ∷ [])
       (append_all (IsInside asked) (map Clear cleared ++ map Drop dropped) (Settle used ∷ [])
-      (append_all (IsInside asked) (map Clear cleared) (map Drop dropped) (all_map (IsInside asked) Clear cleared (λ h. tt)) (all_map (IsInside asked) Drop dropped (λ o. tt))) (tt, tt)) (tt, tt),
+      (append_all (IsInside asked) (map Clear cleared) (map Drop dropped) (all_map (IsInside asked) Clear cleared
+      (λ h. tt)) (all_map (IsInside asked) Drop dropped (λ o. tt))) (tt, tt)) (tt, tt),
 )
 
 module _ {asked : ℕ} where
   -- the last of the shuts is refused too
-  cancelled_prelude : IsPrelude asked (some_act ShutBusy >>= (λ n. act (Gate Cancel) >> refuse {A = ℕ × ℕ × ℕ} (Busy n)))
-  cancelled_prelude = some_act_then ShutBusy (λ n. act_then (Gate Cancel) (refuse_gives (Busy n) (λ f. record { same = refl; before = (refl, (refl, tt)); shown = (([], Gate Cancel ∷ [], refl), (tt, (tt, tt))); are = ((λ e. cc), ((λ e. cc), tt)) })))
+  cancelled_prelude : IsPrelude asked (some_act ShutBusy
+      >>= (λ n. act (Gate Cancel) >> refuse {A = ℕ × ℕ × ℕ} (Busy n)))
+  cancelled_prelude = some_act_then ShutBusy (λ n. act_then (Gate Cancel) (refuse_gives (Busy n) (λ f. record {
+    same = refl;
+    before = (refl, (refl, tt));
+    shown = (([], Gate Cancel ∷ [], refl), (tt, (tt, tt)));
+    are = ((λ e. cc), ((λ e. cc), tt));
+  })))
 
 module _ {asked last thread : ℕ} where
   -- SLOTS AND OBJECTS
 
   create_work : (slots : ℕ) (k : RefKind) (o : ℕ) → IsWork asked last thread (create slots k o)
   create_work slots k o = at_most_gives (slots + slots) (before probes_prelude (λ x. either_gives
-      (record { goes = λ old new acts h r. moved (tt, tt) r.2 (same_leads r.4); fails = λ old new acts e r. absurd (let bad = r.3 in cc) })
+      (record {
+        goes = λ old new acts h r. moved (tt, tt) r.2 (same_leads r.4);
+        fails = λ old new acts e r. absurd (let bad = r.3 in cc);
+      })
       (prelude (refuse_prelude _ refl))))
 
   created_work : (slots : ℕ) (k : RefKind) (o : Option ℕ) → IsWork asked last thread (created slots k o)
   created_work slots k None = prelude (done_prelude None)
   created_work slots k (Some o) = answered (create_work slots k o) Some
 
-  found_deleted : (h : Handle) → IsWork asked last thread (one_of (act (Delete h)) (act (DeleteStale h) >> refuse fault.Stale))
-  found_deleted h = either_gives (one_act (Delete h) tt) (prelude (bind_prelude (act_prelude (DeleteStale h) refl tt) (λ x. refuse_prelude _ refl)))
+  found_deleted : (h : Handle)
+      → IsWork asked last thread (one_of (act (Delete h)) (act (DeleteStale h) >> refuse fault.Stale))
+  found_deleted h = either_gives (one_act (Delete h) tt)
+      (prelude (bind_prelude (act_prelude (DeleteStale h) refl tt) (λ x. refuse_prelude _ refl)))
 
   delete_found_work : (h : Handle) (r : Found) → IsWork asked last thread (delete_found h r)
   delete_found_work h Stale = prelude (refuse_prelude _ refl)
@@ -86,10 +115,16 @@ module _ {asked last thread : ℕ} where
   delete_at_work (Parts h) = delete_work h
 
   read_work : (o start n : ℕ) → IsWork asked last thread (read o start n)
-  read_work o start n = record { goes = λ old new acts x r. moved (reads_inside asked o start r.0) r.2 (same_leads r.4); fails = λ old new acts e r. absurd (let bad = r.3 in cc) }
+  read_work o start n = record {
+    goes = λ old new acts x r. moved (reads_inside asked o start r.0) r.2 (same_leads r.4);
+    fails = λ old new acts e r. absurd (let bad = r.3 in cc);
+  }
 
   write_work : (o start : ℕ) (vs : List ℕ) → IsWork asked last thread (write o start vs)
-  write_work o start vs = record { goes = λ old new acts x r. moved (writes_inside asked o start vs) r.0 (same_leads r.2); fails = λ old new acts e r. absurd (let bad = r.1 in cc) }
+  write_work o start vs = record {
+    goes = λ old new acts x r. moved (writes_inside asked o start vs) r.0 (same_leads r.2);
+    fails = λ old new acts e r. absurd (let bad = r.1 in cc);
+  }
 
   -- LOCAL REFERENCES
 
@@ -101,21 +136,27 @@ module _ {asked last thread : ℕ} where
   -- THE ROOM AS A WHOLE
 
   collected_work : IsWork asked last thread collected
-  collected_work = record { goes = λ old new acts x r. moved (sweeps_inside asked r.0 r.1 r.2) r.3 (same_leads r.5); fails = λ old new acts e r. absurd (let bad = r.4 in cc) }
+  collected_work = record {
+    goes = λ old new acts x r. moved (sweeps_inside asked r.0 r.1 r.2) r.3 (same_leads r.5);
+    fails = λ old new acts e r. absurd (let bad = r.4 in cc);
+  }
 
   pub collect_work : IsWork asked last thread collect
   collect_work = either_gives collected_work (prelude closed_prelude)
 
   pub collect_announced_work : (tries : ℕ) → IsWork asked last thread (collect_announced tries)
-  collect_announced_work tries = before announce_prelude (λ x. either_gives (before (shuts_prelude (λ n. n < tries)) (λ y. collected_work)) (before (shuts_prelude (λ n. n + 1 ≡ tries)) (λ y. prelude cancelled_prelude)))
+  collect_announced_work tries =
+      before announce_prelude (λ x. either_gives (before (shuts_prelude (λ n. n < tries)) (λ y. collected_work))
+      (before (shuts_prelude (λ n. n + 1 ≡ tries)) (λ y. prelude cancelled_prelude)))
 
   enter_work : IsWork asked last thread enter
-  enter_work = either_gives (one_act (Gate Enter) tt) (prelude (act_then (Gate Knock) (act_then (Gate Withdraw) (refuse_gives Barred (λ f. record {
-    same = refl;
-    before = (refl, (refl, tt));
-    shown = (([], Gate Withdraw ∷ [], refl), (tt, (tt, tt)));
-    are = ((λ e. cc), ((λ e. cc), tt));
-  })))))
+  enter_work = either_gives (one_act (Gate Enter) tt)
+      (prelude (act_then (Gate Knock) (act_then (Gate Withdraw) (refuse_gives Barred (λ f. record {
+        same = refl;
+        before = (refl, (refl, tt));
+        shown = (([], Gate Withdraw ∷ [], refl), (tt, (tt, tt)));
+        are = ((λ e. cc), ((λ e. cc), tt));
+      })))))
 
   leave_lawful : IsLawful asked last thread (act (Gate Leave))
   leave_lawful = act_gives (Gate Leave) (λ f. record { leads = stays; lose = (tt, tt); are = λ inside is. absurd cc })
@@ -135,12 +176,16 @@ record Reserved (asked : ℕ) (old : Frames) (acts : List Act) (new : Frames) : 
 -- space for n words, which the call asks for
 reserved : (n : ℕ) → Gives (Reserved n) (Refused NoLeave n) (reserve n)
 reserved zero = done_gives tt (λ f. record { same = refl; before = tt; lose = tt; stays = tt })
-reserved (suc n) = either_gives (act_gives (Reserve (suc n)) (λ f. record { same = refl; before = (refl, tt); lose = (tt, tt); stays = ((λ e. cc), tt) })) (either_gives
-    (some_act_then (ReserveFull (suc n)) (λ u. refuse_gives (fault.SpaceFull u) (λ f. record { same = refl; before = (refl, tt); shown = (([], [], refl), (tt, tt)); are = ((λ e. cc), tt) })))
-    (some_act_then {X = ℕ × ℕ} (λ l. ReserveLost (suc n) l.0 l.1) (λ l. refuse_gives (fault.Raced l.0 l.1) (λ f. record { same = refl; before = (refl, tt); shown = (tt, (refl, tt)); are = ((λ e. cc), tt) }))))
+reserved (suc n) = either_gives (act_gives (Reserve (suc n))
+    (λ f. record { same = refl; before = (refl, tt); lose = (tt, tt); stays = ((λ e. cc), tt) })) (either_gives
+    (some_act_then (ReserveFull (suc n)) (λ u. refuse_gives (fault.SpaceFull u) (λ f.
+    record { same = refl; before = (refl, tt); shown = (([], [], refl), (tt, tt)); are = ((λ e. cc), tt) })))
+    (some_act_then {X = ℕ × ℕ} (λ l. ReserveLost (suc n) l.0 l.1) (λ l. refuse_gives (fault.Raced l.0 l.1) (λ f.
+    record { same = refl; before = (refl, tt); shown = (tt, (refl, tt)); are = ((λ e. cc), tt) }))))
 
 reserve_work : {last thread : ℕ} (n : ℕ) → IsWork n last thread (reserve n)
-reserve_work n = weaker_gives (λ f g xs r. record { leads = same_leads r.same; lose = r.lose; are = r.stays }) (λ f g xs e r. r) (reserved n)
+reserve_work n = weaker_gives (λ f g xs r. record { leads = same_leads r.same; lose = r.lose; are = r.stays })
+    (λ f g xs e r. r) (reserved n)
 
 -- no number was left for an object
 abbrev Numberless : Refusing
@@ -148,7 +193,8 @@ Numberless old acts e new = (acts ≡ []) × (e ≡ fault.ObjectsFull) × (new �
 
 module _ {asked last thread : ℕ} where
   publish_gives : (k : Kind) (ws : List ℕ) → Gives (Moved NoLeave asked last thread) Numberless (publish k ws)
-  publish_gives k ws = either_gives (some_act_gives (λ o. New o k ws) (λ o f. moved (tt, tt) refl stays)) (refuse_gives fault.ObjectsFull (λ f. (refl, refl, refl)))
+  publish_gives k ws = either_gives (some_act_gives (λ o. New o k ws) (λ o f. moved (tt, tt) refl stays))
+      (refuse_gives fault.ObjectsFull (λ f. (refl, refl, refl)))
 
   publish_work : (k : Kind) (ws : List ℕ) → IsWork asked last thread (publish k ws)
   publish_work k ws = either_gives (some_act_of (λ o. New o k ws) (λ o. tt)) (prelude (refuse_prelude _ refl))
@@ -158,60 +204,84 @@ module _ {asked : ℕ} (c : Config) (last thread : ℕ) where
   delete_local_work a = before (check _ _ refl) (λ x. before (check _ _ refl) (λ y. delete_local_at_work a))
 
 -- an object of these words, for which the call asks: where no number is left, the space stays reserved
-made_work : (c : Config) (last thread : ℕ) (k : Kind) (ws : List ℕ) → IsWork (length ws) last thread (made c last thread k ws)
-made_work c last thread k ws = before (room_prelude c last thread 1) (λ x. bind_gives (record { joins = joins; behind = behind }) (reserved (length ws)) (λ y. surely (publish_gives k ws) (λ o. added_sure c o)))
+made_work : (c : Config) (last thread : ℕ) (k : Kind) (ws : List ℕ)
+    → IsWork (length ws) last thread (made c last thread k ws)
+made_work c last thread k ws =
+    before (room_prelude c last thread 1) (λ x. bind_gives (record { joins = joins; behind = behind })
+    (reserved (length ws)) (λ y. surely (publish_gives k ws) (λ o. added_sure c o)))
   where
     asked : ℕ
     asked = length ws
 
-    joins : (f g h : Frames) (xs ys : List Act) → Reserved asked f xs g → Moved NoLeave asked last thread g ys h → Moved NoLeave asked last thread f (xs ++ ys) h
-    joins f g h xs ys p q = record { leads = leads_then (same_leads p.same) q.leads; lose = append_all (LosesOnly asked) xs ys p.lose q.lose; are = append_all (λ a. a ≢ Gate Leave) xs ys p.stays q.are }
+    joins : (f g h : Frames) (xs ys : List Act) → Reserved asked f xs g → Moved NoLeave asked last thread g ys h
+        → Moved NoLeave asked last thread f (xs ++ ys) h
+    joins f g h xs ys p q = record {
+      leads = leads_then (same_leads p.same) q.leads;
+      lose = append_all (LosesOnly asked) xs ys p.lose q.lose;
+      are = append_all (λ a. a ≢ Gate Leave) xs ys p.stays q.are;
+    }
 
-    behind : (f g h : Frames) (xs ys : List Act) (e : Fault) → Reserved asked f xs g → Numberless g ys e h → Refused NoLeave asked f (xs ++ ys) e h
+    behind : (f g h : Frames) (xs ys : List Act) (e : Fault) → Reserved asked f xs g → Numberless g ys e h
+        → Refused NoLeave asked f (xs ++ ys) e h
     behind f g h xs ys e p q =
         subst (λ l. Refused NoLeave asked f l e h) (sym (ap (λ l. xs ++ l) q.0 ∙ append-nil xs))
-        (subst (λ z. Refused NoLeave asked f xs z h) (sym q.1) (record { same = q.2 ∙ p.same; before = p.before; shown = (tt, p.lose); are = p.stays }))
+        (subst (λ z. Refused NoLeave asked f xs z h) (sym q.1)
+        (record { same = q.2 ∙ p.same; before = p.before; shown = (tt, p.lose); are = p.stays }))
 
 -- n equal elements
-pub alike_work : (c : Config) (last thread : ℕ) (k : Kind) (n v : ℕ) → IsWork n last thread (made c last thread k (replicate n v))
-alike_work c last thread k n v = subst (λ m. IsWork m last thread (made c last thread k (replicate n v))) (length-replicate n v) (made_work c last thread k (replicate n v))
+pub alike_work : (c : Config) (last thread : ℕ) (k : Kind) (n v : ℕ)
+    → IsWork n last thread (made c last thread k (replicate n v))
+alike_work c last thread k n v = subst (λ m. IsWork m last thread (made c last thread k (replicate n v)))
+    (length-replicate n v) (made_work c last thread k (replicate n v))
 
 module _ {asked : ℕ} (c : Config) (last thread : ℕ) (s : State) where
-  length_work : (p : Kind → Bool) (e : Fault) → refused_at asked e ≡ None → (a : Word) → IsWork asked last thread (length_reading c last thread s p e a)
+  length_work : (p : Kind → Bool) (e : Fault) → refused_at asked e ≡ None → (a : Word)
+      → IsWork asked last thread (length_reading c last thread s p e a)
   length_work p e none a =
-      before (resolved_prelude c last thread a) (λ x. before (not_null_prelude x) (λ o. object_gives s o (λ k n. before (check (not (p k)) e none) (λ y. prelude (done_prelude n)))))
+      before (resolved_prelude c last thread a) (λ x. before (not_null_prelude x) (λ o.
+      object_gives s o (λ k n. before (check (not (p k)) e none) (λ y. prelude (done_prelude n)))))
 
-  back_work : (k : Kind) (a : Word) (buffer : List ℕ) → IsWork asked last thread (copying_back c last thread s k a buffer)
+  back_work : (k : Kind) (a : Word) (buffer : List ℕ)
+      → IsWork asked last thread (copying_back c last thread s k a buffer)
   back_work k a buffer =
       before (resolved_prelude c last thread a) (λ x. before (not_null_prelude x) (λ o. object_gives s o (λ l n.
-      before (check (not (is_array l)) NotArray refl) (λ y. before (check (not (same_element k l)) WrongElement refl) (λ z. before (check (not (n == length buffer)) Range refl) (λ u. write_work o 0 buffer))))))
+      before (check (not (is_array l)) NotArray refl) (λ y. before (check (not (same_element k l)) WrongElement refl)
+      (λ z. before (check (not (n == length buffer)) Range refl) (λ u. write_work o 0 buffer))))))
 
-  release_lawful : (k : Kind) (a : Word) (buffer : List ℕ) (mode : Mode) → IsLawful asked last thread (release_array_elements c last thread s k a buffer mode)
+  release_lawful : (k : Kind) (a : Word) (buffer : List ℕ) (mode : Mode)
+      → IsLawful asked last thread (release_array_elements c last thread s k a buffer mode)
   release_lawful k a buffer Copy = answered (in_stay (back_work k a buffer)) (λ x. None)
   release_lawful k a buffer Commit = answered (in_stay (back_work k a buffer)) (λ x. Some buffer)
   release_lawful k a buffer Abort = outside (prelude (done_prelude None))
 
   -- a level is added to others
   pub nest_array_work : (levels : List ℕ) (a : Word) → IsWork asked last thread (nest_array c last thread s levels a)
-  nest_array_work levels a = prelude (bind_prelude (level_array_prelude c last thread s (length levels) a) (λ o. done_prelude _))
+  nest_array_work levels a =
+      prelude (bind_prelude (level_array_prelude c last thread s (length levels) a) (λ o. done_prelude _))
 
   pub nest_string_work : (levels : List ℕ) (a : Word) → IsWork asked last thread (nest_string c last thread s levels a)
-  nest_string_work levels a = prelude (bind_prelude (level_string_prelude c last thread s (length levels) a) (λ o. done_prelude _))
+  nest_string_work levels a =
+      prelude (bind_prelude (level_string_prelude c last thread s (length levels) a) (λ o. done_prelude _))
 
   -- an element of a level is read, and written
   pub get_work : (k : Kind) (o i : ℕ) → IsWork asked last thread (region_get c last thread s k o i)
-  get_work k o i = object_gives s o (λ l n. before (check (not (is_read_as k l)) WrongElement refl) (λ y. before (check (nat_le n i) Range refl) (λ z. some_act_of (Read o i) (λ v. tt))))
+  get_work k o i = object_gives s o (λ l n. before (check (not (is_read_as k l)) WrongElement refl) (λ y.
+      before (check (nat_le n i) Range refl) (λ z. some_act_of (Read o i) (λ v. tt))))
 
   pub set_work : (k : Kind) (o i v : ℕ) → IsWork asked last thread (region_set c last thread s k o i v)
-  set_work k o i v = object_gives s o (λ l n. before (check (is_text l) NotArray refl) (λ y. before (check (not (is_read_as k l)) WrongElement refl) (λ z. before (check (nat_le n i) Range refl) (λ u. one_act (Write o i v) tt))))
+  set_work k o i v = object_gives s o (λ l n.
+      before (check (is_text l) NotArray refl) (λ y. before (check (not (is_read_as k l)) WrongElement refl) (λ z.
+      before (check (nat_le n i) Range refl) (λ u. one_act (Write o i v) tt))))
 
 module _ (c : Config) (last thread : ℕ) (s : State) where
   -- EACH CALL OF AN ENV
   lawful : {a : AnswerKind} (x : CallOf a) → IsLawful (words_asked x) last thread (means c last thread s x)
   lawful (CallOf.new_reference k a) = in_stay (before (resolved_prelude c last thread a) (created_work c.slots k))
   lawful (CallOf.new_local_ref a) = in_stay (before (resolved_prelude c last thread a) (new_local_work c last thread))
-  lawful (CallOf.delete_reference k a) = in_stay (before (check _ _ refl) (λ x. before (check _ _ refl) (λ y. before (check _ _ refl) (λ z. delete_at_work a))))
-  lawful (CallOf.delete_local_ref a) = in_stay (before (check _ _ refl) (λ x. before (check _ _ refl) (λ y. delete_local_work c last thread a)))
+  lawful (CallOf.delete_reference k a) = in_stay
+      (before (check _ _ refl) (λ x. before (check _ _ refl) (λ y. before (check _ _ refl) (λ z. delete_at_work a))))
+  lawful (CallOf.delete_local_ref a) =
+      in_stay (before (check _ _ refl) (λ x. before (check _ _ refl) (λ y. delete_local_work c last thread a)))
   lawful (CallOf.is_same_object a b) = in_stay (before (both_prelude c last thread a b) (λ x. prelude (done_prelude _)))
   lawful (CallOf.get_object_ref_type a) = in_stay (prelude (cond_gives _ (done_prelude 0) (type_prelude a)))
   lawful (CallOf.ensure_local_capacity n) = outside (prelude (room_prelude c last thread n))
@@ -219,21 +289,30 @@ module _ (c : Config) (last thread : ℕ) (s : State) where
   lawful (CallOf.pop_local_frame a) = in_stay (resolved_popping c last thread a)
   lawful CallOf.new_plain = in_stay (made_work c last thread Plain [])
   lawful (CallOf.new_array k n) = in_stay (alike_work c last thread k n 0)
-  lawful (CallOf.new_object_array n a) = in_stay (before (resolved_prelude c last thread a) (λ x. alike_work c last thread Objects n _))
+  lawful (CallOf.new_object_array n a) =
+      in_stay (before (resolved_prelude c last thread a) (λ x. alike_work c last thread Objects n _))
   lawful (CallOf.new_string units) = in_stay (made_work c last thread Text units)
   lawful CallOf.free_locals = in_stay (sure freeing_sure)
   lawful CallOf.into_pass = outside (prelude (done_prelude tt))
-  lawful (CallOf.kind_of a) = in_stay (before (resolved_prelude c last thread a) (λ x. before (not_null_prelude x) (λ o. object_gives s o (λ k n. prelude (done_prelude k)))))
+  lawful (CallOf.kind_of a) = in_stay (before (resolved_prelude c last thread a) (λ x.
+      before (not_null_prelude x) (λ o. object_gives s o (λ k n. prelude (done_prelude k)))))
   lawful (CallOf.get_array_length a) = in_stay (length_work c last thread s _ _ refl a)
   lawful (CallOf.get_string_length a) = in_stay (length_work c last thread s _ _ refl a)
-  lawful (CallOf.get_object_array_element a i) = in_stay (before (resolved_prelude c last thread a) (λ x. before (not_null_prelude x) (λ o. before (element_prelude c last thread s o i) (λ y.
+  lawful (CallOf.get_object_array_element a i) = in_stay (before (resolved_prelude c last thread a) (λ x.
+      before (not_null_prelude x) (λ o. before (element_prelude c last thread s o i) (λ y.
       before (some_act_prelude (Read o i) (λ v. refl) (λ v. tt)) (λ v. new_local_work c last thread _)))))
-  lawful (CallOf.set_object_array_element a i b) = in_stay (before (both_prelude c last thread a b) (λ x. before (not_null_prelude x.0) (λ o. before (element_prelude c last thread s o i) (λ y. one_act _ tt))))
-  lawful (CallOf.get_array_region k a start n) = in_stay (before (part_prelude c last thread s k start n a) (λ o. read_work o start n))
-  lawful (CallOf.set_array_region k a start vs) = in_stay (before (part_prelude c last thread s k start (length vs) a) (λ o. write_work o start vs))
-  lawful (CallOf.get_array_elements k a) = in_stay (before (resolved_prelude c last thread a) (λ x. before (not_null_prelude x) (λ o. object_gives s o (λ l n.
-      before (check (not (is_array l)) NotArray refl) (λ y. before (check (not (same_element k l)) WrongElement refl) (λ z. in_memory n (read_work o 0 n)))))))
-  lawful (CallOf.get_string_chars a) = in_stay (before (resolved_prelude c last thread a) (λ x. before (not_null_prelude x) (λ o. object_gives s o (λ l n.
+  lawful (CallOf.set_object_array_element a i b) = in_stay (before (both_prelude c last thread a b) (λ x.
+      before (not_null_prelude x.0) (λ o. before (element_prelude c last thread s o i) (λ y. one_act _ tt))))
+  lawful (CallOf.get_array_region k a start n) =
+      in_stay (before (part_prelude c last thread s k start n a) (λ o. read_work o start n))
+  lawful (CallOf.set_array_region k a start vs) =
+      in_stay (before (part_prelude c last thread s k start (length vs) a) (λ o. write_work o start vs))
+  lawful (CallOf.get_array_elements k a) = in_stay
+      (before (resolved_prelude c last thread a) (λ x. before (not_null_prelude x) (λ o. object_gives s o (λ l n.
+      before (check (not (is_array l)) NotArray refl) (λ y.
+      before (check (not (same_element k l)) WrongElement refl) (λ z. in_memory n (read_work o 0 n)))))))
+  lawful (CallOf.get_string_chars a) = in_stay
+      (before (resolved_prelude c last thread a) (λ x. before (not_null_prelude x) (λ o. object_gives s o (λ l n.
       before (check (not (is_text l)) WrongKind refl) (λ y. in_memory n (read_work o 0 n))))))
   lawful (CallOf.release_array_elements k a buffer mode) = release_lawful c last thread s k a buffer mode
   lawful (CallOf.get_array_critical a) = in_region (prelude (level_array_prelude c last thread s 0 a))
@@ -242,7 +321,8 @@ module _ (c : Config) (last thread : ℕ) (s : State) where
   lawful (CallOf.nest_string levels a) = outside (nest_string_work c last thread s levels a)
 
   -- EACH OTHER CALL
-  part_lawful : {a : AnswerKind} (x : PartOf a) → IsLawful (words_asked_by_part x) last thread (part_means c last thread s x)
+  part_lawful : {a : AnswerKind} (x : PartOf a)
+      → IsLawful (words_asked_by_part x) last thread (part_means c last thread s x)
   part_lawful PartOf.enter = outside (enter_work)
   part_lawful PartOf.leave = leave_lawful
   part_lawful PartOf.shut = outside (either_gives (one_act _ tt) (prelude closed_prelude))
@@ -253,8 +333,11 @@ module _ (c : Config) (last thread : ℕ) (s : State) where
   part_lawful (PartOf.reserve n) = outside (reserve_work n)
   part_lawful (PartOf.publish k ws) = outside (publish_work k ws)
   part_lawful (PartOf.header o) = outside (object_gives s o (λ k n. prelude (done_prelude (k, n))))
-  part_lawful (PartOf.read_element o i) = outside (object_gives s o (λ k n. before (check (is_plain k) NotArray refl) (λ x. before (check (nat_le n i) Range refl) (λ y. some_act_of (Read o i) (λ v. tt)))))
-  part_lawful (PartOf.write_element o i v) = outside (object_gives s o (λ k n. before (check (is_plain k || is_text k) NotArray refl) (λ x. before (check (nat_le n i) Range refl) (λ y. before (check (not (is_value k v)) Value refl) (λ z. one_act (Write o i v) tt)))))
+  part_lawful (PartOf.read_element o i) = outside (object_gives s o (λ k n. before (check (is_plain k) NotArray refl)
+      (λ x. before (check (nat_le n i) Range refl) (λ y. some_act_of (Read o i) (λ v. tt)))))
+  part_lawful (PartOf.write_element o i v) = outside (object_gives s o (λ k n.
+      before (check (is_plain k || is_text k) NotArray refl) (λ x. before (check (nat_le n i) Range refl) (λ y.
+      before (check (not (is_value k v)) Value refl) (λ z. one_act (Write o i v) tt)))))
   part_lawful (PartOf.resolved a) = outside (prelude (resolved_prelude c last thread a))
   part_lawful (PartOf.new_local o) = outside (new_local_work c last thread o)
   part_lawful (PartOf.delete_local a) = outside (delete_local_work c last thread a)
@@ -265,8 +348,10 @@ module _ (c : Config) (last thread : ℕ) (s : State) where
   part_lawful (PartOf.region_get k o i) = outside (get_work c last thread s k o i)
   part_lawful (PartOf.region_set k o i v) = outside (set_work c last thread s k o i v)
   part_lawful (PartOf.region_release levels) = released_lawful levels
-  part_lawful (PartOf.elements_get buffer i) = outside (before (check (nat_le (length buffer) i) Range refl) (λ x. prelude (done_prelude _)))
-  part_lawful (PartOf.elements_set buffer i v) = outside (before (check (nat_le (length buffer) i) Range refl) (λ x. prelude (done_prelude _)))
+  part_lawful (PartOf.elements_get buffer i) =
+      outside (before (check (nat_le (length buffer) i) Range refl) (λ x. prelude (done_prelude _)))
+  part_lawful (PartOf.elements_set buffer i v) =
+      outside (before (check (nat_le (length buffer) i) Range refl) (λ x. prelude (done_prelude _)))
   part_lawful (PartOf.elements_length buffer) = outside (prelude (done_prelude _))
   part_lawful PartOf.collect = outside collect_work
   part_lawful PartOf.announce = outside (prelude announce_prelude)
@@ -291,5 +376,8 @@ module _ (c : Config) (last thread : ℕ) (s : State) where
   parts_refuse_truly a x = truly (part_lawful x)
 
   -- between the entry and the exit of a whole call it doesn't leave
-  pub whole_stays : {a : AnswerKind} (x : CallOf a) (f g : Frames) (acts : List Act) (answer : Result (AnswerOf a) Fault) → means c last thread s x f (Gate Enter ∷ acts ++ Gate Leave ∷ []) answer g → NoLeave acts
-  whole_stays x f g acts answer is = leaves_once (lawful x) f g (Gate Enter ∷ acts ++ Gate Leave ∷ []) answer is acts refl
+  pub whole_stays : {a : AnswerKind} (x : CallOf a) (f g : Frames) (acts : List Act)
+      (answer : Result (AnswerOf a) Fault) → means c last thread s x f (Gate Enter ∷ acts ++ Gate Leave ∷ []) answer g
+      → NoLeave acts
+  whole_stays x f g acts answer is =
+      leaves_once (lawful x) f g (Gate Enter ∷ acts ++ Gate Leave ∷ []) answer is acts refl

@@ -9,9 +9,13 @@ use Rattle.jr_model.proofs.References.{created_once, deleted_is_not_created, del
 
 pub lawful : (c : Config) (last : ℕ) (es : History) → IsLegal c last es → KeepsTheLaws es
 lawful c last es l = record {
-  once = λ h t u o p before between rest is. created_once c last h t u o p before between rest (subst (IsLegal c last) is l);
-  one = λ g h before rest is. one_an_index c last before g h ((legal_append c last before rest).0 (subst (IsLegal c last) is l)).0;
-  stale = λ h t u r before between rest is. deleted_is_stale c last h t u r before between rest (subst (IsLegal c last) is l);
-  not_again = λ h t u o before between rest is. deleted_is_not_created c last h t u o before between rest (subst (IsLegal c last) is l);
+  once = λ h t u o p before between rest is.
+      created_once c last h t u o p before between rest (subst (IsLegal c last) is l);
+  one = λ g h before rest is.
+      one_an_index c last before g h ((legal_append c last before rest).0 (subst (IsLegal c last) is l)).0;
+  stale = λ h t u r before between rest is.
+      deleted_is_stale c last h t u r before between rest (subst (IsLegal c last) is l);
+  not_again = λ h t u o before between rest is.
+      deleted_is_not_created c last h t u o before between rest (subst (IsLegal c last) is l);
   apart = λ t before inside rest stay. no_collection_inside c last t es before inside rest l stay;
 }

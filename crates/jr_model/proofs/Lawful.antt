@@ -1,4 +1,5 @@
--- What the laws over all calls ask of each: it moves the frames, changes nothing where it is refused, shows why, and leaves once; and how that is put together from its parts.
+-- What the laws over all calls ask of each: it moves the frames, changes nothing where it
+-- is refused, shows why, and leaves once; and how that is put together from its parts.
 use Rattle.std.proofs.Common.{◌≡◌, ◌≢◌, ℕ, true, List, [], ◌∷◌, ◌++◌, Result, Ok, Err, refl, sym, ap, subst, ◌∙◌}
 use Rattle.std.proofs.lemmas.List.{append-nil}
 use Rattle.std.specs.List.{AllByRecursion}
@@ -12,12 +13,14 @@ use Rattle.jr_model.specs.Calls.{Call, ◌>>=◌, act, done, entered, opened, so
 use Rattle.jr_model.specs.Moves.{MovesFrames}
 use Rattle.jr_model.specs.RefusedCalls.{is_harmless, may_precede, ChangesNothing}
 use Rattle.jr_model.proofs.Exactly.{append_all}
-use Rattle.jr_model.proofs.Composed.{Going, Gives, Never, act_gives, bind_gives, done_gives, entered_gives, memory_gives, opened_gives, some_act_gives, weaker_gives}
+use Rattle.jr_model.proofs.Composed.{Going, Gives, Never, act_gives, bind_gives, done_gives, entered_gives}
+use Rattle.jr_model.proofs.Composed.{memory_gives, opened_gives, some_act_gives, weaker_gives}
 use Rattle.jr_model.proofs.ShownRefusals.{LosesOnly, LoseOnly, IsShown, shown_before, shown_behind}
 
 -- FRAMES
 
-pub leads_then : {last thread : ℕ} {f g h : Frames} → LeadsTo last thread f g → LeadsTo last thread g h → LeadsTo last thread f h
+pub leads_then : {last thread : ℕ} {f g h : Frames} → LeadsTo last thread f g → LeadsTo last thread g h
+    → LeadsTo last thread f h
 leads_then p stays = p
 leads_then p (goes_on q m) = goes_on (leads_then p q) m
 
@@ -63,9 +66,11 @@ inside_parts asked (Gate Leave) is = absurd is
 inside_parts asked _ is = (tt, λ e. cc)
 
 -- what holds of a call's acts by that
-pub inside_all : (asked : ℕ) (acts : List Act) → AllByRecursion (IsInside asked) acts → LoseOnly asked acts × NoLeave acts
+pub inside_all : (asked : ℕ) (acts : List Act) → AllByRecursion (IsInside asked) acts
+    → LoseOnly asked acts × NoLeave acts
 inside_all asked [] inside = (tt, tt)
-inside_all asked (a ∷ acts) inside = let one = inside_parts asked a inside.0 in let rest = inside_all asked acts inside.1 in ((one.0, rest.0), (one.1, rest.1))
+inside_all asked (a ∷ acts) inside = let one = inside_parts asked a inside.0 in
+    let rest = inside_all asked acts inside.1 in ((one.0, rest.0), (one.1, rest.1))
 
 leave_among : (acts : List Act) → NoLeave (acts ++ Gate Leave ∷ []) → ⊥
 leave_among [] none = none.0 refl
@@ -95,13 +100,15 @@ pub record Quiet (asked : ℕ) (old : Frames) (acts : List Act) (new : Frames) :
   pub stays : NoLeave acts
 
 -- where a call goes on that moves the frames
-pub record Moved (Are : List Act → Type 0) (asked last thread : ℕ) (old : Frames) (acts : List Act) (new : Frames) : Type 0 where
+pub record Moved (Are : List Act → Type 0) (asked last thread : ℕ) (old : Frames) (acts : List Act)
+    (new : Frames) : Type 0 where
   pub leads : LeadsTo last thread old new
   pub lose : LoseOnly asked acts
   pub are : Are acts
 
 -- where a call is refused: it changed nothing, and shows why
-pub record Refused (Are : List Act → Type 0) (asked : ℕ) (old : Frames) (acts : List Act) (e : Fault) (new : Frames) : Type 0 where
+pub record Refused (Are : List Act → Type 0) (asked : ℕ) (old : Frames) (acts : List Act) (e : Fault)
+    (new : Frames) : Type 0 where
   pub same : new ≡ old
   pub before : Precede e acts
   pub shown : IsShown asked e acts
@@ -128,7 +135,8 @@ abbrev pub Still : Going
 Still old acts new = (acts ≡ []) × (new ≡ old)
 
 module _ {asked : ℕ} where
-  both_quiet : (f g h : Frames) (xs ys : List Act) → Quiet asked f xs g → Quiet asked g ys h → Quiet asked f (xs ++ ys) h
+  both_quiet : (f g h : Frames) (xs ys : List Act) → Quiet asked f xs g → Quiet asked g ys h
+      → Quiet asked f (xs ++ ys) h
   both_quiet f g h xs ys p q = record {
     same = q.same ∙ p.same;
     harmless = append_all (λ a. is_harmless a ≡ true) xs ys p.harmless q.harmless;
@@ -136,7 +144,8 @@ module _ {asked : ℕ} where
     stays = append_all (λ a. a ≢ Gate Leave) xs ys p.stays q.stays;
   }
 
-  pub quiet_refused : (f g h : Frames) (xs ys : List Act) (e : Fault) → Quiet asked f xs g → Refused NoLeave asked g ys e h → Refused NoLeave asked f (xs ++ ys) e h
+  pub quiet_refused : (f g h : Frames) (xs ys : List Act) (e : Fault) → Quiet asked f xs g
+      → Refused NoLeave asked g ys e h → Refused NoLeave asked f (xs ++ ys) e h
   quiet_refused f g h xs ys e p q = record {
     same = q.same ∙ p.same;
     before = append_all (λ a. may_precede e a ≡ true) xs ys (all_precede e xs p.harmless) q.before;
@@ -144,14 +153,16 @@ module _ {asked : ℕ} where
     are = append_all (λ a. a ≢ Gate Leave) xs ys p.stays q.are;
   }
 
-  pub quiet_moved : {last thread : ℕ} (f g h : Frames) (xs ys : List Act) → Quiet asked f xs g → Moved NoLeave asked last thread g ys h → Moved NoLeave asked last thread f (xs ++ ys) h
+  pub quiet_moved : {last thread : ℕ} (f g h : Frames) (xs ys : List Act) → Quiet asked f xs g
+      → Moved NoLeave asked last thread g ys h → Moved NoLeave asked last thread f (xs ++ ys) h
   quiet_moved f g h xs ys p q = record {
     leads = leads_then (same_leads p.same) q.leads;
     lose = append_all (LosesOnly asked) xs ys p.lose q.lose;
     are = append_all (λ a. a ≢ Gate Leave) xs ys p.stays q.are;
   }
 
-  pub both_moved : {last thread : ℕ} (f g h : Frames) (xs ys : List Act) → Moved NoLeave asked last thread f xs g → Moved NoLeave asked last thread g ys h → Moved NoLeave asked last thread f (xs ++ ys) h
+  pub both_moved : {last thread : ℕ} (f g h : Frames) (xs ys : List Act) → Moved NoLeave asked last thread f xs g
+      → Moved NoLeave asked last thread g ys h → Moved NoLeave asked last thread f (xs ++ ys) h
   both_moved f g h xs ys p q = record {
     leads = leads_then p.leads q.leads;
     lose = append_all (LosesOnly asked) xs ys p.lose q.lose;
@@ -159,91 +170,131 @@ module _ {asked : ℕ} where
   }
 
   -- one prelude and then another
-  pub bind_prelude : {A B : Type 0} {first : Call A} {next : A → Call B} → IsPrelude asked first → ((x : A) → IsPrelude asked (next x)) → IsPrelude asked (first >>= next)
+  pub bind_prelude : {A B : Type 0} {first : Call A} {next : A → Call B} → IsPrelude asked first
+      → ((x : A) → IsPrelude asked (next x)) → IsPrelude asked (first >>= next)
   bind_prelude p q = bind_gives (record { joins = both_quiet; behind = quiet_refused }) p q
 
   -- it was refused in a stay of its own
-  refused_in_stay : (f g : Frames) (xs : List Act) (e : Fault) → Refused NoLeave asked f xs e g → Refused LeaveOnce asked f (Gate Enter ∷ xs ++ Gate Leave ∷ []) e g
+  refused_in_stay : (f g : Frames) (xs : List Act) (e : Fault) → Refused NoLeave asked f xs e g
+      → Refused LeaveOnce asked f (Gate Enter ∷ xs ++ Gate Leave ∷ []) e g
   refused_in_stay f g xs e q = record {
     same = q.same;
-    before = append_all (λ a. may_precede e a ≡ true) (Gate Enter ∷ xs) (Gate Leave ∷ []) (precedes e (Gate Enter) refl, q.before) (precedes e (Gate Leave) refl, tt);
-    shown = shown_behind asked e (Gate Enter ∷ []) (xs ++ Gate Leave ∷ []) (tt, tt) (shown_before asked e xs (Gate Leave ∷ []) (tt, tt) q.shown);
+    before = append_all (λ a. may_precede e a ≡ true) (Gate Enter ∷ xs) (Gate Leave ∷ [])
+        (precedes e (Gate Enter) refl, q.before) (precedes e (Gate Leave) refl, tt);
+    shown = shown_behind asked e (Gate Enter ∷ []) (xs ++ Gate Leave ∷ []) (tt, tt)
+        (shown_before asked e xs (Gate Leave ∷ []) (tt, tt) q.shown);
     are = stay_once xs q.are;
   }
 
   barred : (f : Frames) → Refused LeaveOnce asked f (Gate Knock ∷ Gate Withdraw ∷ []) Barred f
-  barred f = record { same = refl; before = (refl, (refl, tt)); shown = (([], Gate Withdraw ∷ [], refl), (tt, (tt, tt))); are = none_once (Gate Knock ∷ Gate Withdraw ∷ []) ((λ e. cc), ((λ e. cc), tt)) }
+  barred f = record {
+    same = refl;
+    before = (refl, (refl, tt));
+    shown = (([], Gate Withdraw ∷ [], refl), (tt, (tt, tt)));
+    are = none_once (Gate Knock ∷ Gate Withdraw ∷ []) ((λ e. cc), ((λ e. cc), tt));
+  }
 
 module _ {asked last thread : ℕ} where
   pub prelude : {A : Type 0} {call : Call A} → IsPrelude asked call → IsWork asked last thread call
-  prelude p = weaker_gives (λ f g xs q. record { leads = same_leads q.same; lose = q.lose; are = q.stays }) (λ f g xs e q. q) p
+  prelude p =
+      weaker_gives (λ f g xs q. record { leads = same_leads q.same; lose = q.lose; are = q.stays }) (λ f g xs e q. q) p
 
   pub sure : {A : Type 0} {call : Call A} → IsSure asked last thread call → IsWork asked last thread call
   sure p = weaker_gives (λ f g xs q. q) (λ f g xs e never. absurd never) p
 
   -- a prelude, and then work
-  pub before : {A B : Type 0} {first : Call A} {next : A → Call B} → IsPrelude asked first → ((x : A) → IsWork asked last thread (next x)) → IsWork asked last thread (first >>= next)
+  pub before : {A B : Type 0} {first : Call A} {next : A → Call B} → IsPrelude asked first
+      → ((x : A) → IsWork asked last thread (next x)) → IsWork asked last thread (first >>= next)
   before p q = bind_gives (record { joins = quiet_moved; behind = quiet_refused }) p q
 
   -- work, and then what is not refused
-  pub surely : {A B : Type 0} {Bad : Frames → List Act → Fault → Frames → Type 0} {first : Call A} {next : A → Call B} → Gives (Moved NoLeave asked last thread) Bad first → ((x : A) → IsSure asked last thread (next x)) → Gives (Moved NoLeave asked last thread) Bad (first >>= next)
+  pub surely : {A B : Type 0} {Bad : Frames → List Act → Fault → Frames → Type 0} {first : Call A} {next : A → Call B}
+      → Gives (Moved NoLeave asked last thread) Bad first → ((x : A) → IsSure asked last thread (next x))
+      → Gives (Moved NoLeave asked last thread) Bad (first >>= next)
   surely p q = bind_gives (record { joins = both_moved; behind = λ f g h xs ys e moved never. absurd never }) p q
 
   -- a call, and then an answer
-  pub answered : {A B : Type 0} {Are : List Act → Type 0} {Bad : Frames → List Act → Fault → Frames → Type 0} {first : Call A} → Gives (Moved Are asked last thread) Bad first → (f : A → B) → Gives (Moved Are asked last thread) Bad (first >>= (λ x. done (f x)))
-  answered {Are = Are} {Bad = Bad} p form = bind_gives {Second = Still} {Worse = Never} (record { joins = joins; behind = λ f g h xs ys e moved never. absurd never }) p (λ x. done_gives (form x) (λ f. (refl, refl)))
+  pub answered : {A B : Type 0} {Are : List Act → Type 0} {Bad : Frames → List Act → Fault → Frames → Type 0}
+      {first : Call A} → Gives (Moved Are asked last thread) Bad first → (f : A → B)
+      → Gives (Moved Are asked last thread) Bad (first >>= (λ x. done (f x)))
+  answered {Are = Are} {Bad = Bad} p form = bind_gives {Second = Still} {Worse = Never}
+      (record { joins = joins; behind = λ f g h xs ys e moved never. absurd never }) p (λ x.
+      done_gives (form x) (λ f. (refl, refl)))
     where
-      joins : (f g h : Frames) (xs ys : List Act) → Moved Are asked last thread f xs g → Still g ys h → Moved Are asked last thread f (xs ++ ys) h
-      joins f g h xs ys moved still = subst (λ l. Moved Are asked last thread f l h) (sym (ap (λ l. xs ++ l) still.0 ∙ append-nil xs)) (subst (Moved Are asked last thread f xs) (sym still.1) moved)
+      joins : (f g h : Frames) (xs ys : List Act) → Moved Are asked last thread f xs g → Still g ys h
+          → Moved Are asked last thread f (xs ++ ys) h
+      joins f g h xs ys moved still =
+          subst (λ l. Moved Are asked last thread f l h) (sym (ap (λ l. xs ++ l) still.0 ∙ append-nil xs))
+          (subst (Moved Are asked last thread f xs) (sym still.1) moved)
 
   -- the frames are led on by such acts
-  pub moved : {old new : Frames} {acts xs : List Act} → AllByRecursion (IsInside asked) xs → acts ≡ xs → LeadsTo last thread old new → Moved NoLeave asked last thread old acts new
-  moved {xs = xs} inside is leads = let all = inside_all asked xs inside in record { leads = leads; lose = subst (LoseOnly asked) (sym is) all.0; are = subst NoLeave (sym is) all.1 }
+  pub moved : {old new : Frames} {acts xs : List Act} → AllByRecursion (IsInside asked) xs → acts ≡ xs
+      → LeadsTo last thread old new → Moved NoLeave asked last thread old acts new
+  moved {xs = xs} inside is leads = let all = inside_all asked xs inside in
+      record { leads = leads; lose = subst (LoseOnly asked) (sym is) all.0; are = subst NoLeave (sym is) all.1 }
 
   -- an act that is not refused
   pub one_act : (a : Act) → IsInside asked a → IsWork asked last thread (act a)
   one_act a inside = act_gives a (λ f. moved (inside, tt) refl stays)
 
-  pub some_act_of : {X : Type 0} (a : X → Act) → ((x : X) → IsInside asked (a x)) → IsWork asked last thread (some_act a)
+  pub some_act_of : {X : Type 0} (a : X → Act) → ((x : X) → IsInside asked (a x))
+      → IsWork asked last thread (some_act a)
   some_act_of a inside = some_act_gives a (λ x f. moved (inside x, tt) refl stays)
 
-  pub in_memory : {A : Type 0} {work : Call A} (n : ℕ) → IsWork asked last thread work → IsWork asked last thread (unless_memory_for n work)
+  pub in_memory : {A : Type 0} {work : Call A} (n : ℕ) → IsWork asked last thread work
+      → IsWork asked last thread (unless_memory_for n work)
   in_memory n p = memory_gives n (λ f. record { same = refl; before = tt; shown = (tt, tt); are = tt }) p
 
   -- WHOLE CALLS
 
   -- a call that has no stay of its own
   pub outside : {A : Type 0} {call : Call A} → IsWork asked last thread call → IsLawful asked last thread call
-  outside p = weaker_gives (λ f g xs q. record { leads = q.leads; lose = q.lose; are = none_once xs q.are }) (λ f g xs e q. record { same = q.same; before = q.before; shown = q.shown; are = none_once xs q.are }) p
+  outside p = weaker_gives (λ f g xs q. record { leads = q.leads; lose = q.lose; are = none_once xs q.are })
+      (λ f g xs e q. record { same = q.same; before = q.before; shown = q.shown; are = none_once xs q.are }) p
 
   pub in_stay : {A : Type 0} {work : Call A} → IsWork asked last thread work → IsLawful asked last thread (entered work)
   in_stay p = entered_gives
-      (λ f g xs q. record { leads = q.leads; lose = append_all (LosesOnly asked) (Gate Enter ∷ xs) (Gate Leave ∷ []) (tt, q.lose) (tt, tt); are = stay_once xs q.are }) refused_in_stay barred p
+      (λ f g xs q. record {
+        leads = q.leads;
+        lose = append_all (LosesOnly asked) (Gate Enter ∷ xs) (Gate Leave ∷ []) (tt, q.lose) (tt, tt);
+        are = stay_once xs q.are;
+      }) refused_in_stay barred p
 
-  pub in_region : {A : Type 0} {work : Call A} → IsWork asked last thread work → IsLawful asked last thread (opened work)
-  in_region p = opened_gives (λ f g xs q. record { leads = q.leads; lose = (tt, q.lose); are = none_once (Gate Enter ∷ xs) ((λ e. cc), q.are) }) refused_in_stay barred p
+  pub in_region : {A : Type 0} {work : Call A} → IsWork asked last thread work
+      → IsLawful asked last thread (opened work)
+  in_region p = opened_gives (λ f g xs q.
+      record { leads = q.leads; lose = (tt, q.lose); are = none_once (Gate Enter ∷ xs) ((λ e. cc), q.are) })
+      refused_in_stay barred p
 
   -- WHAT IT IS BY EACH LAW
 
   pub moves : {A : Type 0} {call : Call A} → IsLawful asked last thread call → MovesFrames last thread call
   moves {A} {call} p = record { leads = leads }
     where
-      leads : (old new : Frames) (acts : List Act) (answer : Result A Fault) → call old acts answer new → LeadsTo last thread old new
+      leads : (old new : Frames) (acts : List Act) (answer : Result A Fault) → call old acts answer new
+          → LeadsTo last thread old new
       leads old new acts (Ok x) r = (p.goes old new acts x r).leads
       leads old new acts (Err e) r = same_leads (p.fails old new acts e r).same
 
   pub safe : {A : Type 0} {call : Call A} → IsLawful asked last thread call → ChangesNothing call
-  safe p = record { frames = λ old new acts e r. (p.fails old new acts e r).same; acts = λ old new acts e r. (p.fails old new acts e r).before }
+  safe p = record {
+    frames = λ old new acts e r. (p.fails old new acts e r).same;
+    acts = λ old new acts e r. (p.fails old new acts e r).before;
+  }
 
-  pub leaves_once : {A : Type 0} {call : Call A} → IsLawful asked last thread call → (old new : Frames) (acts : List Act) (answer : Result A Fault) → call old acts answer new → LeaveOnce acts
+  pub leaves_once : {A : Type 0} {call : Call A} → IsLawful asked last thread call
+      → (old new : Frames) (acts : List Act) (answer : Result A Fault) → call old acts answer new → LeaveOnce acts
   leaves_once p old new acts (Ok x) r = (p.goes old new acts x r).are
   leaves_once p old new acts (Err e) r = (p.fails old new acts e r).are
 
-  pub work_stays : {A : Type 0} {call : Call A} → IsWork asked last thread call → (old new : Frames) (acts : List Act) (answer : Result A Fault) → call old acts answer new → NoLeave acts
+  pub work_stays : {A : Type 0} {call : Call A} → IsWork asked last thread call
+      → (old new : Frames) (acts : List Act) (answer : Result A Fault) → call old acts answer new → NoLeave acts
   work_stays p old new acts (Ok x) r = (p.goes old new acts x r).are
   work_stays p old new acts (Err e) r = (p.fails old new acts e r).are
 
   -- it loses no reservation but such
-  pub loses : {A : Type 0} {Are : List Act → Type 0} {call : Call A} → Gives (Moved Are asked last thread) (Refused Are asked) call → (old new : Frames) (acts : List Act) (answer : Result A Fault) → call old acts answer new → LoseOnly asked acts
+  pub loses : {A : Type 0} {Are : List Act → Type 0} {call : Call A}
+      → Gives (Moved Are asked last thread) (Refused Are asked) call
+      → (old new : Frames) (acts : List Act) (answer : Result A Fault) → call old acts answer new → LoseOnly asked acts
   loses p old new acts (Ok x) r = (p.goes old new acts x r).lose
   loses p old new acts (Err e) r = (p.fails old new acts e r).shown.1

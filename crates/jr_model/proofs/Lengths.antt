@@ -1,5 +1,6 @@
 -- The present objects fit in what is reserved.
-use Rattle.std.proofs.Common.{◌≡◌, ◌≢◌, ◌⊎◌, inl, inr, ⊎_elim, ℕ, zero, suc, ◌+◌, ◌<◌, ◌≤◌, ◌==◌, Bool, true, false, Option, Some, None, refl, ap, subst, arith, nat_eq}
+use Rattle.std.proofs.Common.{◌≡◌, ◌≢◌, ◌⊎◌, inl, inr, ⊎_elim, ℕ, zero, suc, ◌+◌, ◌<◌, ◌≤◌, ◌==◌}
+use Rattle.std.proofs.Common.{Bool, true, false, Option, Some, None, refl, ap, subst, arith, nat_eq}
 use Rattle.std.proofs.lemmas.List.{length-set}
 use Rattle.jr_word.specs.declared.config.Config.{Config}
 use Rattle.jr_model.specs.declared.event.Act.{Act}
@@ -19,19 +20,22 @@ sum_same (suc n) f g h =
     let last : g n ≡ f n = h n (omega arith) in cc
 
 -- a sum of which one part changes
-pub sum_changed : (n : ℕ) (f g : ℕ → ℕ) (k : ℕ) → ((j : ℕ) → k ≢ j → g j ≡ f j) → (sum_below n g ≡ sum_below n f) ⊎ (sum_below n g + f k ≡ sum_below n f + g k)
+pub sum_changed : (n : ℕ) (f g : ℕ → ℕ) (k : ℕ) → ((j : ℕ) → k ≢ j → g j ≡ f j)
+    → (sum_below n g ≡ sum_below n f) ⊎ (sum_below n g + f k ≡ sum_below n f + g k)
 unfolding sum_below
 sum_changed zero f g k h = inl refl
 sum_changed (suc n) f g k h = go (k == n) refl (sum_changed n f g k h)
   where
-    go : (b : Bool) → (k == n) ≡ b → (sum_below n g ≡ sum_below n f) ⊎ (sum_below n g + f k ≡ sum_below n f + g k) → (sum_below n g + g n ≡ sum_below n f + f n) ⊎ (sum_below n g + g n + f k ≡ sum_below n f + f n + g k)
+    go : (b : Bool) → (k == n) ≡ b → (sum_below n g ≡ sum_below n f) ⊎ (sum_below n g + f k ≡ sum_below n f + g k)
+        → (sum_below n g + g n ≡ sum_below n f + f n) ⊎ (sum_below n g + g n + f k ≡ sum_below n f + f n + g k)
     go true e r =
         let here : k ≡ n = eq_true k n e in
         let same : sum_below n g ≡ sum_below n f = sum_same n f g (λ j l. h j (omega arith)) in
         inr (rw here (omega arith))
     go false e r =
         let there : g n ≡ f n = h n (eq_false k n e) in
-        ⊎_elim (λ (q : sum_below n g ≡ sum_below n f). inl (omega arith)) (λ (q : sum_below n g + f k ≡ sum_below n f + g k). inr (omega arith)) r
+        ⊎_elim (λ (q : sum_below n g ≡ sum_below n f). inl (omega arith))
+        (λ (q : sum_below n g + f k ≡ sum_below n f + g k). inr (omega arith)) r
 
 -- a sum of which each part is 0
 pub sum_zero : (n : ℕ) (f : ℕ → ℕ) → ((j : ℕ) → f j ≡ 0) → sum_below n f ≡ 0
@@ -43,7 +47,10 @@ pub sum_none : (n : ℕ) → sum_below n (λ j. 0) ≡ 0
 sum_none n = sum_zero n (λ j. 0) (λ j. refl)
 
 -- the lengths after an object's number gets other contents
-present_words_changed : (c : Config) (s : State) (o : ℕ) (x : Option Contents) → (present_words c (record s { objects = update nat_eq s.objects o x }) ≡ present_words c s) ⊎ (present_words c (record s { objects = update nat_eq s.objects o x }) + length_of (s.objects o) ≡ present_words c s + length_of x)
+present_words_changed : (c : Config) (s : State) (o : ℕ) (x : Option Contents)
+    → (present_words c (record s { objects = update nat_eq s.objects o x }) ≡ present_words c s)
+    ⊎ (present_words c (record s { objects = update nat_eq s.objects o x }) + length_of (s.objects o)
+    ≡ present_words c s + length_of x)
 present_words_changed c s o x =
     let g : ℕ → ℕ = λ j. length_of (update nat_eq s.objects o x j) in
     let m : ℕ = present_words c (record s { objects = update nat_eq s.objects o x }) in
@@ -68,19 +75,24 @@ module _ (c : Config) (last : ℕ) where
       let none : length_of (s.objects o) ≡ 0 = ap length_of n.3 in
       let room = n.5 in
       record {
-        present = ⊎_elim (λ e. omega arith) (λ e. omega arith) (present_words_changed c s o (Some (record { kind = k; words = ws })));
+        present = ⊎_elim (λ e. omega arith) (λ e. omega arith)
+            (present_words_changed c s o (Some (record { kind = k; words = ws })));
         used = i.used;
       }
   fit_act s t (Write o l v) i n =
       let p = i.present in
       let same = length_written (s.objects o) l v in
       record {
-        present = ⊎_elim (λ e. omega arith) (λ e. omega arith) (present_words_changed c s o (written (s.objects o) l v));
+        present =
+            ⊎_elim (λ e. omega arith) (λ e. omega arith) (present_words_changed c s o (written (s.objects o) l v));
         used = i.used;
       }
   fit_act s t (Drop o) i n =
       let p = i.present in
-      record { present = ⊎_elim (λ e. omega arith) (λ e. omega arith) (present_words_changed c s o None); used = i.used }
+      record {
+        present = ⊎_elim (λ e. omega arith) (λ e. omega arith) (present_words_changed c s o None);
+        used = i.used;
+      }
   fit_act s t (Settle u) i n =
       let p = i.present in let q = i.used in let e = n.1 in
       record { present = omega arith; used = omega arith }

@@ -1,5 +1,6 @@
 -- A stay that stands is one stay of its history, without a step of a collection.
-use Rattle.std.proofs.Common.{◌≡◌, ◌≢◌, inl, inr, ℕ, List, [], ◌∷◌, ◌++◌, Result, Ok, refl, sym, ap, subst, ◌∙◌, append_assoc}
+use Rattle.std.proofs.Common.{◌≡◌, ◌≢◌, ℕ, List, [], ◌∷◌, ◌++◌, Result}
+use Rattle.std.proofs.Common.{refl, sym, ap, subst, ◌∙◌, append_assoc}
 use Rattle.std.proofs.lemmas.List.{append-nil}
 use Rattle.std.specs.List.{AllByRecursion}
 use Rattle.jr_word.specs.declared.config.Config.{Config}
@@ -14,7 +15,8 @@ use Rattle.jr_model.specs.Windows.{IsLastSeen}
 use Rattle.jr_model.specs.Calls.{Call}
 use Rattle.jr_model.specs.Checks.{Word}
 use Rattle.jr_model.specs.Objects.{level_array, level_string}
-use Rattle.jr_model.specs.OpenStays.{GoesOnWithItsActs, HasStayed, IsOneStay, NoneLeaves, NoCollectionInOpenStay, NoCollectionUpToExit}
+use Rattle.jr_model.specs.OpenStays.{GoesOnWithItsActs, HasStayed, IsOneStay, NoneLeaves}
+use Rattle.jr_model.specs.OpenStays.{NoCollectionInOpenStay, NoCollectionUpToExit}
 use Rattle.jr_model.proofs.Lawful.{NoLeave, prelude, work_stays}
 use Rattle.jr_model.proofs.Preludes.{level_array_prelude, level_string_prelude}
 use Rattle.jr_model.proofs.Exactly.{append_all}
@@ -32,10 +34,12 @@ Stays {A} call = (f g : Frames) (acts : List Act) (answer : Result A Fault) → 
 
 module _ (c : Config) (last thread : ℕ) (s : State) where
   pub level_array_stays : (levels : ℕ) (a : Word) → Stays (level_array c last thread s levels a)
-  level_array_stays levels a = work_stays (prelude {asked = 0} {last = last} {thread = thread} (level_array_prelude c last thread s levels a))
+  level_array_stays levels a =
+      work_stays (prelude {asked = 0} {last = last} {thread = thread} (level_array_prelude c last thread s levels a))
 
   pub level_string_stays : (levels : ℕ) (a : Word) → Stays (level_string c last thread s levels a)
-  level_string_stays levels a = work_stays (prelude {asked = 0} {last = last} {thread = thread} (level_string_prelude c last thread s levels a))
+  level_string_stays levels a =
+      work_stays (prelude {asked = 0} {last = last} {thread = thread} (level_string_prelude c last thread s levels a))
 
 -- WHAT A STAY DID
 
@@ -48,10 +52,12 @@ module _ {old mid : PassView} (p : HasStayed old mid) where
   front = old.seen ++ (since p).before
 
   front_own : mine front old.thread ≡ mine old.seen old.thread
-  front_own = mine_append old.seen (since p).before old.thread ∙ (ap (λ l. mine old.seen old.thread ++ l) (since p).none ∙ append-nil (mine old.seen old.thread))
+  front_own = mine_append old.seen (since p).before old.thread
+      ∙ (ap (λ l. mine old.seen old.thread ++ l) (since p).none ∙ append-nil (mine old.seen old.thread))
 
   parts : mid.seen ≡ front ++ by old.thread (Gate Enter) ∷ (since p).since
-  parts = sym p.did.begins.1 ∙ (ap (λ l. old.seen ++ l) (since p).parts ∙ sym (append_assoc old.seen (since p).before (by old.thread (Gate Enter) ∷ (since p).since)))
+  parts = sym p.did.begins.1 ∙ (ap (λ l. old.seen ++ l) (since p).parts
+      ∙ sym (append_assoc old.seen (since p).before (by old.thread (Gate Enter) ∷ (since p).since)))
 
   inside_stays : AllByRecursion (λ e. e ≢ by old.thread (Gate Leave)) (since p).since
   inside_stays = never (Gate Leave) (since p).since old.thread (subst NoLeave (sym (since p).rest) p.stays)
@@ -59,14 +65,19 @@ module _ {old mid : PassView} (p : HasStayed old mid) where
 -- all that was seen since is one stay
 pub one_stay : {old mid : PassView} → HasStayed old mid → IsOneStay old mid []
 one_stay {old} {mid} p =
-    let stay : IsStay old.thread mid.seen (front p) (since p).since [] = record { parts = parts p ∙ sym (append-nil (front p ++ by old.thread (Gate Enter) ∷ (since p).since)); stays = inside_stays p; ends = tt } in
+    let stay : IsStay old.thread mid.seen (front p) (since p).since [] = record {
+      parts = parts p ∙ sym (append-nil (front p ++ by old.thread (Gate Enter) ∷ (since p).since));
+      stays = inside_stays p;
+      ends = tt;
+    } in
     record {
       before = front p;
       inside = (since p).since;
       stay = stay;
       begins = ((since p).before, refl);
       own = front_own p;
-      clear = no_collection_inside old.config old.last old.thread mid.seen (front p) (since p).since [] p.did.legal stay;
+      clear =
+          no_collection_inside old.config old.last old.thread mid.seen (front p) (since p).since [] p.did.legal stay;
     }
 
 -- THE EXIT
@@ -95,16 +106,19 @@ record LeftLast (t : ℕ) (es : History) : Type 0 where
   parts : es ≡ others ++ by t (Gate Leave) ∷ []
   none : mine others t ≡ []
 
-left_last : (t : ℕ) (before es : History) (ends : History) → mine es t ≡ Gate Leave ∷ [] → before ++ es ≡ ends ++ by t (Gate Leave) ∷ [] → LeftLast t es
+left_last : (t : ℕ) (before es : History) (ends : History) → mine es t ≡ Gate Leave ∷ []
+    → before ++ es ≡ ends ++ by t (Gate Leave) ∷ [] → LeftLast t es
 left_last t before [] ends own is = absurd cc
 left_last t before (e ∷ es) ends own is =
     let z = ended e es in
-    let last : z.last ≡ by t (Gate Leave) = same_last (before ++ z.front) ends z.last (by t (Gate Leave)) (append_assoc before z.front (z.last ∷ []) ∙ (ap (λ l. before ++ l) (sym z.is) ∙ is)) in
+    let last : z.last ≡ by t (Gate Leave) = same_last (before ++ z.front) ends z.last (by t (Gate Leave))
+    (append_assoc before z.front (z.last ∷ []) ∙ (ap (λ l. before ++ l) (sym z.is) ∙ is)) in
     let parts : e ∷ es ≡ z.front ++ by t (Gate Leave) ∷ [] = subst (λ x. e ∷ es ≡ z.front ++ x ∷ []) last z.is in
     record {
       others = z.front;
       parts = parts;
-      none = nothing_before (mine z.front t) (Gate Leave) (sym (mine_push z.front t (Gate Leave)) ∙ (ap (λ l. mine l t) (sym parts) ∙ own));
+      none = nothing_before (mine z.front t) (Gate Leave) (sym (mine_push z.front t (Gate Leave))
+          ∙ (ap (λ l. mine l t) (sym parts) ∙ own));
     }
   where
     nothing_before : (xs : List Act) (a : Act) → xs ++ a ∷ [] ≡ a ∷ [] → xs ≡ []
@@ -113,35 +127,50 @@ left_last t before (e ∷ es) ends own is =
     nothing_before (x ∷ y ∷ xs) a e = absurd cc
 
 -- up to the exit all that was seen is one stay
-pub one_stay_left : {old mid new : PassView} → HasStayed old mid → Did mid new (Gate Leave ∷ []) → IsLastSeen new (Gate Leave) → IsOneStay old new (by old.thread (Gate Leave) ∷ [])
+pub one_stay_left : {old mid new : PassView} → HasStayed old mid → Did mid new (Gate Leave ∷ [])
+    → IsLastSeen new (Gate Leave) → IsOneStay old new (by old.thread (Gate Leave) ∷ [])
 one_stay_left {old} {mid} {new} p d seen =
     let thread : new.thread ≡ old.thread = d.thread ∙ p.did.thread in
-    let own : mine d.begins.0 old.thread ≡ Gate Leave ∷ [] = subst (λ t. mine d.begins.0 t ≡ Gate Leave ∷ []) p.did.thread (mine_did (Gate Leave ∷ []) d) in
-    let left : LeftLast old.thread d.begins.0 = left_last old.thread mid.seen d.begins.0 seen.before own (d.begins.1 ∙ subst (λ t. new.seen ≡ seen.before ++ by t (Gate Leave) ∷ []) thread seen.is) in
+    let own : mine d.begins.0 old.thread ≡ Gate Leave ∷ [] =
+    subst (λ t. mine d.begins.0 t ≡ Gate Leave ∷ []) p.did.thread (mine_did (Gate Leave ∷ []) d) in
+    let left : LeftLast old.thread d.begins.0 = left_last old.thread mid.seen d.begins.0 seen.before own (d.begins.1
+    ∙ subst (λ t. new.seen ≡ seen.before ++ by t (Gate Leave) ∷ []) thread seen.is) in
     let inside = (since p).since ++ left.others in
-    let legal : IsLegal old.config old.last new.seen = (did_then (Gate Enter ∷ p.acts) (Gate Leave ∷ []) p.did d).legal in
+    let legal : IsLegal old.config old.last new.seen =
+    (did_then (Gate Enter ∷ p.acts) (Gate Leave ∷ []) p.did d).legal in
     let inner = by old.thread (Gate Enter) ∷ (since p).since in
     let whole : new.seen ≡ front p ++ by old.thread (Gate Enter) ∷ inside ++ by old.thread (Gate Leave) ∷ [] =
     sym d.begins.1 ∙ (ap (λ l. l ++ d.begins.0) (parts p)
     ∙ (ap (λ l. (front p ++ inner) ++ l) left.parts
     ∙ (sym (append_assoc (front p ++ inner) left.others (by old.thread (Gate Leave) ∷ []))
     ∙ ap (λ l. l ++ by old.thread (Gate Leave) ∷ []) (append_assoc (front p) inner left.others)))) in
-    let others : AllByRecursion (λ e. e ≢ by old.thread (Gate Leave)) left.others = never (Gate Leave) left.others old.thread (subst NoLeave (sym left.none) tt) in
-    let stay : IsStay old.thread new.seen (front p) inside (by old.thread (Gate Leave) ∷ []) = record { parts = whole; stays = append_all (λ e. e ≢ by old.thread (Gate Leave)) (since p).since left.others (inside_stays p) others; ends = refl } in
+    let others : AllByRecursion (λ e. e ≢ by old.thread (Gate Leave)) left.others =
+    never (Gate Leave) left.others old.thread (subst NoLeave (sym left.none) tt) in
+    let stay : IsStay old.thread new.seen (front p) inside (by old.thread (Gate Leave) ∷ []) = record {
+      parts = whole;
+      stays = append_all (λ e. e ≢ by old.thread (Gate Leave)) (since p).since left.others (inside_stays p) others;
+      ends = refl;
+    } in
     record {
       before = front p;
       inside = inside;
       stay = stay;
       begins = ((since p).before, refl);
       own = front_own p;
-      clear = no_collection_inside old.config old.last old.thread new.seen (front p) inside (by old.thread (Gate Leave) ∷ []) legal stay;
+      clear = no_collection_inside old.config old.last old.thread new.seen (front p) inside
+          (by old.thread (Gate Leave) ∷ []) legal stay;
     }
 
 -- THE LAWS
 
 -- what goes on without an exit stays
-pub stays_more : {old mid new : PassView} → HasStayed old mid → (acts : List Act) → Did mid new acts → NoneLeaves acts → HasStayed old new
-stays_more p acts did none = record { acts = p.acts ++ acts; did = did_then (Gate Enter ∷ p.acts) acts p.did did; stays = append_all (λ a. a ≢ Gate Leave) p.acts acts p.stays none }
+pub stays_more : {old mid new : PassView} → HasStayed old mid → (acts : List Act) → Did mid new acts → NoneLeaves acts
+    → HasStayed old new
+stays_more p acts did none = record {
+  acts = p.acts ++ acts;
+  did = did_then (Gate Enter ∷ p.acts) acts p.did did;
+  stays = append_all (λ a. a ≢ Gate Leave) p.acts acts p.stays none;
+}
 
 pub goes_on_with_its_acts : GoesOnWithItsActs
 unfolding stays_more

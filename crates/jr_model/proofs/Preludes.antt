@@ -1,7 +1,9 @@
 -- The parts of calls that come before anything is changed.
-use Rattle.std.proofs.Common.{◌≡◌, ℕ, ◌+◌, ◌==◌, Bool, true, not, nat_lt, nat_le, Option, Some, None, List, [], ◌∷◌, map, length, refl, sym, subst}
+use Rattle.std.proofs.Common.{◌≡◌, ℕ, ◌+◌, ◌==◌, Bool, true, not, nat_lt, nat_le, Option}
+use Rattle.std.proofs.Common.{Some, None, List, [], ◌∷◌, map, length, refl, sym, subst}
 use Rattle.jr_word.specs.declared.fault.Fault.{Fault}
-use Rattle.jr_word.specs.declared.fault.Fault.TheVariants.{Busy, Moved, LocalsFull, NoFrame, NotArray, WrongElement, WrongKind, Range, Size}
+use Rattle.jr_word.specs.declared.fault.Fault.TheVariants.{Busy, Moved, LocalsFull, NoFrame, NotArray}
+use Rattle.jr_word.specs.declared.fault.Fault.TheVariants.{WrongElement, WrongKind, Range, Size}
 use Rattle.jr_word.specs.declared.config.Config.{Config}
 use Rattle.jr_word.specs.declared.kind.Kind.{Kind}
 use Rattle.jr_model.specs.declared.event.Act.{Act}
@@ -13,13 +15,16 @@ use Rattle.jr_model.specs.declared.frames.TheConstants.{FRAMES, LEVELS}
 use Rattle.jr_model.specs.State.{Handle, State}
 use Rattle.jr_model.specs.Frames.{Frames, free_places, object_of, popped}
 use Rattle.jr_model.specs.Calls.{◌>>◌, act, done, refuse, refuse_if, some_act, for_object}
-use Rattle.jr_model.specs.Checks.{Word, Nothing, Malformed, Parts, is_array, is_local, is_objects, is_primitive, is_text, same_element, type_local}
-use Rattle.jr_model.specs.Parts.{announce, found_closed, found_moved, found_object, frame_left, frame_to_pop, local_object, look, looked, looked_at, not_null, probes, refused_shuts, type_at}
+use Rattle.jr_model.specs.Checks.{Word, Nothing, Malformed, Parts, is_array, is_local}
+use Rattle.jr_model.specs.Checks.{is_objects, is_primitive, is_text, same_element, type_local}
+use Rattle.jr_model.specs.Parts.{announce, found_closed, found_moved, found_object, frame_left, frame_to_pop}
+use Rattle.jr_model.specs.Parts.{local_object, look, looked, looked_at, not_null, probes, refused_shuts, type_at}
 use Rattle.jr_model.specs.References.{resolved, resolved_both, room_for, room_after}
 use Rattle.jr_model.specs.Objects.{part_of, level_array, level_string}
 use Rattle.jr_model.specs.RefusedCalls.{is_harmless}
 use Rattle.jr_model.proofs.Exactly.{all_map}
-use Rattle.jr_model.proofs.Composed.{act_gives, cond_gives, done_gives, either_gives, framed_gives, object_gives, refuse_gives, refuse_if_gives, some_act_gives, some_act_then}
+use Rattle.jr_model.proofs.Composed.{act_gives, cond_gives, done_gives, either_gives, framed_gives}
+use Rattle.jr_model.proofs.Composed.{object_gives, refuse_gives, refuse_if_gives, some_act_gives, some_act_then}
 use Rattle.jr_model.proofs.ShownRefusals.{refused_at, HasAct, LoseOnly}
 use Rattle.jr_model.proofs.Lawful.{AreHarmless, IsInside, IsPrelude, NoLeave, Quiet, Refused, bind_prelude, inside_all}
 
@@ -39,7 +44,8 @@ module _ {asked : ℕ} where
   unshown e none f = record { same = refl; before = tt; shown = (subst (λ a. HasAct a []) (sym none) tt, tt); are = tt }
 
   acted : (a : Act) → is_harmless a ≡ true → IsInside asked a → (f : Frames) → Quiet asked f (a ∷ []) f
-  acted a h inside f = let all = inside_all asked (a ∷ []) (inside, tt) in record { same = refl; harmless = (h, tt); lose = all.0; stays = all.1 }
+  acted a h inside f = let all = inside_all asked (a ∷ []) (inside, tt) in
+      record { same = refl; harmless = (h, tt); lose = all.0; stays = all.1 }
 
   pub done_prelude : {A : Type 0} (x : A) → IsPrelude asked (done x)
   done_prelude x = done_gives x at_rest
@@ -54,7 +60,8 @@ module _ {asked : ℕ} where
   pub act_prelude : (a : Act) → is_harmless a ≡ true → IsInside asked a → IsPrelude asked (act a)
   act_prelude a h inside = act_gives a (acted a h inside)
 
-  pub some_act_prelude : {X : Type 0} (a : X → Act) → ((x : X) → is_harmless (a x) ≡ true) → ((x : X) → IsInside asked (a x)) → IsPrelude asked (some_act a)
+  pub some_act_prelude : {X : Type 0} (a : X → Act) → ((x : X) → is_harmless (a x) ≡ true)
+      → ((x : X) → IsInside asked (a x)) → IsPrelude asked (some_act a)
   some_act_prelude a h inside = some_act_gives a (λ x. acted (a x) (h x) (inside x))
 
   -- REFERENCES
@@ -72,7 +79,8 @@ module _ {asked : ℕ} where
   look_prelude h = some_act_prelude (Look h) (λ r. refl) (λ r. tt)
 
   pub looked_at_prelude : (h : Handle) → IsPrelude asked (looked_at h)
-  looked_at_prelude h = cond_gives (is_local h) (framed_gives (λ old. local_object (object_of old h)) (λ f. local_prelude (object_of f h))) (bind_prelude (look_prelude h) found_prelude)
+  looked_at_prelude h = cond_gives (is_local h) (framed_gives (λ old. local_object (object_of old h))
+      (λ f. local_prelude (object_of f h))) (bind_prelude (look_prelude h) found_prelude)
 
   looked_prelude : (a : Word) → IsPrelude asked (looked a)
   looked_prelude Nothing = done_prelude None
@@ -86,16 +94,19 @@ module _ {asked : ℕ} where
   pub type_prelude : (a : Word) → IsPrelude asked (type_at a)
   type_prelude Nothing = done_prelude 0
   type_prelude Malformed = done_prelude 0
-  type_prelude (Parts h) = cond_gives (is_local h) (framed_gives (λ old. done (type_local (object_of old h))) (λ f. done_prelude (type_local (object_of f h)))) (bind_prelude (look_prelude h) (λ r. done_prelude _))
+  type_prelude (Parts h) = cond_gives (is_local h) (framed_gives (λ old. done (type_local (object_of old h)))
+      (λ f. done_prelude (type_local (object_of f h)))) (bind_prelude (look_prelude h) (λ r. done_prelude _))
 
   -- any number of acts of one sort
-  acts_prelude : {X : Type 0} (f : X → Act) (xs : List X) → AreHarmless (map f xs) → ((x : X) → IsInside asked (f x)) → {old new : Frames} {acts : List Act} → acts ≡ map f xs → new ≡ old → Quiet asked old acts new
-  acts_prelude f xs harmless inside is same = let all = inside_all asked (map f xs) (all_map (IsInside asked) f xs inside) in record {
-    same = same;
-    harmless = subst AreHarmless (sym is) harmless;
-    lose = subst (LoseOnly asked) (sym is) all.0;
-    stays = subst NoLeave (sym is) all.1;
-  }
+  acts_prelude : {X : Type 0} (f : X → Act) (xs : List X) → AreHarmless (map f xs) → ((x : X) → IsInside asked (f x))
+      → {old new : Frames} {acts : List Act} → acts ≡ map f xs → new ≡ old → Quiet asked old acts new
+  acts_prelude f xs harmless inside is same =
+      let all = inside_all asked (map f xs) (all_map (IsInside asked) f xs inside) in record {
+        same = same;
+        harmless = subst AreHarmless (sym is) harmless;
+        lose = subst (LoseOnly asked) (sym is) all.0;
+        stays = subst NoLeave (sym is) all.1;
+      }
 
   pub probes_prelude : IsPrelude asked probes
   probes_prelude = record {
@@ -107,7 +118,8 @@ module _ {asked : ℕ} where
 
   -- found closed, by another thread
   pub closed_prelude : {A : Type 0} → IsPrelude asked (found_closed {A = A})
-  closed_prelude = some_act_then ShutBusy (λ n. refuse_gives (Busy n) (λ f. record { same = refl; before = (refl, tt); shown = (([], [], refl), (tt, tt)); are = ((λ e. cc), tt) }))
+  closed_prelude = some_act_then ShutBusy (λ n. refuse_gives (Busy n) (λ f.
+      record { same = refl; before = (refl, tt); shown = (([], [], refl), (tt, tt)); are = ((λ e. cc), tt) }))
 
   moved_prelude : IsPrelude asked found_moved
   moved_prelude = record {
@@ -119,7 +131,9 @@ module _ {asked : ℕ} where
   meet_prelude = act_prelude Meet refl tt
 
   pub announce_prelude : IsPrelude asked announce
-  announce_prelude = either_gives closed_prelude (bind_prelude meet_prelude (λ x. either_gives (act_prelude (Gate Announce) refl tt) (either_gives closed_prelude (bind_prelude meet_prelude (λ y. moved_prelude)))))
+  announce_prelude =
+      either_gives closed_prelude (bind_prelude meet_prelude (λ x. either_gives (act_prelude (Gate Announce) refl tt)
+      (either_gives closed_prelude (bind_prelude meet_prelude (λ y. moved_prelude)))))
 
   pub shuts_prelude : (many : ℕ → Type 0) → IsPrelude asked (refused_shuts many)
   shuts_prelude many = record {
@@ -130,26 +144,33 @@ module _ {asked : ℕ} where
   -- FRAMES
 
   pub left_prelude : IsPrelude asked frame_left
-  left_prelude = framed_gives (λ old. refuse_if (nat_le FRAMES (length old.frames)) LocalsFull) (λ f. check (nat_le FRAMES (length f.frames)) LocalsFull refl)
+  left_prelude = framed_gives (λ old. refuse_if (nat_le FRAMES (length old.frames)) LocalsFull) (λ f.
+      check (nat_le FRAMES (length f.frames)) LocalsFull refl)
 
   pub to_pop_prelude : IsPrelude asked frame_to_pop
-  to_pop_prelude = framed_gives (λ old. refuse_if (nat_lt (length old.frames) 2) NoFrame) (λ f. check (nat_lt (length f.frames) 2) NoFrame refl)
+  to_pop_prelude = framed_gives (λ old. refuse_if (nat_lt (length old.frames) 2) NoFrame) (λ f.
+      check (nat_lt (length f.frames) 2) NoFrame refl)
 
   module _ (c : Config) (last thread : ℕ) where
     pub resolved_prelude : (a : Word) → IsPrelude asked (resolved c last thread a)
-    resolved_prelude a = bind_prelude (check _ _ refl) (λ x. bind_prelude (check _ _ refl) (λ y. bind_prelude (check _ _ refl) (λ z. looked_prelude a)))
+    resolved_prelude a = bind_prelude (check _ _ refl) (λ x.
+        bind_prelude (check _ _ refl) (λ y. bind_prelude (check _ _ refl) (λ z. looked_prelude a)))
 
     pub both_prelude : (a b : Word) → IsPrelude asked (resolved_both c last thread a b)
     both_prelude a b =
-        bind_prelude (check _ _ refl) (λ x1. bind_prelude (check _ _ refl) (λ x2. bind_prelude (check _ _ refl) (λ x3. bind_prelude (check _ _ refl) (λ x4.
-        bind_prelude (check _ _ refl) (λ x5. bind_prelude (check _ _ refl) (λ x6. bind_prelude (looked_prelude a) (λ x. bind_prelude (looked_prelude b) (λ y. done_prelude _))))))))
+        bind_prelude (check _ _ refl) (λ x1.
+        bind_prelude (check _ _ refl) (λ x2. bind_prelude (check _ _ refl) (λ x3. bind_prelude (check _ _ refl) (λ x4.
+        bind_prelude (check _ _ refl) (λ x5. bind_prelude (check _ _ refl) (λ x6.
+        bind_prelude (looked_prelude a) (λ x. bind_prelude (looked_prelude b) (λ y. done_prelude _))))))))
 
     pub room_prelude : (n : ℕ) → IsPrelude asked (room_for c last thread n)
-    room_prelude n = framed_gives (λ old. refuse_if (nat_lt (free_places last old) n) LocalsFull) (λ f. check (nat_lt (free_places last f) n) LocalsFull refl)
+    room_prelude n = framed_gives (λ old. refuse_if (nat_lt (free_places last old) n) LocalsFull) (λ f.
+        check (nat_lt (free_places last f) n) LocalsFull refl)
 
     pub after_prelude : (o : Option ℕ) → IsPrelude asked (room_after c last thread o)
     after_prelude None = framed_gives (λ old. done tt) (λ f. done_prelude tt)
-    after_prelude (Some o) = framed_gives (λ old. refuse_if (free_places last (popped old) == 0) LocalsFull) (λ f. check (free_places last (popped f) == 0) LocalsFull refl)
+    after_prelude (Some o) = framed_gives (λ old. refuse_if (free_places last (popped old) == 0) LocalsFull) (λ f.
+        check (free_places last (popped f) == 0) LocalsFull refl)
 
     -- OBJECTS
 
@@ -157,17 +178,24 @@ module _ {asked : ℕ} where
       pub part_prelude : (k : Kind) (start n : ℕ) (a : Word) → IsPrelude asked (part_of c last thread s k start n a)
       part_prelude k start n a =
           bind_prelude (resolved_prelude a) (λ x. bind_prelude (not_null_prelude x) (λ o. object_gives s o (λ l m.
-          bind_prelude (check (not (is_array l)) NotArray refl) (λ y. bind_prelude (check (not (same_element k l)) WrongElement refl) (λ z. bind_prelude (check (nat_lt m (start + n)) Range refl) (λ u. done_prelude o))))))
+          bind_prelude (check (not (is_array l)) NotArray refl) (λ y.
+          bind_prelude (check (not (same_element k l)) WrongElement refl) (λ z.
+          bind_prelude (check (nat_lt m (start + n)) Range refl) (λ u. done_prelude o))))))
 
       pub level_array_prelude : (levels : ℕ) (a : Word) → IsPrelude asked (level_array c last thread s levels a)
       level_array_prelude levels a =
           bind_prelude (resolved_prelude a) (λ x. bind_prelude (not_null_prelude x) (λ o. object_gives s o (λ k n.
-          bind_prelude (check (not (is_array k)) NotArray refl) (λ y. bind_prelude (check (not (is_primitive k)) WrongElement refl) (λ z. bind_prelude (check (nat_le LEVELS levels) Size refl) (λ u. done_prelude o))))))
+          bind_prelude (check (not (is_array k)) NotArray refl) (λ y.
+          bind_prelude (check (not (is_primitive k)) WrongElement refl) (λ z.
+          bind_prelude (check (nat_le LEVELS levels) Size refl) (λ u. done_prelude o))))))
 
       pub level_string_prelude : (levels : ℕ) (a : Word) → IsPrelude asked (level_string c last thread s levels a)
       level_string_prelude levels a =
           bind_prelude (resolved_prelude a) (λ x. bind_prelude (not_null_prelude x) (λ o. object_gives s o (λ k n.
-          bind_prelude (check (not (is_text k)) WrongKind refl) (λ y. bind_prelude (check (nat_le LEVELS levels) Size refl) (λ z. done_prelude o)))))
+          bind_prelude (check (not (is_text k)) WrongKind refl) (λ y.
+          bind_prelude (check (nat_le LEVELS levels) Size refl) (λ z. done_prelude o)))))
 
-      pub element_prelude : (o i : ℕ) → IsPrelude asked (for_object s o (λ k n. refuse_if (not (is_array k)) NotArray >> (refuse_if (not (is_objects k)) WrongElement >> refuse_if (nat_le n i) Range)))
-      element_prelude o i = object_gives s o (λ k n. bind_prelude (check (not (is_array k)) NotArray refl) (λ x. bind_prelude (check (not (is_objects k)) WrongElement refl) (λ y. check (nat_le n i) Range refl)))
+      pub element_prelude : (o i : ℕ) → IsPrelude asked (for_object s o (λ k n. refuse_if (not (is_array k)) NotArray
+          >> (refuse_if (not (is_objects k)) WrongElement >> refuse_if (nat_le n i) Range)))
+      element_prelude o i = object_gives s o (λ k n. bind_prelude (check (not (is_array k)) NotArray refl) (λ x.
+          bind_prelude (check (not (is_objects k)) WrongElement refl) (λ y. check (nat_le n i) Range refl)))

@@ -1,5 +1,7 @@
 -- What is reached is found in as many rounds as the room has objects, and one.
-use Rattle.std.proofs.Common.{◌≡◌, ◌≢◌, ◌⊎◌, inl, inr, ⊎_elim, ℕ, zero, suc, ◌+◌, ◌<◌, ◌≤◌, Bool, true, ◌&&◌, ◌||◌, Option, Some, None, is_some, List, length, slice_get, refl, sym, subst, ap, ◌∙◌, arith, nat_eq, Decides}
+use Rattle.std.proofs.Common.{◌≡◌, ◌≢◌, ◌⊎◌, inl, inr, ⊎_elim, ℕ, zero, suc, ◌+◌, ◌<◌, ◌≤◌}
+use Rattle.std.proofs.Common.{Bool, true, ◌&&◌, ◌||◌, Option, Some, None, is_some, List, length}
+use Rattle.std.proofs.Common.{slice_get, refl, sym, subst, ap, ◌∙◌, arith, nat_eq, Decides}
 use Rattle.std.specs.List.{list_any}
 use Rattle.std.proofs.lemmas.Bool.{and_parts}
 use Rattle.std.proofs.lemmas.Bool.Decides.{Decides-like, Decides-and, Decides-or, Decides-eqb}
@@ -11,12 +13,15 @@ use Rattle.jr_word.specs.declared.kind.Kind.TheVariants.{Objects}
 use Rattle.jr_model.specs.declared.event.Role.TheVariants.{Outside}
 use Rattle.jr_model.specs.declared.event.Found.{Found}
 use Rattle.jr_model.specs.declared.event.Found.TheVariants.{Object, Cleared, Stale}
-use Rattle.jr_model.specs.State.{Handle, same_kind, same_handle, Contents, State, IsReached, from_global, from_local, from_element}
+use Rattle.jr_model.specs.State.{Handle, same_kind, same_handle, Contents, State}
+use Rattle.jr_model.specs.State.{IsReached, from_global, from_local, from_element}
 use Rattle.jr_model.specs.Checks.{is_objects}
-use Rattle.jr_model.specs.Decided.{below, same_found, is_word_there, is_root, has_element, grown, reached_within, is_reached}
+use Rattle.jr_model.specs.Decided.{below, same_found, is_word_there, is_root}
+use Rattle.jr_model.specs.Decided.{has_element, grown, reached_within, is_reached}
 use Rattle.jr_model.proofs.InRoom.{IsInRoom}
 use Rattle.jr_model.proofs.Updates.{kind_true, kind_self, handle_true, handle_self}
-use Rattle.jr_model.proofs.Listed.{IsSameOrLonger, itself, any_of, any_at, some_of, any_below, passing, passing_is, passing_fits, passing_grows}
+use Rattle.jr_model.proofs.Listed.{IsSameOrLonger, itself, any_of, any_at, some_of, any_below}
+use Rattle.jr_model.proofs.Listed.{passing, passing_is, passing_fits, passing_grows}
 
 -- what stands lies in the room, and the handles that were given are these
 pub record IsWithin (c : Config) (given : List Handle) (s : State) : Type 0 where

@@ -1,17 +1,26 @@
 -- The acts that change nothing do change nothing.
 use Rattle.std.proofs.Common.{refl}
-use Rattle.jr_model.specs.declared.event.Act.TheVariants.{Gate, ShutBusy, Meet, Look, Probe, DeleteStale, ReserveFull, ReserveLost, Read}
+use Rattle.jr_model.specs.declared.event.Act.TheVariants.{Gate, ShutBusy, Meet, Look, Probe}
+use Rattle.jr_model.specs.declared.event.Act.TheVariants.{DeleteStale, ReserveFull, ReserveLost, Read}
 use Rattle.jr_model.specs.RefusedCalls.{HarmlessChangesNothing}
 
 -- what the harmless acts leave
 pub harmless_changes_nothing : HarmlessChangesNothing
-harmless_changes_nothing s t (Gate a) h = record { refs = refl; given = refl; locals = refl; objects = refl; used = refl }
-harmless_changes_nothing s t (ShutBusy n) h = record { refs = refl; given = refl; locals = refl; objects = refl; used = refl }
-harmless_changes_nothing s t (Look g r) h = record { refs = refl; given = refl; locals = refl; objects = refl; used = refl }
-harmless_changes_nothing s t (Probe i b) h = record { refs = refl; given = refl; locals = refl; objects = refl; used = refl }
-harmless_changes_nothing s t (DeleteStale g) h = record { refs = refl; given = refl; locals = refl; objects = refl; used = refl }
-harmless_changes_nothing s t (ReserveFull n u) h = record { refs = refl; given = refl; locals = refl; objects = refl; used = refl }
-harmless_changes_nothing s t (ReserveLost n l f) h = record { refs = refl; given = refl; locals = refl; objects = refl; used = refl }
-harmless_changes_nothing s t (Read o i v) h = record { refs = refl; given = refl; locals = refl; objects = refl; used = refl }
+harmless_changes_nothing s t (Gate a) h =
+    record { refs = refl; given = refl; locals = refl; objects = refl; used = refl }
+harmless_changes_nothing s t (ShutBusy n) h =
+    record { refs = refl; given = refl; locals = refl; objects = refl; used = refl }
+harmless_changes_nothing s t (Look g r) h =
+    record { refs = refl; given = refl; locals = refl; objects = refl; used = refl }
+harmless_changes_nothing s t (Probe i b) h =
+    record { refs = refl; given = refl; locals = refl; objects = refl; used = refl }
+harmless_changes_nothing s t (DeleteStale g) h =
+    record { refs = refl; given = refl; locals = refl; objects = refl; used = refl }
+harmless_changes_nothing s t (ReserveFull n u) h =
+    record { refs = refl; given = refl; locals = refl; objects = refl; used = refl }
+harmless_changes_nothing s t (ReserveLost n l f) h =
+    record { refs = refl; given = refl; locals = refl; objects = refl; used = refl }
+harmless_changes_nothing s t (Read o i v) h =
+    record { refs = refl; given = refl; locals = refl; objects = refl; used = refl }
 harmless_changes_nothing s t Meet h = record { refs = refl; given = refl; locals = refl; objects = refl; used = refl }
 harmless_changes_nothing s t _ h = absurd cc

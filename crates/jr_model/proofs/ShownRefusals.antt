@@ -35,14 +35,19 @@ IsShown asked e acts = HasAct (refused_at asked e) acts × LoseOnly asked acts
 
 has_behind : (a : Option Act) (front acts : List Act) → HasAct a acts → HasAct a (front ++ acts)
 has_behind None front acts h = tt
-has_behind (Some a) front acts h = (front ++ h.0, h.1, ap (λ l. front ++ l) h.2 ∙ sym (append_assoc front h.0 (a ∷ h.1)))
+has_behind (Some a) front acts h =
+    (front ++ h.0, h.1, ap (λ l. front ++ l) h.2 ∙ sym (append_assoc front h.0 (a ∷ h.1)))
 
 has_before : (a : Option Act) (acts rest : List Act) → HasAct a acts → HasAct a (acts ++ rest)
 has_before None acts rest h = tt
 has_before (Some a) acts rest h = (h.0, h.1 ++ rest, ap (λ l. l ++ rest) h.2 ∙ append_assoc h.0 (a ∷ h.1) rest)
 
-pub shown_behind : (asked : ℕ) (e : Fault) (front acts : List Act) → LoseOnly asked front → IsShown asked e acts → IsShown asked e (front ++ acts)
-shown_behind asked e front acts l h = (has_behind (refused_at asked e) front acts h.0, append_all (LosesOnly asked) front acts l h.1)
+pub shown_behind : (asked : ℕ) (e : Fault) (front acts : List Act) → LoseOnly asked front → IsShown asked e acts
+    → IsShown asked e (front ++ acts)
+shown_behind asked e front acts l h =
+    (has_behind (refused_at asked e) front acts h.0, append_all (LosesOnly asked) front acts l h.1)
 
-pub shown_before : (asked : ℕ) (e : Fault) (acts rest : List Act) → LoseOnly asked rest → IsShown asked e acts → IsShown asked e (acts ++ rest)
-shown_before asked e acts rest l h = (has_before (refused_at asked e) acts rest h.0, append_all (LosesOnly asked) acts rest h.1 l)
+pub shown_before : (asked : ℕ) (e : Fault) (acts rest : List Act) → LoseOnly asked rest → IsShown asked e acts
+    → IsShown asked e (acts ++ rest)
+shown_before asked e acts rest l h =
+    (has_before (refused_at asked e) acts rest h.0, append_all (LosesOnly asked) acts rest h.1 l)

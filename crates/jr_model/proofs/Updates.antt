@@ -7,7 +7,8 @@ use Rattle.jr_model.specs.State.{Handle, same_kind, same_handle}
 use Rattle.jr_model.specs.Maps.{update}
 
 -- what holds of x, where the keys are one, and of f j, where they are not, holds of what stands at j
-pub update_cases : {K X : Type 0} (same : K → K → Bool) (P : X → Type 0) (f : K → X) (k j : K) (x : X) → (same k j ≡ true → P x) → (same k j ≡ false → P (f j)) → P (update same f k x j)
+pub update_cases : {K X : Type 0} (same : K → K → Bool) (P : X → Type 0) (f : K → X) (k j : K) (x : X)
+    → (same k j ≡ true → P x) → (same k j ≡ false → P (f j)) → P (update same f k x j)
 update_cases same P f k j x here there = go (same k j) refl
   where
     go : (b : Bool) → same k j ≡ b → P (cond b x (f j))
@@ -20,7 +21,8 @@ eq_true k j e = grind (arith, nat_tests)
 pub eq_false : (k j : ℕ) → (k == j) ≡ false → k ≢ j
 eq_false k j e = grind (arith, nat_tests)
 
-pub at_number : {X : Type 0} (P : X → Type 0) (f : ℕ → X) (k j : ℕ) (x : X) → (k ≡ j → P x) → (k ≢ j → P (f j)) → P (update nat_eq f k x j)
+pub at_number : {X : Type 0} (P : X → Type 0) (f : ℕ → X) (k j : ℕ) (x : X) → (k ≡ j → P x) → (k ≢ j → P (f j))
+    → P (update nat_eq f k x j)
 at_number P f k j x here there = update_cases nat_eq P f k j x (λ e. here (eq_true k j e)) (λ e. there (eq_false k j e))
 
 pub kind_true : (k l : RefKind) → same_kind k l ≡ true → k ≡ l
@@ -49,17 +51,21 @@ and_right false b e = cc
 
 -- handles with the same parts are one
 pub same_parts : (k k' : RefKind) (s s' i i' o o' : ℕ) → k ≡ k' → s ≡ s' → i ≡ i' → o ≡ o'
-    → ◌≡◌ {A = Handle} (record { kind = k; serial = s; index = i; owner = o }) (record { kind = k'; serial = s'; index = i'; owner = o' })
+    → ◌≡◌ {A = Handle} (record { kind = k; serial = s; index = i; owner = o })
+    (record { kind = k'; serial = s'; index = i'; owner = o' })
 same_parts k k' s s' i i' o o' a b c d = cc
 
 pub handle_true : (g h : Handle) → same_handle g h ≡ true → g ≡ h
 handle_true g h e =
-    let abc = and_left (same_kind g.kind h.kind && (g.serial == h.serial) && (g.index == h.index)) (g.owner == h.owner) e in
+    let abc =
+    and_left (same_kind g.kind h.kind && (g.serial == h.serial) && (g.index == h.index)) (g.owner == h.owner) e in
     let ab = and_left (same_kind g.kind h.kind && (g.serial == h.serial)) (g.index == h.index) abc in
     let kind = kind_true g.kind h.kind (and_left (same_kind g.kind h.kind) (g.serial == h.serial) ab) in
     let serial = eq_true g.serial h.serial (and_right (same_kind g.kind h.kind) (g.serial == h.serial) ab) in
-    let index = eq_true g.index h.index (and_right (same_kind g.kind h.kind && (g.serial == h.serial)) (g.index == h.index) abc) in
-    let owner = eq_true g.owner h.owner (and_right (same_kind g.kind h.kind && (g.serial == h.serial) && (g.index == h.index)) (g.owner == h.owner) e) in
+    let index =
+    eq_true g.index h.index (and_right (same_kind g.kind h.kind && (g.serial == h.serial)) (g.index == h.index) abc) in
+    let owner = eq_true g.owner h.owner
+    (and_right (same_kind g.kind h.kind && (g.serial == h.serial) && (g.index == h.index)) (g.owner == h.owner) e) in
     same_parts g.kind h.kind g.serial h.serial g.index h.index g.owner h.owner kind serial index owner
 
 pub eq_self : (k : ℕ) → (k == k) ≡ true
@@ -74,8 +80,10 @@ handle_self h = rw (kind_self h.kind, eq_self h.serial, eq_self h.index, eq_self
 pub handle_false : (g h : Handle) → same_handle g h ≡ false → g ≢ h
 handle_false g h e p = let self : same_handle g g ≡ true = handle_self g in cc (ap (same_handle g) p)
 
-pub at_handle : {X : Type 0} (P : X → Type 0) (f : Handle → X) (k j : Handle) (x : X) → (k ≡ j → P x) → (k ≢ j → P (f j)) → P (update same_handle f k x j)
-at_handle P f k j x here there = update_cases same_handle P f k j x (λ e. here (handle_true k j e)) (λ e. there (handle_false k j e))
+pub at_handle : {X : Type 0} (P : X → Type 0) (f : Handle → X) (k j : Handle) (x : X) → (k ≡ j → P x)
+    → (k ≢ j → P (f j)) → P (update same_handle f k x j)
+at_handle P f k j x here there =
+    update_cases same_handle P f k j x (λ e. here (handle_true k j e)) (λ e. there (handle_false k j e))
 
 pub at_number_self : {X : Type 0} (f : ℕ → X) (k : ℕ) (x : X) → update nat_eq f k x k ≡ x
 at_number_self f k x = rw (eq_self k) refl

@@ -31,25 +31,33 @@ HasWords s = (o : ℕ) (x : Contents) → s.objects o ≡ Some x → x.kind ≢ 
 
 module _ (c : Config) (last : ℕ) where
   words_act : (s : State) (t : ℕ) (a : Act) → HasWords s → ActNeeds c last s t a → HasWords (act_after s t a)
-  words_act s t (New o k ws) i n = λ p x. at_number (λ z. z ≡ Some x → x.kind ≢ Objects → AreWords opening x.kind x.words) s.objects o p (Some (record { kind = k; words = ws }))
+  words_act s t (New o k ws) i n = λ p x. at_number (λ z. z ≡ Some x → x.kind ≢ Objects
+      → AreWords opening x.kind x.words) s.objects o p (Some (record { kind = k; words = ws }))
       (λ e q ne.
       let same : record { kind = k; words = ws } ≡ x = cc in
-      subst (λ (y : Contents). y.kind ≢ Objects → AreWords opening y.kind y.words) same (λ other j v at. word_any s opening k v other (n.4 j v at)) ne)
+      subst (λ (y : Contents). y.kind ≢ Objects → AreWords opening y.kind y.words) same
+      (λ other j v at. word_any s opening k v other (n.4 j v at)) ne)
       (λ away. i p x)
-  words_act s t (Write o l w) i n = λ p x. at_number (λ z. z ≡ Some x → x.kind ≢ Objects → AreWords opening x.kind x.words) s.objects o p (written (s.objects o) l w)
+  words_act s t (Write o l w) i n = λ p x. at_number
+      (λ z. z ≡ Some x → x.kind ≢ Objects → AreWords opening x.kind x.words) s.objects o p (written (s.objects o) l w)
       (λ e q ne.
       let y : Contents = n.1 in
-      let there : Some (record { kind = y.kind; words = slice_set y.words l w }) ≡ Some x = ap (λ z. written z l w) (sym n.2) ∙ q in
+      let there : Some (record { kind = y.kind; words = slice_set y.words l w }) ≡ Some x =
+      ap (λ z. written z l w) (sym n.2) ∙ q in
       let same : record { kind = y.kind; words = slice_set y.words l w } ≡ x = cc in
       subst (λ (z : Contents). z.kind ≢ Objects → AreWords opening z.kind z.words) same
-      (λ other j v at. ⊎_elim (λ h. subst (λ u. IsWord opening y.kind u) (sym h.1) (word_any s opening y.kind w other n.5)) (λ h. i o y n.2 other j v h.1) (slice_get_set y.words l j w v at))
+      (λ other j v at.
+      ⊎_elim (λ h. subst (λ u. IsWord opening y.kind u) (sym h.1) (word_any s opening y.kind w other n.5))
+      (λ h. i o y n.2 other j v h.1) (slice_get_set y.words l j w v at))
       ne)
       (λ away. i p x)
-  words_act s t (Drop o) i n = λ p x. at_number (λ z. z ≡ Some x → x.kind ≢ Objects → AreWords opening x.kind x.words) s.objects o p None (λ e q. absurd cc) (λ away. i p x)
+  words_act s t (Drop o) i n = λ p x. at_number (λ z. z ≡ Some x → x.kind ≢ Objects → AreWords opening x.kind x.words)
+      s.objects o p None (λ e q. absurd cc) (λ away. i p x)
   words_act s t _ i n = i
 
   words_state : (es : History) → IsLegal c last es → HasWords (state es)
-  words_state es l = kept_from c last HasWords (λ s e i n. words_act s e.thread e.act i n.1) opening es (λ o x e. absurd cc) l
+  words_state es l =
+      kept_from c last HasWords (λ s e i n. words_act s e.thread e.act i n.1) opening es (λ o x e. absurd cc) l
 
   pub elements_are_words : ElementsAreWords c last
   elements_are_words es o x l is quiet = go x.kind refl
@@ -60,7 +68,8 @@ module _ (c : Config) (last : ℕ) where
           word_any opening (state es) x.kind v other (words_state es l o x is other j v at)
 
       go : (k : Kind) → x.kind ≡ k → AreWords (state es) x.kind x.words
-      go Objects e = subst (λ k. AreWords (state es) k x.words) (sym e) (elements_are_present c last es l (quiet e) o x is e)
+      go Objects e =
+          subst (λ k. AreWords (state es) k x.words) (sym e) (elements_are_present c last es l (quiet e) o x is e)
       go Plain e = others Plain e (λ z. cc)
       go Boolean e = others Boolean e (λ z. cc)
       go Byte e = others Byte e (λ z. cc)
@@ -71,7 +80,8 @@ module _ (c : Config) (last : ℕ) where
       go Text e = others Text e (λ z. cc)
 
   pub plain_has_no_elements : PlainHasNoElements c last
-  plain_has_no_elements es o x l is plain = go x.words (subst (λ k. AreWords (state es) k x.words) plain (elements_are_words es o x l is (λ e. absurd (let p = plain in cc))))
+  plain_has_no_elements es o x l is plain = go x.words (subst (λ k. AreWords (state es) k x.words) plain
+      (elements_are_words es o x l is (λ e. absurd (let p = plain in cc))))
     where
       go : (ws : List ℕ) → AreWords (state es) Plain ws → ws ≡ []
       go [] w = refl

@@ -1,5 +1,6 @@
 -- The examples of histories: the machine's tests compute whether each is legal.
-use Rattle.std.proofs.Common.{◌≡◌, ℕ, zero, suc, ◌+◌, ◌≤◌, true, false, not, ◌&&◌, is_some, Some, [], ◌∷◌, ◌++◌, slice_get, refl, sym, ap, ◌∙◌, arith}
+use Rattle.std.proofs.Common.{◌≡◌, ℕ, zero, suc, ◌+◌, ◌≤◌, true, false, not, ◌&&◌, is_some}
+use Rattle.std.proofs.Common.{Some, [], ◌∷◌, ◌++◌, slice_get, refl, sym, ap, ◌∙◌, arith}
 use Rattle.std.specs.List.{list_any}
 use Rattle.std.proofs.lemmas.Bool.{and_parts}
 use Rattle.jr_word.specs.declared.config.Config.{Config}
@@ -13,7 +14,16 @@ use Rattle.jr_model.specs.Maps.{sum_below, count_below}
 use Rattle.jr_model.specs.State.{Contents, is_there, references, summary}
 use Rattle.jr_model.specs.History.{History, by, state, IsLegal}
 use Rattle.jr_model.specs.Decided.{reached_within, given_from, is_legal}
-use Rattle.jr_model.specs.Examples.{last_serial, counts, reference_dropped, gate_passed, gate_twice_announced, space_contended, array_made, array_used, array_collected, two_threads, three_threads, one_object, g, w, plain_p, global_g, drop_g, one_thread, DropIsLegal, FindingDroppedIsIllegal, CreatingBesideIsIllegal, GateIsLegal, WrongCountIsIllegal, ShuttingOverIsIllegal, EnteringBesideIsIllegal, KnockingAtOpenIsIllegal, AnnouncingIsLegal, EnteringAnnouncedIsIllegal, AnnouncingBesideIsIllegal, CountingTheAnnouncerIsIllegal, ShuttingAnnouncedOverIsIllegal, one_slot, serial, thrice, ThriceIsLegal, FourthIsIllegal, SpaceIsLegal, RefusingWhatFitsIsIllegal, ReadingAnotherIsIllegal, MakingBeyondIsIllegal, CollectionIsLegal, CollectingReachedIsIllegal}
+use Rattle.jr_model.specs.Examples.{last_serial, counts, reference_dropped, gate_passed, gate_twice_announced}
+use Rattle.jr_model.specs.Examples.{space_contended, array_made, array_used, array_collected, two_threads}
+use Rattle.jr_model.specs.Examples.{three_threads, one_object, g, w, plain_p, global_g, drop_g, one_thread}
+use Rattle.jr_model.specs.Examples.{DropIsLegal, FindingDroppedIsIllegal, CreatingBesideIsIllegal, GateIsLegal}
+use Rattle.jr_model.specs.Examples.{WrongCountIsIllegal, ShuttingOverIsIllegal, EnteringBesideIsIllegal}
+use Rattle.jr_model.specs.Examples.{KnockingAtOpenIsIllegal, AnnouncingIsLegal, EnteringAnnouncedIsIllegal}
+use Rattle.jr_model.specs.Examples.{AnnouncingBesideIsIllegal, CountingTheAnnouncerIsIllegal}
+use Rattle.jr_model.specs.Examples.{ShuttingAnnouncedOverIsIllegal, one_slot, serial, thrice, ThriceIsLegal}
+use Rattle.jr_model.specs.Examples.{FourthIsIllegal, SpaceIsLegal, RefusingWhatFitsIsIllegal, ReadingAnotherIsIllegal}
+use Rattle.jr_model.specs.Examples.{MakingBeyondIsIllegal, CollectionIsLegal, CollectingReachedIsIllegal}
 use Rattle.jr_model.proofs.Histories.{legal_append}
 use Rattle.jr_model.proofs.Lengths.{sum_same, sum_none}
 use Rattle.jr_model.proofs.Counts.{count_all_false}
@@ -29,7 +39,8 @@ illegal c last es e l = let is = (legal_is c last es).1 l in cc
 -- and where no reference stands, none is counted
 emptied : (c : Config) (last : ℕ) (es : History)
     → (is_legal c last es && not (list_any (λ h. is_there ((state es).refs h)) (given_from [] es))) ≡ true
-    → IsLegal c last es × (summary c last (state es) ≡ counts 0 0 (count_below (c.objects + 1) (λ o. is_some ((state es).objects o))) (state es).used)
+    → IsLegal c last es × (summary c last (state es)
+    ≡ counts 0 0 (count_below (c.objects + 1) (λ o. is_some ((state es).objects o))) (state es).used)
 emptied c last es e = (l, counted (none Global) (none Weak))
   where
     parts : (is_legal c last es ≡ true) × (not (list_any (λ h. is_there ((state es).refs h)) (given_from [] es)) ≡ true)

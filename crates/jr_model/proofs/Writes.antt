@@ -1,5 +1,6 @@
 -- What the acts of a release leave.
-use Rattle.std.proofs.Common.{◌≡◌, ℕ, ◌+◌, Option, Some, List, [], ◌∷◌, ◌++◌, map, length, sym, ap, ◌∙◌, arith, append_assoc}
+use Rattle.std.proofs.Common.{◌≡◌, ℕ, ◌+◌, Option, Some, List, [], ◌∷◌, ◌++◌}
+use Rattle.std.proofs.Common.{map, length, sym, ap, ◌∙◌, arith, append_assoc}
 use Rattle.std.proofs.lemmas.List.{length-append}
 use Rattle.std.proofs.Math.Seq.{set-append_seam}
 use Rattle.jr_word.specs.declared.kind.Kind.{Kind}
@@ -13,21 +14,26 @@ use Rattle.jr_model.specs.Laws.{ReleaseLeaves}
 use Rattle.jr_model.proofs.Updates.{at_number_self}
 
 -- one element more
-pub read_acts_push : (o start v : ℕ) (vs : List ℕ) → read_acts o start (vs ++ v ∷ []) ≡ read_acts o start vs ++ Read o (start + length vs) v ∷ []
+pub read_acts_push : (o start v : ℕ) (vs : List ℕ)
+    → read_acts o start (vs ++ v ∷ []) ≡ read_acts o start vs ++ Read o (start + length vs) v ∷ []
 read_acts_push o start v [] = ap (λ i. Read o i v ∷ []) (omega arith)
 read_acts_push o start v (w ∷ vs) =
-    ap (λ l. Read o start w ∷ l) (read_acts_push o (start + 1) v vs ∙ ap (λ i. read_acts o (start + 1) vs ++ Read o i v ∷ []) (omega arith))
+    ap (λ l. Read o start w ∷ l) (read_acts_push o (start + 1) v vs
+    ∙ ap (λ i. read_acts o (start + 1) vs ++ Read o i v ∷ []) (omega arith))
 
-pub write_acts_push : (o start v : ℕ) (vs : List ℕ) → write_acts o start (vs ++ v ∷ []) ≡ write_acts o start vs ++ Write o (start + length vs) v ∷ []
+pub write_acts_push : (o start v : ℕ) (vs : List ℕ)
+    → write_acts o start (vs ++ v ∷ []) ≡ write_acts o start vs ++ Write o (start + length vs) v ∷ []
 write_acts_push o start v [] = ap (λ i. Write o i v ∷ []) (omega arith)
 write_acts_push o start v (w ∷ vs) =
-    ap (λ l. Write o start w ∷ l) (write_acts_push o (start + 1) v vs ∙ ap (λ i. write_acts o (start + 1) vs ++ Write o i v ∷ []) (omega arith))
+    ap (λ l. Write o start w ∷ l) (write_acts_push o (start + 1) v vs
+    ∙ ap (λ i. write_acts o (start + 1) vs ++ Write o i v ∷ []) (omega arith))
 
 abbrev contents_of : Kind → List ℕ → Option Contents
 contents_of k ws = Some (record { kind = k; words = ws })
 
 -- writes behind a front of an object's words put theirs in the place of as many
-pub writes_leave : (s : State) (t o : ℕ) (k : Kind) (front back ws : List ℕ) → s.objects o ≡ contents_of k (front ++ back) → length ws ≡ length back
+pub writes_leave : (s : State) (t o : ℕ) (k : Kind) (front back ws : List ℕ)
+    → s.objects o ≡ contents_of k (front ++ back) → length ws ≡ length back
     → (state_from s (map (by t) (write_acts o (length front) ws))).objects o ≡ contents_of k (front ++ ws)
 writes_leave s t o k front [] [] is l = is
 writes_leave s t o k front (b ∷ back) [] is l = absurd (omega arith)

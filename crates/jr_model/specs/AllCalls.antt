@@ -1,4 +1,5 @@
--- EVERY CALL AS A VALUE, so that a law over all calls is one statement: what each is handed, what it answers, and what it means.
+-- EVERY CALL AS A VALUE, so that a law over all calls is one statement:
+-- what each is handed, what it answers, and what it means.
 use Rattle.std.specs.Prelude.{ℕ, Bool, true, false, Option, List, length}
 use Rattle.jr_word.specs.declared.config.Config.{Config}
 use Rattle.jr_word.specs.declared.handle.RefKind.{RefKind}
@@ -71,7 +72,8 @@ pub data CallOf : AnswerKind → Type 0 where
   nest_array : List ℕ → Word → CallOf (both number (several number))
   nest_string : List ℕ → Word → CallOf (both number (several number))
 
--- ANY OTHER CALL, with what it is handed: those of the gate, of slots, heap and frames within a stay, of a level of a region, of copied elements, and of the room as a whole
+-- ANY OTHER CALL, with what it is handed: those of the gate, of slots, heap and frames
+-- within a stay, of a level of a region, of copied elements, and of the room as a whole
 pub data PartOf : AnswerKind → Type 0 where
   enter : PartOf nothing
   leave : PartOf nothing
@@ -168,7 +170,8 @@ module _ (c : Config) (last thread : ℕ) (s : State) where
   part_means (collect_announced tries) = parts.collect_announced tries
   part_means meet = parts.meet
 
--- the call has a stay of its own, from its entry to its exit: each but those that enter no gate, those at levels of a region, and a release that aborts
+-- the call has a stay of its own, from its entry to its exit:
+-- each but those that enter no gate, those at levels of a region, and a release that aborts
 abbrev pub has_own_stay : {a : AnswerKind} → CallOf a → Bool
 has_own_stay (ensure_local_capacity n) = false
 has_own_stay (push_local_frame n) = false
@@ -180,7 +183,8 @@ has_own_stay (nest_array levels a) = false
 has_own_stay (nest_string levels a) = false
 has_own_stay _ = true
 
--- how many words of space the call asks for: what makes an array or a string as many as that has elements or units, and every other call none
+-- how many words of space the call asks for:
+-- what makes an array or a string as many as that has elements or units, and every other call none
 abbrev pub words_asked : {a : AnswerKind} → CallOf a → ℕ
 words_asked (new_array k n) = n
 words_asked (new_object_array n a) = n

@@ -1,5 +1,6 @@
 -- What a call may do: its acts in order, its answer, and the frames that it leaves.
-use Rattle.std.specs.Prelude.{◌≡◌, ◌⊎◌, ◌≤◌, ℕ, zero, suc, Bool, true, false, Some, Result, Ok, Err, MatchResult, IfErr, List, [], ◌∷◌, ◌++◌, length}
+use Rattle.std.specs.Prelude.{◌≡◌, ◌⊎◌, ◌≤◌, ℕ, zero, suc, Bool, true, false, Some, Result}
+use Rattle.std.specs.Prelude.{Ok, Err, MatchResult, IfErr, List, [], ◌∷◌, ◌++◌, length}
 use Rattle.jr_word.specs.declared.kind.Kind.{Kind}
 use Rattle.jr_word.specs.declared.fault.Fault.{Fault}
 use Rattle.jr_word.specs.declared.fault.Fault.TheVariants.{Barred, Memory}
@@ -41,7 +42,8 @@ infixl 1 ◌>>◌
 -- one and then the other, with the answer of the one; a refusal ends the call
 abbrev pub ◌>>=◌ : {A B : Type 0} → Call A → (A → Call B) → Call B
 ◌>>=◌ {A} first next old acts answer new =
-    ((x : A) × (mid : Frames) × (front : List Act) × (rest : List Act) × (acts ≡ front ++ rest) × first old front (Ok x) mid × next x mid rest answer new)
+    ((x : A) × (mid : Frames) × (front : List Act) × (rest : List Act) × (acts ≡ front ++ rest)
+    × first old front (Ok x) mid × next x mid rest answer new)
     ⊎ ((e : Fault) × (answer ≡ Err e) × first old acts (Err e) new)
 
 -- one and then the other
@@ -68,7 +70,8 @@ unless_memory_for (suc n) work = one_of work (refuse Memory)
 
 -- what follows for the kind and the length of the object in s
 abbrev pub for_object : {A : Type 0} → State → ℕ → (Kind → ℕ → Call A) → Call A
-for_object {A} s o next old acts answer new = (x : Contents) × (s.objects o ≡ Some x) × next x.kind (length x.words) old acts answer new
+for_object {A} s o next old acts answer new =
+    (x : Contents) × (s.objects o ≡ Some x) × next x.kind (length x.words) old acts answer new
 
 -- the work in a stay of its own, or the gate is shut
 abbrev pub entered : {A : Type 0} → Call A → Call A
@@ -80,10 +83,13 @@ entered work old acts answer new =
 abbrev pub opened : {A : Type 0} → Call A → Call A
 opened work old acts answer new =
     ((acts ≡ Gate Knock ∷ Gate Withdraw ∷ []) × (answer ≡ Err Barred) × (new ≡ old))
-    ⊎ ((inside : List Act) × MatchResult answer (λ x. (acts ≡ Gate Enter ∷ inside) × work old inside answer new) (λ e. (acts ≡ Gate Enter ∷ inside ++ Gate Leave ∷ []) × work old inside answer new))
+    ⊎ ((inside : List Act) × MatchResult answer (λ x. (acts ≡ Gate Enter ∷ inside) × work old inside answer new) (λ e.
+    (acts ≡ Gate Enter ∷ inside ++ Gate Leave ∷ []) × work old inside answer new))
 
--- A CALL THAT WAS MADE: between two moments of a pass and its frames the thread did what the call does, with this answer. The call has its window, and a refusal that speaks of the room has its grounds there
-pub record Ran {A : Type 0} (old new : PassView) (before after : Frames) (call : Call A) (answer : Result A Fault) : Type 0 where
+-- A CALL THAT WAS MADE: between two moments of a pass and its frames the thread did what the call does,
+-- with this answer. The call has its window, and a refusal that speaks of the room has its grounds there
+pub record Ran {A : Type 0} (old new : PassView) (before after : Frames) (call : Call A)
+    (answer : Result A Fault) : Type 0 where
   pub acts : List Act
   pub did : Did old new acts
   pub is : call before acts answer after

@@ -31,7 +31,8 @@ is_local h = same_kind Local h.kind
 
 -- its index is past the row, or its place or its owner past those of the room
 abbrev pub is_out_of_bounds : Config → Word → Bool
-is_out_of_bounds c (Parts h) = cond (is_local h) (not (nat_lt h.index c.locals && nat_lt h.owner c.threads)) (not (nat_lt h.index c.slots))
+is_out_of_bounds c (Parts h) =
+    cond (is_local h) (not (nat_lt h.index c.locals && nat_lt h.owner c.threads)) (not (nat_lt h.index c.slots))
 is_out_of_bounds c _ = false
 
 -- it is a local reference of another thread

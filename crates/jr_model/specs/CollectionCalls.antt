@@ -32,7 +32,8 @@ pub record IsExact (s : State) (cleared : List Handle) (dropped : List ℕ) : Ty
   pub drops_only : AllByRecursion (IsToDrop s) dropped
   pub drops_once : IsDistinct nat_eq dropped
 
--- from s to s' what is reached keeps its kind and elements, no other object is present any more, and so many words are used as the present objects have
+-- from s to s' what is reached keeps its kind and elements, no other object
+-- is present any more, and so many words are used as the present objects have
 pub record KeepsReached (c : Config) (s s' : State) (used : ℕ) : Type 0 where
   pub objects : (o : ℕ) (x : Contents) → IsReached s o → s.objects o ≡ Some x → s'.objects o ≡ Some x
   pub gone : (o : ℕ) → ¬ (IsReached s o) → s'.objects o ≡ None
@@ -62,6 +63,7 @@ pub record Collects (old new : PassView) (cleared : List Handle) (dropped : List
   pub place : CollectionIn old new cleared dropped used
   pub whole : IsWhole (state place.before) cleared dropped
 
--- what comes before the shut of a collection that was announced: the look, the announcement, and the shuts that were refused, with these counts
+-- what comes before the shut of a collection that was announced:
+-- the look, the announcement, and the shuts that were refused, with these counts
 abbrev pub announcing_acts : List ℕ → List Act
 announcing_acts refused = Meet ∷ Gate Announce ∷ map ShutBusy refused

@@ -1,5 +1,8 @@
--- THE MACHINE, RUN: whether an event may come, by tests of what stands within the room's bounds and of the handles that were given.
-use Rattle.std.specs.Prelude.{◌↔◌, ◌+◌, ◌==◌, ◌&&◌, ◌||◌, ◌^◌, ℕ, zero, suc, min, Bool, true, false, IsTrue, not, if◌then◌else◌, nat_eq, nat_lt, nat_le, Option, Some, None, is_some, List, [], ◌∷◌, length, slice_get}
+-- THE MACHINE, RUN:
+-- whether an event may come, by tests of what stands within the room's bounds and of the handles that were given.
+use Rattle.std.specs.Prelude.{◌↔◌, ◌+◌, ◌==◌, ◌&&◌, ◌||◌, ◌^◌, ℕ, zero, suc, min, Bool, true}
+use Rattle.std.specs.Prelude.{false, IsTrue, not, if◌then◌else◌, nat_eq, nat_lt, nat_le}
+use Rattle.std.specs.Prelude.{Option, Some, None, is_some, List, [], ◌∷◌, length, slice_get}
 use Rattle.std.specs.List.{filter, list_any, list_all}
 use Rattle.jr_word.specs.declared.config.Config.{Config}
 use Rattle.jr_word.specs.declared.handle.RefKind.TheVariants.{Local, Global, Weak}
@@ -11,10 +14,14 @@ use Rattle.jr_model.specs.declared.event.Found.{Found}
 use Rattle.jr_model.specs.declared.event.Found.TheVariants.{Object, Cleared, Stale}
 use Rattle.jr_model.specs.declared.event.Event.{Event}
 use Rattle.jr_model.specs.declared.event.Act.{Act}
-use Rattle.jr_model.specs.declared.event.Act.TheVariants.{Gate, ShutBusy, Create, Look, Probe, Delete, DeleteStale, Clear, LocalPut, LocalDrop, Reserve, ReserveFull, ReserveLost, New, Read, Write, Drop, Settle, Meet}
+use Rattle.jr_model.specs.declared.event.Act.TheVariants.{Gate, ShutBusy, Create, Look, Probe, Delete, DeleteStale}
+use Rattle.jr_model.specs.declared.event.Act.TheVariants.{Clear, LocalPut, LocalDrop, Reserve, ReserveFull}
+use Rattle.jr_model.specs.declared.event.Act.TheVariants.{ReserveLost, New, Read, Write, Drop, Settle, Meet}
 use Rattle.jr_model.specs.declared.event.GateAct.{GateAct}
-use Rattle.jr_model.specs.declared.event.GateAct.TheVariants.{Enter, Knock, Leave, Withdraw, Announce, Cancel, Shut, Reopen}
-use Rattle.jr_model.specs.State.{Handle, same_kind, Contents, State, opening, is_barring, is_outside, is_there, not_outside, present_words}
+use Rattle.jr_model.specs.declared.event.GateAct.TheVariants.{Enter, Knock, Leave, Withdraw}
+use Rattle.jr_model.specs.declared.event.GateAct.TheVariants.{Announce, Cancel, Shut, Reopen}
+use Rattle.jr_model.specs.State.{Handle, same_kind, Contents, State, opening, is_barring}
+use Rattle.jr_model.specs.State.{is_outside, is_there, not_outside, present_words}
 use Rattle.jr_model.specs.Checks.{is_objects, is_text}
 use Rattle.jr_model.specs.Steps.{Needs, after}
 use Rattle.jr_model.specs.History.{History, state, IsLegal}

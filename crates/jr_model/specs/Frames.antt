@@ -1,5 +1,6 @@
 -- The local references of a thread, in frames.
-use Rattle.std.specs.Prelude.{◌≡◌, ◌+◌, ◌<◌, ◌≤◌, ◌==◌, ◌&&◌, ℕ, Bool, false, not, cond, nat_le, IsTrue, Option, Some, None, IsSome, List, [], ◌∷◌, ◌++◌, map, length, slice_index, slice_set, replicate}
+use Rattle.std.specs.Prelude.{◌≡◌, ◌+◌, ◌<◌, ◌≤◌, ◌==◌, ◌&&◌, ℕ, Bool, false, not, cond, nat_le, IsTrue, Option, Some}
+use Rattle.std.specs.Prelude.{None, IsSome, List, [], ◌∷◌, ◌++◌, map, length, slice_index, slice_set, replicate}
 use Rattle.std.specs.List.{filter, list_any, AllByRecursion}
 use Rattle.jr_word.specs.declared.handle.RefKind.TheVariants.{Local}
 use Rattle.jr_model.specs.declared.event.Act.{Act}
@@ -66,8 +67,10 @@ with_last (x ∷ y ∷ xs) r = x ∷ with_last (y ∷ xs) r
 pub record IsAdded (last thread : ℕ) (old : Frames) (r : LocalRef) (new : Frames) : Type 0 where
   pub place : r.handle.index < length old.given
   pub free : IsTrue (is_free last old r.handle.index)
-  pub handle : r.handle ≡ record { kind = Local; serial = slice_index old.given r.handle.index; index = r.handle.index; owner = thread }
-  pub new_is : new ≡ record { frames = with_last old.frames r; given = slice_set old.given r.handle.index (r.handle.serial + 1) }
+  pub handle : r.handle
+      ≡ record { kind = Local; serial = slice_index old.given r.handle.index; index = r.handle.index; owner = thread }
+  pub new_is : new
+      ≡ record { frames = with_last old.frames r; given = slice_set old.given r.handle.index (r.handle.serial + 1) }
 
 -- without a handle, whichever frame has it
 abbrev pub without_local : Frames → Handle → Frames
@@ -106,7 +109,8 @@ HaveOwnPlaces (r ∷ rs) = (is_held rs r.handle.index ≡ false) × HaveOwnPlace
 abbrev pub IsNewest : Frames → LocalRef → Type 0
 IsNewest f r = slice_index f.given r.handle.index ≡ r.handle.serial + 1
 
--- frames as a thread may have them: one at least and no more than there may be, one reference a place at most, and each with the last handle of its place
+-- frames as a thread may have them:
+-- one at least and no more than there may be, one reference a place at most, and each with the last handle of its place
 pub record AreSound (f : Frames) : Type 0 where
   pub some_frame : 1 ≤ length f.frames
   pub few_frames : length f.frames ≤ FRAMES
@@ -120,7 +124,8 @@ drop_all rs = map (λ r. LocalDrop r.handle.index) rs
 -- what a thread may do with its frames, and by which acts
 pub data IsMove (last thread : ℕ) (f : Frames) : List Act → Frames → Type 0 where
   pushes : length f.frames < FRAMES → IsMove last thread f [] (pushed f)
-  adds : {g : Frames} (r : LocalRef) → IsAdded last thread f r g → IsMove last thread f (LocalPut r.handle.index r.object ∷ []) g
+  adds : {g : Frames} (r : LocalRef) → IsAdded last thread f r g
+      → IsMove last thread f (LocalPut r.handle.index r.object ∷ []) g
   deletes : (h : Handle) → IsSome (object_of f h) → IsMove last thread f (LocalDrop h.index ∷ []) (without_local f h)
   pops : 2 ≤ length f.frames → IsMove last thread f (drop_all (last_frame f.frames)) (popped f)
   frees : IsMove last thread f (drop_all (all_refs f)) (freed f)
@@ -128,4 +133,5 @@ pub data IsMove (last thread : ℕ) (f : Frames) : List Act → Frames → Type 
 -- moves lead from f to g
 pub data LeadsTo (last thread : ℕ) (f : Frames) : Frames → Type 0 where
   stays : LeadsTo last thread f f
-  goes_on : {g h : Frames} {acts : List Act} → LeadsTo last thread f g → IsMove last thread g acts h → LeadsTo last thread f h
+  goes_on : {g h : Frames} {acts : List Act} → LeadsTo last thread f g → IsMove last thread g acts h
+      → LeadsTo last thread f h

@@ -16,21 +16,28 @@ use Rattle.jr_model.specs.Checks.{Word}
 use Rattle.jr_model.specs.References.{new_reference}
 use Rattle.jr_model.specs.AllCalls.{AnswerKind, CallOf, has_own_stay, means}
 
--- the call is its stay: it begins right behind its own Enter, or its own Knock where it is barred, and ends with its own Leave or Withdraw
+-- the call is its stay:
+-- it begins right behind its own Enter, or its own Knock where it is barred, and ends with its own Leave or Withdraw
 abbrev pub IsItsStay : {A : Type 0} → PassView → PassView → Call A → Type 0
 IsItsStay {A} old new call = (f g : Frames) (answer : Result A Fault) (r : Ran old new f g call answer)
-    → ((answer ≡ Err Barred) × IsBehind old (Gate Knock) r.begun × IsLastSeen new (Gate Withdraw)) ⊎ (IsBehind old (Gate Enter) r.begun × IsLastSeen new (Gate Leave))
+    → ((answer ≡ Err Barred) × IsBehind old (Gate Knock) r.begun × IsLastSeen new (Gate Withdraw))
+    ⊎ (IsBehind old (Gate Enter) r.begun × IsLastSeen new (Gate Leave))
 
 -- each call of an env that has a stay of its own
 abbrev pub CallsAreTheirStays : Config → ℕ → ℕ → PassView → PassView → Type 0
-CallsAreTheirStays c last thread old new = (a : AnswerKind) (x : CallOf a) → has_own_stay x ≡ true → IsItsStay old new (means c last thread (state new.seen) x)
+CallsAreTheirStays c last thread old new =
+    (a : AnswerKind) (x : CallOf a) → has_own_stay x ≡ true → IsItsStay old new (means c last thread (state new.seen) x)
 
 -- a new reference that is refused for want of an index has a probe of each among its own acts
 abbrev pub EachIsProbed : Type 0
-EachIsProbed = (old new : PassView) (f g : Frames) (k : RefKind) (a : Word) (r : Ran old new f g (new_reference old.config old.last old.thread k a) (Err RowFull)) (i : ℕ) → i < old.config.slots
+EachIsProbed = (old new : PassView) (f g : Frames) (k : RefKind) (a : Word)
+    (r : Ran old new f g (new_reference old.config old.last old.thread k a) (Err RowFull)) (i : ℕ)
+    → i < old.config.slots
     → (front rest : List Act) × (found : Bool) × (r.acts ≡ front ++ Probe i found ∷ rest)
 
--- a new reference is refused for want of an index within its own stay alone: behind its own entry it probed each index, and before its own exit the index was occupied
+-- a new reference is refused for want of an index within its own stay alone:
+-- behind its own entry it probed each index, and before its own exit the index was occupied
 abbrev pub RefusedInItsStay : Type 0
-RefusedInItsStay = (old new : PassView) (f g : Frames) (k : RefKind) (a : Word) → Ran old new f g (new_reference old.config old.last old.thread k a) (Err RowFull)
+RefusedInItsStay = (old new : PassView) (f g : Frames) (k : RefKind) (a : Word)
+    → Ran old new f g (new_reference old.config old.last old.thread k a) (Err RowFull)
     → (entered : History) × IsBehind old (Gate Enter) entered × IsLastSeen new (Gate Leave) × RowWasFull entered new

@@ -5,7 +5,6 @@ use mathlib.Core.List.{IsPrefix}
 use Rattle.jr_word.specs.declared.config.Config.{Config}
 use Rattle.jr_word.specs.declared.kind.Kind.{Kind}
 use Rattle.jr_model.specs.declared.event.Role.{Role}
-use Rattle.jr_model.specs.declared.event.Role.TheVariants.{Outside, Within, Knocking, Collecting}
 use Rattle.jr_model.specs.declared.event.Event.{Event}
 use Rattle.jr_model.specs.declared.event.Act.{Act}
 use Rattle.jr_model.specs.declared.event.Act.TheVariants.{Gate, ShutBusy, Clear, New, Write, Drop, Settle, Meet}
@@ -92,10 +91,13 @@ writes o i _ = false
 abbrev pub NoneOf : (Act → Bool) → History → Type 0
 NoneOf p es = AllByRecursion (λ e. p e.act ≡ false) es
 
--- v is what stands at element i of o: the word of the last write of it after the last making of o, or else the word that it was made with
+-- v is what stands at element i of o:
+-- the word of the last write of it after the last making of o, or else the word that it was made with
 pub data IsLastWord (o i v : ℕ) (es : History) : Type 0 where
-  from_new : (before since : History) (t : ℕ) (k : Kind) (ws : List ℕ) → es ≡ before ++ by t (New o k ws) ∷ since → slice_get ws i ≡ Some v → NoneOf (makes_object o) since → NoneOf (writes o i) since → IsLastWord o i v es
-  from_write : (before since : History) (t : ℕ) → es ≡ before ++ by t (Write o i v) ∷ since → NoneOf (makes_object o) since → NoneOf (writes o i) since → IsLastWord o i v es
+  from_new : (before since : History) (t : ℕ) (k : Kind) (ws : List ℕ) → es ≡ before ++ by t (New o k ws) ∷ since
+      → slice_get ws i ≡ Some v → NoneOf (makes_object o) since → NoneOf (writes o i) since → IsLastWord o i v es
+  from_write : (before since : History) (t : ℕ) → es ≡ before ++ by t (Write o i v) ∷ since
+      → NoneOf (makes_object o) since → NoneOf (writes o i) since → IsLastWord o i v es
 
 -- a thread's role after an act of its own
 abbrev pub role_after : Role → Act → Role
@@ -118,7 +120,8 @@ pub record PassView : Type 0 where
 abbrev pub role_of : PassView → Role
 role_of p = (state p.seen).role p.thread
 
--- WHAT A THREAD DID between two moments: what was seen begins what is seen, which is legal, and of the thread's own acts it has these more and no others, whatever the other threads did in between
+-- WHAT A THREAD DID between two moments: what was seen begins what is seen, which is legal, and of
+-- the thread's own acts it has these more and no others, whatever the other threads did in between
 pub record Did (old new : PassView) (acts : List Act) : Type 0 where
   pub config : new.config ≡ old.config
   pub last : new.last ≡ old.last

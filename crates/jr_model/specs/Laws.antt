@@ -1,5 +1,6 @@
 -- The laws of every legal history.
-use Rattle.std.specs.Prelude.{◌≡◌, ◌≢◌, ◌⊎◌, ◌≤◌, ℕ, true, false, Some, None, IsSome, List, [], ◌∷◌, ◌++◌, ◌↔◌, map, length}
+use Rattle.std.specs.Prelude.{◌≡◌, ◌≢◌, ◌⊎◌, ◌≤◌, ℕ, true, false, Some, None}
+use Rattle.std.specs.Prelude.{IsSome, List, [], ◌∷◌, ◌++◌, ◌↔◌, map, length}
 use Rattle.std.specs.List.{AllByRecursion}
 use Rattle.jr_word.specs.declared.config.Config.{Config}
 use Rattle.jr_word.specs.declared.kind.Kind.TheVariants.{Plain, Objects}
@@ -11,18 +12,22 @@ use Rattle.jr_model.specs.declared.event.GateAct.TheVariants.{Shut, Reopen}
 use Rattle.jr_model.specs.declared.event.Event.{Event}
 use Rattle.jr_model.specs.declared.frames.Mode.{Mode}
 use Rattle.jr_model.specs.Steps.{Step}
-use Rattle.jr_model.specs.State.{Contents, State, Handle, same_handle, IsPresent, NobodyCollects, AreWords, IsClosed, present_words}
-use Rattle.jr_model.specs.History.{History, by, state, state_from, IsLegal, mine, is_collection_step, is_waiting, IsStay, IsCollection, IsLastWord, PassView, Did}
+use Rattle.jr_model.specs.State.{Contents, State, Handle, same_handle, IsPresent}
+use Rattle.jr_model.specs.State.{NobodyCollects, AreWords, IsClosed, present_words}
+use Rattle.jr_model.specs.History.{History, by, state, state_from, IsLegal, mine, is_collection_step}
+use Rattle.jr_model.specs.History.{is_waiting, IsStay, IsCollection, IsLastWord, PassView, Did}
 use Rattle.jr_model.specs.declared.event.Act.{Act}
 use Rattle.jr_model.specs.declared.frames.LocalRef.{LocalRef}
-use Rattle.jr_model.specs.Frames.{Frames, IsAdded, IsMove, LeadsTo, AreSound, Agree, fresh_frames, object_where, object_of, object_at, last_frame, without_local, popped, freed}
+use Rattle.jr_model.specs.Frames.{Frames, IsAdded, IsMove, LeadsTo, AreSound, Agree, fresh_frames}
+use Rattle.jr_model.specs.Frames.{object_where, object_of, object_at, last_frame, without_local, popped, freed}
 use Rattle.jr_model.specs.CollectionCalls.{sweeping_acts, IsWhole, IsExact, KeepsReached}
 use Rattle.jr_model.specs.Releases.{released, release_acts}
 
 -- the empty history is legal, and a longer one where its front is and its last event is a step
 abbrev pub LegalGoesByStep : Config → ℕ → Type 0
 LegalGoesByStep c last = IsLegal c last []
-    × ((es : History) (e : Event) → IsLegal c last (es ++ e ∷ []) ↔ IsLegal c last es × Step c last (state es) e (state (es ++ e ∷ [])))
+    × ((es : History) (e : Event)
+    → IsLegal c last (es ++ e ∷ []) ↔ IsLegal c last es × Step c last (state es) e (state (es ++ e ∷ [])))
 
 -- a thread that did all that it has seen has seen since an earlier moment just the acts that it did since
 abbrev pub SeesItsOwnActs : Type 0
@@ -49,13 +54,20 @@ abbrev pub OneAnIndex : Config → ℕ → Type 0
 OneAnIndex c last = (es : History) (g h : Handle) → IsLegal c last es
     → (state es).refs g ≢ Stale → (state es).refs h ≢ Stale → g.index ≡ h.index → g ≡ h
 
--- WHAT THE LAWS SAY OF A HISTORY: each handle is created at most once, and at each moment at most one reference of an index stands; once a handle is deleted each look at it is stale, and it is not created again; and no step of a collection lies in a stay
+-- WHAT THE LAWS SAY OF A HISTORY: each handle is created at most once, and at each
+-- moment at most one reference of an index stands; once a handle is deleted each look at
+-- it is stale, and it is not created again; and no step of a collection lies in a stay
 pub record KeepsTheLaws (es : History) : Type 0 where
-  pub once : (h : Handle) (t u o p : ℕ) (before between rest : History) → ¬ (es ≡ before ++ by t (Create h o) ∷ between ++ by u (Create h p) ∷ rest)
-  pub one : (g h : Handle) (before rest : History) → es ≡ before ++ rest → (state before).refs g ≢ Stale → (state before).refs h ≢ Stale → g.index ≡ h.index → g ≡ h
-  pub stale : (h : Handle) (t u : ℕ) (r : Found) (before between rest : History) → es ≡ before ++ by t (Delete h) ∷ between ++ by u (Look h r) ∷ rest → r ≡ Stale
-  pub not_again : (h : Handle) (t u o : ℕ) (before between rest : History) → ¬ (es ≡ before ++ by t (Delete h) ∷ between ++ by u (Create h o) ∷ rest)
-  pub apart : (t : ℕ) (before inside rest : History) → IsStay t es before inside rest → AllByRecursion (λ e. is_collection_step e.act ≡ false) inside
+  pub once : (h : Handle) (t u o p : ℕ) (before between rest : History)
+      → ¬ (es ≡ before ++ by t (Create h o) ∷ between ++ by u (Create h p) ∷ rest)
+  pub one : (g h : Handle) (before rest : History) → es ≡ before ++ rest → (state before).refs g ≢ Stale
+      → (state before).refs h ≢ Stale → g.index ≡ h.index → g ≡ h
+  pub stale : (h : Handle) (t u : ℕ) (r : Found) (before between rest : History)
+      → es ≡ before ++ by t (Delete h) ∷ between ++ by u (Look h r) ∷ rest → r ≡ Stale
+  pub not_again : (h : Handle) (t u o : ℕ) (before between rest : History)
+      → ¬ (es ≡ before ++ by t (Delete h) ∷ between ++ by u (Create h o) ∷ rest)
+  pub apart : (t : ℕ) (before inside rest : History) → IsStay t es before inside rest
+      → AllByRecursion (λ e. is_collection_step e.act ≡ false) inside
 
 -- no collection step lies in a stay
 abbrev pub NoCollectionInside : Config → ℕ → Type 0
@@ -77,14 +89,16 @@ NamedIsPresent c last = (es : History) → IsLegal c last es
 abbrev pub ElementsArePresent : Config → ℕ → Type 0
 ElementsArePresent c last = (es : History) → IsLegal c last es → NobodyCollects (state es) → IsClosed (state es)
 
--- each element of a present object is a word of its kind: of an object array outside collections, of any other at each moment
+-- each element of a present object is a word of its kind:
+-- of an object array outside collections, of any other at each moment
 abbrev pub ElementsAreWords : Config → ℕ → Type 0
 ElementsAreWords c last = (es : History) (o : ℕ) (x : Contents) → IsLegal c last es → (state es).objects o ≡ Some x
     → (x.kind ≡ Objects → NobodyCollects (state es)) → AreWords (state es) x.kind x.words
 
 -- a plain object has no elements
 abbrev pub PlainHasNoElements : Config → ℕ → Type 0
-PlainHasNoElements c last = (es : History) (o : ℕ) (x : Contents) → IsLegal c last es → (state es).objects o ≡ Some x → x.kind ≡ Plain → x.words ≡ []
+PlainHasNoElements c last = (es : History) (o : ℕ) (x : Contents) → IsLegal c last es → (state es).objects o ≡ Some x
+    → x.kind ≡ Plain → x.words ≡ []
 
 -- the number of a present object lies in 1 to the room's number of objects
 abbrev pub PresentIsInRoom : Config → ℕ → Type 0
@@ -92,17 +106,21 @@ PresentIsInRoom c last = (es : History) (o : ℕ) → IsLegal c last es → IsPr
 
 -- the present objects fit in what is reserved, and that in the room
 abbrev pub LengthsFit : Config → ℕ → Type 0
-LengthsFit c last = (es : History) → IsLegal c last es → (present_words c (state es) ≤ (state es).used) × ((state es).used ≤ c.words)
+LengthsFit c last =
+    (es : History) → IsLegal c last es → (present_words c (state es) ≤ (state es).used) × ((state es).used ≤ c.words)
 
 -- a read finds what was last written
 abbrev pub ReadsLastWord : Config → ℕ → Type 0
-ReadsLastWord c last = (before rest : History) (t o i v : ℕ) → IsLegal c last (before ++ by t (Read o i v) ∷ rest) → IsLastWord o i v before
+ReadsLastWord c last = (before rest : History) (t o i v : ℕ) → IsLegal c last (before ++ by t (Read o i v) ∷ rest)
+    → IsLastWord o i v before
 
--- as what a reference that was created for an object may be found while it stands: with the object, or, where it is weak, cleared
+-- as what a reference that was created for an object may be found while it stands:
+-- with the object, or, where it is weak, cleared
 abbrev pub IsFoundAs : Handle → ℕ → Found → Type 0
 IsFoundAs h o r = (r ≡ Object o) ⊎ ((h.kind ≡ Weak) × (r ≡ Cleared))
 
--- a reference that was created is found so until it is deleted: a global one with its object, a weak one with it or cleared
+-- a reference that was created is found so until it is deleted:
+-- a global one with its object, a weak one with it or cleared
 abbrev pub CreatedIsFound : Config → ℕ → Type 0
 CreatedIsFound c last = (h : Handle) (t u o : ℕ) (r : Found) (before between rest : History)
     → IsLegal c last (before ++ by t (Create h o) ∷ between ++ by u (Look h r) ∷ rest)
@@ -118,7 +136,8 @@ abbrev pub GoneStaysGone : ℕ → ℕ → Type 0
 GoneStaysGone last thread = (f g later : Frames) (h : Handle) → AreSound f → IsSome (object_of f h)
     → LeadsTo last thread f g → object_of g h ≡ None → LeadsTo last thread g later → object_of later h ≡ None
 
--- a handle stands no more once it is deleted, once the last frame is popped where it stood there, and once all are freed
+-- a handle stands no more once it is deleted, once the last
+-- frame is popped where it stood there, and once all are freed
 abbrev pub TakenIsGone : Type 0
 TakenIsGone = (f : Frames) (h : Handle) → AreSound f
     → (object_of (without_local f h) h ≡ None)
@@ -135,21 +154,26 @@ FramesStaySound last thread = (f g : Frames) (acts : List Act) → AreSound f �
 
 -- and they go on agreeing with the locals of the thread, whatever the other threads do in between
 abbrev pub FramesStayAgreed : Type 0
-FramesStayAgreed = (old new : PassView) (f g : Frames) (acts : List Act) → AreSound f → Agree old.thread f (state old.seen)
+FramesStayAgreed =
+    (old new : PassView) (f g : Frames) (acts : List Act) → AreSound f → Agree old.thread f (state old.seen)
     → IsMove old.last old.thread f acts g → Did old new acts → Agree new.thread g (state new.seen)
 
 -- in sound frames a handle that stands is the one at its place
 abbrev pub HandleIsAtPlace : Type 0
 HandleIsAtPlace = (f : Frames) (h : Handle) (o : ℕ) → AreSound f → object_of f h ≡ Some o → object_at f h.index ≡ Some o
 
--- a collection that leaves nothing out clears and drops exactly what is to be, each once, and keeps what is reached and nothing else
+-- a collection that leaves nothing out clears and drops exactly what
+-- is to be, each once, and keeps what is reached and nothing else
 abbrev pub CollectionIsExact : Config → ℕ → Type 0
 CollectionIsExact c last = (t : ℕ) (before inside rest : History) (cleared : List Handle) (dropped : List ℕ) (used : ℕ)
     → IsLegal c last (before ++ by t (Gate Shut) ∷ inside ++ by t (Gate Reopen) ∷ rest)
     → mine inside t ≡ sweeping_acts cleared dropped used → IsWhole (state before) cleared dropped
-    → IsExact (state before) cleared dropped × KeepsReached c (state before) (state (before ++ by t (Gate Shut) ∷ inside)) used
+    → IsExact (state before) cleared dropped
+    × KeepsReached c (state before) (state (before ++ by t (Gate Shut) ∷ inside)) used
 
 -- where nobody writes in between, the acts of a release leave the array that the mode says
 abbrev pub ReleaseLeaves : Type 0
-ReleaseLeaves = (s : State) (t o : ℕ) (x : Contents) (buffer : List ℕ) (mode : Mode) → s.objects o ≡ Some x → length buffer ≡ length x.words
-    → (state_from s (map (by t) (release_acts mode o buffer))).objects o ≡ Some (record { kind = x.kind; words = (released mode x.words buffer).0 })
+ReleaseLeaves = (s : State) (t o : ℕ) (x : Contents) (buffer : List ℕ) (mode : Mode) → s.objects o ≡ Some x
+    → length buffer ≡ length x.words
+    → (state_from s (map (by t) (release_acts mode o buffer))).objects o
+    ≡ Some (record { kind = x.kind; words = (released mode x.words buffer).0 })

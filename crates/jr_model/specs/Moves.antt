@@ -8,9 +8,11 @@ use Rattle.jr_model.specs.Frames.{Frames, LeadsTo}
 use Rattle.jr_model.specs.Calls.{Call}
 use Rattle.jr_model.specs.AllCalls.{AnswerKind, CallOf, means}
 
--- A CALL MOVES THE FRAMES: whatever it answers, its frames come from those before it by what a thread may do with frames
+-- A CALL MOVES THE FRAMES:
+-- whatever it answers, its frames come from those before it by what a thread may do with frames
 pub record MovesFrames {A : Type 0} (last thread : ℕ) (call : Call A) : Type 0 where
-  pub leads : (old new : Frames) (acts : List Act) (answer : Result A Fault) → call old acts answer new → LeadsTo last thread old new
+  pub leads : (old new : Frames) (acts : List Act) (answer : Result A Fault) → call old acts answer new
+      → LeadsTo last thread old new
 
 -- each call of an env
 abbrev pub CallsMoveFrames : Config → ℕ → ℕ → State → Type 0

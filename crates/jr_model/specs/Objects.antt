@@ -1,5 +1,7 @@
--- The calls that read and write objects, and copies and regions of elements: first what each does within its stay, and then the calls. s is the state that the call leaves: the objects that it names have their kind and length there.
-use Rattle.std.specs.Prelude.{◌+◌, ◌==◌, ℕ, zero, suc, Bool, not, nat_lt, nat_le, Option, Some, None, List, [], ◌∷◌, ◌++◌, length, slice_index, slice_set}
+-- The calls that read and write objects, and copies and regions of elements: first what each does within its stay, and
+-- then the calls. s is the state that the call leaves: the objects that it names have their kind and length there.
+use Rattle.std.specs.Prelude.{◌+◌, ◌==◌, ℕ, zero, suc, Bool, not, nat_lt, nat_le, Option}
+use Rattle.std.specs.Prelude.{Some, None, List, [], ◌∷◌, ◌++◌, length, slice_index, slice_set}
 use Rattle.jr_word.specs.declared.config.Config.{Config}
 use Rattle.jr_word.specs.declared.kind.Kind.{Kind}
 use Rattle.jr_word.specs.declared.fault.Fault.{Fault}
@@ -9,8 +11,10 @@ use Rattle.jr_model.specs.declared.frames.TheConstants.{LEVELS}
 use Rattle.jr_model.specs.declared.frames.Mode.{Mode}
 use Rattle.jr_model.specs.declared.frames.Mode.TheVariants.{Copy, Commit, Abort}
 use Rattle.jr_model.specs.State.{Handle, State}
-use Rattle.jr_model.specs.Calls.{Call, act, done, entered, opened, refuse_if, some_act, unless_memory_for, for_object, ◌>>=◌, ◌>>◌}
-use Rattle.jr_model.specs.Checks.{Word, is_array, is_objects, is_primitive, is_read_as, is_text, object_of_word, same_element, element_word}
+use Rattle.jr_model.specs.Calls.{Call, act, done, entered, opened, refuse_if}
+use Rattle.jr_model.specs.Calls.{some_act, unless_memory_for, for_object, ◌>>=◌, ◌>>◌}
+use Rattle.jr_model.specs.Checks.{Word, is_array, is_objects, is_primitive, is_read_as}
+use Rattle.jr_model.specs.Checks.{is_text, object_of_word, same_element, element_word}
 use Rattle.jr_model.specs.Parts.{leave, not_null, read, write}
 use Rattle.jr_model.specs.References.{resolved, resolved_both, new_local}
 
@@ -217,12 +221,14 @@ module _ (c : Config) (last thread : ℕ) (s : State) where
     refuse_if (nat_le n i) Range
     act (Write o i v))
 
--- the last level of a region is given up, where so many stand: with the first one the stay ends. A region is no copy, so that no mode writes or keeps anything
+-- the last level of a region is given up, where so many stand: with the first one the stay ends.
+-- A region is no copy, so that no mode writes or keeps anything
 abbrev pub region_release : ℕ → Call (Unit {0})
 region_release (suc zero) = leave
 region_release _ = done tt
 
--- COPIED ELEMENTS, which a call hands out and takes back: a list of their own, so that nothing is entered and nothing of the room is looked at
+-- COPIED ELEMENTS, which a call hands out and takes back:
+-- a list of their own, so that nothing is entered and nothing of the room is looked at
 
 -- one of the copied elements
 abbrev pub elements_get : List ℕ → ℕ → Call ℕ

@@ -18,7 +18,8 @@ pub record HasStayed (old new : PassView) : Type 0 where
   pub did : Did old new (Gate Enter ∷ acts)
   pub stays : NoneLeaves acts
 
--- what was seen since is one stay of the thread, behind what was seen before and what others did, up to what is left; and no event in it, of whatever thread, is a step of a collection
+-- what was seen since is one stay of the thread, behind what was seen before and what others did, up to what is left;
+-- and no event in it, of whatever thread, is a step of a collection
 pub record IsOneStay (old new : PassView) (left : History) : Type 0 where
   pub before : History
   pub inside : History
@@ -27,9 +28,11 @@ pub record IsOneStay (old new : PassView) (left : History) : Type 0 where
   pub own : mine before old.thread ≡ mine old.seen old.thread
   pub clear : AllByRecursion (λ e. is_collection_step e.act ≡ false) inside
 
--- a stay that stands has had its thread's acts and no others: it goes on with what the thread does, as long as none of that is an exit
+-- a stay that stands has had its thread's acts and no others:
+-- it goes on with what the thread does, as long as none of that is an exit
 abbrev pub GoesOnWithItsActs : Type 0
-GoesOnWithItsActs = (old mid new : PassView) (stayed : HasStayed old mid) (acts : List Act) → Did mid new acts → NoneLeaves acts → (now : HasStayed old new) × (now.acts ≡ stayed.acts ++ acts)
+GoesOnWithItsActs = (old mid new : PassView) (stayed : HasStayed old mid) (acts : List Act) → Did mid new acts
+    → NoneLeaves acts → (now : HasStayed old new) × (now.acts ≡ stayed.acts ++ acts)
 
 -- while a stay stands, no collection step has come since its entry
 abbrev pub NoCollectionInOpenStay : Type 0
@@ -37,4 +40,5 @@ NoCollectionInOpenStay = (old new : PassView) → HasStayed old new → IsOneSta
 
 -- none comes up to its exit
 abbrev pub NoCollectionUpToExit : Type 0
-NoCollectionUpToExit = (old mid new : PassView) → HasStayed old mid → Stepped mid new (Gate Leave) → IsOneStay old new (by old.thread (Gate Leave) ∷ [])
+NoCollectionUpToExit = (old mid new : PassView) → HasStayed old mid → Stepped mid new (Gate Leave)
+    → IsOneStay old new (by old.thread (Gate Leave) ∷ [])

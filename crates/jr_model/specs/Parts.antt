@@ -1,20 +1,26 @@
 -- The parts that calls are made of, among them the calls of gate, slots and heap.
-use Rattle.std.specs.Prelude.{◌≡◌, ◌<◌, ◌+◌, ◌||◌, ℕ, zero, suc, Bool, not, cond, nat_lt, nat_le, Option, Some, None, Result, Ok, Err, List, [], ◌∷◌, map, length}
+use Rattle.std.specs.Prelude.{◌≡◌, ◌<◌, ◌+◌, ◌||◌, ℕ, zero, suc, Bool, not, cond, nat_lt, nat_le}
+use Rattle.std.specs.Prelude.{Option, Some, None, Result, Ok, Err, List, [], ◌∷◌, map, length}
 use Rattle.jr_word.specs.declared.handle.RefKind.{RefKind}
 use Rattle.jr_word.specs.declared.kind.Kind.{Kind}
 use Rattle.jr_word.specs.declared.fault.Fault.{Fault}
-use Rattle.jr_word.specs.declared.fault.Fault.TheVariants.{Null, NotArray, Range, RowFull, LocalsFull, SpaceFull, ObjectsFull, Raced, Barred, Busy, NoFrame, Value, Moved}
+use Rattle.jr_word.specs.declared.fault.Fault.TheVariants.{Null, NotArray, Range, RowFull, LocalsFull, SpaceFull}
+use Rattle.jr_word.specs.declared.fault.Fault.TheVariants.{ObjectsFull, Raced, Barred, Busy, NoFrame, Value, Moved}
 use Rattle.jr_word.specs.declared.fault.Fault.TheVariants as fault
 use Rattle.jr_model.specs.declared.event.Found.{Found}
 use Rattle.jr_model.specs.declared.event.Found.TheVariants.{Object, Cleared, Stale}
 use Rattle.jr_model.specs.declared.event.Act.{Act}
-use Rattle.jr_model.specs.declared.event.Act.TheVariants.{Gate, ShutBusy, Create, Look, Probe, Delete, DeleteStale, LocalDrop, Reserve, ReserveFull, ReserveLost, New, Read, Write, Meet}
-use Rattle.jr_model.specs.declared.event.GateAct.TheVariants.{Enter, Knock, Leave, Withdraw, Announce, Cancel, Shut, Reopen}
+use Rattle.jr_model.specs.declared.event.Act.TheVariants.{Gate, ShutBusy, Create, Look, Probe, Delete}
+use Rattle.jr_model.specs.declared.event.Act.TheVariants.{DeleteStale, LocalDrop, Reserve, ReserveFull}
+use Rattle.jr_model.specs.declared.event.Act.TheVariants.{ReserveLost, New, Read, Write, Meet}
+use Rattle.jr_model.specs.declared.event.GateAct.TheVariants.{Enter, Knock, Leave, Withdraw}
+use Rattle.jr_model.specs.declared.event.GateAct.TheVariants.{Announce, Cancel, Shut, Reopen}
 use Rattle.jr_model.specs.declared.frames.TheConstants.{FRAMES}
 use Rattle.jr_model.specs.State.{Handle, State}
 use Rattle.jr_model.specs.Frames.{object_of, pushed, popped, without_local, last_frame, drop_all}
 use Rattle.jr_model.specs.CollectionCalls.{collection_acts}
-use Rattle.jr_model.specs.Calls.{Call, ◌>>=◌, ◌>>◌, act, at_most, decided, done, one_of, refuse, refuse_if, some_act, for_object}
+use Rattle.jr_model.specs.Calls.{Call, ◌>>=◌, ◌>>◌, act, at_most, decided, done}
+use Rattle.jr_model.specs.Calls.{one_of, refuse, refuse_if, some_act, for_object}
 use Rattle.jr_model.specs.Checks.{Word, Parts, is_local, is_plain, is_text, is_value, type_found, type_local}
 
 -- THE GATE
@@ -48,11 +54,13 @@ look h = some_act (Look h)
 
 -- any number of probes; `create` bounds it
 abbrev pub probes : Call (Unit {0})
-probes old acts answer new = (looks : List (ℕ × Bool)) × (acts ≡ map (λ l. Probe l.0 l.1) looks) × (answer ≡ Ok tt) × (new ≡ old)
+probes old acts answer new =
+    (looks : List (ℕ × Bool)) × (acts ≡ map (λ l. Probe l.0 l.1) looks) × (answer ≡ Ok tt) × (new ≡ old)
 
 -- the creation of some handle of the kind
 abbrev pub created_with : RefKind → ℕ → Call Handle
-created_with k o old acts answer new = (h : Handle) × (h.kind ≡ k) × (acts ≡ Create h o ∷ []) × (answer ≡ Ok h) × (new ≡ old)
+created_with k o old acts answer new =
+    (h : Handle) × (h.kind ≡ k) × (acts ≡ Create h o ∷ []) × (answer ≡ Ok h) × (new ≡ old)
 
 -- probes and then the creation, or probes alone, by two acts at the most for each of so many slots
 abbrev pub create : ℕ → RefKind → ℕ → Call Handle
@@ -169,7 +177,8 @@ write_acts o start (v ∷ vs) = Write o start v ∷ write_acts o (start + 1) vs
 
 -- n elements from start on
 abbrev pub read : ℕ → ℕ → ℕ → Call (List ℕ)
-read o start n old acts answer new = (vs : List ℕ) × (length vs ≡ n) × (acts ≡ read_acts o start vs) × (answer ≡ Ok vs) × (new ≡ old)
+read o start n old acts answer new =
+    (vs : List ℕ) × (length vs ≡ n) × (acts ≡ read_acts o start vs) × (answer ≡ Ok vs) × (new ≡ old)
 
 -- these words are written from start on
 abbrev pub write : ℕ → ℕ → List ℕ → Call (Unit {0})
@@ -213,7 +222,9 @@ collected old acts answer new =
     × (acts ≡ collection_acts cleared dropped used)
     × (answer ≡ Ok (length cleared, length dropped, used)) × (new ≡ old)
 
--- a collection, or so many threads are not outside. This names the acts alone, and would let one pass that clears and drops nothing: what a collection must take is `Collects` of CollectionCalls.antt, and a contract of one cites that beside its answer
+-- a collection, or so many threads are not outside.
+-- This names the acts alone, and would let one pass that clears and drops nothing:
+-- what a collection must take is `Collects` of CollectionCalls.antt, and a contract of one cites that beside its answer
 abbrev pub collect : Call (ℕ × ℕ × ℕ)
 collect = one_of collected (do
   n ← some_act ShutBusy
@@ -239,9 +250,12 @@ announce = one_of found_closed (do
 
 -- shuts that are refused, so many as this says
 abbrev pub refused_shuts : (ℕ → Type 0) → Call (Unit {0})
-refused_shuts many old acts answer new = (counts : List ℕ) × many (length counts) × (acts ≡ map ShutBusy counts) × (answer ≡ Ok tt) × (new ≡ old)
+refused_shuts many old acts answer new =
+    (counts : List ℕ) × many (length counts) × (acts ≡ map ShutBusy counts) × (answer ≡ Ok tt) × (new ≡ old)
 
--- a collection that is announced: it begins after fewer refused shuts than there are tries, or the last of them is refused too, with this count, and the announcement is taken back. Like `collect` it names the acts alone: what it must take from its shut on is `Collects`
+-- a collection that is announced: it begins after fewer refused shuts than there are tries,
+-- or the last of them is refused too, with this count, and the announcement is taken back.
+-- Like `collect` it names the acts alone: what it must take from its shut on is `Collects`
 abbrev pub collect_announced : ℕ → Call (ℕ × ℕ × ℕ)
 collect_announced tries = do
   announce

@@ -1,5 +1,7 @@
--- The calls of references and frames, and those that make objects: first what each does within its stay, and then the calls.
-use Rattle.std.specs.Prelude.{◌≡◌, ◌==◌, ◌||◌, ℕ, Bool, not, cond, nat_lt, Option, Some, None, Ok, List, [], ◌∷◌, length, replicate}
+-- The calls of references and frames, and those that make objects:
+-- first what each does within its stay, and then the calls.
+use Rattle.std.specs.Prelude.{◌≡◌, ◌==◌, ◌||◌, ℕ, Bool, not, cond, nat_lt, Option}
+use Rattle.std.specs.Prelude.{Some, None, Ok, List, [], ◌∷◌, length, replicate}
 use Rattle.jr_word.specs.declared.config.Config.{Config}
 use Rattle.jr_word.specs.declared.handle.RefKind.{RefKind}
 use Rattle.jr_word.specs.declared.handle.RefKind.TheVariants.{Local}
@@ -11,8 +13,10 @@ use Rattle.jr_model.specs.declared.event.Act.TheVariants.{LocalPut}
 use Rattle.jr_model.specs.State.{Handle}
 use Rattle.jr_model.specs.Frames.{all_refs, drop_all, free_places, popped, freed, IsAdded}
 use Rattle.jr_model.specs.Calls.{Call, done, entered, refuse_if, ◌>>=◌, ◌>>◌}
-use Rattle.jr_model.specs.Checks.{Word, is_foreign, is_malformed, is_of_kind, is_out_of_bounds, same_object, element_word}
-use Rattle.jr_model.specs.Parts.{created, delete_at, delete_local_at, frame_left, frame_to_pop, looked, new_frame, publish, reserve, take_frame, type_at}
+use Rattle.jr_model.specs.Checks.{Word, is_foreign, is_malformed, is_of_kind}
+use Rattle.jr_model.specs.Checks.{is_out_of_bounds, same_object, element_word}
+use Rattle.jr_model.specs.Parts.{created, delete_at, delete_local_at, frame_left, frame_to_pop}
+use Rattle.jr_model.specs.Parts.{looked, new_frame, publish, reserve, take_frame, type_at}
 
 -- a deletion by the call of the kind
 abbrev pub removal : Config → RefKind → Word → Call (Unit {0})
@@ -72,7 +76,8 @@ module _ (c : Config) (last thread : ℕ) where
 
   -- a new local reference to the object, for which there is a place
   abbrev pub added : ℕ → Call Handle
-  added o old acts answer new = (h : Handle) × (acts ≡ LocalPut h.index o ∷ []) × (answer ≡ Ok h) × IsAdded last thread old (record { handle = h; object = o }) new
+  added o old acts answer new = (h : Handle) × (acts ≡ LocalPut h.index o ∷ []) × (answer ≡ Ok h)
+      × IsAdded last thread old (record { handle = h; object = o }) new
 
   -- a new local reference to the object, NULL for none
   abbrev pub new_local : Option ℕ → Call (Option Handle)

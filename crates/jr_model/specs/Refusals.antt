@@ -33,7 +33,8 @@ RowWasFull begun new = (i : ℕ) → i < new.config.slots → WasOccupied begun 
 abbrev pub ObjectsWereFull : History → PassView → Type 0
 ObjectsWereFull begun new = Sometime (EachPresent new.config) begun new.seen
 
--- what was asked for fitted beside so many words, and these were used at a moment of the call; at a later one, when the call would take its own, others were
+-- what was asked for fitted beside so many words, and these were used at a moment of the call;
+-- at a later one, when the call would take its own, others were
 pub record LostSpace (asked : ℕ) (begun : History) (new : PassView) (looked found : ℕ) : Type 0 where
   pub before : History
   pub since : History
@@ -58,6 +59,8 @@ pub record GateHasMoved (begun : History) (new : PassView) (looked found : ℕ) 
 abbrev pub Grounds : History → PassView → Fault → Type 0
 Grounds begun new RowFull = RowWasFull begun new  -- each index was occupied, behind a probe of its own
 Grounds begun new ObjectsFull = ObjectsWereFull begun new  -- each object number was present at one moment
-Grounds begun new (Raced looked found) = (asked : ℕ) × LostSpace asked begun new looked found  -- what is asked for fitted, and another thread was faster
-Grounds begun new (Moved looked found) = GateHasMoved begun new looked found  -- the gate was open at two moments, with two counts
+-- what is asked for fitted, and another thread was faster
+Grounds begun new (Raced looked found) = (asked : ℕ) × LostSpace asked begun new looked found
+-- the gate was open at two moments, with two counts
+Grounds begun new (Moved looked found) = GateHasMoved begun new looked found
 Grounds begun new _ = Unit {0}

@@ -5,7 +5,8 @@ use Rattle.jr_word.specs.declared.config.Config.{Config}
 use Rattle.jr_word.specs.declared.fault.Fault.{Fault}
 use Rattle.jr_word.specs.declared.fault.Fault.TheVariants.{ObjectsFull}
 use Rattle.jr_model.specs.declared.event.Act.{Act}
-use Rattle.jr_model.specs.declared.event.Act.TheVariants.{Gate, ShutBusy, Look, Probe, DeleteStale, Reserve, ReserveFull, ReserveLost, Read, Meet}
+use Rattle.jr_model.specs.declared.event.Act.TheVariants.{Gate, ShutBusy, Look, Probe, DeleteStale}
+use Rattle.jr_model.specs.declared.event.Act.TheVariants.{Reserve, ReserveFull, ReserveLost, Read, Meet}
 use Rattle.jr_model.specs.declared.event.GateAct.TheVariants.{Shut, Reopen}
 use Rattle.jr_model.specs.State.{State, HaveSameTables}
 use Rattle.jr_model.specs.Steps.{act_after}
@@ -32,7 +33,8 @@ is_harmless _ = false
 abbrev pub HarmlessChangesNothing : Type 0
 HarmlessChangesNothing = (s : State) (t : ℕ) (a : Act) → is_harmless a ≡ true → HaveSameTables s (act_after s t a)
 
--- an act that a call may have had before this refusal: where no object number was left, space that was reserved stays so
+-- an act that a call may have had before this refusal:
+-- where no object number was left, space that was reserved stays so
 abbrev pub may_precede : Fault → Act → Bool
 may_precede ObjectsFull (Reserve n) = true
 may_precede e a = is_harmless a
@@ -40,7 +42,8 @@ may_precede e a = is_harmless a
 -- A REFUSAL CHANGES NOTHING: the frames are as they were, and the acts of the call changed nothing
 pub record ChangesNothing {A : Type 0} (call : Call A) : Type 0 where
   pub frames : (old new : Frames) (acts : List Act) (e : Fault) → call old acts (Err e) new → new ≡ old
-  pub acts : (old new : Frames) (acts : List Act) (e : Fault) → call old acts (Err e) new → AllByRecursion (λ a. may_precede e a ≡ true) acts
+  pub acts : (old new : Frames) (acts : List Act) (e : Fault) → call old acts (Err e) new
+      → AllByRecursion (λ a. may_precede e a ≡ true) acts
 
 -- each call of an env
 abbrev pub RefusalsChangeNothing : Config → ℕ → ℕ → State → Type 0
@@ -48,4 +51,5 @@ RefusalsChangeNothing c last thread s = (a : AnswerKind) (x : CallOf a) → Chan
 
 -- each other call
 abbrev pub RefusedPartsChangeNothing : Config → ℕ → ℕ → State → Type 0
-RefusedPartsChangeNothing c last thread s = (a : AnswerKind) (x : PartOf a) → ChangesNothing (part_means c last thread s x)
+RefusedPartsChangeNothing c last thread s =
+    (a : AnswerKind) (x : PartOf a) → ChangesNothing (part_means c last thread s x)

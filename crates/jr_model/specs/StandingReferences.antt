@@ -12,12 +12,15 @@ use Rattle.jr_model.specs.Laws.{IsFoundAs}
 abbrev pub NoneDeletes : Handle → History → Type 0
 NoneDeletes h es = AllByRecursion (λ e. e.act ≢ Delete h) es
 
--- A REFERENCE THAT STANDS after a beginning of a legal history stands after the whole of it, where nothing has deleted it since: a global one with its object, a weak one with it or cleared
+-- A REFERENCE THAT STANDS after a beginning of a legal history stands after the whole of it,
+-- where nothing has deleted it since: a global one with its object, a weak one with it or cleared
 abbrev pub StandsUntilDeleted : Config → ℕ → Type 0
-StandsUntilDeleted c last = (h : Handle) (o : ℕ) (before since whole : History) → before ++ since ≡ whole → IsLegal c last whole
+StandsUntilDeleted c last =
+    (h : Handle) (o : ℕ) (before since whole : History) → before ++ since ≡ whole → IsLegal c last whole
     → (state before).refs h ≡ Object o → NoneDeletes h since → IsFoundAs h o ((state whole).refs h)
 
 -- and one that was cleared then is cleared still
 abbrev pub ClearedUntilDeleted : Config → ℕ → Type 0
-ClearedUntilDeleted c last = (h : Handle) (before since whole : History) → before ++ since ≡ whole → IsLegal c last whole
+ClearedUntilDeleted c last =
+    (h : Handle) (before since whole : History) → before ++ since ≡ whole → IsLegal c last whole
     → (state before).refs h ≡ Cleared → NoneDeletes h since → (state whole).refs h ≡ Cleared

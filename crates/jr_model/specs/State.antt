@@ -1,5 +1,6 @@
 -- The state of the machine.
-use Rattle.std.specs.Prelude.{◌≡◌, ◌≢◌, ◌⊎◌, ◌+◌, ◌<◌, ◌≤◌, ◌==◌, ◌&&◌, ◌^◌, ℕ, Bool, true, false, not, if◌then◌else◌, Option, Some, None, IsSome, is_some, List, length, slice_get}
+use Rattle.std.specs.Prelude.{◌≡◌, ◌≢◌, ◌⊎◌, ◌+◌, ◌<◌, ◌≤◌, ◌==◌, ◌&&◌, ◌^◌, ℕ, Bool, true, false, not}
+use Rattle.std.specs.Prelude.{if◌then◌else◌, Option, Some, None, IsSome, is_some, List, length, slice_get}
 use Rattle.jr_word.specs.declared.config.Config.{Config}
 use Rattle.jr_word.specs.declared.handle.HandleParts.{HandleParts}
 use Rattle.jr_word.specs.declared.handle.RefKind.{RefKind}
@@ -36,7 +37,9 @@ pub record Contents : Type 0 where
 -- the state of the machine
 pub record State : Type 0 where
   pub role : ℕ → Role  -- where each thread stands towards the gate
-  pub refs : Handle → Found  -- the global and weak references, each with its object or cleared; Stale where none stands. A reference's kind is its handle's
+  -- the global and weak references, each with its object or cleared; Stale where none stands.
+  -- A reference's kind is its handle's
+  pub refs : Handle → Found
   pub given : Handle → Bool  -- the handles of all references that were ever created
   pub locals : ℕ → ℕ → Option ℕ  -- the local references: the object of a thread and a place
   pub objects : ℕ → Option Contents  -- the objects that are present, by number
@@ -127,11 +130,13 @@ AreWords s k ws = (i v : ℕ) → slice_get ws i ≡ Some v → IsWord s k v
 abbrev pub IsClosed : State → Type 0
 IsClosed s = (o : ℕ) (x : Contents) → s.objects o ≡ Some x → x.kind ≡ Objects → AreWords s Objects x.words
 
--- the object is reached: from the object of a global reference, or of a local of any thread, through present objects, each an element of the object array before it
+-- the object is reached: from the object of a global reference, or of a local of any
+-- thread, through present objects, each an element of the object array before it
 pub data IsReached (s : State) : ℕ → Type 0 where
   from_global : {o : ℕ} (h : Handle) → h.kind ≡ Global → s.refs h ≡ Object o → IsPresent s o → IsReached s o
   from_local : {o : ℕ} (t p : ℕ) → s.locals t p ≡ Some o → IsPresent s o → IsReached s o
-  from_element : {o : ℕ} (a i : ℕ) (x : Contents) → IsReached s a → s.objects a ≡ Some x → x.kind ≡ Objects → slice_get x.words i ≡ Some o → IsPresent s o → IsReached s o
+  from_element : {o : ℕ} (a i : ℕ) (x : Contents) → IsReached s a → s.objects a ≡ Some x → x.kind ≡ Objects
+      → slice_get x.words i ≡ Some o → IsPresent s o → IsReached s o
 
 -- nothing can be created at the index: a reference of it stands, or each of its serials has been given
 abbrev pub IsOccupied : ℕ → State → ℕ → Type 0
@@ -146,7 +151,8 @@ is_there _ = true
 
 -- how many references of the kind stand, cleared ones too: at all indexes, with all serials
 abbrev pub references : Config → ℕ → RefKind → State → ℕ
-references c last k s = sum_below c.slots (λ i. count_below (last + 1) (λ n. is_there (s.refs (record { kind = k; serial = n; index = i; owner = 0 }))))
+references c last k s = sum_below c.slots (λ i.
+    count_below (last + 1) (λ n. is_there (s.refs (record { kind = k; serial = n; index = i; owner = 0 }))))
 
 -- how many references and objects stand, and how many words are used
 abbrev pub summary : Config → ℕ → State → Summary

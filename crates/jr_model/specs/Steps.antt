@@ -1,5 +1,6 @@
 -- THE STEPS: what each needs, and what it changes. What is not named stays.
-use Rattle.std.specs.Prelude.{◌≡◌, ◌≢◌, ◌⊎◌, ◌↔◌, ◌+◌, ◌<◌, ◌≤◌, ℕ, true, false, IsTrue, Option, Some, None, length, slice_get, slice_set, nat_eq}
+use Rattle.std.specs.Prelude.{◌≡◌, ◌≢◌, ◌⊎◌, ◌↔◌, ◌+◌, ◌<◌, ◌≤◌, ℕ, true, false, IsTrue}
+use Rattle.std.specs.Prelude.{Option, Some, None, length, slice_get, slice_set, nat_eq}
 use Rattle.jr_word.specs.declared.config.Config.{Config}
 use Rattle.jr_word.specs.declared.handle.RefKind.TheVariants.{Local, Weak}
 use Rattle.jr_word.specs.declared.kind.Kind.TheVariants.{Text}
@@ -8,11 +9,15 @@ use Rattle.jr_model.specs.declared.event.Role.TheVariants.{Outside, Within, Knoc
 use Rattle.jr_model.specs.declared.event.Found.TheVariants.{Object, Cleared, Stale}
 use Rattle.jr_model.specs.declared.event.Event.{Event}
 use Rattle.jr_model.specs.declared.event.Act.{Act}
-use Rattle.jr_model.specs.declared.event.Act.TheVariants.{Gate, ShutBusy, Create, Look, Probe, Delete, DeleteStale, Clear, LocalPut, LocalDrop, Reserve, ReserveFull, ReserveLost, New, Read, Write, Drop, Settle, Meet}
+use Rattle.jr_model.specs.declared.event.Act.TheVariants.{Gate, ShutBusy, Create, Look, Probe, Delete, DeleteStale}
+use Rattle.jr_model.specs.declared.event.Act.TheVariants.{Clear, LocalPut, LocalDrop, Reserve, ReserveFull}
+use Rattle.jr_model.specs.declared.event.Act.TheVariants.{ReserveLost, New, Read, Write, Drop, Settle, Meet}
 use Rattle.jr_model.specs.declared.event.GateAct.{GateAct}
-use Rattle.jr_model.specs.declared.event.GateAct.TheVariants.{Enter, Knock, Leave, Withdraw, Announce, Cancel, Shut, Reopen}
+use Rattle.jr_model.specs.declared.event.GateAct.TheVariants.{Enter, Knock, Leave, Withdraw}
+use Rattle.jr_model.specs.declared.event.GateAct.TheVariants.{Announce, Cancel, Shut, Reopen}
 use Rattle.jr_model.specs.Maps.{update}
-use Rattle.jr_model.specs.State.{Handle, same_handle, Contents, State, IsPresent, NobodyCloses, SomebodyCloses, AreOthers, present_words, IsWord, AreWords, IsClosed, IsReached, IsOccupied}
+use Rattle.jr_model.specs.State.{Handle, same_handle, Contents, State, IsPresent, NobodyCloses, SomebodyCloses}
+use Rattle.jr_model.specs.State.{AreOthers, present_words, IsWord, AreWords, IsClosed, IsReached, IsOccupied}
 
 -- a handle that can be created: global or weak, of no owner, with an index and a serial of the room
 abbrev pub IsInRow : Config → ℕ → Handle → Type 0
@@ -62,16 +67,21 @@ ActNeeds c last s t (Look h r) = (s.role t ≡ Within) × (s.refs h ≡ r)
 ActNeeds c last s t (Probe i b) = (s.role t ≡ Within) × (IsTrue b ↔ IsOccupied last s i)
 ActNeeds c last s t (Delete h) = (s.role t ≡ Within) × (s.refs h ≢ Stale)
 ActNeeds c last s t (DeleteStale h) = (s.role t ≡ Within) × (s.refs h ≡ Stale)
-ActNeeds c last s t (Clear h) = (s.role t ≡ Collecting) × (h.kind ≡ Weak) × (o : ℕ) × (s.refs h ≡ Object o) × ¬ (IsReached s o)
+ActNeeds c last s t (Clear h) =
+    (s.role t ≡ Collecting) × (h.kind ≡ Weak) × (o : ℕ) × (s.refs h ≡ Object o) × ¬ (IsReached s o)
 ActNeeds c last s t (LocalPut p o) = (s.role t ≡ Within) × (p < c.locals) × IsPresent s o
 ActNeeds c last s t (LocalDrop p) = (s.role t ≡ Within) × (p < c.locals)
 ActNeeds c last s t (Reserve n) = (s.role t ≡ Within) × (s.used + n ≤ c.words)
 ActNeeds c last s t (ReserveFull n u) = (s.role t ≡ Within) × (u ≡ s.used) × (c.words < u + n)
 ActNeeds c last s t (ReserveLost n l f) = (s.role t ≡ Within) × (f ≡ s.used) × (f ≢ l)
-ActNeeds c last s t (New o k ws) = (s.role t ≡ Within) × (1 ≤ o) × (o ≤ c.objects) × (s.objects o ≡ None) × AreWords s k ws × (present_words c s + length ws ≤ s.used)
-ActNeeds c last s t (Read o i v) = (s.role t ≡ Within) × (x : Contents) × (s.objects o ≡ Some x) × (slice_get x.words i ≡ Some v)
-ActNeeds c last s t (Write o i v) = (s.role t ≡ Within) × (x : Contents) × (s.objects o ≡ Some x) × (x.kind ≢ Text) × (i < length x.words) × IsWord s x.kind v
-ActNeeds c last s t (Drop o) = (s.role t ≡ Collecting) × IsPresent s o × ¬ (IsReached s o) × ((h : Handle) → h.kind ≡ Weak → s.refs h ≢ Object o)
+ActNeeds c last s t (New o k ws) = (s.role t ≡ Within) × (1 ≤ o) × (o ≤ c.objects) × (s.objects o ≡ None)
+    × AreWords s k ws × (present_words c s + length ws ≤ s.used)
+ActNeeds c last s t (Read o i v) =
+    (s.role t ≡ Within) × (x : Contents) × (s.objects o ≡ Some x) × (slice_get x.words i ≡ Some v)
+ActNeeds c last s t (Write o i v) = (s.role t ≡ Within) × (x : Contents) × (s.objects o ≡ Some x) × (x.kind ≢ Text)
+    × (i < length x.words) × IsWord s x.kind v
+ActNeeds c last s t (Drop o) =
+    (s.role t ≡ Collecting) × IsPresent s o × ¬ (IsReached s o) × ((h : Handle) → h.kind ≡ Weak → s.refs h ≢ Object o)
 ActNeeds c last s t (Settle u) = (s.role t ≡ Collecting) × (u ≡ present_words c s)
 ActNeeds c last s t Meet = Unit {0}
 
@@ -87,7 +97,8 @@ written (Some x) i v = Some (record { kind = x.kind; words = slice_set x.words i
 -- the state after the act of thread t
 abbrev pub act_after : State → ℕ → Act → State
 act_after s t (Gate a) = record s { role = update nat_eq s.role t (role_behind a) }
-act_after s t (Create h o) = record s { refs = update same_handle s.refs h (Object o); given = update same_handle s.given h true }
+act_after s t (Create h o) =
+    record s { refs = update same_handle s.refs h (Object o); given = update same_handle s.given h true }
 act_after s t (Delete h) = record s { refs = update same_handle s.refs h Stale }
 act_after s t (Clear h) = record s { refs = update same_handle s.refs h Cleared }
 act_after s t (LocalPut p o) = record s { locals = update nat_eq s.locals t (update nat_eq (s.locals t) p (Some o)) }

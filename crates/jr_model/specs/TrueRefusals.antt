@@ -23,7 +23,8 @@ pub record TookWhere (P : State → Type 0) (old new : PassView) (a : Act) : Typ
   pub from : IsPrefix old.seen before
   pub met : P (state before)
 
--- so many threads other than this one were not outside, and that is one at least; where this one was outside, that is all who were not
+-- so many threads other than this one were not outside, and that is one at least;
+-- where this one was outside, that is all who were not
 abbrev pub AreBusy : Config → ℕ → ℕ → State → Type 0
 AreBusy c thread n s = AreOthers c s thread n × (s.role thread ≡ Outside → n ≡ not_outside c s) × (1 ≤ n)
 
@@ -31,22 +32,33 @@ AreBusy c thread n s = AreOthers c s thread n × (s.role thread ≡ Outside → 
 abbrev pub DoesNotFit : Config → ℕ → ℕ → State → Type 0
 DoesNotFit c asked used s = (used ≡ s.used) × (c.words < used + asked)
 
--- WHAT A REFUSAL SAYS OF THE ROOM, in a call that asks for so many words of space and whose window begins there. Each moment is one of the call: that of an act of its own, or one in its window. Every other refusal speaks of what was handed in, of the thread's own frames or levels, or of memory; what it says of a reference the acts of its call show
+-- WHAT A REFUSAL SAYS OF THE ROOM, in a call that asks for so many words of space and whose window begins there. Each
+-- moment is one of the call: that of an act of its own, or one in its window. Every other refusal speaks of what was
+-- handed in, of the thread's own frames or levels, or of memory; what it says of a reference the acts of its call show
 abbrev pub WasSo : ℕ → History → PassView → PassView → Fault → Type 0
-WasSo asked begun old new (SpaceFull used) = TookWhere (DoesNotFit old.config asked used) old new (ReserveFull asked used)  -- what is asked for did not fit
-WasSo asked begun old new (Raced looked found) = LostSpace asked begun new looked found  -- what is asked for fitted, and another thread was faster
-WasSo asked begun old new Barred = TookWhere SomebodyCloses old new (Gate Knock)  -- at its entry somebody collected, or had announced that it would
-WasSo asked begun old new (Busy n) = TookWhere (AreBusy old.config old.thread n) old new (ShutBusy n)  -- so many were in the way of its shut
+-- what is asked for did not fit
+WasSo asked begun old new (SpaceFull used) =
+    TookWhere (DoesNotFit old.config asked used) old new (ReserveFull asked used)
+-- what is asked for fitted, and another thread was faster
+WasSo asked begun old new (Raced looked found) = LostSpace asked begun new looked found
+-- at its entry somebody collected, or had announced that it would
+WasSo asked begun old new Barred = TookWhere SomebodyCloses old new (Gate Knock)
+-- so many were in the way of its shut
+WasSo asked begun old new (Busy n) = TookWhere (AreBusy old.config old.thread n) old new (ShutBusy n)
 WasSo asked begun old new e = Grounds begun new e  -- of every other, its grounds
 
--- A CALL THAT ASKS FOR SO MANY WORDS REFUSES TRULY: whatever it is refused for, and whatever the other threads did, what the refusal says of the room was so in the call
+-- A CALL THAT ASKS FOR SO MANY WORDS REFUSES TRULY:
+-- whatever it is refused for, and whatever the other threads did, what the refusal says of the room was so in the call
 abbrev pub RefusesTruly : {A : Type 0} → ℕ → Call A → Type 0
-RefusesTruly asked call = (old new : PassView) (f g : Frames) (e : Fault) (r : Ran old new f g call (Err e)) → WasSo asked r.begun old new e
+RefusesTruly asked call =
+    (old new : PassView) (f g : Frames) (e : Fault) (r : Ran old new f g call (Err e)) → WasSo asked r.begun old new e
 
 -- each call of an env
 abbrev pub CallsRefuseTruly : Config → ℕ → ℕ → State → Type 0
-CallsRefuseTruly c last thread s = (a : AnswerKind) (x : CallOf a) → RefusesTruly (words_asked x) (means c last thread s x)
+CallsRefuseTruly c last thread s =
+    (a : AnswerKind) (x : CallOf a) → RefusesTruly (words_asked x) (means c last thread s x)
 
 -- each other call
 abbrev pub PartsRefuseTruly : Config → ℕ → ℕ → State → Type 0
-PartsRefuseTruly c last thread s = (a : AnswerKind) (x : PartOf a) → RefusesTruly (words_asked_by_part x) (part_means c last thread s x)
+PartsRefuseTruly c last thread s =
+    (a : AnswerKind) (x : PartOf a) → RefusesTruly (words_asked_by_part x) (part_means c last thread s x)

@@ -38,7 +38,8 @@ Ends old new [] = role_of new ≡ Outside → new.seen ≡ old.seen
 Ends old new (a ∷ []) = EndsWith new a
 Ends old new (a ∷ b ∷ acts) = Ends old new (b ∷ acts)
 
--- THE WINDOW OF A CALL with these acts: it begins behind its own entry, and ends with its own exit. A call within a stay begins at a moment since the step before it, and ends with what it has seen
+-- THE WINDOW OF A CALL with these acts: it begins behind its own entry, and ends with its own exit.
+-- A call within a stay begins at a moment since the step before it, and ends with what it has seen
 pub record IsWindow (old new : PassView) (acts : List Act) (begun : History) : Type 0 where
   pub from : IsPrefix old.seen begun
   pub to : IsPrefix begun new.seen

@@ -34,28 +34,41 @@ found_none (found.Object o) e is = absurd cc
 found_none found.Cleared e is = absurd cc
 found_none found.Stale e is = (refl, cc)
 
-won : (p q : PassView) (f : Frames) (h : Handle) (z : Option ℕ) → Did p q (Delete h ∷ []) → Ran p q f f (delete_found h (found_of z)) (Ok tt)
-won p q f h (Some o) d = let r = ran_act f (Delete h) tt tt d in record { acts = r.acts; did = r.did; is = inl r.is; begun = r.begun; window = r.window; grounds = tt }
-won p q f h None d = let r = ran_act f (Delete h) tt tt d in record { acts = r.acts; did = r.did; is = inl r.is; begun = r.begun; window = r.window; grounds = tt }
+won : (p q : PassView) (f : Frames) (h : Handle) (z : Option ℕ) → Did p q (Delete h ∷ [])
+    → Ran p q f f (delete_found h (found_of z)) (Ok tt)
+won p q f h (Some o) d = let r = ran_act f (Delete h) tt tt d in
+    record { acts = r.acts; did = r.did; is = inl r.is; begun = r.begun; window = r.window; grounds = tt }
+won p q f h None d = let r = ran_act f (Delete h) tt tt d in
+    record { acts = r.acts; did = r.did; is = inl r.is; begun = r.begun; window = r.window; grounds = tt }
 
-lost_then : (p q : PassView) (f : Frames) (h : Handle) → Did p q (DeleteStale h ∷ []) → Ran p q f f (act (DeleteStale h) >> refuse {A = Unit {0}} fault.Stale) (Err fault.Stale)
-lost_then p q f h d = ran_then {g = f} {next = λ u. refuse {A = Unit {0}} fault.Stale} tt (ran_act f (DeleteStale h) tt tt d) (ran_refuse q f fault.Stale tt (did_legal (DeleteStale h ∷ []) d))
+lost_then : (p q : PassView) (f : Frames) (h : Handle) → Did p q (DeleteStale h ∷ [])
+    → Ran p q f f (act (DeleteStale h) >> refuse {A = Unit {0}} fault.Stale) (Err fault.Stale)
+lost_then p q f h d = ran_then {g = f} {next = λ u. refuse {A = Unit {0}} fault.Stale} tt
+    (ran_act f (DeleteStale h) tt tt d) (ran_refuse q f fault.Stale tt (did_legal (DeleteStale h ∷ []) d))
 
-lost : (p q : PassView) (f : Frames) (h : Handle) (z : Option ℕ) → Did p q (DeleteStale h ∷ []) → Ran p q f f (delete_found h (found_of z)) (Err fault.Stale)
-lost p q f h (Some o) d = let r = lost_then p q f h d in record { acts = r.acts; did = r.did; is = inr r.is; begun = r.begun; window = r.window; grounds = tt }
-lost p q f h None d = let r = lost_then p q f h d in record { acts = r.acts; did = r.did; is = inr r.is; begun = r.begun; window = r.window; grounds = tt }
+lost : (p q : PassView) (f : Frames) (h : Handle) (z : Option ℕ) → Did p q (DeleteStale h ∷ [])
+    → Ran p q f f (delete_found h (found_of z)) (Err fault.Stale)
+lost p q f h (Some o) d = let r = lost_then p q f h d in
+    record { acts = r.acts; did = r.did; is = inr r.is; begun = r.begun; window = r.window; grounds = tt }
+lost p q f h None d = let r = lost_then p q f h d in
+    record { acts = r.acts; did = r.did; is = inr r.is; begun = r.begun; window = r.window; grounds = tt }
 
-module _ {S : Type 0} {facts : S → Facts} {a b : S} (h : Handle) (r : Found) (t : Took facts a b (Look h r ∷ []) anything keeps) where
-  stale_ran : r ≡ found.Stale → (k k' : Known) → Goes k (Look h r ∷ []) k' → (f : Frames) → Ran (view k) (view k') f f (delete h) (Err fault.Stale)
+module _ {S : Type 0} {facts : S → Facts} {a b : S} (h : Handle) (r : Found)
+    (t : Took facts a b (Look h r ∷ []) anything keeps) where
+  stale_ran : r ≡ found.Stale → (k k' : Known) → Goes k (Look h r ∷ []) k' → (f : Frames)
+      → Ran (view k) (view k') f f (delete h) (Err fault.Stale)
   stale_ran is k k' g f = let d = goes_did (subst (λ x. Goes k (Look h x ∷ []) k') is g) in
-      ran_then found.Stale (ran_some_act f (Look h) found.Stale tt tt d) (ran_refuse (view k') f fault.Stale tt (did_legal (Look h found.Stale ∷ []) d))
+      ran_then found.Stale (ran_some_act f (Look h) found.Stale tt tt d)
+      (ran_refuse (view k') f fault.Stale tt (did_legal (Look h found.Stale ∷ []) d))
 
-  pub deleted_none : {e : Fault} (answer : Result (Unit {0}) Fault) → found_answer r ≡ Err e → IsErrAnd answer (λ y. y ≡ e) → (f : Frames) → Performed facts a b f f 0 anything (λ s. delete h) answer keeps
+  pub deleted_none : {e : Fault} (answer : Result (Unit {0}) Fault) → found_answer r ≡ Err e
+      → IsErrAnd answer (λ y. y ≡ e) → (f : Frames) → Performed facts a b f f 0 anything (λ s. delete h) answer keeps
   deleted_none {e} answer is given f =
       let why = found_none r e is in
       handed_on answer (subst (λ y. IsErrAnd answer (λ z. z ≡ y)) why.1 given) (record {
         stands_is = as_before _ t.stands_is;
-        ran = λ k s m. let g = t.goes k s m in (g.0, g.1, made_of (spend_step t (λ n i. refl) k s m f f) (stale_ran why.0 k g.0 g.2 f), g.3);
+        ran = λ k s m. let g = t.goes k s m in
+            (g.0, g.1, made_of (spend_step t (λ n i. refl) k s m f f) (stale_ran why.0 k g.0 g.2 f), g.3);
       })
 
   module _ (z : Option ℕ) (is : found_answer r ≡ Ok z) where
@@ -69,20 +82,35 @@ module _ {S : Type 0} {facts : S → Facts} {a b : S} (h : Handle) (r : Found) (
     may_delete some = ∥∥₁_map some (λ k. let g = t.goes k.0 k.1 tt in (g.0, g.1, looked k.0 g.0 g.2))
 
     -- a look and an exchange
-    spent_both : {c : S} {x : Act} (u : Took facts b c (x ∷ []) (HasLooked h (found_of z)) keeps) → KeepsHint x → (k : Known) (s : (facts a).knows k) (m : anything k) (f : Frames)
-        → let g = t.goes k s m in Spending 0 (thread_state (facts a) k f) (thread_state (facts c) (u.goes g.0 g.1 (looked k g.0 g.2)).0 f)
-    spent_both u keeps k s m f = let g = t.goes k s m in spend_first (spend_step t (λ n i. refl) k s m f f) (spend_step u keeps g.0 g.1 (looked k g.0 g.2) f f)
+    spent_both : {c : S} {x : Act} (u : Took facts b c (x ∷ []) (HasLooked h (found_of z)) keeps) → KeepsHint x
+        → (k : Known) (s : (facts a).knows k) (m : anything k) (f : Frames)
+        → let g = t.goes k s m in
+        Spending 0 (thread_state (facts a) k f) (thread_state (facts c) (u.goes g.0 g.1 (looked k g.0 g.2)).0 f)
+    spent_both u keeps k s m f = let g = t.goes k s m in
+        spend_first (spend_step t (λ n i. refl) k s m f f) (spend_step u keeps g.0 g.1 (looked k g.0 g.2) f f)
 
-    pub deleted_won : {c : S} → Took facts b c (Delete h ∷ []) (HasLooked h (found_of z)) keeps → (f : Frames) → Performed facts a c f f 0 anything (λ s. delete h) (Ok tt) keeps
+    pub deleted_won : {c : S} → Took facts b c (Delete h ∷ []) (HasLooked h (found_of z)) keeps → (f : Frames)
+        → Performed facts a c f f 0 anything (λ s. delete h) (Ok tt) keeps
     deleted_won u f = record {
       stands_is = still_before (as_before _ t.stands_is) (as_before _ u.stands_is);
-      ran = λ k s m. let g = t.goes k s m in let e = u.goes g.0 g.1 (looked k g.0 g.2) in
-          (e.0, e.1, made_of (spent_both u (λ n i. refl) k s m f) (ran_then (found_of z) (ran_some_act f (Look h) (found_of z) tt tt (looked_did k g.0 g.2)) (won (view g.0) (view e.0) f h z (goes_did e.2))), e.3 ∙ g.3);
+      ran = λ k s m. let g = t.goes k s m in let e = u.goes g.0 g.1 (looked k g.0 g.2) in (
+        e.0,
+        e.1,
+        made_of (spent_both u (λ n i. refl) k s m f) (ran_then (found_of z) (ran_some_act f (Look h) (found_of z) tt tt
+            (looked_did k g.0 g.2)) (won (view g.0) (view e.0) f h z (goes_did e.2))),
+        e.3 ∙ g.3,
+      );
     }
 
-    pub deleted_lost : {c : S} → Took facts b c (DeleteStale h ∷ []) (HasLooked h (found_of z)) keeps → (f : Frames) → Performed facts a c f f 0 anything (λ s. delete h) (Err fault.Stale) keeps
+    pub deleted_lost : {c : S} → Took facts b c (DeleteStale h ∷ []) (HasLooked h (found_of z)) keeps → (f : Frames)
+        → Performed facts a c f f 0 anything (λ s. delete h) (Err fault.Stale) keeps
     deleted_lost u f = record {
       stands_is = still_before (as_before _ t.stands_is) (as_before _ u.stands_is);
-      ran = λ k s m. let g = t.goes k s m in let e = u.goes g.0 g.1 (looked k g.0 g.2) in
-          (e.0, e.1, made_of (spent_both u (λ n i. refl) k s m f) (ran_then (found_of z) (ran_some_act f (Look h) (found_of z) tt tt (looked_did k g.0 g.2)) (lost (view g.0) (view e.0) f h z (goes_did e.2))), e.3 ∙ g.3);
+      ran = λ k s m. let g = t.goes k s m in let e = u.goes g.0 g.1 (looked k g.0 g.2) in (
+        e.0,
+        e.1,
+        made_of (spent_both u (λ n i. refl) k s m f) (ran_then (found_of z) (ran_some_act f (Look h) (found_of z) tt tt
+            (looked_did k g.0 g.2)) (lost (view g.0) (view e.0) f h z (goes_did e.2))),
+        e.3 ∙ g.3,
+      );
     }

@@ -1,5 +1,6 @@
 -- What the acts of steps make of the role, of the freshness and of the state.
-use Rattle.std.proofs.Common.{◌≡◌, ◌⊎◌, ⊎_elim, ◌+◌, if◌then◌else◌, nat_lt, cond, List, ℕ, Bool, true, false, Option, Some, None, Result, Ok, Err, [], ◌∷◌, ◌++◌, refl, sym, subst}
+use Rattle.std.proofs.Common.{◌≡◌, ◌⊎◌, ⊎_elim, ◌+◌, if◌then◌else◌, nat_lt, cond, List, ℕ, Bool, true}
+use Rattle.std.proofs.Common.{false, Option, Some, None, Result, Ok, Err, [], ◌∷◌, ◌++◌, refl, sym, subst}
 use Rattle.jr_word.specs.declared.gate.GateParts.{GateParts}
 use Rattle.jr_word.specs.declared.handle.RefKind.{RefKind}
 use Rattle.jr_word.specs.declared.kind.Kind.{Kind}
@@ -16,7 +17,8 @@ use Rattle.jr_steps.specs.declared.loads.SlotLoad.{SlotLoad}
 use Rattle.jr_steps.specs.declared.loads.SlotLoad.TheVariants as loads
 use Rattle.jr_steps.specs.declared.loads.TopLoad.{TopLoad}
 use Rattle.jr_steps.specs.declared.loads.TopLoad.TheVariants as top
-use Rattle.jr_steps.specs.Acts.{act_of_entry, act_of_exit, is_closed, all_counted, act_of_gate_load, act_of_slot_load, act_of_claim, act_of_free, act_of_put, acts_of_publication, acts_of_top_load}
+use Rattle.jr_steps.specs.Acts.{act_of_entry, act_of_exit, is_closed, all_counted, act_of_gate_load, act_of_slot_load}
+use Rattle.jr_steps.specs.Acts.{act_of_claim, act_of_free, act_of_put, acts_of_publication, acts_of_top_load}
 use Rattle.jr_steps.specs.Knowing.{fresh_after, fresh_from}
 
 -- THE GATE
@@ -57,7 +59,8 @@ gate_load_fresh gate.Busy p f = go (is_closed p.state) (all_counted p) f
     go false n f = refl
 
 -- and nothing else
-pub gate_load_state : (log : History) (t : ℕ) (name : GateLoad) (p : GateParts) → state (log ++ by t (act_of_gate_load name p) ∷ []) ≡ state log
+pub gate_load_state : (log : History) (t : ℕ) (name : GateLoad) (p : GateParts)
+    → state (log ++ by t (act_of_gate_load name p) ∷ []) ≡ state log
 gate_load_state log t gate.Meet p = state_push log (by t Meet)
 gate_load_state log t gate.Busy p = go (is_closed p.state) (all_counted p)
   where
@@ -73,23 +76,27 @@ slot_load_role i loads.Probe p r = refl
 slot_load_role i loads.Meet p r = refl
 
 -- the name of a load leaves the pass as fresh as it was
-pub slot_load_fresh : (i : ℕ) (name : SlotLoad) (p : SlotParts) (f : Bool) → f ≡ fresh_after f (act_of_slot_load i name p)
+pub slot_load_fresh : (i : ℕ) (name : SlotLoad) (p : SlotParts) (f : Bool)
+    → f ≡ fresh_after f (act_of_slot_load i name p)
 slot_load_fresh i (loads.Look h) p f = refl
 slot_load_fresh i loads.Probe p f = refl
 slot_load_fresh i loads.Meet p f = refl
 
 -- and the state
-pub slot_load_state : (log : History) (t i : ℕ) (name : SlotLoad) (p : SlotParts) → state (log ++ by t (act_of_slot_load i name p) ∷ []) ≡ state log
+pub slot_load_state : (log : History) (t i : ℕ) (name : SlotLoad) (p : SlotParts)
+    → state (log ++ by t (act_of_slot_load i name p) ∷ []) ≡ state log
 slot_load_state log t i (loads.Look h) p = state_push log (by t (act_of_slot_load i (loads.Look h) p))
 slot_load_state log t i loads.Probe p = state_push log (by t (act_of_slot_load i loads.Probe p))
 slot_load_state log t i loads.Meet p = state_push log (by t (act_of_slot_load i loads.Meet p))
 
 -- an exchange at a slot leaves the role, and the pass as fresh as it was
-pub claiming_role : (i serial : ℕ) (kind : RefKind) (o : ℕ) (x : Result (Unit {0}) SlotParts) (r : Role) → r ≡ role_after r (act_of_claim i serial kind o x)
+pub claiming_role : (i serial : ℕ) (kind : RefKind) (o : ℕ) (x : Result (Unit {0}) SlotParts) (r : Role)
+    → r ≡ role_after r (act_of_claim i serial kind o x)
 claiming_role i serial kind o (Ok u) r = refl
 claiming_role i serial kind o (Err p) r = refl
 
-pub claiming_fresh : (i serial : ℕ) (kind : RefKind) (o : ℕ) (x : Result (Unit {0}) SlotParts) (f : Bool) → f ≡ fresh_after f (act_of_claim i serial kind o x)
+pub claiming_fresh : (i serial : ℕ) (kind : RefKind) (o : ℕ) (x : Result (Unit {0}) SlotParts) (f : Bool)
+    → f ≡ fresh_after f (act_of_claim i serial kind o x)
 claiming_fresh i serial kind o (Ok u) f = refl
 claiming_fresh i serial kind o (Err p) f = refl
 
@@ -111,11 +118,13 @@ pub putting_spends : (p : ℕ) (o : Option ℕ) (f : Bool) → false ≡ fresh_a
 putting_spends p None f = refl
 putting_spends p (Some o) f = refl
 
-pub publishing_role : (o : ℕ) (kind : Kind) (ws : List ℕ) (b : Bool) (r : Role) → r ≡ role_from r (acts_of_publication o kind ws b)
+pub publishing_role : (o : ℕ) (kind : Kind) (ws : List ℕ) (b : Bool) (r : Role)
+    → r ≡ role_from r (acts_of_publication o kind ws b)
 publishing_role o kind ws true r = refl
 publishing_role o kind ws false r = refl
 
-pub publishing_fresh : (o : ℕ) (kind : Kind) (ws : List ℕ) (b : Bool) (f : Bool) → f ≡ fresh_from f (acts_of_publication o kind ws b)
+pub publishing_fresh : (o : ℕ) (kind : Kind) (ws : List ℕ) (b : Bool) (f : Bool)
+    → f ≡ fresh_from f (acts_of_publication o kind ws b)
 publishing_fresh o kind ws true f = refl
 publishing_fresh o kind ws false f = refl
 

@@ -18,7 +18,8 @@ use Rattle.jr_rule.proofs.StepTaken.{Leaves, Reads, may_any, leads_next, leaves,
 use Rattle.jr_rule.proofs.Told.{plainly}
 
 -- the cells that the holder stepped by are these afterwards; the acts change neither its role nor whether it is fresh
-module _ {acts : List Act} (h : Holder) (x : RoomCells) (table : x.seat.table_id ≡ h.seat.table_id) (looked : LooksBy acts h.seat.me x.seat.me)
+module _ {acts : List Act} (h : Holder) (x : RoomCells) (table : x.seat.table_id ≡ h.seat.table_id)
+    (looked : LooksBy acts h.seat.me x.seat.me)
     (same_role : h.role ≡ role_from h.role acts) (same_fresh : h.fresh ≡ fresh_from h.fresh acts) where
   abbrev before : Sight
   before = sight_of_seat h.seat.table_id h.seat.me
@@ -36,7 +37,8 @@ module _ {acts : List Act} (h : Holder) (x : RoomCells) (table : x.seat.table_id
   left = leaves reads (λ k. same_role) (λ k. same_fresh)
 
   -- the thread stands as it must
-  pub look_stands : {row : TableId} {c : Config} {last : ℕ} → IsSeatOf row c last x.seat.table_id x.seat.me x.thread → IsStanding before h.role h.fresh h.hint → IsStanding behind h.role h.fresh h.hint
+  pub look_stands : {row : TableId} {c : Config} {last : ℕ} → IsSeatOf row c last x.seat.table_id x.seat.me x.thread
+      → IsStanding before h.role h.fresh h.hint → IsStanding behind h.role h.fresh h.hint
   look_stands at s = standing_next stepped left refl (seat_sound at) s (may_any before refl s)
 
   -- the step was taken
@@ -48,11 +50,14 @@ module _ {acts : List Act} (h : Holder) (x : RoomCells) (table : x.seat.table_id
   }
 
   -- and what the pass has seen is what this made of what it had
-  pub look_went : IsStanding before h.role h.fresh h.hint → Goes (stepping_pass h.seat.me) acts (stepping_pass x.seat.me)
+  pub look_went : IsStanding before h.role h.fresh h.hint
+      → Goes (stepping_pass h.seat.me) acts (stepping_pass x.seat.me)
   look_went s = seat_went looked.1 (may_any before refl s) acts (its_acts reads)
 
 -- cells at their site are there still, as long as they are of the same thread and room
-pub thread_next : {LAST : ℕ} {site : Option TableId} {sizes : Config} {thread : ℕ} {s x : RoomCells} {room : Room LAST} → IsAtThread site sizes thread s room → IsSeatedIn x room → (x.thread ≡ s.thread) × (x.seat.table_id ≡ s.seat.table_id) → IsAtThread site sizes thread x room
+pub thread_next : {LAST : ℕ} {site : Option TableId} {sizes : Config} {thread : ℕ} {s x : RoomCells} {room : Room LAST}
+    → IsAtThread site sizes thread s room → IsSeatedIn x room
+    → (x.thread ≡ s.thread) × (x.seat.table_id ≡ s.seat.table_id) → IsAtThread site sizes thread x room
 thread_next at there same = record {
   there = there;
   room_is = ap Some same.1 ∙ at.room_is;

@@ -1,5 +1,6 @@
 -- A reference that a thread looked at in its stay: it stands as it was found, or is gone.
-use Rattle.std.proofs.Common.{◌≡◌, ◌≢◌, ◌⊎◌, inl, inr, ◌≤◌, ℕ, true, Option, Some, None, [], ◌∷◌, refl, sym, ap, subst, ◌∙◌}
+use Rattle.std.proofs.Common.{◌≡◌, ◌≢◌, ◌⊎◌, inl, inr, ◌≤◌, ℕ, true, Option}
+use Rattle.std.proofs.Common.{Some, None, [], ◌∷◌, refl, sym, ap, subst, ◌∙◌}
 use Rattle.std.specs.List.{AllByRecursion}
 use Rattle.jr_word.specs.declared.config.Config.{Config}
 use Rattle.jr_word.specs.declared.handle.RefKind.{RefKind}
@@ -33,19 +34,27 @@ record IsStillOrGone (h : Handle) (r : Found) (s : State) : Type 0 where
   stands : (s.refs h ≡ r) ⊎ (s.refs h ≡ Stale)
 
 module _ (c : Config) (last : ℕ) (t : ℕ) (h : Handle) (r : Found) where
-  still_act : (s : State) (u : ℕ) (a : Act) → IsApart s.role → s.role t ≡ Within → IsStillOrGone h r s → ActNeeds c last s u a → IsStillOrGone h r (act_after s u a)
+  still_act : (s : State) (u : ℕ) (a : Act) → IsApart s.role → s.role t ≡ Within → IsStillOrGone h r s
+      → ActNeeds c last s u a → IsStillOrGone h r (act_after s u a)
   still_act s u (Create g o) i w x n = record {
     given = at_handle (λ y. y ≡ true) s.given g h true (λ e. refl) (λ ne. x.given);
-    stands = at_handle (λ y. (y ≡ r) ⊎ (y ≡ Stale)) s.refs g h (Object o) (λ e. let fresh = n.4 g refl refl in let was = x.given in absurd (cc (ap s.given e))) (λ ne. x.stands);
+    stands = at_handle (λ y. (y ≡ r) ⊎ (y ≡ Stale)) s.refs g h (Object o)
+        (λ e. let fresh = n.4 g refl refl in let was = x.given in absurd (cc (ap s.given e))) (λ ne. x.stands);
   }
-  still_act s u (Delete g) i w x n = record { given = x.given; stands = at_handle (λ y. (y ≡ r) ⊎ (y ≡ Stale)) s.refs g h Stale (λ e. inr refl) (λ ne. x.stands) }
+  still_act s u (Delete g) i w x n = record {
+    given = x.given;
+    stands = at_handle (λ y. (y ≡ r) ⊎ (y ≡ Stale)) s.refs g h Stale (λ e. inr refl) (λ ne. x.stands);
+  }
   still_act s u (Clear g) i w x n = absurd (i.apart u t n.0 w)
   still_act s u _ i w x n = record { given = x.given; stands = x.stands }
 
-  still_along : (s : State) (es : History) → IsApart s.role → s.role t ≡ Within → AllByRecursion (λ e. e ≢ by t (Gate Leave)) es → IsStillOrGone h r s → IsLegalFrom c last s es → IsStillOrGone h r (state_from s es)
+  still_along : (s : State) (es : History) → IsApart s.role → s.role t ≡ Within
+      → AllByRecursion (λ e. e ≢ by t (Gate Leave)) es → IsStillOrGone h r s → IsLegalFrom c last s es
+      → IsStillOrGone h r (state_from s es)
   still_along s [] i w q x l = x
   still_along s (e ∷ es) i w q x l =
-      still_along (after s e) es (apart_after c last s e i l.0) (stay_act c last t s e.thread e.act i w q.0 l.0.1).0 q.1 (still_act s e.thread e.act i w x l.0.1) l.1
+      still_along (after s e) es (apart_after c last s e i l.0) (stay_act c last t s e.thread e.act i w q.0 l.0.1).0 q.1
+      (still_act s e.thread e.act i w x l.0.1) l.1
 
 -- what a look shows of a handle that stands, as long as the thread stays
 pub record IsLooked (c : Config) (last : ℕ) (h : Handle) (o : Option ℕ) (s : State) : Type 0 where
@@ -60,7 +69,8 @@ can_stand Global None a b = absurd (let e = b refl in cc)
 can_stand Global (Some o) a b = tt
 can_stand Weak o a b = tt
 
-pub looked_at : (c : Config) (last : ℕ) (h : Handle) (o : Option ℕ) (k : Known) → IsLegal c last k.seen → HasLooked h (found_of o) k → IsLooked c last h o (state k.seen)
+pub looked_at : (c : Config) (last : ℕ) (h : Handle) (o : Option ℕ) (k : Known) → IsLegal c last k.seen
+    → HasLooked h (found_of o) k → IsLooked c last h o (state k.seen)
 looked_at c last h o k legal q =
     let t : ℕ = k.thread in
     let look : Event = by t (Look h (found_of o)) in
@@ -73,7 +83,8 @@ looked_at c last h o k legal q =
     let room = in_room c last q.before both.0 in
     let row = kept.in_row h given in
     let end : state k.seen ≡ state_from was q.since = ap state q.is ∙ state_append q.before (look ∷ q.since) in
-    let still = still_along c last t h (found_of o) was q.since (apart_state c last q.before both.0) needs.0 (never (Gate Leave) q.since t q.stays) (record { given = given; stands = inl needs.1 }) both.1.1 in
+    let still = still_along c last t h (found_of o) was q.since (apart_state c last q.before both.0) needs.0
+    (never (Gate Leave) q.since t q.stays) (record { given = given; stands = inl needs.1 }) both.1.1 in
     record {
       row = row;
       can = can_stand h.kind o row.0 (λ e. room.cleared h (needs.1 ∙ ap found_of e));

@@ -4,8 +4,8 @@ use mathlib.Core.List.{IsPrefix}
 use Rattle.jr_model.specs.declared.event.Act.{Act}
 use Rattle.jr_steps.specs.declared.known.Known.{Known}
 use Rattle.jr_steps.specs.Holdings.{InSpace}
-use Rattle.jr_steps.specs.Knowing.{view}
-use Rattle.jr_rule.specs.Rule.{view_of as seats, view_with, AreBeginnings, EachFits, SeatState, stepping_pass, noted_pass, others_of, Tells, IsAlone, IsNote, IsSeated, together, first_alone}
+use Rattle.jr_rule.specs.Rule.{view_of as seats, view_with, AreBeginnings, EachFits, SeatState, stepping_pass}
+use Rattle.jr_rule.specs.Rule.{noted_pass, others_of, Tells, IsAlone, IsNote, IsSeated, together, first_alone}
 use Rattle.jr_rule.proofs.Seats.{joined_is}
 
 module _ (a b m : SeatState) (alone : IsAlone a) (other : IsAlone b) (joined : m ≡ (together a.0 b.0, a.1)) where
@@ -22,22 +22,28 @@ module _ (a b m : SeatState) (alone : IsAlone a) (other : IsAlone b) (joined : m
   pub seated_both : IsSeated m
   seated_both = both ∙ (λ i. (seats (sym acting_both i ∷ sym others_both i), []))
 
-  module _ {told : Known → ℕ → List Act → Known → Type 0} (n : ℕ) (m' : SeatState) (s : Tells told m n m') (first : SeatState) (parted : first ≡ (first_alone m'.0, m'.1)) where
+  module _ {told : Known → ℕ → List Act → Known → Type 0} (n : ℕ) (m' : SeatState) (s : Tells told m n m')
+      (first : SeatState) (parted : first ≡ (first_alone m'.0, m'.1)) where
     -- after the look the first pass sits alone again, and was told what the look told
     pub first_is : first ≡ (seats (s.new ∷ []), [])
-    first_is = parted ∙ (ap (λ (z : SeatState). (first_alone z.0, z.1)) s.is ∙ ap (λ (z : SeatState). (seats (s.new ∷ []), z.1)) both)
+    first_is = parted
+        ∙ (ap (λ (z : SeatState). (first_alone z.0, z.1)) s.is ∙ ap (λ (z : SeatState). (seats (s.new ∷ []), z.1)) both)
 
     -- as if it had looked alone
     pub told_alone : Tells told a n first
     told_alone = record {
       acts = s.acts;
       new = s.new;
-      is = first_is ∙ (λ i. (seats (s.new ∷ ap (λ (z : SeatState). others_of z.0.passes) (sym alone) i), ap (λ (z : SeatState). z.1) (sym alone) i));
+      is = first_is ∙ (λ i. (
+        seats (s.new ∷ ap (λ (z : SeatState). others_of z.0.passes) (sym alone) i),
+        ap (λ (z : SeatState). z.1) (sym alone) i,
+      ));
       goes = subst (λ k. Rattle.jr_steps.specs.Knowing.Goes k s.acts s.new) acting_both s.goes;
       says = subst (λ k. told k n s.acts s.new) acting_both s.says;
       space = subst (λ (k : Known). InSpace k.config (s.new).holdings) acting_both s.space;
       held = s.held;
-      others = subst (λ ks. EachFits (stepping_pass a).config (stepping_pass a).last (s.new).seen s.held ks) (sym (ap (λ (z : SeatState). others_of z.0.passes) alone)) tt;
+      others = subst (λ ks. EachFits (stepping_pass a).config (stepping_pass a).last (s.new).seen s.held ks)
+          (sym (ap (λ (z : SeatState). others_of z.0.passes) alone)) tt;
       noted = subst (λ ns. AreBeginnings (s.new).seen ns) (sym (ap (λ (z : SeatState). z.0.notes) alone)) tt;
     }
 
@@ -56,15 +62,18 @@ module _ (a b m : SeatState) (alone : IsAlone a) (note : IsNote b) (joined : m �
     told_noted = record {
       acts = s.acts;
       new = s.new;
-      is = s.is ∙ (ap (λ (z : SeatState). (seats (s.new ∷ others_of z.0.passes), z.1)) with_note ∙ sym (ap (λ (z : SeatState). (seats (s.new ∷ others_of z.0.passes), z.1)) alone));
+      is = s.is ∙ (ap (λ (z : SeatState). (seats (s.new ∷ others_of z.0.passes), z.1)) with_note
+          ∙ sym (ap (λ (z : SeatState). (seats (s.new ∷ others_of z.0.passes), z.1)) alone));
       goes = subst (λ k. Rattle.jr_steps.specs.Knowing.Goes k s.acts s.new) acting_noted s.goes;
       says = subst (λ k. told k n s.acts s.new) acting_noted s.says;
       space = subst (λ (k : Known). InSpace k.config (s.new).holdings) acting_noted s.space;
       held = s.held;
-      others = subst (λ ks. EachFits (stepping_pass a).config (stepping_pass a).last (s.new).seen s.held ks) (sym (ap (λ (z : SeatState). others_of z.0.passes) alone)) tt;
+      others = subst (λ ks. EachFits (stepping_pass a).config (stepping_pass a).last (s.new).seen s.held ks)
+          (sym (ap (λ (z : SeatState). others_of z.0.passes) alone)) tt;
       noted = subst (λ ns. AreBeginnings (s.new).seen ns) (sym (ap (λ (z : SeatState). z.0.notes) alone)) tt;
     }
 
     -- and it has seen all that the note says
     pub learned : IsPrefix (noted_pass b).seen (stepping_pass m').seen
-    learned = subst (λ (k : Known). IsPrefix (noted_pass b).seen k.seen) (sym (ap stepping_pass s.is)) (subst (λ ns. AreBeginnings (s.new).seen ns) (ap (λ (z : SeatState). z.0.notes) with_note) s.noted).0
+    learned = subst (λ (k : Known). IsPrefix (noted_pass b).seen k.seen) (sym (ap stepping_pass s.is))
+        (subst (λ ns. AreBeginnings (s.new).seen ns) (ap (λ (z : SeatState). z.0.notes) with_note) s.noted).0

@@ -1,5 +1,6 @@
 -- Passes that close their room together: their seats come together, look at the gate, and part.
-use Rattle.std.proofs.Common.{◌≡◌, ◌≤◌, ◌<◌, ⊎_elim, ℕ, not, Option, Some, IfSome, option_to_list, List, [], ◌∷◌, ◌++◌, map, sym, ap, subst, ◌∙◌, arith, append_assoc}
+use Rattle.std.proofs.Common.{◌≡◌, ◌≤◌, ◌<◌, ⊎_elim, ℕ, not, Option, Some, IfSome, option_to_list}
+use Rattle.std.proofs.Common.{List, [], ◌∷◌, ◌++◌, map, sym, ap, subst, ◌∙◌, arith, append_assoc}
 use Rattle.std.proofs.lemmas.List.{append-nil}
 use Rattle.std.specs.List.{All, AllByRecursion}
 use Rattle.std.proofs.lemmas.List.Elements.{All-nil, All-cons, All-head, All-pop, All-tail}
@@ -22,53 +23,66 @@ use Rattle.jr_rule.specs.declared.pass.Pass.{Pass}
 use Rattle.jr_rule.specs.declared.row.Row.{Row}
 use Rattle.jr_rule.specs.Passes.{known_of, stands_of, HasEachPass, HasPass, IsAt, IsSeenIn, PassStands}
 use Rattle.jr_rule.specs.Sights.{IsSeatOf}
-use Rattle.jr_rule.specs.Rule.{crowd_of, first_alone, others_of, stepping_pass, together, view_of, AreBeginnings, CountedBy, HasCounted, EachFits, IsAlone, IsCrowd, IsSeated, LookedBy, SeatState, Tells}
+use Rattle.jr_rule.specs.Rule.{crowd_of, first_alone, others_of, stepping_pass, together, view_of, AreBeginnings}
+use Rattle.jr_rule.specs.Rule.{CountedBy, HasCounted, EachFits, IsAlone, IsCrowd, IsSeated, LookedBy, SeatState, Tells}
 use Rattle.jr_rule.proofs.Ended.{seen_in}
 use Rattle.jr_rule.proofs.GateSteps.{counted_after}
 
 -- A PASS AND A CROWD AT ONE SEAT
 
 pub beside_is : (a b m : SeatState) → IsAlone a → IsCrowd b → m ≡ (together a.0 b.0, a.1) → m ≡ crowd_of a [] b
-beside_is a b m alone crowd e = e ∙ ap (λ (z : SeatState × SeatState). (together z.0.0 z.1.0, z.0.1)) (λ i. (alone i, crowd i))
+beside_is a b m alone crowd e =
+    e ∙ ap (λ (z : SeatState × SeatState). (together z.0.0 z.1.0, z.0.1)) (λ i. (alone i, crowd i))
 
 -- the seat of one pass more
 module _ (p : Pass) (s rest : SeatState) (joined : s ≡ (together p.seat.me.0 rest.0, p.seat.me.1)) where
   passes_more : s.0.passes ≡ known_of p ∷ rest.0.passes
-  passes_more = ap (λ (z : SeatState). z.0.passes) joined ∙ ap (λ (z : SeatState). z.0.passes ++ rest.0.passes) p.held.alone
+  passes_more =
+      ap (λ (z : SeatState). z.0.passes) joined ∙ ap (λ (z : SeatState). z.0.passes ++ rest.0.passes) p.held.alone
 
   pub crowd_more : IsCrowd rest → s ≡ (view_of (known_of p ∷ rest.0.passes), [])
-  crowd_more crowd = joined ∙ ap (λ (z : SeatState × SeatState). (together z.0.0 z.1.0, z.0.1)) (λ i. (p.held.alone i, crowd i))
+  crowd_more crowd =
+      joined ∙ ap (λ (z : SeatState × SeatState). (together z.0.0 z.1.0, z.0.1)) (λ i. (p.held.alone i, crowd i))
 
   pub still_crowd : IsCrowd rest → IsCrowd s
   still_crowd crowd = crowd_more crowd ∙ (λ i. (view_of (sym passes_more i), []))
 
-  pub same_crowd : (first : SeatState) (xs init : List Pass) → xs ≡ init ++ p ∷ [] → crowd_of first (map known_of init) s ≡ crowd_of first (map known_of xs) rest
+  pub same_crowd : (first : SeatState) (xs init : List Pass) → xs ≡ init ++ p ∷ []
+      → crowd_of first (map known_of init) s ≡ crowd_of first (map known_of xs) rest
   same_crowd first xs init is = ap (λ l. (view_of (stepping_pass first ∷ l), []))
       (ap (λ l. map known_of init ++ l) passes_more
       ∙ (sym (append_assoc (map known_of init) (known_of p ∷ []) rest.0.passes)
-      ∙ (ap (λ l. l ++ rest.0.passes) (sym (map-append known_of init (p ∷ []))) ∙ ap (λ l. map known_of l ++ rest.0.passes) (sym is))))
+      ∙ (ap (λ l. l ++ rest.0.passes) (sym (map-append known_of init (p ∷ [])))
+      ∙ ap (λ l. map known_of l ++ rest.0.passes) (sym is))))
 
-pub more_stand : (xs ys zs : List Pass) (p q : Pass) → xs ≡ ys ++ p ∷ [] → map stands_of zs ≡ map stands_of ys → stands_of q ≡ stands_of p → map stands_of (zs ++ q ∷ []) ≡ map stands_of xs
-more_stand xs ys zs p q is same one = map-append stands_of zs (q ∷ []) ∙ (ap (λ (z : List PassStands × PassStands). z.0 ++ z.1 ∷ []) (λ i. (same i, one i)) ∙ (sym (map-append stands_of ys (p ∷ [])) ∙ ap (map stands_of) (sym is)))
+pub more_stand : (xs ys zs : List Pass) (p q : Pass) → xs ≡ ys ++ p ∷ [] → map stands_of zs ≡ map stands_of ys
+    → stands_of q ≡ stands_of p → map stands_of (zs ++ q ∷ []) ≡ map stands_of xs
+more_stand xs ys zs p q is same one = map-append stands_of zs (q ∷ [])
+    ∙ (ap (λ (z : List PassStands × PassStands). z.0 ++ z.1 ∷ []) (λ i. (same i, one i))
+    ∙ (sym (map-append stands_of ys (p ∷ [])) ∙ ap (map stands_of) (sym is)))
 
 -- the last of several passes, and those before it
-pub at_last : (r : Row) (xs ys : List Pass) (o : Option Pass) (p : Pass) → xs ≡ ys ++ option_to_list o → o ≡ Some p → All (λ q. IsAt r q) xs → All (λ q. IsAt r q) ys × IsAt r p
+pub at_last : (r : Row) (xs ys : List Pass) (o : Option Pass) (p : Pass) → xs ≡ ys ++ option_to_list o → o ≡ Some p
+    → All (λ q. IsAt r q) xs → All (λ q. IsAt r q) ys × IsAt r p
 at_last r xs ys o p e is all =
     let both = All-pop (λ q. IsAt r q) xs ys o e all in
     (both.0, subst (λ (z : Option Pass). IfSome z (λ q. IsAt r q)) is both.1)
 
 -- WHAT THE LOOK COUNTS
 
-pub counts_so : (m c m' : SeatState) (n count : ℕ) (q : GateParts) → m ≡ c → Tells CountedBy m n m' → ((p : GateParts) → IsGate p → n ≡ gate_word p → q ≡ p) → count ≡ all_counted q → HasCounted c m' count
+pub counts_so : (m c m' : SeatState) (n count : ℕ) (q : GateParts) → m ≡ c → Tells CountedBy m n m'
+    → ((p : GateParts) → IsGate p → n ≡ gate_word p → q ≡ p) → count ≡ all_counted q → HasCounted c m' count
 counts_so m c m' n count q e t same is =
     let s = t.says in
     let new : t.new ≡ stepping_pass m' = sym (ap stepping_pass t.is) in record {
       found = n;
       tells = subst (λ z. Tells CountedBy z n m') e t;
-      is = is ∙ (ap all_counted (same s.0 s.1 s.2) ∙ (counted_after s.0 t.goes s.4 ∙ ap (λ (k : Known). not_outside k.config (state_of k)) new));
+      is = is ∙ (ap all_counted (same s.0 s.1 s.2)
+          ∙ (counted_after s.0 t.goes s.4 ∙ ap (λ (k : Known). not_outside k.config (state_of k)) new));
     }
 
-module _ (first rest m' : SeatState) (ks : List Known) (count : ℕ) (c : HasCounted (crowd_of first ks rest) m' count) where
+module _ (first rest m' : SeatState) (ks : List Known) (count : ℕ)
+    (c : HasCounted (crowd_of first ks rest) m' count) where
   pub counted_is : m' ≡ (view_of ((c.tells).new ∷ (ks ++ rest.0.passes)), [])
   counted_is = c.tells.is
 
@@ -77,26 +91,33 @@ module _ (first rest m' : SeatState) (ks : List Known) (count : ℕ) (c : HasCou
   met_is = sym (ap stepping_pass counted_is)
 
   pub met_goes : Goes (stepping_pass first) (Meet ∷ []) (stepping_pass m')
-  met_goes = subst (λ (z : List Act × Known). Goes (stepping_pass first) z.0 z.1) (λ i. (c.tells.says.3 i, met_is i)) c.tells.goes
+  met_goes = subst (λ (z : List Act × Known). Goes (stepping_pass first) z.0 z.1) (λ i. (c.tells.says.3 i, met_is i))
+      c.tells.goes
 
   pub counted_seated : IsSeated m'
-  counted_seated = counted_is ∙ sym (ap (λ (z : SeatState). (view_of (stepping_pass z ∷ others_of z.0.passes), [])) counted_is)
+  counted_seated =
+      counted_is ∙ sym (ap (λ (z : SeatState). (view_of (stepping_pass z ∷ others_of z.0.passes), [])) counted_is)
 
   pub others_are : others_of m'.0.passes ≡ ks ++ rest.0.passes
   others_are = ap (λ (z : SeatState). others_of z.0.passes) counted_is
 
   -- alone again, the first pass has looked
-  pub looked_alone : IsAlone first → (a : SeatState) → a ≡ (first_alone m'.0, m'.1) → Tells (LookedBy (Meet ∷ [])) first c.found a
+  pub looked_alone : IsAlone first → (a : SeatState) → a ≡ (first_alone m'.0, m'.1)
+      → Tells (LookedBy (Meet ∷ [])) first c.found a
   looked_alone alone a parted =
       let t = c.tells in record {
         acts = t.acts;
         new = t.new;
-        is = parted ∙ (ap (λ (z : SeatState). (first_alone z.0, z.1)) counted_is ∙ (λ i. (view_of (t.new ∷ ap (λ (z : SeatState). others_of z.0.passes) (sym alone) i), ap (λ (z : SeatState). z.1) (sym alone) i)));
+        is = parted ∙ (ap (λ (z : SeatState). (first_alone z.0, z.1)) counted_is ∙ (λ i. (
+          view_of (t.new ∷ ap (λ (z : SeatState). others_of z.0.passes) (sym alone) i),
+          ap (λ (z : SeatState). z.1) (sym alone) i,
+        )));
         goes = t.goes;
         says = (t.says.3, t.says.5);
         space = t.space;
         held = t.held;
-        others = subst (λ ls. EachFits (stepping_pass first).config (stepping_pass first).last (t.new).seen t.held ls) (sym (ap (λ (z : SeatState). others_of z.0.passes) alone)) tt;
+        others = subst (λ ls. EachFits (stepping_pass first).config (stepping_pass first).last (t.new).seen t.held ls)
+            (sym (ap (λ (z : SeatState). others_of z.0.passes) alone)) tt;
         noted = subst (λ ns. AreBeginnings (t.new).seen ns) (sym (ap (λ (z : SeatState). z.0.notes) alone)) tt;
       }
 
@@ -105,23 +126,31 @@ module _ (first rest m' : SeatState) (ks : List Known) (count : ℕ) (c : HasCou
   all_seen none =
       let t = c.tells in
       subst (λ (k : Known). AllByRecursion (IsSeenIn k.seen) ks) met_is
-      (seen_in (stepping_pass first).config (stepping_pass first).last (t.new).seen t.held ks (subst (λ ls. EachFits (stepping_pass first).config (stepping_pass first).last (t.new).seen t.held ls) (ap (λ l. ks ++ l) none ∙ append-nil ks) t.others))
+      (seen_in (stepping_pass first).config (stepping_pass first).last (t.new).seen t.held ks
+      (subst (λ ls. EachFits (stepping_pass first).config (stepping_pass first).last (t.new).seen t.held ls)
+      (ap (λ l. ks ++ l) none ∙ append-nil ks) t.others))
 
 -- WHERE ALL ARE OUTSIDE NOBODY IS COUNTED
 
-outside_in : (whole : History) (t : ℕ) (ps : List Pass) → AllByRecursion (IsSeenIn whole) (map known_of ps) → AllByRecursion (λ p. p.role ≡ Outside) ps → HasPass (map known_of ps) t → (state whole).role t ≡ Outside
+outside_in : (whole : History) (t : ℕ) (ps : List Pass) → AllByRecursion (IsSeenIn whole) (map known_of ps)
+    → AllByRecursion (λ p. p.role ≡ Outside) ps → HasPass (map known_of ps) t → (state whole).role t ≡ Outside
 outside_in whole t [] seen out has = absurd has
 outside_in whole t (p ∷ ps) seen out has = ⊎_elim
     (λ (e : (known_of p).thread ≡ t). subst (λ u. (state whole).role u ≡ Outside) e
-    (role_of_state whole (known_of p).thread ∙ (ap (role_from Outside) (seen.0).own ∙ (sym (role_of_state (known_of p).seen (known_of p).thread) ∙ (p.held.role_is ∙ out.0)))))
+    (role_of_state whole (known_of p).thread ∙ (ap (role_from Outside) (seen.0).own
+    ∙ (sym (role_of_state (known_of p).seen (known_of p).thread) ∙ (p.held.role_is ∙ out.0)))))
     (λ (h : HasPass (map known_of ps) t). outside_in whole t ps seen.1 out.1 h)
     has
 
-pub nobody_counted : (c : Config) (p : Pass) (ps : List Pass) (met : Known) → Goes (known_of p) (Meet ∷ []) met → AllByRecursion (IsSeenIn met.seen) (map known_of ps) → HasEachPass c (map known_of (p ∷ ps)) → AllByRecursion (λ q. q.role ≡ Outside) (p ∷ ps) → not_outside c (state_of met) ≡ 0
-nobody_counted c p ps met goes seen each out = count_all_false c.threads (λ t. not (is_outside ((state met.seen).role t))) (λ t l. ap (λ r. not (is_outside r)) (one t (each t l)))
+pub nobody_counted : (c : Config) (p : Pass) (ps : List Pass) (met : Known) → Goes (known_of p) (Meet ∷ []) met
+    → AllByRecursion (IsSeenIn met.seen) (map known_of ps) → HasEachPass c (map known_of (p ∷ ps))
+    → AllByRecursion (λ q. q.role ≡ Outside) (p ∷ ps) → not_outside c (state_of met) ≡ 0
+nobody_counted c p ps met goes seen each out = count_all_false c.threads
+    (λ t. not (is_outside ((state met.seen).role t))) (λ t l. ap (λ r. not (is_outside r)) (one t (each t l)))
   where
     own : (state met.seen).role (known_of p).thread ≡ Outside
-    own = ap (λ u. (state met.seen).role u) (sym goes.thread) ∙ (role_did (Meet ∷ []) (goes_did goes) ∙ (p.held.role_is ∙ out.0))
+    own = ap (λ u. (state met.seen).role u) (sym goes.thread)
+        ∙ (role_did (Meet ∷ []) (goes_did goes) ∙ (p.held.role_is ∙ out.0))
 
     one : (t : ℕ) → HasPass (map known_of (p ∷ ps)) t → (state met.seen).role t ≡ Outside
     one t has = ⊎_elim
@@ -137,14 +166,17 @@ at_one r p q e at = record {
   last = ap (λ (z : PassStands). (z.knows).last) e ∙ at.last;
 }
 
-pub all_at : (r : Row) (xs ys : List Pass) → map stands_of ys ≡ map stands_of xs → All (λ p. IsAt r p) xs → All (λ p. IsAt r p) ys
+pub all_at : (r : Row) (xs ys : List Pass) → map stands_of ys ≡ map stands_of xs → All (λ p. IsAt r p) xs
+    → All (λ p. IsAt r p) ys
 all_at r [] [] e all = all
 all_at r [] (y ∷ ys) e all = absurd cc
 all_at r (x ∷ xs) [] e all = All-nil (λ p. IsAt r p)
-all_at r (x ∷ xs) (y ∷ ys) e all = All-cons (λ p. IsAt r p) y ys (at_one r x y (cc) (All-head (λ p. IsAt r p) x xs all)) (all_at r xs ys (cc) (All-tail (λ p. IsAt r p) x xs all))
+all_at r (x ∷ xs) (y ∷ ys) e all = All-cons (λ p. IsAt r p) y ys (at_one r x y (cc) (All-head (λ p. IsAt r p) x xs all))
+    (all_at r xs ys (cc) (All-tail (λ p. IsAt r p) x xs all))
 
 -- a pass of the row has its seat there
-pub seat_of : (r : Row) (p : Pass) → IsAt r p → IsSeatOf r.table.shared.table_id r.config r.last p.seat.table_id p.seat.me p.thread
+pub seat_of : (r : Row) (p : Pass) → IsAt r p
+    → IsSeatOf r.table.shared.table_id r.config r.last p.seat.table_id p.seat.me p.thread
 seat_of r p at = record {
   table = at.row;
   config = at.config;

@@ -17,16 +17,21 @@ use Rattle.jr_rule.specs.declared.row.Row.{Row}
 use Rattle.jr_rule.specs.Passes.{Holder, facts_of, holder_of, standing_of, IsAt}
 use Rattle.jr_rule.specs.Rule.{SeatState, IsHeld, stepping_pass}
 
-pub standing_of_held : {id : TableId} {m : SeatState} {thread : ℕ} {role : Role} {fresh : Bool} {hint : ℕ} → IsHeld m thread role fresh hint → IsStanding (sight_of_seat id m) role fresh hint
+pub standing_of_held : {id : TableId} {m : SeatState} {thread : ℕ} {role : Role} {fresh : Bool} {hint : ℕ}
+    → IsHeld m thread role fresh hint → IsStanding (sight_of_seat id m) role fresh hint
 standing_of_held {m = m} h = record {
-  some = ∥∥₁_map h.legal (λ l. (stepping_pass m, (refl, record { config = refl; last = refl; thread = refl; role = h.role_is; legal = l })));
+  some = ∥∥₁_map h.legal (λ l.
+      (stepping_pass m, (refl, record { config = refl; last = refl; thread = refl; role = h.role_is; legal = l })));
   unused = λ f k s. subst HasNoLocals (sym s.is) (h.unused f);
   below = h.below;
 }
 
-pub held_of_standing : {row id : TableId} {c : Config} {last : ℕ} {m : SeatState} {thread : ℕ} {role : Role} {fresh : Bool} {hint : ℕ} → IsSeatOf row c last id m thread → IsStanding (sight_of_seat id m) role fresh hint → IsHeld m thread role fresh hint
+pub held_of_standing : {row id : TableId} {c : Config} {last : ℕ} {m : SeatState} {thread : ℕ} {role : Role}
+    {fresh : Bool} {hint : ℕ} → IsSeatOf row c last id m thread → IsStanding (sight_of_seat id m) role fresh hint
+    → IsHeld m thread role fresh hint
 held_of_standing {m = m} {thread} {role} {fresh} {hint} a s =
-    let below : thread < (stepping_pass m).config.threads = subst (λ t. t < (stepping_pass m).config.threads) a.thread_is a.below in
+    let below : thread < (stepping_pass m).config.threads =
+    subst (λ t. t < (stepping_pass m).config.threads) a.thread_is a.below in
     let most = a.sized.limited.threads.1 in record {
       alone = a.alone;
       thread_is = a.thread_is;
@@ -42,17 +47,24 @@ held_of_standing {m = m} {thread} {role} {fresh} {hint} a s =
     }
 
 -- a pass that stands in the same room is one of the row's own
-pub still_of : (r : Row) (p q : Pass) → (standing_of q).room ≡ (standing_of p).room → (standing_of q).config ≡ (standing_of p).config → (standing_of q).last ≡ (standing_of p).last → IsAt r p → IsAt r q
+pub still_of : (r : Row) (p q : Pass) → (standing_of q).room ≡ (standing_of p).room
+    → (standing_of q).config ≡ (standing_of p).config → (standing_of q).last ≡ (standing_of p).last → IsAt r p
+    → IsAt r q
 still_of r p q e c l h = record { row = table e ∙ h.row; config = c ∙ h.config; last = l ∙ h.last } where
   table : Some q.seat.table_id ≡ Some p.seat.table_id → q.seat.table_id ≡ p.seat.table_id
   table e = cc
 
 -- a step that was taken over what a pass is made of is one of the pass
-pub took_there : {S : Type 0} (holder : S → Holder) {a b : S} {h h' : Holder} {acts : List Act} {met : Known → Type 0} {shows : Known → Known → Type 0} → holder a ≡ h → holder b ≡ h' → Took (λ s. facts_of (holder s)) a b acts met shows → Took facts_of h h' acts met shows
+pub took_there : {S : Type 0} (holder : S → Holder) {a b : S} {h h' : Holder} {acts : List Act} {met : Known → Type 0}
+    {shows : Known → Known → Type 0} → holder a ≡ h → holder b ≡ h' → Took (λ s. facts_of (holder s)) a b acts met shows
+    → Took facts_of h h' acts met shows
 took_there holder {a} {b} {acts = acts} {met} {shows} first last t =
-    let there : Took facts_of (holder a) (holder b) acts met shows = record { stands_is = t.stands_is; hint_is = t.hint_is; goes = t.goes } in
+    let there : Took facts_of (holder a) (holder b) acts met shows =
+    record { stands_is = t.stands_is; hint_is = t.hint_is; goes = t.goes } in
     subst (λ (z : Holder × Holder). Took facts_of z.0 z.1 acts met shows) (λ i. (first i, last i)) there
 
 -- and a pass of whose room the steps were is of that room then
-pub stays_of : (r : Row) (p q : Pass) {acts : List Act} {met : Known → Type 0} {shows : Known → Known → Type 0} → Took facts_of (holder_of p) (holder_of q) acts met shows → IsAt r p → IsAt r q
-stays_of r p q t at = still_of r p q (ap (λ (s : Standing). s.room) t.stands_is) (ap (λ (s : Standing). s.config) t.stands_is) (ap (λ (s : Standing). s.last) t.stands_is) at
+pub stays_of : (r : Row) (p q : Pass) {acts : List Act} {met : Known → Type 0} {shows : Known → Known → Type 0}
+    → Took facts_of (holder_of p) (holder_of q) acts met shows → IsAt r p → IsAt r q
+stays_of r p q t at = still_of r p q (ap (λ (s : Standing). s.room) t.stands_is)
+    (ap (λ (s : Standing). s.config) t.stands_is) (ap (λ (s : Standing). s.last) t.stands_is) at

@@ -24,15 +24,21 @@ optional_is None k may = tt
 optional_is (Some o) k may = ∥∥₁_elim may (hlevel props) (λ h. h)
 
 -- and its number is one of the room
-pub optional_fits : (o : Option ℕ) (k : Known) → IsLegal k.config k.last k.seen → k.config.objects ≤ MOST_OBJECTS → HasOptional o k → (x : ℕ) → o ≡ Some x → (0 < x) × (x < 2 ^ 16)
+pub optional_fits : (o : Option ℕ) (k : Known) → IsLegal k.config k.last k.seen → k.config.objects ≤ MOST_OBJECTS
+    → HasOptional o k → (x : ℕ) → o ≡ Some x → (0 < x) × (x < 2 ^ 16)
 optional_fits o k legal few has x e =
     let room = (in_room k.config k.last k.seen legal).objects x (subst (λ z. HasOptional z k) e has) in
     let low = room.0 in
     let high = room.1 in (omega arith, omega arith)
 
 module _ (k : Known) (within : role_of (view k) ≡ Within) where
-  pub puts_local : (p : ℕ) (o : Option ℕ) → p < k.config.locals → HasOptional o k → Owes k (local_at k.config k.thread p) (λ n. local_word (local_parts o)) (λ n. Put p o k (local_word (local_parts o)))
+  pub puts_local : (p : ℕ) (o : Option ℕ) → p < k.config.locals → HasOptional o k
+      → Owes k (local_at k.config k.thread p) (λ n. local_word (local_parts o)) (λ n.
+      Put p o k (local_word (local_parts o)))
   puts_local p o l has log words held f =
       let at : ℕ = local_at k.config k.thread p in
-      let t = puts k.config k.last log k.thread words f.legal held f.image f.fits.row (role_at k log words held f ∙ within) p o l (λ x e. present_now k log words held f x within (subst (λ z. HasOptional z k) e has)) in
-      quiet k log words held f (slice_set words at (local_word (local_parts o))) (Put p o k (local_word (local_parts o))) (act_of_put p o ∷ []) t (refl, refl)
+      let t =
+      puts k.config k.last log k.thread words f.legal held f.image f.fits.row (role_at k log words held f ∙ within) p o
+      l (λ x e. present_now k log words held f x within (subst (λ z. HasOptional z k) e has)) in
+      quiet k log words held f (slice_set words at (local_word (local_parts o)))
+      (Put p o k (local_word (local_parts o))) (act_of_put p o ∷ []) t (refl, refl)

@@ -1,5 +1,6 @@
 -- Plain words: what thread 0 holds there, one operation on them, how they are opened, and the histories that they show.
-use Rattle.std.proofs.Common.{◌≡◌, ℕ, List, sym, ap, ◌∙◌, ◌<◌, [], ◌∷◌, ◌++◌, map, slice_index, slice_set, refl, subst, ◌^◌, true, arith}
+use Rattle.std.proofs.Common.{◌≡◌, ℕ, List, sym, ap, ◌∙◌, ◌<◌, [], ◌∷◌, ◌++◌, map}
+use Rattle.std.proofs.Common.{slice_index, slice_set, refl, subst, ◌^◌, true, arith}
 use mathlib.Core.Logic.{dite, ∥∥₁_map}
 use native.Mathlib.Decide.{ℕ_discrete}
 use Rattle.std.specs.List.{AllByRecursion}
@@ -32,27 +33,34 @@ alone_here g t first = ap (alone g) first ∙ hold_here (λ t. empty) 0 g
 alone_then : (g g' : Holdings) (t : ℕ) → t ≡ 0 → (u : ℕ) → alone g' u ≡ hold (alone g) t g' u
 alone_then g g' t first u = dite (ℕ_discrete u 0)
     (λ e. alone_here g' u e ∙ (sym (hold_here (alone g) t g') ∙ ap (hold (alone g) t g') (first ∙ sym e)))
-    (λ ne. hold_else (λ t. empty) 0 u g' ne ∙ (sym (hold_else (λ t. empty) 0 u g ne) ∙ sym (hold_else (alone g) t u g' (λ e. ne (e ∙ first)))))
+    (λ ne. hold_else (λ t. empty) 0 u g' ne
+    ∙ (sym (hold_else (λ t. empty) 0 u g ne) ∙ sym (hold_else (alone g) t u g' (λ e. ne (e ∙ first)))))
 
-pub turn_alone : (k : Known) (acts : List Act) (words' : List ℕ) (g : Holdings) (t : ℕ) → t ≡ 0 → LegalStep k.config k.last k.seen k.thread acts words' (hold (alone k.holdings) t g) → LegalStep k.config k.last k.seen k.thread acts words' (alone g)
+pub turn_alone : (k : Known) (acts : List Act) (words' : List ℕ) (g : Holdings) (t : ℕ) → t ≡ 0
+    → LegalStep k.config k.last k.seen k.thread acts words' (hold (alone k.holdings) t g)
+    → LegalStep k.config k.last k.seen k.thread acts words' (alone g)
 turn_alone k acts words' g t first r = record {
   legal = r.legal;
-  image = image_same k.config k.last words' (state (then k.seen k.thread acts)) (hold (alone k.holdings) t g) r.image (alone g) (alone_then k.holdings g t first);
+  image = image_same k.config k.last words' (state (then k.seen k.thread acts)) (hold (alone k.holdings) t g) r.image
+      (alone g) (alone_then k.holdings g t first);
 }
 
 -- who did all has done so with acts of its own more
-did_then : (t : ℕ) (es : History) (acts : List Act) → AllByRecursion (λ e. e.thread ≡ t) es → AllByRecursion (λ e. e.thread ≡ t) (es ++ map (by t) acts)
+did_then : (t : ℕ) (es : History) (acts : List Act) → AllByRecursion (λ e. e.thread ≡ t) es
+    → AllByRecursion (λ e. e.thread ≡ t) (es ++ map (by t) acts)
 did_then t [] [] all = tt
 did_then t [] (a ∷ acts) all = (refl, did_then t [] acts tt)
 did_then t (e ∷ es) acts all = (all.0, did_then t es acts all.1)
 
 -- plain words are a row that is found
-found : {c : Config} {last : ℕ} {words : List ℕ} → IsSized c last → (k : Known) → IsAmong (sight_of_words c last words) k → IsFound k k.seen words (alone k.holdings)
+found : {c : Config} {last : ℕ} {words : List ℕ} → IsSized c last → (k : Known)
+    → IsAmong (sight_of_words c last words) k → IsFound k k.seen words (alone k.holdings)
 found sized k h = record {
   fits = record {
     same_config = refl;
     same_last = refl;
-    row = subst (λ (z : Config × ℕ). z.1 < (z.0).threads) (λ j. (sym h.config j, sym h.thread j)) sized.limited.threads.0;
+    row =
+        subst (λ (z : Config × ℕ). z.1 < (z.0).threads) (λ j. (sym h.config j, sym h.thread j)) sized.limited.threads.0;
     begins = prefix_self k.seen;
     own = refl;
     holdings = alone_here k.holdings k.thread h.thread;
@@ -62,14 +70,22 @@ found sized k h = record {
   image = h.is.image;
 }
 
-module _ {c : Config} {last : ℕ} {words words' : List ℕ} {met : Known → Type 0} {told : Known → ℕ → List Act → Known → Type 0} {i : ℕ} {f : ℕ → ℕ} (g : ℕ → ℕ) {n : ℕ} (sized : IsSized c last)
-    (owed : IsOwed (sight_of_words c last words) met i f (λ k m. told k (g m))) (written : words' ≡ slice_set words i (f (slice_index words i))) (is : n ≡ g (slice_index words i)) where
-  makes : (k : Known) → IsAmong (sight_of_words c last words) k → met k → StepsTo (sight_of_words c last words) (sight_of_words c last words') told n k
+module _ {c : Config} {last : ℕ} {words words' : List ℕ} {met : Known → Type 0}
+    {told : Known → ℕ → List Act → Known → Type 0} {i : ℕ} {f : ℕ → ℕ} (g : ℕ → ℕ) {n : ℕ} (sized : IsSized c last)
+    (owed : IsOwed (sight_of_words c last words) met i f (λ k m. told k (g m)))
+    (written : words' ≡ slice_set words i (f (slice_index words i))) (is : n ≡ g (slice_index words i)) where
+  makes : (k : Known) → IsAmong (sight_of_words c last words) k → met k
+      → StepsTo (sight_of_words c last words) (sight_of_words c last words') told n k
   makes k h m =
       let made = owed.owes k h ∣ m ∣₁ k.seen words (alone k.holdings) (found sized k h) in
       let after : Known = known_at k k.seen made.acts made.holdings in
       let t = turn_alone k made.acts words' made.holdings k.thread h.thread
-      (record { legal = made.legal; image = subst (λ ws. IsImage k.config k.last ws (state after.seen) (hold (alone k.holdings) k.thread made.holdings)) (sym written) made.image }) in record {
+      (record {
+        legal = made.legal;
+        image =
+            subst (λ ws. IsImage k.config k.last ws (state after.seen) (hold (alone k.holdings) k.thread made.holdings))
+            (sym written) made.image;
+      }) in record {
         new = after;
         acts = made.acts;
         is = record {
@@ -77,7 +93,8 @@ module _ {c : Config} {last : ℕ} {words words' : List ℕ} {met : Known → Ty
             legal = made.legal;
             did_all = did_then k.thread k.seen made.acts h.is.did_all;
             image = t.image;
-            space = holdings_in_space k.config k.last after.seen words' (alone made.holdings) made.legal t.image 0 made.holdings (hold_here (λ u. empty) 0 made.holdings);
+            space = holdings_in_space k.config k.last after.seen words' (alone made.holdings) made.legal t.image 0
+                made.holdings (hold_here (λ u. empty) 0 made.holdings);
           };
           config = h.config;
           last = h.last;
@@ -101,20 +118,24 @@ module _ {c : Config} {last : ℕ} {words words' : List ℕ} {met : Known → Ty
 
 module _ (c : Config) (last : ℕ) (words : List ℕ) where
   module _ (nothing : Depicts words (unseen c last)) where
-    nothing_known : Depicts words (unseen c last) × IsOf (stands_at (sight_of_words c last words) Outside true) (unseen c last)
+    nothing_known : Depicts words (unseen c last)
+        × IsOf (stands_at (sight_of_words c last words) Outside true) (unseen c last)
     nothing_known = (nothing, record { config = refl; last = refl; thread = refl; role = refl; legal = tt })
 
-    pub opened_standing : AreSoundWords (sight_of_words c last words) → 0 < c.slots → IsStanding (sight_of_words c last words) Outside true 0
+    pub opened_standing : AreSoundWords (sight_of_words c last words) → 0 < c.slots
+        → IsStanding (sight_of_words c last words) Outside true 0
     opened_standing sound some = record {
       some = ∣ (unseen c last, nothing_known) ∣₁;
-      unused = λ f k s. sound.locals (unseen c last) k (among_of (sight_of_words c last words) Outside true (unseen c last) nothing_known) s (λ p. refl);
+      unused = λ f k s. sound.locals (unseen c last) k
+          (among_of (sight_of_words c last words) Outside true (unseen c last) nothing_known) s (λ p. refl);
       below = some;
     }
 
     pub opened_alone : IsOpenedAlone c last c words Outside true 0
     opened_alone = record { sizes = refl; role_is = refl; fresh_is = refl; hint_is = refl; nothing = nothing }
 
-  pub seen_history : last < 2 ^ 32 → (k : Known) → IsAmong (sight_of_words c last words) k → IsHistoryOf c words k.last k.seen
+  pub seen_history : last < 2 ^ 32 → (k : Known) → IsAmong (sight_of_words c last words) k
+      → IsHistoryOf c words k.last k.seen
   seen_history few k h = record {
     few = let e = h.last in omega arith;
     legal = subst (λ (z : Config). IsLegal z k.last k.seen) h.config h.is.legal;

@@ -42,7 +42,11 @@ names_prop (Weak serial None) = hlevel props
 names_prop (Weak serial (Some o)) = hlevel props
 
 slot_prop : (p : SlotParts) → IsProp (IsSlot p)
-slot_prop p x y = λ i. record { serial = below_prop _ _ x.serial y.serial i; object = below_prop _ _ x.object y.object i; names = names_prop p x.names y.names i }
+slot_prop p x y = λ i. record {
+  serial = below_prop _ _ x.serial y.serial i;
+  object = below_prop _ _ x.object y.object i;
+  names = names_prop p x.names y.names i;
+}
 
 lengths_prop : (p : HeaderParts) → IsProp (LengthFits p)
 lengths_prop p = hlevel props
@@ -51,12 +55,21 @@ places_prop : (p : HeaderParts) → IsProp (PlaceFits p)
 places_prop p = hlevel props
 
 header_prop : (p : HeaderParts) → IsProp (IsHeader p)
-header_prop p x y = λ i. record { length = below_prop _ _ x.length y.length i; place = below_prop _ _ x.place y.place i; length_fits = lengths_prop p x.length_fits y.length_fits i; place_fits = places_prop p x.place_fits y.place_fits i }
+header_prop p x y = λ i. record {
+  length = below_prop _ _ x.length y.length i;
+  place = below_prop _ _ x.place y.place i;
+  length_fits = lengths_prop p x.length_fits y.length_fits i;
+  place_fits = places_prop p x.place_fits y.place_fits i;
+}
 
 slot_once : (n : ℕ) → IsProp (IsSlotWord n)
 slot_once n x y =
     let e : x.0 ≡ y.0 = slot_word-injective x.0 y.0 x.1 y.1 (sym x.2 ∙ y.2) in
-    λ i. (e i, is_prop→PathP (λ j. IsSlot (e j)) (λ j. slot_prop (e j)) x.1 y.1 i, is_prop→PathP (λ j. n ≡ slot_word (e j)) (λ j. same_prop n (slot_word (e j))) x.2 y.2 i)
+    λ i. (
+      e i,
+      is_prop→PathP (λ j. IsSlot (e j)) (λ j. slot_prop (e j)) x.1 y.1 i,
+      is_prop→PathP (λ j. n ≡ slot_word (e j)) (λ j. same_prop n (slot_word (e j))) x.2 y.2 i,
+    )
 
 pub one_slot : {n : ℕ} → ∥ IsSlotWord n ∥₁ → IsSlotWord n
 one_slot {n} may = ∥∥₁_elim may (slot_once n) (λ x. x)
@@ -64,7 +77,11 @@ one_slot {n} may = ∥∥₁_elim may (slot_once n) (λ x. x)
 header_once : (n : ℕ) → IsProp ((p : HeaderParts) × IsHeader p × (n ≡ header_word p))
 header_once n x y =
     let e : x.0 ≡ y.0 = header_word-injective x.0 y.0 x.1 y.1 (sym x.2 ∙ y.2) in
-    λ i. (e i, is_prop→PathP (λ j. IsHeader (e j)) (λ j. header_prop (e j)) x.1 y.1 i, is_prop→PathP (λ j. n ≡ header_word (e j)) (λ j. same_prop n (header_word (e j))) x.2 y.2 i)
+    λ i. (
+      e i,
+      is_prop→PathP (λ j. IsHeader (e j)) (λ j. header_prop (e j)) x.1 y.1 i,
+      is_prop→PathP (λ j. n ≡ header_word (e j)) (λ j. same_prop n (header_word (e j))) x.2 y.2 i,
+    )
 
 pub one_header : {n : ℕ} → ∥ IsHeaderOrZero n ∥₁ → IsHeaderOrZero n
 one_header {n} may = dite (ℕ_discrete n 0)
@@ -76,5 +93,7 @@ one_header {n} may = dite (ℕ_discrete n 0)
     other some (inr w) = w
 
 -- WHAT A STEP SAYS OF THE NUMBER THAT IT FOUND is so, whatever was known
-pub found_so : {z z' : Sight} {met : Known → Type 0} {told : Known → ℕ → List Act → Known → Type 0} {n : ℕ} → HasStepped z z' met told n → May z met → {P : Type 0} → ((k k' : Known) (done : List Act) → told k n done k' → P) → ∥ P ∥₁
+pub found_so : {z z' : Sight} {met : Known → Type 0} {told : Known → ℕ → List Act → Known → Type 0} {n : ℕ}
+    → HasStepped z z' met told n → May z met → {P : Type 0} → ((k k' : Known) (done : List Act) → told k n done k' → P)
+    → ∥ P ∥₁
 found_so t may says = ∥∥₁_map may (λ k. let u = t.makes k.0 k.1 k.2 in says k.0 u.new u.acts u.says)

@@ -1,5 +1,6 @@
 -- Seats are dealt out, are joined, and part.
-use Rattle.std.proofs.Common.{◌≡◌, ◌≢◌, ◌+◌, ◌-◌, ◌<◌, ◌≤◌, ℕ, zero, suc, cond, List, [], ◌∷◌, ◌++◌, slice_set, refl, sym, ap, subst, ◌∙◌, arith, eq-eqb, ne_eqb, ⊎_elim}
+use Rattle.std.proofs.Common.{◌≡◌, ◌≢◌, ◌+◌, ◌-◌, ◌<◌, ◌≤◌, ℕ, zero, suc, cond, List, [], ◌∷◌, ◌++◌}
+use Rattle.std.proofs.Common.{slice_set, refl, sym, ap, subst, ◌∙◌, arith, eq-eqb, ne_eqb, ⊎_elim}
 use mathlib.Core.Option.{some, some-injective, some-ne-none}
 use mathlib.Core.Logic.{dite}
 use native.Mathlib.Decide.{ℕ_discrete}
@@ -14,21 +15,26 @@ use Rattle.jr_rule.specs.declared.rule.View.{View}
 use Rattle.jr_steps.specs.declared.known.Holdings.{Holdings}
 use Rattle.jr_steps.specs.Holdings.{empty}
 use Rattle.jr_rule.specs.Image.{IsImage}
-use Rattle.jr_rule.specs.Rule.{known, note_of, view_of, view_with, AreBeginnings, IsSized, EachFits, total, is_of, passes_of, Kept, newcomers, SeatState, first_alone, without_first, together, spent}
+use Rattle.jr_rule.specs.Rule.{known, note_of, view_of, view_with, AreBeginnings, IsSized, EachFits, total, is_of}
+use Rattle.jr_rule.specs.Rule.{passes_of, Kept, newcomers, SeatState, first_alone, without_first, together, spent}
 use Rattle.jr_rule.proofs.RuleKept.{total_append, total_at}
 
-each_append : (c : Config) (last : ℕ) (log : History) (held : ℕ → Holdings) (ks ls : List Known) → EachFits c last log held ks → EachFits c last log held ls → EachFits c last log held (ks ++ ls)
+each_append : (c : Config) (last : ℕ) (log : History) (held : ℕ → Holdings) (ks ls : List Known)
+    → EachFits c last log held ks → EachFits c last log held ls → EachFits c last log held (ks ++ ls)
 each_append c last log held [] ls a b = b
 each_append c last log held (k ∷ ks) ls a b = (a.0, each_append c last log held ks ls a.1 b)
 
-noted_append : (log : History) (ns os : List Known) → AreBeginnings log ns → AreBeginnings log os → AreBeginnings log (ns ++ os)
+noted_append : (log : History) (ns os : List Known) → AreBeginnings log ns → AreBeginnings log os
+    → AreBeginnings log (ns ++ os)
 noted_append log [] os a b = b
 noted_append log (n ∷ ns) os a b = (a.0, noted_append log ns os a.1 b)
 
 module _ (c : Config) (last : ℕ) where
   -- a seat's passes are cut in two, and its notes
-  cuts : (id : ℕ) (v left right : View) → ((log : History) (held : ℕ → Holdings) → EachFits c last log held v.passes → EachFits c last log held left.passes × EachFits c last log held right.passes)
-      → ((log : History) (held : ℕ → Holdings) → EachFits c last log held v.passes → AreBeginnings log v.notes → AreBeginnings log left.notes × AreBeginnings log right.notes)
+  cuts : (id : ℕ) (v left right : View) → ((log : History) (held : ℕ → Holdings) → EachFits c last log held v.passes
+      → EachFits c last log held left.passes × EachFits c last log held right.passes)
+      → ((log : History) (held : ℕ → Holdings) → EachFits c last log held v.passes → AreBeginnings log v.notes
+      → AreBeginnings log left.notes × AreBeginnings log right.notes)
       → ((t : ℕ) → passes_of t left + passes_of t right ≡ passes_of t v) → Splits (Kept last c) id v left right
   cuts id v left right parts notes counts r kept at = record {
     log = kept.log;
@@ -38,10 +44,12 @@ module _ (c : Config) (last : ℕ) where
     image = kept.image;
     each = λ j w there. ⊎_elim
         (λ (in_front : get_elem? (slice_set r.views id left) j ≡ some w). ⊎_elim
-        (λ (t : (j ≡ id) × (left ≡ w)). subst (λ (z : View). EachFits c last kept.log kept.held z.passes) t.1 (parts kept.log kept.held (kept.each id v at)).0)
+        (λ (t : (j ≡ id) × (left ≡ w)). subst (λ (z : View). EachFits c last kept.log kept.held z.passes) t.1
+        (parts kept.log kept.held (kept.each id v at)).0)
         (λ (t : (j ≢ id) × (get_elem? r.views j ≡ some w)). kept.each j w t.1)
         (at_set r.views id j left w in_front))
-        (λ (new : right ≡ w). subst (λ (z : View). EachFits c last kept.log kept.held z.passes) new (parts kept.log kept.held (kept.each id v at)).1)
+        (λ (new : right ≡ w). subst (λ (z : View). EachFits c last kept.log kept.held z.passes) new
+        (parts kept.log kept.held (kept.each id v at)).1)
         (at_snoc (slice_set r.views id left) right w j there);
     noted = λ j w there.
         let cut = notes kept.log kept.held (kept.each id v at) (kept.noted id v at) in
@@ -60,44 +68,56 @@ module _ (c : Config) (last : ℕ) where
         let most = kept.once t h in omega arith;
   }
 
-  pub deals : (id : ℕ) (v : View) (k : Known) (ks : List Known) → v ≡ view_of (k ∷ ks) → Splits (Kept last c) id v (without_first v) (first_alone v)
+  pub deals : (id : ℕ) (v : View) (k : Known) (ks : List Known) → v ≡ view_of (k ∷ ks)
+      → Splits (Kept last c) id v (without_first v) (first_alone v)
   deals id v k ks is = subst (λ (w : View). Splits (Kept last c) id w (without_first w) (first_alone w)) (sym is)
-      (cuts id (view_of (k ∷ ks)) (view_of ks) (view_of (k ∷ [])) (λ log held fit. (fit.1, (fit.0, tt))) (λ log held fit noted. (tt, tt)) (λ t. omega arith))
+      (cuts id (view_of (k ∷ ks)) (view_of ks) (view_of (k ∷ [])) (λ log held fit. (fit.1, (fit.0, tt)))
+      (λ log held fit noted. (tt, tt)) (λ t. omega arith))
 
-  pub parts : (id : ℕ) (v : View) (k : Known) (ks : List Known) → v ≡ view_of (k ∷ ks) → Splits (Kept last c) id v (first_alone v) (without_first v)
+  pub parts : (id : ℕ) (v : View) (k : Known) (ks : List Known) → v ≡ view_of (k ∷ ks)
+      → Splits (Kept last c) id v (first_alone v) (without_first v)
   parts id v k ks is = subst (λ (w : View). Splits (Kept last c) id w (first_alone w) (without_first w)) (sym is)
-      (cuts id (view_of (k ∷ ks)) (view_of (k ∷ [])) (view_of ks) (λ log held fit. ((fit.0, tt), fit.1)) (λ log held fit noted. (tt, tt)) (λ t. omega arith))
+      (cuts id (view_of (k ∷ ks)) (view_of (k ∷ [])) (view_of ks) (λ log held fit. ((fit.0, tt), fit.1))
+      (λ log held fit noted. (tt, tt)) (λ t. omega arith))
 
   -- a note of what the first of a seat's passes has seen leaves it
-  pub jots : (id : ℕ) (v : View) (k : Known) (ks : List Known) → v ≡ view_of (k ∷ ks) → Splits (Kept last c) id v v (note_of v)
+  pub jots : (id : ℕ) (v : View) (k : Known) (ks : List Known) → v ≡ view_of (k ∷ ks)
+      → Splits (Kept last c) id v v (note_of v)
   jots id v k ks is = subst (λ (w : View). Splits (Kept last c) id w w (note_of w)) (sym is)
-      (cuts id (view_of (k ∷ ks)) (view_of (k ∷ ks)) (note_of (view_of (k ∷ ks))) (λ log held fit. (fit, tt)) (λ log held fit noted. (tt, ((fit.0).begins, tt))) (λ t. omega arith))
+      (cuts id (view_of (k ∷ ks)) (view_of (k ∷ ks)) (note_of (view_of (k ∷ ks))) (λ log held fit. (fit, tt))
+      (λ log held fit noted. (tt, ((fit.0).begins, tt))) (λ t. omega arith))
 
   -- a copy of a seat's notes leaves it, where it has no pass
   pub copies : (id : ℕ) (v : View) (ns : List Known) → v ≡ view_with [] ns → Splits (Kept last c) id v v v
   copies id v ns is = subst (λ (w : View). Splits (Kept last c) id w w w) (sym is)
-      (cuts id (view_with [] ns) (view_with [] ns) (view_with [] ns) (λ log held fit. (fit, fit)) (λ log held fit noted. (noted, noted)) (λ t. refl))
+      (cuts id (view_with [] ns) (view_with [] ns) (view_with [] ns) (λ log held fit. (fit, fit))
+      (λ log held fit noted. (noted, noted)) (λ t. refl))
 
   pub gathers : (id : ℕ) (v : View) (other : ℕ) (w : View) → Joins (Kept last c) id v other w (together v w) spent
   gathers id v other w r kept at apart there =
       let here = at_set r.views id other (together v w) w there in
-      let was : get_elem? r.views other ≡ some w = ⊎_elim (λ (t : (other ≡ id) × (together v w ≡ w)). absurd (apart t.0)) (λ (t : (other ≢ id) × (get_elem? r.views other ≡ some w)). t.1) here in record {
+      let was : get_elem? r.views other ≡ some w =
+      ⊎_elim (λ (t : (other ≡ id) × (together v w ≡ w)). absurd (apart t.0))
+      (λ (t : (other ≢ id) × (get_elem? r.views other ≡ some w)). t.1) here in record {
         log = kept.log;
         held = kept.held;
         legal = kept.legal;
         sized = kept.sized;
         image = kept.image;
         each = λ j u there'. ⊎_elim
-            (λ (t : (j ≡ other) × (spent ≡ u)). subst (λ (z : View). EachFits c last kept.log kept.held z.passes) t.1 tt)
+            (λ (t : (j ≡ other) × (spent ≡ u)).
+            subst (λ (z : View). EachFits c last kept.log kept.held z.passes) t.1 tt)
             (λ (t : (j ≢ other) × (get_elem? (slice_set r.views id (together v w)) j ≡ some u)). ⊎_elim
-            (λ (q : (j ≡ id) × (together v w ≡ u)). subst (λ (z : View). EachFits c last kept.log kept.held z.passes) q.1 (each_append c last kept.log kept.held v.passes w.passes (kept.each id v at) (kept.each other w was)))
+            (λ (q : (j ≡ id) × (together v w ≡ u)). subst (λ (z : View). EachFits c last kept.log kept.held z.passes)
+            q.1 (each_append c last kept.log kept.held v.passes w.passes (kept.each id v at) (kept.each other w was)))
             (λ (q : (j ≢ id) × (get_elem? r.views j ≡ some u)). kept.each j u q.1)
             (at_set r.views id j (together v w) u t.1))
             (at_set (slice_set r.views id (together v w)) other j spent u there');
         noted = λ j u there'. ⊎_elim
             (λ (t : (j ≡ other) × (spent ≡ u)). subst (λ (z : View). AreBeginnings kept.log z.notes) t.1 tt)
             (λ (t : (j ≢ other) × (get_elem? (slice_set r.views id (together v w)) j ≡ some u)). ⊎_elim
-            (λ (q : (j ≡ id) × (together v w ≡ u)). subst (λ (z : View). AreBeginnings kept.log z.notes) q.1 (noted_append kept.log v.notes w.notes (kept.noted id v at) (kept.noted other w was)))
+            (λ (q : (j ≡ id) × (together v w ≡ u)). subst (λ (z : View). AreBeginnings kept.log z.notes) q.1
+            (noted_append kept.log v.notes w.notes (kept.noted id v at) (kept.noted other w was)))
             (λ (q : (j ≢ id) × (get_elem? r.views j ≡ some u)). kept.noted j u q.1)
             (at_set r.views id j (together v w) u t.1))
             (at_set (slice_set r.views id (together v w)) other j spent u there');
@@ -111,7 +131,17 @@ module _ (c : Config) (last : ℕ) where
 
   newcomers_fit : (n t : ℕ) → t + n ≤ c.threads → EachFits c last [] (λ u. empty) (newcomers c last n t)
   newcomers_fit zero t h = tt
-  newcomers_fit (suc n) t h = (record { same_config = refl; same_last = refl; row = omega arith; begins = ([], refl); own = refl; holdings = refl }, newcomers_fit n (suc t) (omega arith))
+  newcomers_fit (suc n) t h = (
+    record {
+      same_config = refl;
+      same_last = refl;
+      row = omega arith;
+      begins = ([], refl);
+      own = refl;
+      holdings = refl;
+    },
+    newcomers_fit n (suc t) (omega arith),
+  )
 
   not_yet : (u n t : ℕ) → u < t → total (is_of u) (newcomers c last n t) ≡ 0
   not_yet u zero t h = refl
@@ -123,11 +153,14 @@ module _ (c : Config) (last : ℕ) where
   just_once : (u n t : ℕ) → t ≤ u → u < t + n → total (is_of u) (newcomers c last n t) ≡ 1
   just_once u zero t from to = absurd (omega arith)
   just_once u (suc n) t from to = dite (ℕ_discrete t u)
-      (λ e. let one : is_of u (known c last t [] empty 0) ≡ 1 = ap (λ b. cond b 1 0) (eq-eqb t u e) in let rest = not_yet u n (suc t) (omega arith) in omega arith)
-      (λ other. let none : is_of u (known c last t [] empty 0) ≡ 0 = ap (λ b. cond b 1 0) (ne_eqb t u other) in let rest = just_once u n (suc t) (omega arith) (omega arith) in omega arith)
+      (λ e. let one : is_of u (known c last t [] empty 0) ≡ 1 = ap (λ b. cond b 1 0) (eq-eqb t u e) in
+      let rest = not_yet u n (suc t) (omega arith) in omega arith)
+      (λ other. let none : is_of u (known c last t [] empty 0) ≡ 0 = ap (λ b. cond b 1 0) (ne_eqb t u other) in
+      let rest = just_once u n (suc t) (omega arith) (omega arith) in omega arith)
 
   -- a row that shows the opening meets the rule
-  pub opens : (words : List ℕ) → IsSized c last → IsImage c last words nothing_stands (λ t. empty) → Kept last c (opening words [] (view_of (newcomers c last c.threads 0)))
+  pub opens : (words : List ℕ) → IsSized c last → IsImage c last words nothing_stands (λ t. empty)
+      → Kept last c (opening words [] (view_of (newcomers c last c.threads 0)))
   opens words sized image = record {
     log = [];
     held = λ t. empty;
@@ -139,22 +172,28 @@ module _ (c : Config) (last : ℕ) where
     once = λ t h. let one = just_once t c.threads 0 (omega arith) (omega arith) in omega arith;
   }
     where
-      alone : (v : View) (j : ℕ) → get_elem? (view_of (newcomers c last c.threads 0) ∷ []) j ≡ some v → EachFits c last [] (λ t. empty) v.passes
-      alone v zero there = subst (λ (z : View). EachFits c last [] (λ t. empty) z.passes) (some-injective _ v there) (newcomers_fit c.threads 0 (omega arith))
+      alone : (v : View) (j : ℕ) → get_elem? (view_of (newcomers c last c.threads 0) ∷ []) j ≡ some v
+          → EachFits c last [] (λ t. empty) v.passes
+      alone v zero there = subst (λ (z : View). EachFits c last [] (λ t. empty) z.passes) (some-injective _ v there)
+          (newcomers_fit c.threads 0 (omega arith))
       alone v (suc j) there = absurd (some-ne-none v (sym there))
 
-      unnoted : (v : View) (j : ℕ) → get_elem? (view_of (newcomers c last c.threads 0) ∷ []) j ≡ some v → AreBeginnings [] v.notes
+      unnoted : (v : View) (j : ℕ) → get_elem? (view_of (newcomers c last c.threads 0) ∷ []) j ≡ some v
+          → AreBeginnings [] v.notes
       unnoted v zero there = subst (λ (z : View). AreBeginnings [] z.notes) (some-injective _ v there) tt
       unnoted v (suc j) there = absurd (some-ne-none v (sym there))
 
   -- the next of the newcomers
-  pub next_newcomer : (m : SeatState) (t : ℕ) → t < c.threads → m ≡ (view_of (newcomers c last (c.threads - t) t), []) → m ≡ (view_of (known c last t [] empty 0 ∷ newcomers c last (c.threads - (t + 1)) (t + 1)), [])
+  pub next_newcomer : (m : SeatState) (t : ℕ) → t < c.threads → m ≡ (view_of (newcomers c last (c.threads - t) t), [])
+      → m ≡ (view_of (known c last t [] empty 0 ∷ newcomers c last (c.threads - (t + 1)) (t + 1)), [])
   next_newcomer m t h e =
       let n : ℕ = c.threads - (t + 1) in
       let more : c.threads - t ≡ suc n = omega arith in
       let next : suc t ≡ t + 1 = omega arith in
-      e ∙ (ap (λ (k : ℕ). (view_of (newcomers c last k t), [])) more ∙ ap (λ (k : ℕ). (view_of (known c last t [] empty 0 ∷ newcomers c last n k), [])) next)
+      e ∙ (ap (λ (k : ℕ). (view_of (newcomers c last k t), [])) more
+      ∙ ap (λ (k : ℕ). (view_of (known c last t [] empty 0 ∷ newcomers c last n k), [])) next)
 
 -- the seat of two passes that were joined
-pub joined_is : (m v w : SeatState) (k l : Known) → v ≡ (view_of (k ∷ []), []) → w ≡ (view_of (l ∷ []), []) → m ≡ (together v.0 w.0, v.1) → m ≡ (view_of (k ∷ l ∷ []), [])
+pub joined_is : (m v w : SeatState) (k l : Known) → v ≡ (view_of (k ∷ []), []) → w ≡ (view_of (l ∷ []), [])
+    → m ≡ (together v.0 w.0, v.1) → m ≡ (view_of (k ∷ l ∷ []), [])
 joined_is m v w k l a b e = e ∙ ap (λ (z : SeatState × SeatState). (together z.0.0 z.1.0, z.0.1)) (λ i. (a i, b i))

@@ -1,5 +1,7 @@
 -- What the steps of slots owe, wherever they find the row, and what a claim that is lost shows.
-use Rattle.std.proofs.Common.{◌≡◌, ◌≢◌, ⊎_elim, ◌<◌, ◌≤◌, ℕ, true, false, ◌++◌, refl, sym, ap, subst, ◌∙◌, arith, append_assoc, ◌⊎◌, inl, inr, ◌^◌, Option, Some, Ok, Err, List, [], ◌∷◌, get_or, slice_set, eqb}
+use Rattle.std.proofs.Common.{◌≡◌, ◌≢◌, ⊎_elim, ◌<◌, ◌≤◌, ℕ, true, false, ◌++◌, refl, sym}
+use Rattle.std.proofs.Common.{ap, subst, ◌∙◌, arith, append_assoc, ◌⊎◌, inl, inr, ◌^◌}
+use Rattle.std.proofs.Common.{Option, Some, Ok, Err, List, [], ◌∷◌, get_or, slice_set, eqb}
 use Rattle.std.proofs.lemmas.Bool.{cases_lt}
 use Rattle.std.proofs.Math.Logic.{∥∥₁_elim}
 use Rattle.std.proofs.Props.{props}
@@ -51,12 +53,15 @@ module _ (c : Config) (last : ℕ) (old new : History) (later : IsPrefix old new
 
   -- what was given stays so
   given_later : (h : Handle) → (state old).given h ≡ true → (state new).given h ≡ true
-  given_later h e = subst (λ (s : State). s.given h ≡ true) (sym end) (kept_from c last (λ s. s.given h ≡ true) (λ s f i n. given_act c last h s f.thread f.act i) (state old) later.0 e between)
+  given_later h e = subst (λ (s : State). s.given h ≡ true) (sym end) (kept_from c last (λ s. s.given h ≡ true)
+      (λ s f i n. given_act c last h s f.thread f.act i) (state old) later.0 e between)
 
   -- where a handle was given since, its index was occupied
-  given_since : (h : Handle) → (state old).given h ≡ false → (state new).given h ≡ true → Sometime (λ s. IsOccupied last s h.index) old new
+  given_since : (h : Handle) → (state old).given h ≡ false → (state new).given h ≡ true
+      → Sometime (λ s. IsOccupied last s h.index) old new
   given_since h fresh there =
-      let o = occupied_between c last h (state old) later.0 fresh (subst (λ (s : State). s.given h ≡ true) end there) between in
+      let o =
+      occupied_between c last h (state old) later.0 fresh (subst (λ (s : State). s.given h ≡ true) end there) between in
       record {
         moment = old ++ o.0;
         from = (o.0, refl);
@@ -64,8 +69,10 @@ module _ (c : Config) (last : ℕ) (old new : History) (later : IsPrefix old new
         met = subst (λ s. IsOccupied last s h.index) (sym (state_append old o.0)) o.3;
       }
 
--- A CLAIM THAT IS LOST: the slot was seen free with a serial, and does not have that word any more, so its index was occupied since
-claim_lost : (k : Known) (log : History) → IsPrefix k.seen log → IsLegal k.config k.last log → (i serial w : ℕ) → IsFreeSlot i serial k → IsSlotOf k.last (state log).refs (state log).given i w → w ≢ slot_word (slot.Free serial)
+-- A CLAIM THAT IS LOST:
+-- the slot was seen free with a serial, and does not have that word any more, so its index was occupied since
+claim_lost : (k : Known) (log : History) → IsPrefix k.seen log → IsLegal k.config k.last log → (i serial w : ℕ)
+    → IsFreeSlot i serial k → IsSlotOf k.last (state log).refs (state log).given i w → w ≢ slot_word (slot.Free serial)
     → Sometime (λ s. IsOccupied k.last s i) k.seen log
 claim_lost k log later legal i serial w seen x lost = go x.parts refl x.says.stands
   where
@@ -74,7 +81,8 @@ claim_lost k log later legal i serial w seen x lost = go x.parts refl x.says.sta
     passed l =
         let g = x.says.serials.below serial l in
         subst (λ j. Sometime (λ s. IsOccupied k.last s j) k.seen log) g.1
-        (given_since k.config k.last k.seen log later legal g.0 (seen.serials.above g.0 g.1 (let e = g.2 in let f = seen.stands.1 in omega arith)) g.3)
+        (given_since k.config k.last k.seen log later legal g.0
+        (seen.serials.above g.0 g.1 (let e = g.2 in let f = seen.stands.1 in omega arith)) g.3)
 
     occupied : is_occupied x.parts ≡ true → Sometime (λ s. IsOccupied k.last s i) k.seen log
     occupied e = sometime_last later ((probes k.last (state log) i w x).0 e)
@@ -85,11 +93,15 @@ claim_lost k log later legal i serial w seen x lost = go x.parts refl x.says.sta
         let there = given_later k.config k.last k.seen log later legal g.0 g.3 in
         let not = x.says.serials.above g.0 g.1 (let e = g.2 in omega arith) in cc
 
-    go : (p : SlotParts) → x.parts ≡ p → StandsAs k.last (state log).refs i x.says.next p → Sometime (λ s. IsOccupied k.last s i) k.seen log
+    go : (p : SlotParts) → x.parts ≡ p → StandsAs k.last (state log).refs i x.says.next p
+        → Sometime (λ s. IsOccupied k.last s i) k.seen log
     go (slot.Free n) is y = ⊎_elim passed
-        (λ (z : x.says.next ≤ serial). absurd (⊎_elim behind (λ (v : serial ≤ x.says.next). let same : n ≡ serial = let e = y.1 in omega arith in lost (x.word ∙ (ap slot_word is ∙ ap (λ m. slot_word (slot.Free m)) same))) (cases_lt x.says.next serial)))
+        (λ (z : x.says.next ≤ serial).
+        absurd (⊎_elim behind (λ (v : serial ≤ x.says.next). let same : n ≡ serial = let e = y.1 in omega arith in
+        lost (x.word ∙ (ap slot_word is ∙ ap (λ m. slot_word (slot.Free m)) same))) (cases_lt x.says.next serial)))
         (cases_lt serial x.says.next)
-    go (slot.Retired n) is y = passed (let far = y.2 in let same = seen.stands.1 in let fits = seen.stands.2 in omega arith)
+    go (slot.Retired n) is y =
+        passed (let far = y.2 in let same = seen.stands.1 in let fits = seen.stands.2 in omega arith)
     go (slot.Global n o) is y = occupied (ap is_occupied is)
     go (slot.Weak n o) is y = occupied (ap is_occupied is)
 
@@ -103,7 +115,8 @@ still_or_gone Stale s h = inr refl
 still_or_gone (Object o) s h = inl (∥∥₁_elim h (hlevel props) (λ q. ⊎_elim (λ e. e) (λ e. absurd cc) q))
 still_or_gone Cleared s h = inl (∥∥₁_elim h (hlevel props) (λ q. ⊎_elim (λ e. e) (λ e. absurd cc) q))
 
-looked_is : (c : Config) (last : ℕ) (h : Handle) (o : Option ℕ) (s : State) → ∥ IsLooked c last h o s ∥₁ → IsLooked c last h o s
+looked_is : (c : Config) (last : ℕ) (h : Handle) (o : Option ℕ) (s : State)
+    → ∥ IsLooked c last h o s ∥₁ → IsLooked c last h o s
 looked_is c last h o s may = record {
   row = ∥∥₁_elim may (hlevel props) (λ q. q.row);
   can = ∥∥₁_elim may (can_prop h.kind o) (λ q. q.can);
@@ -112,23 +125,29 @@ looked_is c last h o s may = record {
 }
 
 module _ (k : Known) (within : role_of (view k) ≡ Within) where
-  pub sees_slot : (i : ℕ) (name : SlotLoad) → i < k.config.slots → SlotLoadFits i name → Owes k (slot_at i) (λ n. n) (SawSlot i name k)
+  pub sees_slot : (i : ℕ) (name : SlotLoad) → i < k.config.slots → SlotLoadFits i name
+      → Owes k (slot_at i) (λ n. n) (SawSlot i name k)
   sees_slot i name l fits log words held f =
       let n : ℕ = get_or words (slot_at i) 0 in
       let x = f.image.slot i l in
       let acts : List Act = act_of_slot_load i name x.parts ∷ [] in
-      let t = sees k.config k.last log k.thread words f.legal held f.image f.fits.row (role_at k log words held f ∙ within) i name x.parts l fits refl in
-      quiet k log words held f (slice_set words (slot_at i) n) (SawSlot i name k n) acts (unwritten k log words held (slot_at i) t) (
+      let t = sees k.config k.last log k.thread words f.legal held f.image f.fits.row
+      (role_at k log words held f ∙ within) i name x.parts l fits refl in
+      quiet k log words held f (slice_set words (slot_at i) n) (SawSlot i name k n) acts
+      (unwritten k log words held (slot_at i) t) (
         x.parts,
         slot_fits k.config k.last log f.legal (f.sized).serials (few_objects k.config k.last f.sized) i n x,
         x.word,
         refl,
-        shows_slot i n (state log) (known_at k log acts k.holdings) x x.parts refl (sym (slot_load_state log k.thread i name x.parts)),
+        shows_slot i n (state log) (known_at k log acts k.holdings) x x.parts refl
+            (sym (slot_load_state log k.thread i name x.parts)),
         refl,
       )
 
-  pub claims_slot : (i serial : ℕ) (kind : RefKind) (o : ℕ) (p : SlotParts) → i < k.config.slots → serial ≤ k.last → kind ≢ Local → IsReference kind serial (Some o) p → HasObject o k
-      → Owes k (slot_at i) (λ n. either (eqb n (slot_word (slot.Free serial))) (slot_word p) n) (Claimed i serial kind o k)
+  pub claims_slot : (i serial : ℕ) (kind : RefKind) (o : ℕ) (p : SlotParts) → i < k.config.slots → serial ≤ k.last
+      → kind ≢ Local → IsReference kind serial (Some o) p → HasObject o k
+      → Owes k (slot_at i) (λ n. either (eqb n (slot_word (slot.Free serial))) (slot_word p) n) (Claimed i serial kind o
+      k)
   claims_slot i serial kind o p l small global is present log words held f =
       let n : ℕ = get_or words (slot_at i) 0 in
       let free : ℕ = slot_word (slot.Free serial) in
@@ -138,13 +157,18 @@ module _ (k : Known) (within : role_of (view k) ≡ Within) where
       let objects = few_objects k.config k.last f.sized in
       let acts : List Act = act_of_claim i serial kind o (Err x.parts) ∷ [] in
       dite (ℕ_discrete n free)
-      (λ here. quiet k log words held f (slice_set words (slot_at i) (either (eqb n free) (slot_word p) n)) (Claimed i serial kind o k n) (act_of_claim i serial kind o (Ok tt) ∷ [])
-      (written k log words held (slot_at i) (slot_word p) (either (eqb n free) (slot_word p) n) (won free (slot_word p) n here)
-      (claims k.config k.last log k.thread words f.legal held f.image f.fits.row inside few objects i serial kind o p l (omega arith) global is (present_now k log words held f o within present) here))
+      (λ here. quiet k log words held f (slice_set words (slot_at i) (either (eqb n free) (slot_word p) n))
+      (Claimed i serial kind o k n) (act_of_claim i serial kind o (Ok tt) ∷ [])
+      (written k log words held (slot_at i) (slot_word p) (either (eqb n free) (slot_word p) n)
+      (won free (slot_word p) n here)
+      (claims k.config k.last log k.thread words f.legal held f.image f.fits.row inside few objects i serial kind o p l
+      (omega arith) global is (present_now k log words held f o within present) here))
       (λ e. refl, λ ne. absurd (ne here), refl))
-      (λ other. quiet k log words held f (slice_set words (slot_at i) (either (eqb n free) (slot_word p) n)) (Claimed i serial kind o k n) acts
+      (λ other. quiet k log words held f (slice_set words (slot_at i) (either (eqb n free) (slot_word p) n))
+      (Claimed i serial kind o k n) acts
       (written k log words held (slot_at i) n (either (eqb n free) (slot_word p) n) (lost free (slot_word p) n other)
-      (unwritten k log words held (slot_at i) (sees k.config k.last log k.thread words f.legal held f.image f.fits.row inside i loads.Probe x.parts l tt refl))) (
+      (unwritten k log words held (slot_at i) (sees k.config k.last log k.thread words f.legal held f.image f.fits.row
+      inside i loads.Probe x.parts l tt refl))) (
         λ e. absurd (other e),
         λ ne. (
           x.parts,
@@ -152,15 +176,19 @@ module _ (k : Known) (within : role_of (view k) ≡ Within) where
           x.word,
           refl,
           λ seen. (
-            sometime_wider (prefix_self k.seen) (by k.thread (Probe i (is_occupied x.parts)) ∷ [], refl) (claim_lost k log f.fits.begins f.legal i serial n seen x other),
-            shows_slot i n (state log) (known_at k log acts k.holdings) x x.parts refl (sym (slot_load_state log k.thread i loads.Probe x.parts)),
+            sometime_wider (prefix_self k.seen) (by k.thread (Probe i (is_occupied x.parts)) ∷ [], refl)
+                (claim_lost k log f.fits.begins f.legal i serial n seen x other),
+            shows_slot i n (state log) (known_at k log acts k.holdings) x x.parts refl
+                (sym (slot_load_state log k.thread i loads.Probe x.parts)),
           ),
         ),
         refl,
       ))
 
-  pub frees_slot : (h : Handle) (o : Option ℕ) (p : SlotParts) → IsReference h.kind h.serial o p → ∥ HasLooked h (found_of o) k ∥₁
-      → Owes k (slot_at h.index) (λ n. either (eqb n (slot_word p)) (slot_word (parts_once_free k.last h.serial)) n) (Freed h (slot_word p) k)
+  pub frees_slot : (h : Handle) (o : Option ℕ) (p : SlotParts) → IsReference h.kind h.serial o p
+      → ∥ HasLooked h (found_of o) k ∥₁
+      → Owes k (slot_at h.index) (λ n. either (eqb n (slot_word p)) (slot_word (parts_once_free k.last h.serial)) n)
+      (Freed h (slot_word p) k)
   frees_slot h o p is may log words held f =
       let n : ℕ = get_or words (slot_at h.index) 0 in
       let w : ℕ = slot_word p in
@@ -168,15 +196,21 @@ module _ (k : Known) (within : role_of (view k) ≡ Within) where
       let inside = role_at k log words held f ∙ within in
       let few = (f.sized).serials in
       let objects = few_objects k.config k.last f.sized in
-      let looked = looked_is k.config k.last h o (state log) (∥∥₁_map may (λ q. looked_at k.config k.last h o (now k log words held f) f.legal (looked_later k log words held f h (found_of o) q))) in
+      let looked = looked_is k.config k.last h o (state log) (∥∥₁_map may (λ q. looked_at k.config k.last h o
+      (now k log words held f) f.legal (looked_later k log words held f h (found_of o) q))) in
       let serial = looked.row.3 in
-      let fits = reference_fits h.kind h.serial o p is (omega arith) (λ x e. let b = looked.object x e in let c = b.1 in (b.0, omega arith)) in
+      let fits = reference_fits h.kind h.serial o p is (omega arith) (λ x e. let b = looked.object x e in let c = b.1 in
+      (b.0, omega arith)) in
       dite (ℕ_discrete n w)
-      (λ here. quiet k log words held f (slice_set words (slot_at h.index) (either (eqb n w) new n)) (Freed h w k n) (act_of_free h true ∷ [])
+      (λ here. quiet k log words held f (slice_set words (slot_at h.index) (either (eqb n w) new n)) (Freed h w k n)
+      (act_of_free h true ∷ [])
       (written k log words held (slot_at h.index) new (either (eqb n w) new n) (won w new n here)
-      (frees k.config k.last log k.thread words f.legal held f.image f.fits.row inside few objects h o p looked is fits here))
+      (frees k.config k.last log k.thread words f.legal held f.image f.fits.row inside few objects h o p looked is fits
+      here))
       (λ e. refl, λ ne. absurd (ne here), refl))
-      (λ other. quiet k log words held f (slice_set words (slot_at h.index) (either (eqb n w) new n)) (Freed h w k n) (act_of_free h false ∷ [])
+      (λ other. quiet k log words held f (slice_set words (slot_at h.index) (either (eqb n w) new n)) (Freed h w k n)
+      (act_of_free h false ∷ [])
       (written k log words held (slot_at h.index) n (either (eqb n w) new n) (lost w new n other)
-      (unwritten k log words held (slot_at h.index) (frees_late k.config k.last log k.thread words f.legal held f.image f.fits.row inside few objects h o p looked is other)))
+      (unwritten k log words held (slot_at h.index) (frees_late k.config k.last log k.thread words f.legal held f.image
+      f.fits.row inside few objects h o p looked is other)))
       (λ e. absurd (other e), λ ne. refl, refl))

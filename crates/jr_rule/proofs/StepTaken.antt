@@ -1,5 +1,7 @@
--- What a step owes at a place and with words that are named otherwise, and what it told makes of the thread that took it.
-use Rattle.std.proofs.Common.{◌≡◌, ◌<◌, ◌≤◌, ℕ, List, sym, subst, eqb, arith, Bool, false, ◌++◌, map, refl, ap, ◌∙◌, true, [], ◌∷◌}
+-- What a step owes at a place and with words that are named
+-- otherwise, and what it told makes of the thread that took it.
+use Rattle.std.proofs.Common.{◌≡◌, ◌<◌, ◌≤◌, ℕ, List, sym, subst, eqb, arith, Bool}
+use Rattle.std.proofs.Common.{false, ◌++◌, map, refl, ap, ◌∙◌, true, [], ◌∷◌}
 use prog.Atomic.{either}
 use Rattle.jr_word.specs.declared.config.Config.{Config}
 use Rattle.jr_word.specs.Config.{row_words}
@@ -19,7 +21,8 @@ use Rattle.jr_steps.specs.Knowing.{Took, TookWith, Goes, view, anything, fresh_f
 use Rattle.jr_steps.proofs.StepFacts.{goes_did}
 use Rattle.jr_rule.specs.declared.cells.Cells.{Ghosts}
 use Rattle.jr_rule.specs.declared.over.StepsOver.{StepsOver}
-use Rattle.jr_rule.specs.Cells.{Sight, IsAmong, AreItsActs, AreSoundWords, May, IsOwed, HasStepped, InRole, IsStanding, stands_at}
+use Rattle.jr_rule.specs.Cells.{Sight, IsAmong, AreItsActs, AreSoundWords, May}
+use Rattle.jr_rule.specs.Cells.{IsOwed, HasStepped, InRole, IsStanding, stands_at}
 use Rattle.jr_rule.specs.CellLaws.{among_of}
 use Rattle.jr_rule.specs.Over.{facts_over as facts}
 use Rattle.std.specs.List.{AllByRecursion}
@@ -27,13 +30,15 @@ use Rattle.jr_model.specs.declared.event.Act.TheVariants.{LocalPut, LocalDrop}
 use Rattle.jr_model.proofs.Agreement.{spares_places, places_did, all_spared}
 
 -- who is fresh afterwards was so, and has stored no local
-fresh_spares : (f : Bool) (acts : List Act) → fresh_from f acts ≡ true → (f ≡ true) × AllByRecursion (λ a. spares_places a ≡ true) acts
+fresh_spares : (f : Bool) (acts : List Act) → fresh_from f acts ≡ true
+    → (f ≡ true) × AllByRecursion (λ a. spares_places a ≡ true) acts
 fresh_spares f [] e = (e, tt)
 fresh_spares f (LocalPut p o ∷ acts) e = let r = (fresh_spares _ acts e).0 in absurd cc
 fresh_spares f (LocalDrop p ∷ acts) e = let r = (fresh_spares _ acts e).0 in absurd cc
 fresh_spares f (_ ∷ acts) e = let r = fresh_spares f acts e in (r.0, (refl, r.1))
 
-pub no_locals_next : (k k' : Known) (acts : List Act) (f : Bool) → Goes k acts k' → fresh_from f acts ≡ true → (f ≡ true → HasNoLocals k) → HasNoLocals k'
+pub no_locals_next : (k k' : Known) (acts : List Act) (f : Bool) → Goes k acts k' → fresh_from f acts ≡ true
+    → (f ≡ true → HasNoLocals k) → HasNoLocals k'
 no_locals_next k k' acts f g e none p =
     let r = fresh_spares f acts e in
     let d = goes_did g in
@@ -46,7 +51,8 @@ module _ (k : Known) (told : ℕ → List Act → Known → Type 0) {i j : ℕ} 
   pub store_at : {v w : ℕ} → v ≡ w → Owes k i (λ n. v) (λ n. told v) → Owes k j (λ n. w) (λ n. told w)
   store_at e = subst (λ (z : ℕ × ℕ). Owes k z.0 (λ n. z.1) (λ n. told z.1)) (λ x. (at x, e x))
 
-  pub exchange_at : {old old' new new' : ℕ} → old ≡ old' → new ≡ new' → Owes k i (λ n. either (eqb n old) new n) told → Owes k j (λ n. either (eqb n old') new' n) told
+  pub exchange_at : {old old' new new' : ℕ} → old ≡ old' → new ≡ new' → Owes k i (λ n. either (eqb n old) new n) told
+      → Owes k j (λ n. either (eqb n old') new' n) told
   exchange_at a b = subst (λ (z : ℕ × ℕ × ℕ). Owes k z.0 (λ n. either (eqb n z.1) z.2 n) told) (λ x. (at x, a x, b x))
 
 -- a place of the row lies in it
@@ -60,37 +66,55 @@ pub header_in : (c : Config) (o : ℕ) {at : ℕ} → at ≡ header_at c o → 1
 header_in c o is low high = omega arith
 
 -- what is told of the number found says that these acts were done, and shows this
-pub record Reads (z : Sight) (r : Role) (met : Known → Type 0) (told : Known → ℕ → List Act → Known → Type 0) (n : ℕ) (acts : Known → List Act) (shows : Known → Known → Type 0) : Type 0 where
-  pub read : (k k' : Known) (done : List Act) → IsAmong z k → role_of (view k) ≡ r → met k → told k n done k' → (done ≡ acts k) × shows k k'
+pub record Reads (z : Sight) (r : Role) (met : Known → Type 0) (told : Known → ℕ → List Act → Known → Type 0) (n : ℕ)
+    (acts : Known → List Act) (shows : Known → Known → Type 0) : Type 0 where
+  pub read : (k k' : Known) (done : List Act) → IsAmong z k → role_of (view k) ≡ r → met k → told k n done k'
+      → (done ≡ acts k) × shows k k'
 
 -- what may be known of the thread is seen, in its role
-pub may_in : (z : Sight) {role r : Role} {fresh : Bool} → role ≡ r → {met : Known → Type 0} → ∥ ((k : Known) × (z.knows k × IsOf (stands_at z role fresh) k) × met k) ∥₁ → May z (InRole r met)
+pub may_in : (z : Sight) {role r : Role} {fresh : Bool} → role ≡ r → {met : Known → Type 0}
+    → ∥ ((k : Known) × (z.knows k × IsOf (stands_at z role fresh) k) × met k) ∥₁ → May z (InRole r met)
 may_in z {role} {r} {fresh} e may = ∥∥₁_map may (λ k. (k.0, among_of z role fresh k.0 k.1, ((k.1).1.role ∙ e, k.2)))
 
-pub may_any : (z : Sight) {role r : Role} {fresh : Bool} {hint : ℕ} → role ≡ r → IsStanding z role fresh hint → May z (InRole r anything)
+pub may_any : (z : Sight) {role r : Role} {fresh : Bool} {hint : ℕ} → role ≡ r → IsStanding z role fresh hint
+    → May z (InRole r anything)
 may_any z {role} {r} {fresh} e s = ∥∥₁_map s.some (λ k. (k.0, among_of z role fresh k.0 k.1, ((k.1).1.role ∙ e, tt)))
 
 -- a step is owed by what is known of it in the thread's role
-pub owed : {z : Sight} {r : Role} {met : Known → Type 0} {i : ℕ} {f : ℕ → ℕ} {told : Known → ℕ → List Act → Known → Type 0} → i < row_words z.first.config → May z (InRole r met) → ((k : Known) → IsAmong z k → role_of (view k) ≡ r → ∥ met k ∥₁ → Owes k i f (told k))
+pub owed : {z : Sight} {r : Role} {met : Known → Type 0} {i : ℕ} {f : ℕ → ℕ}
+    {told : Known → ℕ → List Act → Known → Type 0} → i < row_words z.first.config → May z (InRole r met)
+    → ((k : Known) → IsAmong z k → role_of (view k) ≡ r → ∥ met k ∥₁ → Owes k i f (told k))
     → IsOwed z (InRole r met) i f told
-owed place may owes = record { place = place; may = may; owes = λ k among m. owes k among (∥∥₁_elim m (hlevel props) (λ q. q.0)) (∥∥₁_map m (λ q. q.1)) }
+owed place may owes = record {
+  place = place;
+  may = may;
+  owes = λ k among m. owes k among (∥∥₁_elim m (hlevel props) (λ q. q.0)) (∥∥₁_map m (λ q. q.1));
+}
 
 -- what is told says that the acts leave the thread in this role, and so fresh
-pub record Leaves (z : Sight) (r : Role) (met : Known → Type 0) (told : Known → ℕ → List Act → Known → Type 0) (n : ℕ) (role role' : Role) (fresh fresh' : Bool) : Type 0 where
-  pub left : (k k' : Known) (done : List Act) → IsAmong z k → role_of (view k) ≡ r → met k → told k n done k' → (role' ≡ role_from role done) × (fresh' ≡ fresh_from fresh done)
+pub record Leaves (z : Sight) (r : Role) (met : Known → Type 0) (told : Known → ℕ → List Act → Known → Type 0) (n : ℕ)
+    (role role' : Role) (fresh fresh' : Bool) : Type 0 where
+  pub left : (k k' : Known) (done : List Act) → IsAmong z k → role_of (view k) ≡ r → met k → told k n done k'
+      → (role' ≡ role_from role done) × (fresh' ≡ fresh_from fresh done)
 
-pub leaves : {z : Sight} {r : Role} {met : Known → Type 0} {told : Known → ℕ → List Act → Known → Type 0} {n : ℕ} {acts : Known → List Act} {shows : Known → Known → Type 0} → Reads z r met told n acts shows → {role role' : Role} {fresh fresh' : Bool}
-    → ((k : Known) → role' ≡ role_from role (acts k)) → ((k : Known) → fresh' ≡ fresh_from fresh (acts k)) → Leaves z r met told n role role' fresh fresh'
+pub leaves : {z : Sight} {r : Role} {met : Known → Type 0} {told : Known → ℕ → List Act → Known → Type 0} {n : ℕ}
+    {acts : Known → List Act} {shows : Known → Known → Type 0} → Reads z r met told n acts shows
+    → {role role' : Role} {fresh fresh' : Bool}
+    → ((k : Known) → role' ≡ role_from role (acts k)) → ((k : Known) → fresh' ≡ fresh_from fresh (acts k))
+    → Leaves z r met told n role role' fresh fresh'
 leaves reads {role} {role'} {fresh} {fresh'} role_is fresh_is = record {
   left = λ k k' done h e m s.
       let a = sym (reads.read k k' done h e m s).0 in
       (role_is k ∙ ap (role_from role) a, fresh_is k ∙ ap (fresh_from fresh) a);
 }
 
-module _ {z z' : Sight} {r : Role} {met : Known → Type 0} {told : Known → ℕ → List Act → Known → Type 0} {n : ℕ} {role role' : Role} {fresh fresh' : Bool}
-    (t : HasStepped z z' (InRole r met) told n) (left : Leaves z r met told n role role' fresh fresh') (is : role ≡ r) where
+module _ {z z' : Sight} {r : Role} {met : Known → Type 0} {told : Known → ℕ → List Act → Known → Type 0} {n : ℕ}
+    {role role' : Role} {fresh fresh' : Bool}
+    (t : HasStepped z z' (InRole r met) told n) (left : Leaves z r met told n role role' fresh fresh')
+    (is : role ≡ r) where
   -- something is known of the new
-  known_next : (k : Known) (h : IsAmong z k) (e : role_of (view k) ≡ r) (m : met k) → z'.knows (t.makes k h (e, m)).new × IsOf (stands_at z' role' fresh') (t.makes k h (e, m)).new
+  known_next : (k : Known) (h : IsAmong z k) (e : role_of (view k) ≡ r) (m : met k)
+      → z'.knows (t.makes k h (e, m)).new × IsOf (stands_at z' role' fresh') (t.makes k h (e, m)).new
   known_next k h e m =
       let u = t.makes k h (e, m) in (
         u.is.is,
@@ -98,58 +122,94 @@ module _ {z z' : Sight} {r : Role} {met : Known → Type 0} {told : Known → �
           config = u.is.config;
           last = u.is.last;
           thread = u.is.thread;
-          role = role_did u.acts (goes_did u.goes) ∙ (ap (λ x. role_from x u.acts) (e ∙ sym is) ∙ sym (left.left k u.new u.acts h e m u.says).0);
-          legal = subst (λ (y : Config × ℕ). IsLegal y.0 y.1 (u.new).seen) (λ i. (sym u.goes.config i, sym u.goes.last i)) u.goes.legal;
+          role = role_did u.acts (goes_did u.goes)
+              ∙ (ap (λ x. role_from x u.acts) (e ∙ sym is) ∙ sym (left.left k u.new u.acts h e m u.says).0);
+          legal = subst (λ (y : Config × ℕ). IsLegal y.0 y.1 (u.new).seen)
+              (λ i. (sym u.goes.config i, sym u.goes.last i)) u.goes.legal;
         },
       )
 
   -- and was made of it by these acts, and shows this
-  pub leads_next : {acts : Known → List Act} {shows : Known → Known → Type 0} → Reads z r met told n acts shows → (k : Known) → z.knows k × IsOf (stands_at z role fresh) k → met k → (k' : Known) × (z'.knows k' × IsOf (stands_at z' role' fresh') k') × Goes k (acts k) k' × shows k k'
+  pub leads_next : {acts : Known → List Act} {shows : Known → Known → Type 0} → Reads z r met told n acts shows
+      → (k : Known) → z.knows k × IsOf (stands_at z role fresh) k → met k
+      → (k' : Known) × (z'.knows k' × IsOf (stands_at z' role' fresh') k') × Goes k (acts k) k' × shows k k'
   leads_next {acts} reads k h m =
       let e = h.1.role ∙ is in
       let s = among_of z role fresh k h in
       let u = t.makes k s (e, m) in
       let read = reads.read k u.new u.acts s e m u.says in
       let g = u.goes in
-      let here : Goes k (acts k) u.new = record { config = g.config; last = g.last; thread = g.thread; between = g.between; seen = g.seen ∙ ap (λ l. (k.seen ++ g.between) ++ map (by k.thread) l) read.0; others = g.others; legal = g.legal; taken = g.taken } in
+      let here : Goes k (acts k) u.new = record {
+        config = g.config;
+        last = g.last;
+        thread = g.thread;
+        between = g.between;
+        seen = g.seen ∙ ap (λ l. (k.seen ++ g.between) ++ map (by k.thread) l) read.0;
+        others = g.others;
+        legal = g.legal;
+        taken = g.taken;
+      } in
       (u.new, known_next k s e m, here, read.1)
 
   -- SO THE THREAD STANDS as it must
-  pub standing_next : AreSoundWords z' → {hint : ℕ} → IsStanding z role fresh hint → May z (InRole r met) → IsStanding z' role' fresh' hint
+  pub standing_next : AreSoundWords z' → {hint : ℕ} → IsStanding z role fresh hint → May z (InRole r met)
+      → IsStanding z' role' fresh' hint
   standing_next sound {hint} s may = record {
     some = ∥∥₁_map may (λ k. ((t.makes k.0 k.1 k.2).new, known_next k.0 k.1 k.2.0 k.2.1));
     unused = λ f k' h' p. ∥∥₁_elim may (hlevel props) (λ k.
         let u = t.makes k.0 k.1 k.2 in
-        let none = no_locals_next k.0 u.new u.acts fresh u.goes (sym (left.left k.0 u.new u.acts k.1 k.2.0 k.2.1 u.says).1 ∙ f) (λ e. s.unused e k.0 k.1) in
+        let none = no_locals_next k.0 u.new u.acts fresh u.goes
+        (sym (left.left k.0 u.new u.acts k.1 k.2.0 k.2.1 u.says).1 ∙ f) (λ e. s.unused e k.0 k.1) in
         sound.locals u.new k' u.is h' none p);
     below = subst (λ (c : Config). hint < c.slots) (ap (λ (x : Standing). x.config) (sym t.first)) s.below;
   }
 
-module _ {C P : Type 0} {G : Ghosts C P} (old new : StepsOver C P G) {r : Role} {met : Known → Type 0} {told : Known → ℕ → List Act → Known → Type 0} {n : ℕ} {shows : Known → Known → Type 0}
-    (t : HasStepped (G.sight old.cells) (G.sight new.cells) (InRole r met) told n) (hint_is : new.hint ≡ old.hint) (is : old.role ≡ r) where
+module _ {C P : Type 0} {G : Ghosts C P} (old new : StepsOver C P G) {r : Role} {met : Known → Type 0}
+    {told : Known → ℕ → List Act → Known → Type 0} {n : ℕ} {shows : Known → Known → Type 0}
+    (t : HasStepped (G.sight old.cells) (G.sight new.cells) (InRole r met) told n) (hint_is : new.hint ≡ old.hint)
+    (is : old.role ≡ r) where
   -- AND THE STEP WAS TAKEN, with acts that may depend on what was known
-  pub took_with : {acts : Known → List Act} {role : Role} {fresh : Bool} → Reads (G.sight old.cells) r met told n acts shows → new.role ≡ role → new.fresh ≡ fresh → ((k : Known) → role ≡ role_from old.role (acts k)) → ((k : Known) → fresh ≡ fresh_from old.fresh (acts k))
+  pub took_with : {acts : Known → List Act} {role : Role} {fresh : Bool}
+      → Reads (G.sight old.cells) r met told n acts shows → new.role ≡ role → new.fresh ≡ fresh
+      → ((k : Known) → role ≡ role_from old.role (acts k)) → ((k : Known) → fresh ≡ fresh_from old.fresh (acts k))
       → TookWith facts old new acts (record (facts old).stands { role = role; fresh = fresh }) met shows
   unfolding leads_next
   took_with {acts} {role} {fresh} reads role_is fresh_is role_next fresh_next =
-      let left : Leaves (G.sight old.cells) r met told n old.role new.role old.fresh new.fresh = leaves reads (λ k. role_is ∙ role_next k) (λ k. fresh_is ∙ fresh_next k) in record {
+      let left : Leaves (G.sight old.cells) r met told n old.role new.role old.fresh new.fresh =
+      leaves reads (λ k. role_is ∙ role_next k) (λ k. fresh_is ∙ fresh_next k) in record {
         stands_is = λ i. record (t.first i) { role = role_is i; fresh = fresh_is i };
         hint_is = hint_is;
         goes = leads_next t left is reads;
       }
 
   -- with acts that are the same whatever was known
-  pub took : (acts : List Act) → Reads (G.sight old.cells) r met told n (λ k. acts) shows → new.role ≡ role_from old.role acts → new.fresh ≡ fresh_from old.fresh acts → Took facts old new acts met shows
+  pub took : (acts : List Act) → Reads (G.sight old.cells) r met told n (λ k. acts) shows
+      → new.role ≡ role_from old.role acts → new.fresh ≡ fresh_from old.fresh acts → Took facts old new acts met shows
   took acts reads role_is fresh_is = took_with reads role_is fresh_is (λ k. refl) (λ k. refl)
 
 -- what may be known does not depend on whether the pass is fresh
-pub standing_spent : {z : Sight} {role : Role} {fresh : Bool} {hint : ℕ} → IsStanding z role fresh hint → IsStanding z role false hint
+pub standing_spent : {z : Sight} {role : Role} {fresh : Bool} {hint : ℕ} → IsStanding z role fresh hint
+    → IsStanding z role false hint
 standing_spent s = record {
-  some = ∥∥₁_map s.some (λ k. (k.0, (k.1.0, record { config = k.1.1.config; last = k.1.1.last; thread = k.1.1.thread; role = k.1.1.role; legal = k.1.1.legal })));
+  some = ∥∥₁_map s.some (λ k. (
+    k.0,
+    (
+      k.1.0,
+      record {
+        config = k.1.1.config;
+        last = k.1.1.last;
+        thread = k.1.1.thread;
+        role = k.1.1.role;
+        legal = k.1.1.legal;
+      },
+    ),
+  ));
   unused = λ f. absurd cc;
   below = s.below;
 }
 
 -- the acts of which an operation tells are those that are read from it
-pub its_acts : {z : Sight} {r : Role} {met : Known → Type 0} {told : Known → ℕ → List Act → Known → Type 0} {n : ℕ} {acts : List Act} {shows : Known → Known → Type 0} → Reads z r met told n (λ k. acts) shows → AreItsActs z (InRole r met) told n acts
+pub its_acts : {z : Sight} {r : Role} {met : Known → Type 0} {told : Known → ℕ → List Act → Known → Type 0} {n : ℕ}
+    {acts : List Act} {shows : Known → Known → Type 0} → Reads z r met told n (λ k. acts) shows
+    → AreItsActs z (InRole r met) told n acts
 its_acts reads k k' done h m t = (reads.read k k' done h m.0 m.1 t).0

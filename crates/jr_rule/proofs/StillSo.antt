@@ -1,5 +1,6 @@
 -- How a step finds the row: what its pass had seen, later.
-use Rattle.std.proofs.Common.{◌≡◌, ◌≢◌, ℕ, Option, List, [], ◌∷◌, ◌++◌, refl, sym, ap, subst, ◌∙◌, inl, inr, ⊎_elim, append_assoc}
+use Rattle.std.proofs.Common.{◌≡◌, ◌≢◌, ℕ, Option, List, [], ◌∷◌, ◌++◌, refl, sym}
+use Rattle.std.proofs.Common.{ap, subst, ◌∙◌, inl, inr, ⊎_elim, append_assoc}
 use Rattle.std.proofs.lemmas.List.{append-nil}
 use Rattle.std.proofs.Math.Logic.{∥∥₁_elim}
 use Rattle.std.proofs.Props.{props}
@@ -26,7 +27,8 @@ use Rattle.jr_steps.proofs.StepFacts.{none_mine, present_stays}
 closed_is : (s : State) → ∥ IsClosed s ∥₁ → IsClosed s
 closed_is s closed o x at kind i v there = dite (ℕ_discrete v 0)
     (λ none. inl none)
-    (λ some. inr (∥∥₁_elim closed (hlevel props) (λ c. ⊎_elim (λ none. absurd (some none)) (λ p. p) (c o x at kind i v there))))
+    (λ some.
+    inr (∥∥₁_elim closed (hlevel props) (λ c. ⊎_elim (λ none. absurd (some none)) (λ p. p) (c o x at kind i v there))))
 
 module _ (k : Known) (log : History) (words : List ℕ) (held : ℕ → Holdings) (f : IsFound k log words held) where
   abbrev t : ℕ
@@ -40,13 +42,21 @@ module _ (k : Known) (log : History) (words : List ℕ) (held : ℕ → Holdings
   between = f.fits.begins.0
 
   quiet : mine between t ≡ []
-  quiet = append_cancel (mine k.seen t) (mine between t) [] (sym (mine_append k.seen between t) ∙ (ap (λ l. mine l t) f.fits.begins.1 ∙ (f.fits.own ∙ sym (append-nil (mine k.seen t)))))
+  quiet = append_cancel (mine k.seen t) (mine between t) [] (sym (mine_append k.seen between t)
+      ∙ (ap (λ l. mine l t) f.fits.begins.1 ∙ (f.fits.own ∙ sym (append-nil (mine k.seen t)))))
 
   pub role_at : (state log).role t ≡ role_of (view k)
   role_at = role_of_state log t ∙ (ap (role_from Outside) f.fits.own ∙ sym (role_of_state k.seen t))
 
   pub did_wait : Did (view k) (view now) []
-  did_wait = record { config = refl; last = refl; thread = refl; legal = f.legal; begins = f.fits.begins; own = f.fits.own ∙ sym (append-nil (mine k.seen t)) }
+  did_wait = record {
+    config = refl;
+    last = refl;
+    thread = refl;
+    legal = f.legal;
+    begins = f.fits.begins;
+    own = f.fits.own ∙ sym (append-nil (mine k.seen t));
+  }
 
   -- while a thread is inside, what was present is
   pub present_now : (o : ℕ) → role_of (view k) ≡ Within → HasObject o k → IsPresent (state log) o
@@ -63,21 +73,29 @@ module _ (k : Known) (log : History) (words : List ℕ) (held : ℕ → Holdings
   looked_later h r q = record {
     before = q.before;
     since = q.since ++ between;
-    is = sym f.fits.begins.1 ∙ (ap (λ l. l ++ between) q.is ∙ append_assoc q.before (by t (Look h r) ∷ q.since) between);
-    stays = subst (AllByRecursion (λ a. a ≢ Gate Leave)) (sym (mine_append q.since between t ∙ (ap (λ l. mine q.since t ++ l) quiet ∙ append-nil (mine q.since t)))) q.stays;
+    is =
+        sym f.fits.begins.1 ∙ (ap (λ l. l ++ between) q.is ∙ append_assoc q.before (by t (Look h r) ∷ q.since) between);
+    stays = subst (AllByRecursion (λ a. a ≢ Gate Leave)) (sym
+        (mine_append q.since between t ∙ (ap (λ l. mine q.since t ++ l) quiet ∙ append-nil (mine q.since t)))) q.stays;
   }
 
   -- while a thread collects, nobody else changes references, locals, objects or used words
   pub tables_now : role_of (view k) ≡ Collecting → HaveSameTables (state k.seen) (state log)
   tables_now collecting =
-      let both = (legal_append k.config k.last k.seen between).0 (subst (IsLegal k.config k.last) (sym f.fits.begins.1) f.legal) in
-      let same = same_along k.config k.last t (state k.seen) between (apart_state k.config k.last k.seen both.0) collecting (none_mine between t quiet) both.1 in
+      let both =
+      (legal_append k.config k.last k.seen between).0 (subst (IsLegal k.config k.last) (sym f.fits.begins.1) f.legal) in
+      let same = same_along k.config k.last t (state k.seen) between (apart_state k.config k.last k.seen both.0)
+      collecting (none_mine between t quiet) both.1 in
       subst (HaveSameTables (state k.seen)) (sym (ap state (sym f.fits.begins.1) ∙ state_append k.seen between)) same
 
   -- while a thread collects, no array names an absent object that did not before
   pub closed_now : role_of (view k) ≡ Collecting → ∥ IsClosedNow k ∥₁ → IsClosed (state log)
   closed_now collecting closed =
-      let both = (legal_append k.config k.last k.seen between).0 (subst (IsLegal k.config k.last) (sym f.fits.begins.1) f.legal) in
-      let same = same_along k.config k.last t (state k.seen) between (apart_state k.config k.last k.seen both.0) collecting (none_mine between t quiet) both.1 in
-      let end : (state log).objects ≡ (state k.seen).objects = ap (λ es. (state es).objects) (sym f.fits.begins.1) ∙ (ap (λ (s : State). s.objects) (state_append k.seen between) ∙ same.objects) in
-      subst (λ (x : ℕ → Option Contents). IsClosed (record (state log) { objects = x })) (sym end) (closed_is (state k.seen) closed)
+      let both =
+      (legal_append k.config k.last k.seen between).0 (subst (IsLegal k.config k.last) (sym f.fits.begins.1) f.legal) in
+      let same = same_along k.config k.last t (state k.seen) between (apart_state k.config k.last k.seen both.0)
+      collecting (none_mine between t quiet) both.1 in
+      let end : (state log).objects ≡ (state k.seen).objects = ap (λ es. (state es).objects) (sym f.fits.begins.1)
+      ∙ (ap (λ (s : State). s.objects) (state_append k.seen between) ∙ same.objects) in
+      subst (λ (x : ℕ → Option Contents). IsClosed (record (state log) { objects = x })) (sym end)
+      (closed_is (state k.seen) closed)

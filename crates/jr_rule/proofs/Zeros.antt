@@ -1,5 +1,6 @@
 -- A row of zeros is the image of the opening.
-use Rattle.std.proofs.Common.{◌≡◌, ◌+◌, ℕ, zero, suc, None, List, [], length, replicate, get_or, refl, sym, ap, ◌∙◌, arith}
+use Rattle.std.proofs.Common.{◌≡◌, ◌+◌, ℕ, zero, suc, None, List, [], length}
+use Rattle.std.proofs.Common.{replicate, get_or, refl, sym, ap, ◌∙◌, arith}
 use Rattle.std.proofs.lemmas.List.{length-replicate}
 use Rattle.jr_word.specs.declared.config.Config.{Config}
 use Rattle.jr_word.specs.declared.slot.SlotParts.TheVariants as slot
@@ -68,6 +69,7 @@ module _ (config : Config) (last : ℕ) (words : List ℕ) (none : (j : ℕ) →
   depicts_unseen wide = record {
     legal = tt;
     did_all = tt;
-    image = image_same config last words opening (λ t. empty) (opening_image wide) (alone empty) (hold_same (λ t. empty) 0 empty refl);
+    image = image_same config last words opening (λ t. empty) (opening_image wide) (alone empty)
+        (hold_same (λ t. empty) 0 empty refl);
     space = holdings_in_space config last [] words (λ t. empty) tt (opening_image wide) 0 empty refl;
   }

@@ -23,17 +23,20 @@ module _ (z : Sight) (role : Role) (fresh : Bool) where
   pub among_of : (k : Known) → z.knows k × IsOf (stands_at z role fresh) k → IsAmong z k
   among_of k h = record { is = h.0; config = h.1.config; last = h.1.last; thread = h.1.thread }
 
-  pub some_of : (hint : ℕ) → IsStanding z role fresh hint → ∥ ((k : Known) × (facts_at z role fresh hint).knows k × anything k) ∥₁
+  pub some_of : (hint : ℕ) → IsStanding z role fresh hint
+      → ∥ ((k : Known) × (facts_at z role fresh hint).knows k × anything k) ∥₁
   some_of hint s = ∥∥₁_map s.some (λ k. (k.0, k.1, tt))
 
 -- where words are is one fact
-pub seat_one : {row id : TableId} {c : Config} {last : ℕ} {m : SeatState} {thread : ℕ} → IsProp (IsSeatOf row c last id m thread)
+pub seat_one : {row id : TableId} {c : Config} {last : ℕ} {m : SeatState} {thread : ℕ}
+    → IsProp (IsSeatOf row c last id m thread)
 seat_one = hlevel props
 
 pub unit_one : IsProp (Unit {0})
 unit_one = hlevel props
 
-pub seat_sound : {row id : TableId} {c : Config} {last : ℕ} {m : SeatState} {thread : ℕ} → IsSeatOf row c last id m thread → AreSoundWords (sight_of_seat id m)
+pub seat_sound : {row id : TableId} {c : Config} {last : ℕ} {m : SeatState} {thread : ℕ}
+    → IsSeatOf row c last id m thread → AreSoundWords (sight_of_seat id m)
 seat_sound s = record {
   sized = s.sized;
   row = s.below;
@@ -43,7 +46,8 @@ seat_sound s = record {
 }
 
 -- plain words have one thing to say of the thread's locals
-one_locals : (c : Config) (last : ℕ) (words : List ℕ) (k k' : Known) → IsAmong (sight_of_words c last words) k → IsAmong (sight_of_words c last words) k' → HasNoLocals k → HasNoLocals k'
+one_locals : (c : Config) (last : ℕ) (words : List ℕ) (k k' : Known) → IsAmong (sight_of_words c last words) k
+    → IsAmong (sight_of_words c last words) k' → HasNoLocals k → HasNoLocals k'
 one_locals c last words k k' h h' none p = go ((state_of k').locals k'.thread p) refl
   where
     same : ◌≡◌ {A = Config × ℕ} (k'.config, k'.thread) (k.config, k.thread)
@@ -58,10 +62,13 @@ one_locals c last words k k' h h' none p = go ((state_of k').locals k'.thread p)
         let word = h'.is.image.local k'.thread p place.0 place.1 in
         let here = subst (λ (z : Config × ℕ). (z.1 < (z.0).threads) × (p < (z.0).locals)) same (place.0, place.1) in
         let zero = h.is.image.local k.thread p here.0 here.1 in
-        let is : ◌≡◌ {A = ℕ} 0 o = ap (λ x. local_word (local_parts x)) (sym (none p)) ∙ (sym zero ∙ (ap (λ (z : Config × ℕ). slice_index words (local_at z.0 z.1 p)) (sym same) ∙ (word ∙ ap (λ x. local_word (local_parts x)) e))) in
+        let is : ◌≡◌ {A = ℕ} 0 o = ap (λ x. local_word (local_parts x)) (sym (none p))
+        ∙ (sym zero ∙ (ap (λ (z : Config × ℕ). slice_index words (local_at z.0 z.1 p)) (sym same)
+        ∙ (word ∙ ap (λ x. local_word (local_parts x)) e))) in
         absurd (omega arith)
 
-pub words_sound : (c : Config) (last : ℕ) (words : List ℕ) → in_limits c ≡ true → IsLimited c → last < 2 ^ 32 → AreSoundWords (sight_of_words c last words)
+pub words_sound : (c : Config) (last : ℕ) (words : List ℕ) → in_limits c ≡ true → IsLimited c → last < 2 ^ 32
+    → AreSoundWords (sight_of_words c last words)
 words_sound c last words limits limited few = record {
   sized = record { limits = limits; limited = limited; serials = few };
   row = limited.threads.0;

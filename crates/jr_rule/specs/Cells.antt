@@ -1,5 +1,6 @@
--- WORDS THAT ONE THREAD STEPS ON, whoever keeps them: what is known of them, what a kind of step owes there, and what it tells.
-use Rattle.std.specs.Prelude.{◌≡◌, ◌<◌, ℕ, Bool, true, None, List, []}
+-- WORDS THAT ONE THREAD STEPS ON, whoever keeps them:
+-- what is known of them, what a kind of step owes there, and what it tells.
+use Rattle.std.specs.Prelude.{◌≡◌, ◌<◌, ℕ, Bool, true, None, List}
 use Rattle.jr_word.specs.Config.{row_words}
 use Rattle.jr_model.specs.declared.event.Act.{Act}
 use Rattle.jr_model.specs.declared.event.Role.{Role}
@@ -9,7 +10,8 @@ use Rattle.jr_steps.specs.Holdings.{InSpace}
 use Rattle.jr_steps.specs.Knowing.{Facts, Standing, IsOf, DidAll, Goes, HasNoLocals, view}
 use Rattle.jr_rule.specs.Rule.{IsSized, Owes}
 
--- WHAT IS KNOWN OF THE WORDS: how the thread that steps on them stood at first, outside and fresh, in their room (none where no other thread steps on them); and what it may know
+-- WHAT IS KNOWN OF THE WORDS: how the thread that steps on them stood at first, outside and
+-- fresh, in their room (none where no other thread steps on them); and what it may know
 pub record Sight : Type 1 where
   pub first : Standing
   pub knows : Known → Type 0
@@ -21,7 +23,9 @@ pub record IsAmong (z : Sight) (k : Known) : Type 0 where
   pub last : k.last ≡ z.first.last
   pub thread : k.thread ≡ z.first.thread
 
--- what always holds of the words: their sizes fit, the thread is one of the room's, what it holds lies in the space, whatever it may know agrees on whether it has a local reference, and where the words are of no room it did all of that itself
+-- what always holds of the words: their sizes fit, the thread is one of the room's,
+-- what it holds lies in the space, whatever it may know agrees on whether it has a
+-- local reference, and where the words are of no room it did all of that itself
 pub record AreSoundWords (z : Sight) : Type 0 where
   pub sized : IsSized z.first.config z.first.last
   pub row : z.first.thread < z.first.config.threads
@@ -38,12 +42,14 @@ abbrev pub OwesThere : Sight → (Known → Type 0) → ℕ → (ℕ → ℕ) �
 OwesThere z met i f told = (k : Known) → IsAmong z k → ∥ met k ∥₁ → Owes k i f (told k)
 
 -- A STEP IS OWED at a word of the row: something that may be known meets the condition, and whatever does owes it
-pub record IsOwed (z : Sight) (met : Known → Type 0) (i : ℕ) (f : ℕ → ℕ) (told : Known → ℕ → List Act → Known → Type 0) : Type 0 where
+pub record IsOwed (z : Sight) (met : Known → Type 0) (i : ℕ) (f : ℕ → ℕ)
+    (told : Known → ℕ → List Act → Known → Type 0) : Type 0 where
   pub place : i < row_words z.first.config
   pub may : May z met
   pub owes : OwesThere z met i f told
 
--- WHAT A STEP TELLS of what was known: it has made something known of it, by these acts, none or one, and this holds of the number that it found
+-- WHAT A STEP TELLS of what was known:
+-- it has made something known of it, by these acts, none or one, and this holds of the number that it found
 pub record StepsTo (z z' : Sight) (told : Known → ℕ → List Act → Known → Type 0) (n : ℕ) (k : Known) : Type 0 where
   pub new : Known
   pub acts : List Act
@@ -51,7 +57,8 @@ pub record StepsTo (z z' : Sight) (told : Known → ℕ → List Act → Known �
   pub goes : Goes k acts new
   pub says : told k n acts new
 
-pub record HasStepped (z z' : Sight) (met : Known → Type 0) (told : Known → ℕ → List Act → Known → Type 0) (n : ℕ) : Type 0 where
+pub record HasStepped (z z' : Sight) (met : Known → Type 0) (told : Known → ℕ → List Act → Known → Type 0)
+    (n : ℕ) : Type 0 where
   pub first : z'.first ≡ z.first
   pub makes : (k : Known) → IsAmong z k → met k → StepsTo z z' told n k
 
@@ -60,7 +67,8 @@ abbrev pub AreItsActs : Sight → (Known → Type 0) → (Known → ℕ → List
 AreItsActs z met told n acts = (k k' : Known) (done : List Act) → IsAmong z k → met k → told k n done k' → done ≡ acts
 
 -- THE STEP WENT by the acts of which it tells
-abbrev pub WentBy : (List Act → Type 0) → Sight → (Known → Type 0) → (Known → ℕ → List Act → Known → Type 0) → ℕ → Type 0
+abbrev pub WentBy : (List Act → Type 0) → Sight → (Known → Type 0) → (Known → ℕ → List Act → Known → Type 0) → ℕ
+    → Type 0
 WentBy goes z met told n = (acts : List Act) → AreItsActs z met told n acts → goes acts
 
 -- the condition, of a thread in this role
@@ -72,9 +80,11 @@ abbrev pub stands_at : Sight → Role → Bool → Standing
 stands_at z role fresh = record (z.first) { role = role; fresh = fresh }
 
 abbrev pub facts_at : Sight → Role → Bool → ℕ → Facts
-facts_at z role fresh hint = record { stands = stands_at z role fresh; knows = λ k. z.knows k × IsOf (stands_at z role fresh) k; hint = hint }
+facts_at z role fresh hint =
+    record { stands = stands_at z role fresh; knows = λ k. z.knows k × IsOf (stands_at z role fresh) k; hint = hint }
 
--- what always holds of it: it knows something, has no local reference while it is fresh, and its hint is one of the room's slots
+-- what always holds of it:
+-- it knows something, has no local reference while it is fresh, and its hint is one of the room's slots
 pub record IsStanding (z : Sight) (role : Role) (fresh : Bool) (hint : ℕ) : Type 0 where
   pub some : ∥ ((k : Known) × (facts_at z role fresh hint).knows k) ∥₁
   pub unused : fresh ≡ true → (k : Known) → IsAmong z k → HasNoLocals k

@@ -1,4 +1,5 @@
--- What steps of a site's room say of notes, whatever their words: that they are as they were, and what their thread has seen.
+-- What steps of a site's room say of notes, whatever their words:
+-- that they are as they were, and what their thread has seen.
 use Rattle.std.specs.Prelude.{◌≡◌, ◌↔◌}
 use mathlib.Core.List.{IsPrefix}
 use Rattle.jr_model.specs.History.{History}
@@ -6,7 +7,8 @@ use Rattle.jr_steps.specs.declared.known.Known.{Known}
 use Rattle.jr_steps.specs.Knowing.{Facts}
 
 module _ {S : Type 0} (facts : S → Facts) where
-  -- NOTHING CHANGED: the thread stands as it did, may know what it might, and begins its next search where it would have
+  -- NOTHING CHANGED:
+  -- the thread stands as it did, may know what it might, and begins its next search where it would have
   pub record IsUnchanged (old new : S) : Type 0 where
     pub stands_is : (facts new).stands ≡ (facts old).stands
     pub hint_is : (facts new).hint ≡ (facts old).hint

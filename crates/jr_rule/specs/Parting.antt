@@ -11,8 +11,10 @@ use Rattle.jr_rule.specs.Rule.{crowd_of, first_alone, view_of, HasCounted, SeatS
 abbrev pub no_seat : SeatState
 no_seat = (view_of [], [])
 
--- the first pass looked, with somebody inside, and sits alone again; those at the rest are as they were, and the others stand as they did
-pub record HaveParted (first rest : Seat (Unit {0}) View) (others : List Pass) (len capacity : ℕ) (p : Parted) : Type 0 where
+-- the first pass looked, with somebody inside, and sits alone again;
+-- those at the rest are as they were, and the others stand as they did
+pub record HaveParted (first rest : Seat (Unit {0}) View) (others : List Pass) (len capacity : ℕ)
+    (p : Parted) : Type 0 where
   pub room : p.first.table_id ≡ first.table_id
   pub together : SeatState
   pub counts : HasCounted (crowd_of first.me (map known_of others) rest.me) together p.inside

@@ -77,7 +77,8 @@ pub record IsSame (old new : Pass) : Type 0 where
   pub fresh : new.fresh ≡ old.fresh
   pub hint : new.hint ≡ old.hint
 
--- HOW A PASS STANDS: its room, what it knows, its thread and role, whether it is fresh, and where its next search begins
+-- HOW A PASS STANDS:
+-- its room, what it knows, its thread and role, whether it is fresh, and where its next search begins
 pub record PassStands : Type 0 where
   pub room : TableId
   pub knows : Known
@@ -87,9 +88,17 @@ pub record PassStands : Type 0 where
   pub hint : ℕ
 
 abbrev pub stands_of : Pass → PassStands
-stands_of p = record { room = p.seat.table_id; knows = known_of p; thread = p.thread; role = p.role; fresh = p.fresh; hint = p.hint }
+stands_of p = record {
+  room = p.seat.table_id;
+  knows = known_of p;
+  thread = p.thread;
+  role = p.role;
+  fresh = p.fresh;
+  hint = p.hint;
+}
 
--- AT THE END the summary is that of one legal history, which keeps the laws, begins with all that the pass has seen and has no more of its events
+-- AT THE END the summary is that of one legal history, which keeps the laws,
+-- begins with all that the pass has seen and has no more of its events
 pub record SumsUp (k : Known) (s : Summary) : Type 0 where
   pub whole : History
   pub legal : IsLegal k.config k.last whole
@@ -123,7 +132,9 @@ HasEachPass c ks = (t : ℕ) → t < c.threads → HasPass ks t
 abbrev pub HasNoOthers : History → List Known → Type 0
 HasNoOthers es ks = AllByRecursion (λ e. HasPass ks e.thread) es
 
--- AT THE END OF ALL PASSES the summary is that of one legal history, which keeps the laws, begins with all that each of them has seen and has no more of their events; and where each thread of the room has its pass among them, it has no others
+-- AT THE END OF ALL PASSES the summary is that of one legal history, which keeps the
+-- laws, begins with all that each of them has seen and has no more of their events;
+-- and where each thread of the room has its pass among them, it has no others
 pub record EndsAll (k : Known) (ks : List Known) (s : Summary) : Type 0 where
   pub whole : History
   pub legal : IsLegal k.config k.last whole
@@ -133,14 +144,17 @@ pub record EndsAll (k : Known) (ks : List Known) (s : Summary) : Type 0 where
   pub alone : HasEachPass k.config (k ∷ ks) → HasNoOthers whole (k ∷ ks)
   pub is : s ≡ summary k.config k.last (state whole)
 
--- A ROOM IS CLOSED WITH ALL THESE PASSES: the first found nobody inside, knocking, announcing or collecting, and then they end together
+-- A ROOM IS CLOSED WITH ALL THESE PASSES:
+-- the first found nobody inside, knocking, announcing or collecting, and then they end together
 pub record ClosesAll (k : Known) (ks : List Known) (s : Summary) : Type 0 where
   pub met : Known
   pub goes : Goes k (Meet ∷ []) met
   pub nobody : not_outside k.config (state_of met) ≡ 0
   pub ends : EndsAll met ks s
 
--- ALL THESE PASSES SAW ONE HISTORY: the first looked at the gate, and there is a legal history that keeps the laws, begins with all that each of them has seen and has no more of their events; and where each thread of the room has its pass among them, it has no others
+-- ALL THESE PASSES SAW ONE HISTORY: the first looked at the gate, and there is a legal
+-- history that keeps the laws, begins with all that each of them has seen and has no more of
+-- their events; and where each thread of the room has its pass among them, it has no others
 pub record SawOneHistory (k : Known) (ks : List Known) : Type 0 where
   pub met : Known
   pub goes : Goes k (Meet ∷ []) met
@@ -155,6 +169,7 @@ abbrev pub IsSeenOf : Known → ℕ → List Known → Type 0
 IsSeenOf k t [] = ⊥
 IsSeenOf k t (p ∷ ps) = ((p.thread ≡ t) × IsPrefix p.seen k.seen) ⊎ IsSeenOf k t ps
 
--- ALL WERE MET: each thread of the room is the pass's own, or one of these passes is its, and all that it has seen is seen
+-- ALL WERE MET:
+-- each thread of the room is the pass's own, or one of these passes is its, and all that it has seen is seen
 abbrev pub HasSeenAll : Known → List Known → Type 0
 HasSeenAll k others = (t : ℕ) → t < k.config.threads → (t ≡ k.thread) ⊎ IsSeenOf k t others

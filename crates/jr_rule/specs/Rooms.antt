@@ -19,7 +19,8 @@ use Rattle.jr_steps.specs.Knowing.{anything, keeps, state_of, Goes, Took}
 use Rattle.jr_rule.specs.declared.cells.Cells.{Ghosts}
 use Rattle.jr_rule.specs.declared.over.StepsOver.{StepsOver}
 use Rattle.jr_rule.specs.declared.row.RoomCells.{RoomCells}
-use Rattle.jr_rule.specs.Passes.{Holder, facts_of, holder_of, known_of, stands_of, HasEachPass, IsAt, IsSeenIn, AreOpened}
+use Rattle.jr_rule.specs.Passes.{Holder, facts_of, holder_of, known_of, stands_of}
+use Rattle.jr_rule.specs.Passes.{HasEachPass, IsAt, IsSeenIn, AreOpened}
 use Rattle.jr_rule.specs.Rule.{noted_pass, stepping_pass}
 
 -- THE PASS IS ONE OF THE ROOM'S OWN
@@ -31,10 +32,12 @@ abbrev pub holder_over : {P : Type 0} {G : Ghosts RoomCells P} → StepsOver Roo
 holder_over s = record { seat = s.cells.seat; thread = s.cells.thread; role = s.role; fresh = s.fresh; hint = s.hint }
 
 -- BOTH STEP IN ONE ROOM, by their standing
-abbrev pub AreInOneRoom : {P Q : Type 0} {G : Ghosts RoomCells P} {H : Ghosts RoomCells Q} → StepsOver RoomCells P G → StepsOver RoomCells Q H → Type 0
+abbrev pub AreInOneRoom : {P Q : Type 0} {G : Ghosts RoomCells P} {H : Ghosts RoomCells Q} → StepsOver RoomCells P G
+    → StepsOver RoomCells Q H → Type 0
 AreInOneRoom s t = (facts_of (holder_over s)).stands.room ≡ (facts_of (holder_over t)).stands.room
 
--- THE STEPS ARE AS THEY WERE: in the same room, of the same thread, which stands as it did, knows what it knew, and begins its next search where it would have
+-- THE STEPS ARE AS THEY WERE: in the same room, of the same thread, which stands
+-- as it did, knows what it knew, and begins its next search where it would have
 pub record AreAsBefore {P : Type 0} {G : Ghosts RoomCells P} (old new : StepsOver RoomCells P G) : Type 0 where
   pub place : new.place ≡ old.place
   pub room : new.cells.seat.table_id ≡ old.cells.seat.table_id
@@ -85,7 +88,8 @@ LearnedPinned p s = IsPrefix (seen_by_pinned p) (stepping_pass s.cells.seat.me).
 abbrev pub IsOpening : (LAST : ℕ) → Config → Room LAST → List Pass → Type 0
 IsOpening LAST c r passes = AreOpened c LAST r.row passes
 
--- A ROOM IS NOT CLOSED: the pass found so many threads inside, knocking, announcing or collecting, and has the room back, and itself with this look
+-- A ROOM IS NOT CLOSED: the pass found so many threads inside, knocking,
+-- announcing or collecting, and has the room back, and itself with this look
 pub record IsLeft {LAST : ℕ} (r : Room LAST) (p : Pass) (l : Left LAST) : Type 0 where
   pub count : ℕ
   pub fault : l.fault ≡ LeftInside count
@@ -95,15 +99,19 @@ pub record IsLeft {LAST : ℕ} (r : Room LAST) (p : Pass) (l : Left LAST) : Type
   pub of_room : IsAt r.row l.pass
   pub took : Took facts_of (holder_of p) (holder_of l.pass) (Meet ∷ []) anything keeps
 
--- A ROOM IS NOT CLOSED WITH ALL THESE PASSES, of which the first looked at the gate: the others stand as they did and are of the room; what the look saw begins with all that each of them has seen, and has no more of their events; and where each thread of the room has its pass among all these, some pass is not outside
+-- A ROOM IS NOT CLOSED WITH ALL THESE PASSES, of which the first looked at the gate: the others stand as they
+-- did and are of the room; what the look saw begins with all that each of them has seen, and has no more of
+-- their events; and where each thread of the room has its pass among all these, some pass is not outside
 pub record AreLeft {LAST : ℕ} (r : Room LAST) (p : Pass) (others : List Pass) (l : AllLeft LAST) : Type 0 where
   pub left : IsLeft r p l.left
   pub same_others : map stands_of l.others.items ≡ map stands_of others
   pub of_room : All (λ q. IsAt r.row q) l.others.items
   pub seen : AllByRecursion (IsSeenIn (known_of l.left.pass).seen) (map known_of others)
-  pub somebody : HasEachPass r.row.config (map known_of (p ∷ others)) → ¬ (AllByRecursion (λ q. q.role ≡ Outside) (p ∷ others))
+  pub somebody : HasEachPass r.row.config (map known_of (p ∷ others))
+      → ¬ (AllByRecursion (λ q. q.role ≡ Outside) (p ∷ others))
 
--- THE PASS LOOKED AT THE GATE: it knows what it had, what others did since, and its look, and that so many threads are inside, knocking, announcing or collecting
+-- THE PASS LOOKED AT THE GATE: it knows what it had, what others did since, and its
+-- look, and that so many threads are inside, knocking, announcing or collecting
 pub record CountsInside (k k' : Known) (count : ℕ) : Type 0 where
   pub goes : Goes k (Meet ∷ []) k'
   pub is : count ≡ not_outside k'.config (state_of k')

@@ -1,5 +1,7 @@
--- THE RULE OF THE ROW: its words are the image of the machine's state after one legal history, the longest that any pass has seen, and each pass has seen a beginning of it, with all its own events.
-use Rattle.std.specs.Prelude.{◌≡◌, ◌+◌, ◌<◌, ◌^◌, ◌==◌, ℕ, zero, suc, Bool, true, cond, List, [], ◌∷◌, ◌++◌, map, slice_index, slice_set}
+-- THE RULE OF THE ROW: its words are the image of the machine's state after one legal history, the
+-- longest that any pass has seen, and each pass has seen a beginning of it, with all its own events.
+use Rattle.std.specs.Prelude.{◌≡◌, ◌+◌, ◌<◌, ◌^◌, ◌==◌, ℕ, zero, suc, Bool, true}
+use Rattle.std.specs.Prelude.{cond, List, [], ◌∷◌, ◌++◌, map, slice_index, slice_set}
 use mathlib.Core.List.{IsPrefix}
 use mathlib.Core.Option.{some}
 use lib.ListN.{get_elem?}
@@ -25,7 +27,8 @@ abbrev pub sizes : Config → ℕ → Sizes
 sizes c last = record { config = c; last = last }
 
 abbrev pub known : Config → ℕ → ℕ → History → Holdings → ℕ → Known
-known c last t seen holdings taken = record { config = c; last = last; thread = t; seen = seen; holdings = holdings; taken = taken }
+known c last t seen holdings taken =
+    record { config = c; last = last; thread = t; seen = seen; holdings = holdings; taken = taken }
 
 -- what a seat stands for that has these passes, and these notes
 abbrev pub view_with : List Known → List Known → View
@@ -118,7 +121,8 @@ IsAlone m = m ≡ (view_of (stepping_pass m ∷ []), [])
 abbrev pub IsSeated : SeatState → Type 0
 IsSeated m = m ≡ (view_of (stepping_pass m ∷ others_of m.0.passes), [])
 
--- WHAT A PASS HOLDS beside its seat: it sits alone, its thread, role and freshness are those of what it knows, and its hint is one of its room's slots
+-- WHAT A PASS HOLDS beside its seat:
+-- it sits alone, its thread, role and freshness are those of what it knows, and its hint is one of its room's slots
 pub record IsHeld (m : SeatState) (thread : ℕ) (role : Role) (fresh : Bool) (hint : ℕ) : Type 0 where
   pub alone : IsAlone m
   pub thread_is : (stepping_pass m).thread ≡ thread
@@ -131,7 +135,8 @@ pub record IsHeld (m : SeatState) (thread : ℕ) (role : Role) (fresh : Bool) (h
   pub space : InSpace (stepping_pass m).config (stepping_pass m).holdings
   pub below : hint < (stepping_pass m).config.slots
 
--- WHAT A STEP TELLS: its pass has then seen what it had, what others did since, and last the step's acts, none or one; and this holds of the number that it found
+-- WHAT A STEP TELLS: its pass has then seen what it had, what others did since, and last the step's acts, none or one;
+-- and this holds of the number that it found
 pub record Tells (told : Known → ℕ → List Act → Known → Type 0) (m : SeatState) (n : ℕ) (m' : SeatState) : Type 0 where
   pub acts : List Act
   pub new : Known
@@ -150,9 +155,11 @@ LookedBy acts k n done k' = (done ≡ acts) × keeps k k'
 abbrev pub LooksBy : List Act → SeatState → SeatState → Type 0
 LooksBy acts m m' = (n : ℕ) × Tells (LookedBy acts) m n m'
 
--- a pass has looked at the gate beside others with which it closes its room, and holds what it held: it found the word of a gate that says this
+-- a pass has looked at the gate beside others with which it closes its room, and holds what it held:
+-- it found the word of a gate that says this
 abbrev pub CountedBy : Known → ℕ → List Act → Known → Type 0
-CountedBy k n acts k' = (p : GateParts) × IsGate p × (n ≡ gate_word p) × (acts ≡ Meet ∷ []) × ShowsGate p k' × keeps k k'
+CountedBy k n acts k' =
+    (p : GateParts) × IsGate p × (n ≡ gate_word p) × (acts ≡ Meet ∷ []) × ShowsGate p k' × keeps k k'
 
 -- PASSES AT ONE SEAT COUNTED the threads inside, knocking, announcing or collecting, by one look at the gate
 pub record HasCounted (m m' : SeatState) (count : ℕ) : Type 0 where
@@ -194,7 +201,8 @@ together v w = view_with (v.passes ++ w.passes) (v.notes ++ w.notes)
 abbrev pub spent : View
 spent = view_of []
 
--- WHAT A KIND OF STEP OWES, which turns the word i into f of what it finds: whatever the history and the words are, its acts are steps of the machine, the words are then the image, and what it tells is so
+-- WHAT A KIND OF STEP OWES, which turns the word i into f of what it finds: whatever the history and the
+-- words are, its acts are steps of the machine, the words are then the image, and what it tells is so
 pub record IsFound (k : Known) (log : History) (words : List ℕ) (held : ℕ → Holdings) : Type 0 where
   pub fits : Fits k.config k.last log held k
   pub legal : IsLegal k.config k.last log
@@ -205,7 +213,8 @@ pub record IsFound (k : Known) (log : History) (words : List ℕ) (held : ℕ �
 abbrev pub known_at : Known → History → List Act → Holdings → Known
 known_at k log acts holdings = known k.config k.last k.thread (log ++ map (by k.thread) acts) holdings (k.taken + 1)
 
-pub record Makes (k : Known) (log : History) (words : List ℕ) (held : ℕ → Holdings) (told : List Act → Known → Type 0) : Type 0 where
+pub record Makes (k : Known) (log : History) (words : List ℕ) (held : ℕ → Holdings)
+    (told : List Act → Known → Type 0) : Type 0 where
   pub acts : List Act
   pub holdings : Holdings
   pub legal : IsLegal k.config k.last (log ++ map (by k.thread) acts)
@@ -213,4 +222,5 @@ pub record Makes (k : Known) (log : History) (words : List ℕ) (held : ℕ → 
   pub says : told acts (known_at k log acts holdings)
 
 abbrev pub Owes : Known → ℕ → (ℕ → ℕ) → (ℕ → List Act → Known → Type 0) → Type 0
-Owes k i f told = (log : History) (words : List ℕ) (held : ℕ → Holdings) → IsFound k log words held → Makes k log (slice_set words i (f (slice_index words i))) held (told (slice_index words i))
+Owes k i f told = (log : History) (words : List ℕ) (held : ℕ → Holdings) → IsFound k log words held
+    → Makes k log (slice_set words i (f (slice_index words i))) held (told (slice_index words i))

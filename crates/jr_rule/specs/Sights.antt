@@ -15,7 +15,17 @@ use Rattle.jr_rule.specs.Rule.{SeatState, IsAlone, IsSized, stepping_pass}
 
 -- A SEAT knows one history: its own
 abbrev pub sight_of_seat : TableId → SeatState → Sight
-sight_of_seat id m = record { first = record { room = Some id; config = (stepping_pass m).config; last = (stepping_pass m).last; thread = (stepping_pass m).thread; role = Outside; fresh = true }; knows = λ k. k ≡ stepping_pass m }
+sight_of_seat id m = record {
+  first = record {
+    room = Some id;
+    config = (stepping_pass m).config;
+    last = (stepping_pass m).last;
+    thread = (stepping_pass m).thread;
+    role = Outside;
+    fresh = true;
+  };
+  knows = λ k. k ≡ stepping_pass m;
+}
 
 -- it is one of the row's own, of these sizes and this last serial, and sits alone
 pub record IsSeatOf (row : TableId) (c : Config) (serial : ℕ) (id : TableId) (m : SeatState) (thread : ℕ) : Type 0 where
@@ -44,10 +54,15 @@ pub record Depicts (words : List ℕ) (k : Known) : Type 0 where
   pub space : InSpace k.config k.holdings
 
 abbrev pub sight_of_words : Config → ℕ → List ℕ → Sight
-sight_of_words c last words = record { first = record { room = None; config = c; last = last; thread = 0; role = Outside; fresh = true }; knows = Depicts words }
+sight_of_words c last words = record {
+  first = record { room = None; config = c; last = last; thread = 0; role = Outside; fresh = true };
+  knows = Depicts words;
+}
 
--- A ROW OF PLAIN WORDS AS IT WAS OPENED: of these sizes, with the thread outside and fresh, which knows that nothing has happened yet
-pub record IsOpenedAlone (asked : Config) (last : ℕ) (c : Config) (words : List ℕ) (role : Role) (fresh : Bool) (hint : ℕ) : Type 0 where
+-- A ROW OF PLAIN WORDS AS IT WAS OPENED:
+-- of these sizes, with the thread outside and fresh, which knows that nothing has happened yet
+pub record IsOpenedAlone (asked : Config) (last : ℕ) (c : Config) (words : List ℕ) (role : Role) (fresh : Bool)
+    (hint : ℕ) : Type 0 where
   pub sizes : c ≡ asked
   pub role_is : role ≡ Outside
   pub fresh_is : fresh ≡ true

@@ -1,4 +1,5 @@
--- That a seat is at its site is one fact, and the words there are sound: the impls cite these, and there is nothing to believe.
+-- That a seat is at its site is one fact, and the words there are sound:
+-- the impls cite these, and there is nothing to believe.
 use Rattle.std.specs.Prelude.{ℕ, Option}
 use Rattle.std.proofs.Props.{props}
 use Rattle.atomic_table.specs.Seated.{TableId}

@@ -25,17 +25,20 @@ IsPinnedOf site p = Some p.perch.table_id ≡ site
 
 -- the cells' seat is one of the room's own
 abbrev pub IsSeatedIn : {LAST : ℕ} → RoomCells → Room LAST → Type 0
-IsSeatedIn s room = IsSeatOf room.row.table.shared.table_id room.row.config room.row.last s.seat.table_id s.seat.me s.thread
+IsSeatedIn s room =
+    IsSeatOf room.row.table.shared.table_id room.row.config room.row.last s.seat.table_id s.seat.me s.thread
 
 -- AND THE ROOM IS THE SITE'S, and the seat the thread's
-pub record IsAtThread {LAST : ℕ} (site : Option TableId) (sizes : Config) (thread : ℕ) (s : RoomCells) (room : Room LAST) : Type 0 where
+pub record IsAtThread {LAST : ℕ} (site : Option TableId) (sizes : Config) (thread : ℕ) (s : RoomCells)
+    (room : Room LAST) : Type 0 where
   pub there : IsSeatedIn s room
   pub room_is : Some s.seat.table_id ≡ site
   pub sizes_are : (stepping_pass s.seat.me).config ≡ sizes
   pub own : (stepping_pass s.seat.me).thread ≡ thread
 
 -- the room is the site's own, and the pass is the thread's
-pub record IsSiteOf {LAST : ℕ} (site : Option TableId) (sizes : Config) (thread : ℕ) (room : Room LAST) (p : Pass) : Type 0 where
+pub record IsSiteOf {LAST : ℕ} (site : Option TableId) (sizes : Config) (thread : ℕ) (room : Room LAST)
+    (p : Pass) : Type 0 where
   pub room_is : Some room.row.table.shared.table_id ≡ site
   pub sizes_are : room.row.config ≡ sizes
   pub own : (known_of p).thread ≡ thread

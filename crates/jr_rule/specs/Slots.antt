@@ -23,6 +23,7 @@ has_kind Global (slot.Global n o) = true
 has_kind Weak (slot.Weak n o) = true
 has_kind _ _ = false
 
--- the parts of a slot's word once its reference of the serial is deleted: free with the next serial, but retired at the last
+-- the parts of a slot's word once its reference of the serial is deleted:
+-- free with the next serial, but retired at the last
 abbrev pub parts_once_free : ℕ → ℕ → SlotParts
 parts_once_free last serial = if nat_lt serial last then slot.Free (serial + 1) else slot.Retired last

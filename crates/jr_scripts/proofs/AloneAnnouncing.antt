@@ -1,5 +1,6 @@
 -- An announced collection of a thread that is alone.
-use Rattle.std.proofs.Common.{◌≡◌, ◌≢◌, ◌+◌, inl, inr, ℕ, zero, suc, true, List, [], ◌∷◌, ◌++◌, Result, Ok, Err, IfErr, refl, sym, subst, ◌∙◌, ap}
+use Rattle.std.proofs.Common.{◌≡◌, ◌≢◌, inl, inr, ℕ, zero, suc, true, List, [], ◌∷◌}
+use Rattle.std.proofs.Common.{◌++◌, Result, Ok, Err, IfErr, refl, sym, subst, ◌∙◌, ap}
 use Rattle.std.specs.List.{AllByRecursion}
 use mathlib.Core.List.{IsPrefix}
 use Rattle.jr_word.specs.declared.config.Config.{Config}
@@ -40,7 +41,8 @@ use Rattle.jr_scripts.proofs.Uncontended.{Asked, is_uncontended_act, loses_none,
 abbrev NoneBusy : List Act → Type 0
 NoneBusy acts = AllByRecursion (λ a. (n : ℕ) → a ≢ ShutBusy n) acts
 
-busy_never : {A : Type 0} (next : ℕ → Call A) (f g : Frames) (acts : List Act) (answer : Result A Fault) → (some_act ShutBusy >>= next) f acts answer g → NoneBusy acts → ⊥
+busy_never : {A : Type 0} (next : ℕ → Call A) (f g : Frames) (acts : List Act) (answer : Result A Fault)
+    → (some_act ShutBusy >>= next) f acts answer g → NoneBusy acts → ⊥
 busy_never next f g acts answer (inl r) q = (subst NoneBusy (r.4 ∙ ap (λ l. l ++ r.3) r.5.1) q).0 r.5.0 refl
 busy_never next f g acts answer (inr r) q = let bad = r.2.2 in absurd cc
 
@@ -48,38 +50,56 @@ busy_never next f g acts answer (inr r) q = let bad = r.2.2 in absurd cc
 abbrev IsMoved : List Act → Fault → Type 0
 IsMoved acts e = (looked : ℕ) × (found : ℕ) × (e ≡ Moved looked found) × (acts ≡ Meet ∷ Meet ∷ [])
 
-announce_moved : (f g : Frames) (acts : List Act) (e : Fault) → announce f acts (Err e) g → NoneBusy acts → IsMoved acts e
+announce_moved : (f g : Frames) (acts : List Act) (e : Fault) → announce f acts (Err e) g → NoneBusy acts
+    → IsMoved acts e
 announce_moved f g acts e (inl r) q = absurd (busy_never (λ n. refuse (Busy n)) f g acts (Err e) r q)
 announce_moved f g acts e (inr (inl (x, mid, front, rest, is, first, inl next))) q = let bad = next.1 in absurd cc
-announce_moved f g acts e (inr (inl (x, mid, front, rest, is, first, inr (inl next)))) q = absurd (busy_never (λ n. refuse (Busy n)) mid g rest (Err e) next (all_back (λ a. (n : ℕ) → a ≢ ShutBusy n) front rest (subst NoneBusy is q)))
-announce_moved f g acts e (inr (inl (x, mid, front, rest, is, first, inr (inr (inl (y, mid', front', rest', is', first', moved)))))) q = (
-  moved.0,
-  moved.1,
-  same_fault e (Moved moved.0 moved.1) moved.2.1,
-  is ∙ (ap (λ l. l ++ rest) first.0 ∙ ap (λ l. Meet ∷ l) (is' ∙ (ap (λ l. l ++ rest') first'.0 ∙ ap (λ l. Meet ∷ l) moved.2.0))),
-)
-announce_moved f g acts e (inr (inl (x, mid, front, rest, is, first, inr (inr (inr next))))) q = let bad = next.2.1 in absurd cc
+announce_moved f g acts e (inr (inl (x, mid, front, rest, is, first, inr (inl next)))) q =
+    absurd (busy_never (λ n. refuse (Busy n)) mid g rest (Err e) next
+    (all_back (λ a. (n : ℕ) → a ≢ ShutBusy n) front rest (subst NoneBusy is q)))
+announce_moved f g acts e
+    (inr (inl (x, mid, front, rest, is, first, inr (inr (inl (y, mid', front', rest', is', first', moved)))))) q = (
+      moved.0,
+      moved.1,
+      same_fault e (Moved moved.0 moved.1) moved.2.1,
+      is ∙ (ap (λ l. l ++ rest) first.0
+          ∙ ap (λ l. Meet ∷ l) (is' ∙ (ap (λ l. l ++ rest') first'.0 ∙ ap (λ l. Meet ∷ l) moved.2.0))),
+    )
+announce_moved f g acts e (inr (inl (x, mid, front, rest, is, first, inr (inr (inr next))))) q = let bad = next.2.1 in
+    absurd cc
 announce_moved f g acts e (inr (inr r)) q = let bad = r.2.1 in absurd cc
 
-refused_moved : (tries : ℕ) (f g : Frames) (acts : List Act) (e : Fault) → collect_announced tries f acts (Err e) g → NoneBusy acts → IsMoved acts e
-refused_moved tries f g acts e (inl (x, mid, front, rest, is, first, inl (inl next))) q = let bad = next.6.4 in absurd cc
-refused_moved tries f g acts e (inl (x, mid, front, rest, is, first, inl (inr next))) q = let bad = next.2.3 in absurd cc
-refused_moved tries f g acts e (inl (x, mid, front, rest, is, first, inr (inl (y, mid', front', rest', is', first', next)))) q =
-    absurd (busy_never (λ n. act (Gate Cancel) >> refuse (Busy n)) mid' g rest' (Err e) next (all_back (λ a. (n : ℕ) → a ≢ ShutBusy n) front' rest' (subst NoneBusy is' (all_back (λ a. (n : ℕ) → a ≢ ShutBusy n) front rest (subst NoneBusy is q)))))
-refused_moved tries f g acts e (inl (x, mid, front, rest, is, first, inr (inr next))) q = let bad = next.2.3 in absurd cc
-refused_moved tries f g acts e (inr r) q = subst (IsMoved acts) (sym (same_fault e r.0 r.1)) (announce_moved f g acts r.0 r.2 q)
+refused_moved : (tries : ℕ) (f g : Frames) (acts : List Act) (e : Fault) → collect_announced tries f acts (Err e) g
+    → NoneBusy acts → IsMoved acts e
+refused_moved tries f g acts e (inl (x, mid, front, rest, is, first, inl (inl next))) q = let bad = next.6.4 in
+    absurd cc
+refused_moved tries f g acts e (inl (x, mid, front, rest, is, first, inl (inr next))) q = let bad = next.2.3 in
+    absurd cc
+refused_moved tries f g acts e
+    (inl (x, mid, front, rest, is, first, inr (inl (y, mid', front', rest', is', first', next)))) q =
+    absurd (busy_never (λ n. act (Gate Cancel) >> refuse (Busy n)) mid' g rest' (Err e) next
+    (all_back (λ a. (n : ℕ) → a ≢ ShutBusy n) front' rest'
+    (subst NoneBusy is' (all_back (λ a. (n : ℕ) → a ≢ ShutBusy n) front rest (subst NoneBusy is q)))))
+refused_moved tries f g acts e (inl (x, mid, front, rest, is, first, inr (inr next))) q = let bad = next.2.3 in
+    absurd cc
+refused_moved tries f g acts e (inr r) q =
+    subst (IsMoved acts) (sym (same_fault e r.0 r.1)) (announce_moved f g acts r.0 r.2 q)
 
 -- a look changes nothing
 open_still : (c : Config) (n : ℕ) (s : State) (e : Event) → e.act ≡ Meet → IsOpenWith c n s → IsOpenWith c n (after s e)
 open_still c n s e is = subst (λ a. IsOpenWith c n s → IsOpenWith c n (act_after s e.thread a)) (sym is) (λ o. o)
 
 -- where all that was seen since are looks, the gate has one count
-never_moved : (old new begun : History) (begins : IsPrefix old new) (p : PassView) (looked found : ℕ) → p.seen ≡ new → AllByRecursion (λ e. e.act ≡ Meet) begins.0 → IsPrefix old begun → GateHasMoved begun p looked found → ⊥
+never_moved : (old new begun : History) (begins : IsPrefix old new) (p : PassView) (looked found : ℕ) → p.seen ≡ new
+    → AllByRecursion (λ e. e.act ≡ Meet) begins.0 → IsPrefix old begun → GateHasMoved begun p looked found → ⊥
 never_moved old new begun begins p looked found is all from m =
     let to : IsPrefix m.before new = subst (λ h. IsPrefix m.before h) is m.to in
-    let first = still_so (λ e. e.act ≡ Meet) (IsOpenWith p.config looked) (open_still p.config looked) old begun new begins all from (sometime_wider (prefix_self begun) to m.looked_at) in
-    let since = prefix_trans old m.looked_at.moment m.before (prefix_trans old begun m.looked_at.moment from m.looked_at.from) m.looked_at.to in
-    let last = still_so (λ e. e.act ≡ Meet) (IsOpenWith p.config found) (open_still p.config found) old m.before new begins all since (subst (λ h. Sometime (IsOpenWith p.config found) m.before h) is m.later) in
+    let first = still_so (λ e. e.act ≡ Meet) (IsOpenWith p.config looked) (open_still p.config looked) old begun new
+    begins all from (sometime_wider (prefix_self begun) to m.looked_at) in
+    let since = prefix_trans old m.looked_at.moment m.before
+    (prefix_trans old begun m.looked_at.moment from m.looked_at.from) m.looked_at.to in
+    let last = still_so (λ e. e.act ≡ Meet) (IsOpenWith p.config found) (open_still p.config found) old m.before new
+    begins all since (subst (λ h. Sometime (IsOpenWith p.config found) m.before h) is m.later) in
     m.other (sym first.1 ∙ last.1)
 
 all_shuts : (es : History) → AllByRecursion IsUndisturbed es → AllByRecursion (λ e. (n : ℕ) → e.act ≢ ShutBusy n) es
@@ -88,26 +108,35 @@ all_shuts (e ∷ es) h = ((h.0).shuts, all_shuts es h.1)
 
 module _ (tries : ℕ) (old new : PassView) (f g : Frames) (alone : IsAlone new) where
   -- no shut of it was refused
-  none_busy : (answer : Result (ℕ × ℕ × ℕ) Fault) (r : Ran old new f g (collect_announced tries) answer) → NoneBusy r.acts
+  none_busy : (answer : Result (ℕ × ℕ × ℕ) Fault) (r : Ran old new f g (collect_announced tries) answer)
+      → NoneBusy r.acts
   none_busy answer r =
-      let all = undisturbed new.config new.last alone.one new.seen (subst (λ (z : Config × ℕ). IsLegal z.0 z.1 new.seen) (λ i. (sym r.did.config i, sym r.did.last i)) r.did.legal) in
-      let shuts = all_back (λ e. (n : ℕ) → e.act ≢ ShutBusy n) old.seen r.did.begins.0 (subst (AllByRecursion (λ e. (n : ℕ) → e.act ≢ ShutBusy n)) (sym r.did.begins.1) (all_shuts new.seen all)) in
+      let all = undisturbed new.config new.last alone.one new.seen (subst (λ (z : Config × ℕ). IsLegal z.0 z.1 new.seen)
+      (λ i. (sym r.did.config i, sym r.did.last i)) r.did.legal) in
+      let shuts = all_back (λ e. (n : ℕ) → e.act ≢ ShutBusy n) old.seen r.did.begins.0
+      (subst (AllByRecursion (λ e. (n : ℕ) → e.act ≢ ShutBusy n)) (sym r.did.begins.1) (all_shuts new.seen all)) in
       subst NoneBusy (mine_did r.acts r.did) (own_acts (λ a. (n : ℕ) → a ≢ ShutBusy n) old.thread r.did.begins.0 shuts)
 
   -- IT IS NEVER REFUSED
   pub never_refused : (e : Fault) → Ran old new f g (collect_announced tries) (Err e) → ⊥
   never_refused e r =
       let moved = refused_moved tries f g r.acts e r.is (none_busy (Err e) r) in
-      let all = since old new f g (collect_announced tries) alone (λ a. a ≡ Meet) (Err e) r (subst (AllByRecursion (λ a. a ≡ Meet)) (sym moved.3) (refl, (refl, tt))) in
-      never_moved old.seen new.seen r.begun r.did.begins new moved.0 moved.1 refl all r.window.from (subst (λ z. Grounds r.begun new z) moved.2 r.grounds)
+      let all = since old new f g (collect_announced tries) alone (λ a. a ≡ Meet) (Err e) r
+      (subst (AllByRecursion (λ a. a ≡ Meet)) (sym moved.3) (refl, (refl, tt))) in
+      never_moved old.seen new.seen r.begun r.did.begins new moved.0 moved.1 refl all r.window.from
+      (subst (λ z. Grounds r.begun new z) moved.2 r.grounds)
 
-  leaves_alone : (turns : ℕ) (command : Asked) {A : Type 0} (answer : Result A Fault) (found : Result (ℕ × ℕ × ℕ) Fault) → IfErr answer (IsCommandFault turns command.0 command.1 new g) → Ran old new f g (collect_announced tries) found → LedAlone turns command old new g answer
+  leaves_alone : (turns : ℕ) (command : Asked) {A : Type 0} (answer : Result A Fault) (found : Result (ℕ × ℕ × ℕ) Fault)
+      → IfErr answer (IsCommandFault turns command.0 command.1 new g) → Ran old new f g (collect_announced tries) found
+      → LedAlone turns command old new g answer
   leaves_alone turns command answer found fault r = record {
     config = r.did.config;
     thread = r.did.thread;
     begins = r.did.begins;
     uncontended = λ before. subst AllUncontended r.did.begins.1
-        (append_all (λ e. is_uncontended_act e.act ≡ true) old.seen r.did.begins.0 before (since old new f g (collect_announced tries) alone (λ a. is_uncontended_act a ≡ true) found r (loses_none {last = 0} {thread = 0} (λ asked. collect_announced_work tries) f g r.acts found r.is)));
+        (append_all (λ e. is_uncontended_act e.act ≡ true) old.seen r.did.begins.0 before
+        (since old new f g (collect_announced tries) alone (λ a. is_uncontended_act a ≡ true) found r
+        (loses_none {last = 0} {thread = 0} (λ asked. collect_announced_work tries) f g r.acts found r.is)));
     fault = fault;
   }
 
@@ -118,34 +147,49 @@ told_alone P (Err (Busy n)) h = tt
 told_alone P (Err _) h = h
 
 module _ (turns tries : ℕ) (names : Names) where
-  once_led : (n : ℕ) → LeadsAlone n (names, commands.WithTries with_tries.CollectAnnounced tries) (announced_collection tries)
+  once_led : (n : ℕ)
+      → LeadsAlone n (names, commands.WithTries with_tries.CollectAnnounced tries) (announced_collection tries)
   once_led n = record { led = led }
     where
-      led : (old new : ThreadState) (answer : Result Collected Fault) → IsAlone new.pass → announced_collection tries old answer new → LedAlone n (names, commands.WithTries with_tries.CollectAnnounced tries) old.pass new.pass new.frames answer
-      led old new (Ok c) alone d = leaves_alone tries old.pass new.pass old.frames new.frames alone n (names, commands.WithTries with_tries.CollectAnnounced tries) (Ok c) (Ok (c.cleared, c.dropped, c.used)) tt d.ran
-      led old new (Err e) alone d = absurd (never_refused tries old.pass new.pass old.frames new.frames alone e d.made.ran)
+      led : (old new : ThreadState) (answer : Result Collected Fault) → IsAlone new.pass
+          → announced_collection tries old answer new
+          → LedAlone n (names, commands.WithTries with_tries.CollectAnnounced tries) old.pass new.pass new.frames answer
+      led old new (Ok c) alone d = leaves_alone tries old.pass new.pass old.frames new.frames alone
+          n (names, commands.WithTries with_tries.CollectAnnounced tries) (Ok c) (Ok (c.cleared, c.dropped, c.used)) tt
+          d.ran
+      led old new (Err e) alone d =
+          absurd (never_refused tries old.pass new.pass old.frames new.frames alone e d.made.ran)
 
-  pub announcing_alone : LeadsAlone turns (names, commands.WithTries with_tries.CollectAnnounced tries) (collecting_announced turns tries)
+  pub announcing_alone : LeadsAlone turns (names, commands.WithTries with_tries.CollectAnnounced tries)
+      (collecting_announced turns tries)
   announcing_alone = record {
     led = λ old new answer alone d.
-        let x = (tried_alone turns (names, commands.WithTries with_tries.CollectAnnounced tries) once_led).led old new d.0 alone d.2 in
+        let x = (tried_alone turns (names, commands.WithTries with_tries.CollectAnnounced tries) once_led).led old new
+        d.0 alone d.2 in
         record {
           config = x.config;
           thread = x.thread;
           begins = x.begins;
           uncontended = x.uncontended;
-          fault = subst (λ a. IfErr a (IsCommandFault turns names (commands.WithTries with_tries.CollectAnnounced tries) new.pass new.frames)) (sym d.1) (told_alone _ d.0 x.fault);
+          fault = subst (λ a. IfErr a (IsCommandFault turns names (commands.WithTries with_tries.CollectAnnounced tries)
+              new.pass new.frames)) (sym d.1) (told_alone _ d.0 x.fault);
         };
   }
 
-  only_turns_once : (n : ℕ) (old new : ThreadState) (once : Result Collected Fault) → IsAlone new.pass → Tried (announced_collection tries) n old once new → IfErr once (λ e. (e ≡ Turns) × (n ≡ 0))
+  only_turns_once : (n : ℕ) (old new : ThreadState) (once : Result Collected Fault) → IsAlone new.pass
+      → Tried (announced_collection tries) n old once new → IfErr once (λ e. (e ≡ Turns) × (n ≡ 0))
   only_turns_once (suc n) old new (Ok c) alone (answered d final) = tt
-  only_turns_once (suc n) old new (Err e) alone (answered d final) = absurd (never_refused tries old.pass new.pass old.frames new.frames alone e d.made.ran)
+  only_turns_once (suc n) old new (Err e) alone (answered d final) =
+      absurd (never_refused tries old.pass new.pass old.frames new.frames alone e d.made.ran)
   only_turns_once (suc n) old new once alone (again {mid = mid} {once = Ok c} d more rest) = absurd cc
   only_turns_once (suc n) old new once alone (again {mid = mid} {once = Err e} d more rest) =
-      absurd (never_refused tries old.pass mid.pass old.frames mid.frames (was_alone (tries_alone (names, commands.WithTries with_tries.CollectAnnounced tries) once_led n mid new once alone rest) alone) e d.made.ran)
+      absurd (never_refused tries old.pass mid.pass old.frames mid.frames (was_alone
+      (tries_alone (names, commands.WithTries with_tries.CollectAnnounced tries) once_led n mid new once alone rest)
+      alone) e d.made.ran)
   only_turns_once zero old new once alone gave_up = (refl, refl)
 
   -- A LONE THREAD is refused only where no turns were given
-  pub only_turns : (old new : ThreadState) (answer : Result Reply Fault) → IsAlone new.pass → collecting_announced turns tries old answer new → IfErr answer (λ e. (e ≡ Turns) × (turns ≡ 0))
-  only_turns old new answer alone d = subst (λ a. IfErr a (λ e. (e ≡ Turns) × (turns ≡ 0))) (sym d.1) (told_alone (λ e. (e ≡ Turns) × (turns ≡ 0)) d.0 (only_turns_once turns old new d.0 alone d.2))
+  pub only_turns : (old new : ThreadState) (answer : Result Reply Fault) → IsAlone new.pass
+      → collecting_announced turns tries old answer new → IfErr answer (λ e. (e ≡ Turns) × (turns ≡ 0))
+  only_turns old new answer alone d = subst (λ a. IfErr a (λ e. (e ≡ Turns) × (turns ≡ 0))) (sym d.1)
+      (told_alone (λ e. (e ≡ Turns) × (turns ≡ 0)) d.0 (only_turns_once turns old new d.0 alone d.2))

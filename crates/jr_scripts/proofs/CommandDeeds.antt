@@ -1,5 +1,6 @@
 -- What calls make up a command, for whatever was known.
-use Rattle.std.proofs.Common.{◌≡◌, ℕ, ℤ, List, [], ◌∷◌, length, map, get_or, ap, Result, Ok, Err, refl, subst, sym, inl, inr}
+use Rattle.std.proofs.Common.{◌≡◌, ℕ, ℤ, List, [], ◌∷◌, length, map, get_or}
+use Rattle.std.proofs.Common.{ap, Result, Ok, Err, refl, subst, sym, inl, inr}
 use Rattle.jr_word.specs.declared.fault.Fault.{Fault}
 use Rattle.jr_word.specs.declared.handle.RefKind.{RefKind}
 use Rattle.jr_word.specs.declared.kind.Kind.{Kind}
@@ -15,11 +16,13 @@ use Rattle.jr_steps.specs.Knowing.{Facts}
 use Rattle.jr_scripts.specs.declared.reply.Reply.{Reply}
 use Rattle.jr_scripts.specs.declared.reply.Reply.TheVariants as replies
 use Rattle.jr_frames.specs.Reading.{IsReadAs}
-use Rattle.jr_env.specs.Deeds.{Deed, DoesDeed, DoesOutside, decided, done, answered_by, kind_of, get_array_region, set_array_region, ◌>>=◌, ◌>>◌}
+use Rattle.jr_env.specs.Deeds.{Deed, DoesDeed, DoesOutside, decided, done, answered_by}
+use Rattle.jr_env.specs.Deeds.{kind_of, get_array_region, set_array_region, ◌>>=◌, ◌>>◌}
 use Rattle.jr_scripts.specs.declared.number.NumberKind.{NumberKind}
 use Rattle.jr_scripts.specs.declared.number.NumberKind.TheVariants as number
 use Rattle.jr_scripts.specs.declared.number.Element.{Element}
-use Rattle.jr_scripts.specs.Numbers.{has_numbers, first_number, number_of_word, word_of_number, kind_numbered, kind_of_element, word_of_element}
+use Rattle.jr_scripts.specs.Numbers.{has_numbers, first_number, number_of_word, word_of_number}
+use Rattle.jr_scripts.specs.Numbers.{kind_numbered, kind_of_element, word_of_element}
 use Rattle.jr_scripts.specs.Commands.{deed, tried, deleted_of, deletion, loading, loading_as, storing, storing_as}
 use Rattle.jr_scripts.specs.Tries.{Tried}
 use Rattle.jr_scripts.specs.Names.{Names}
@@ -36,7 +39,8 @@ numbered_has number.Int = refl
 numbered_has number.Long = refl
 
 -- the number of the one element that was read
-pub number_of_one : {V : Type 0} (k : Kind) (word_of : V → ℕ) (xs : List V) (x : V) → length xs ≡ 1 → get_or xs 0 x ≡ x → number_of_word k (word_of x) ≡ first_number k (map word_of xs)
+pub number_of_one : {V : Type 0} (k : Kind) (word_of : V → ℕ) (xs : List V) (x : V) → length xs ≡ 1 → get_or xs 0 x ≡ x
+    → number_of_word k (word_of x) ≡ first_number k (map word_of xs)
 number_of_one k word_of [] x one is = absurd (let none = one in cc)
 number_of_one k word_of (y ∷ ys) x one is = ap (λ z. number_of_word k (word_of z)) (sym is)
 
@@ -50,7 +54,10 @@ only_same Same = refl
 
 module _ {S : Type 0} {facts : S → Facts} where
   -- the delete call of the kind of a handle
-  pub does_delete : {old new : S} {f g : Frames} {answer : Result Reply Fault} (turns w : ℕ) (h : Handle) (kind : RefKind) → IsReadAs w (Parts h) → h.kind ≡ kind → DoesDeed facts old new f g (deleted_of turns kind w >> done replies.Done) answer → DoesDeed facts old new f g (deletion turns w >> done replies.Done) answer
+  pub does_delete : {old new : S} {f g : Frames} {answer : Result Reply Fault} (turns w : ℕ) (h : Handle)
+      (kind : RefKind) → IsReadAs w (Parts h) → h.kind ≡ kind
+      → DoesDeed facts old new f g (deleted_of turns kind w >> done replies.Done) answer
+      → DoesDeed facts old new f g (deletion turns w >> done replies.Done) answer
   does_delete turns w h kind reads is = did_more (λ p q d.
       elim d [
         | inl x ↦ inl (x.0, x.1, (Parts h, reads, subst (λ k. deleted_of turns k w p (Ok x.0) x.1) (sym is) x.2), x.3)
@@ -58,54 +65,86 @@ module _ {S : Type 0} {facts : S → Facts} where
       ])
 
   -- the kind of an array, and then a deed for it
-  pub does_of_kind : {a b c : S} {f g h : Frames} {answer : Result Reply Fault} (turns w : ℕ) (k kind : Kind) (next : Kind → Deed Reply) → k ≡ kind → has_numbers kind ≡ Ok tt → DoesDeed facts a b f g (tried turns (kind_of w)) (Ok k) → DoesDeed facts b c g h (next kind) answer
+  pub does_of_kind : {a b c : S} {f g h : Frames} {answer : Result Reply Fault} (turns w : ℕ) (k kind : Kind)
+      (next : Kind → Deed Reply) → k ≡ kind → has_numbers kind ≡ Ok tt
+      → DoesDeed facts a b f g (tried turns (kind_of w)) (Ok k) → DoesDeed facts b c g h (next kind) answer
       → DoesDeed facts a c f h (tried turns (kind_of w) >>= (λ k. decided (has_numbers k) >>= (λ _. next k))) answer
   does_of_kind {b = b} {c = c} {g = g} {h = h} {answer = answer} turns w k kind next is numbers first more =
       does_then (λ k. decided (has_numbers k) >>= (λ _. next k)) first
-      (subst (λ x. DoesDeed facts b c g h (decided (has_numbers x) >>= (λ _. next x)) answer) (sym is) (did_decided (λ _. next kind) numbers more))
+      (subst (λ x. DoesDeed facts b c g h (decided (has_numbers x) >>= (λ _. next x)) answer) (sym is)
+      (did_decided (λ _. next kind) numbers more))
 
   -- a call whose answer has another form, made again where it was raced or barred
-  pub does_tried_form : {A B C : Type 0} {a b : S} {f g : Frames} {answer : Result C Fault} (turns : ℕ) (form : A → B) (after : B → C) (one : Deed A) → DoesDeed facts a b f g (answered_by after (tried turns (answered_by form one))) answer → DoesDeed facts a b f g (answered_by (λ x. after (form x)) (tried turns one)) answer
+  pub does_tried_form : {A B C : Type 0} {a b : S} {f g : Frames} {answer : Result C Fault} (turns : ℕ) (form : A → B)
+      (after : B → C) (one : Deed A)
+      → DoesDeed facts a b f g (answered_by after (tried turns (answered_by form one))) answer
+      → DoesDeed facts a b f g (answered_by (λ x. after (form x)) (tried turns one)) answer
   does_tried_form turns form after one = did_more (λ p q d.
       elim d [
-        | inl x ↦ (let y = tried_formed form one turns p x.1 (Ok x.0) x.2 in formed_ok form after one turns p q x.1 x.0 y.0 y.1 y.2 x.3)
-        | inr y ↦ (let z = tried_formed form one turns p q (Err y.0) y.2 in inr (y.0, y.1, subst (λ r. Tried one turns p r q) (formed_err form z.0 y.0 z.1) z.2))
+        | inl x ↦ (let y = tried_formed form one turns p x.1 (Ok x.0) x.2 in
+            formed_ok form after one turns p q x.1 x.0 y.0 y.1 y.2 x.3)
+        | inr y ↦ (let z = tried_formed form one turns p q (Err y.0) y.2 in
+            inr (y.0, y.1, subst (λ r. Tried one turns p r q) (formed_err form z.0 y.0 z.1) z.2))
       ])
 
   -- the number of an element, by the call of its kind
-  pub does_load : {a b c : S} {f g h : Frames} {answer : Result Reply Fault} (turns w i : ℕ) (k : Kind) (n : NumberKind) → k ≡ kind_numbered n → DoesDeed facts a b f g (tried turns (kind_of w)) (Ok k)
-      → DoesDeed facts b c g h (answered_by (λ x. replies.Value x) (tried turns (answered_by (λ words. first_number (kind_numbered n) words) (get_array_region (kind_numbered n) w i 1)))) answer → DoesDeed facts a c f h (loading turns w i) answer
+  pub does_load : {a b c : S} {f g h : Frames} {answer : Result Reply Fault} (turns w i : ℕ) (k : Kind) (n : NumberKind)
+      → k ≡ kind_numbered n → DoesDeed facts a b f g (tried turns (kind_of w)) (Ok k)
+      → DoesDeed facts b c g h (answered_by (λ x. replies.Value x) (tried turns
+      (answered_by (λ words. first_number (kind_numbered n) words) (get_array_region (kind_numbered n) w i 1)))) answer
+      → DoesDeed facts a c f h (loading turns w i) answer
   does_load turns w i k n is first more =
       does_of_kind turns w k (kind_numbered n) (loading_as turns w i) is (numbered_has n) first
-      (does_tried_form turns (λ words. first_number (kind_numbered n) words) (λ x. replies.Value x) (get_array_region (kind_numbered n) w i 1) more)
+      (does_tried_form turns (λ words. first_number (kind_numbered n) words) (λ x. replies.Value x)
+      (get_array_region (kind_numbered n) w i 1) more)
 
   -- a number is stored, by the call of its kind
-  pub does_store : {a b c : S} {f g h : Frames} {answer : Result Reply Fault} (turns w i : ℕ) (v : ℤ) (k : Kind) (n : NumberKind) (x : Element) → k ≡ kind_numbered n → kind_of_element x ≡ kind_numbered n → word_of_number (kind_numbered n) v ≡ Ok (word_of_element x)
-      → DoesDeed facts a b f g (tried turns (kind_of w)) (Ok k) → DoesDeed facts b c g h (tried turns (set_array_region (kind_of_element x) w i (word_of_element x ∷ [])) >> done replies.Done) answer → DoesDeed facts a c f h (storing turns w i v) answer
+  pub does_store : {a b c : S} {f g h : Frames} {answer : Result Reply Fault} (turns w i : ℕ) (v : ℤ) (k : Kind)
+      (n : NumberKind) (x : Element) → k ≡ kind_numbered n → kind_of_element x ≡ kind_numbered n
+      → word_of_number (kind_numbered n) v ≡ Ok (word_of_element x)
+      → DoesDeed facts a b f g (tried turns (kind_of w)) (Ok k) → DoesDeed facts b c g h
+      (tried turns (set_array_region (kind_of_element x) w i (word_of_element x ∷ [])) >> done replies.Done) answer
+      → DoesDeed facts a c f h (storing turns w i v) answer
   does_store {b = b} {c = c} {g = g} {h = h} {answer = answer} turns w i v k n x is kind word first more =
       does_of_kind turns w k (kind_numbered n) (storing_as turns w i v) is (numbered_has n) first
       (did_decided (λ word. tried turns (set_array_region (kind_numbered n) w i (word ∷ [])) >> done replies.Done) word
-      (subst (λ l. DoesDeed facts b c g h (tried turns (set_array_region l w i (word_of_element x ∷ [])) >> done replies.Done) answer) kind more))
+      (subst (λ l. DoesDeed facts b c g h
+      (tried turns (set_array_region l w i (word_of_element x ∷ [])) >> done replies.Done) answer) kind more))
 
   -- no element of the kind is the number
-  pub does_refuse_number : {a b : S} {f g : Frames} (turns w i : ℕ) (v : ℤ) (k : Kind) (n : NumberKind) (e : Fault) → k ≡ kind_numbered n → word_of_number (kind_numbered n) v ≡ Err e → DoesDeed facts a b f g (tried turns (kind_of w)) (Ok k) → DoesDeed facts a b f g (storing turns w i v) (Err e)
+  pub does_refuse_number : {a b : S} {f g : Frames} (turns w i : ℕ) (v : ℤ) (k : Kind) (n : NumberKind) (e : Fault)
+      → k ≡ kind_numbered n → word_of_number (kind_numbered n) v ≡ Err e
+      → DoesDeed facts a b f g (tried turns (kind_of w)) (Ok k) → DoesDeed facts a b f g (storing turns w i v) (Err e)
   does_refuse_number turns w i v k n e is word first =
       does_of_kind turns w k (kind_numbered n) (storing_as turns w i v) is (numbered_has n) first
-      (did_decline (λ word. tried turns (set_array_region (kind_numbered n) w i (word ∷ [])) >> done replies.Done) refl (λ k m. m) word)
+      (did_decline (λ word. tried turns (set_array_region (kind_numbered n) w i (word ∷ [])) >> done replies.Done) refl
+      (λ k m. m) word)
 
   -- the deed of a command that is known
-  pub does_command : {a b : S} {f g : Frames} {answer : Result Reply Fault} (turns : ℕ) (names : Names) (c d : Command) → c ≡ d → DoesDeed facts a b f g (deed turns names d) answer → DoesDeed facts a b f g (deed turns names c) answer
-  does_command {a} {b} {f} {g} {answer} turns names c d is = subst (λ x. DoesDeed facts a b f g (deed turns names x) answer) (sym is)
+  pub does_command : {a b : S} {f g : Frames} {answer : Result Reply Fault} (turns : ℕ) (names : Names) (c d : Command)
+      → c ≡ d → DoesDeed facts a b f g (deed turns names d) answer → DoesDeed facts a b f g (deed turns names c) answer
+  does_command {a} {b} {f} {g} {answer} turns names c d is =
+      subst (λ x. DoesDeed facts a b f g (deed turns names x) answer) (sym is)
 
   -- the number of an element, by the call of a kind that is known
-  pub does_number_of : {a b : S} {f g : Frames} {answer : Result ℤ Fault} (w i : ℕ) (n m : NumberKind) → n ≡ m → DoesOutside facts a b f g (answered_by (λ words. first_number (kind_numbered m) words) (get_array_region (kind_numbered m) w i 1)) answer
-      → DoesOutside facts a b f g (answered_by (λ words. first_number (kind_numbered n) words) (get_array_region (kind_numbered n) w i 1)) answer
-  does_number_of {a} {b} {f} {g} {answer} w i n m is = subst (λ x. DoesOutside facts a b f g (answered_by (λ words. first_number (kind_numbered x) words) (get_array_region (kind_numbered x) w i 1)) answer) (sym is)
+  pub does_number_of : {a b : S} {f g : Frames} {answer : Result ℤ Fault} (w i : ℕ) (n m : NumberKind) → n ≡ m
+      → DoesOutside facts a b f g
+      (answered_by (λ words. first_number (kind_numbered m) words) (get_array_region (kind_numbered m) w i 1)) answer
+      → DoesOutside facts a b f g
+      (answered_by (λ words. first_number (kind_numbered n) words) (get_array_region (kind_numbered n) w i 1)) answer
+  does_number_of {a} {b} {f} {g} {answer} w i n m is = subst (λ x. DoesOutside facts a b f g (answered_by
+      (λ words. first_number (kind_numbered x) words) (get_array_region (kind_numbered x) w i 1)) answer) (sym is)
 
   -- a part of one element was read
-  pub does_read_one : {a b : S} {f g : Frames} {answer : Result (List ℕ) Fault} (k : Kind) (w i n : ℕ) → n ≡ 1 → DoesOutside facts a b f g (get_array_region k w i n) answer → DoesOutside facts a b f g (get_array_region k w i 1) answer
-  does_read_one {a} {b} {f} {g} {answer} k w i n one = subst (λ m. DoesOutside facts a b f g (get_array_region k w i m) answer) one
+  pub does_read_one : {a b : S} {f g : Frames} {answer : Result (List ℕ) Fault} (k : Kind) (w i n : ℕ) → n ≡ 1
+      → DoesOutside facts a b f g (get_array_region k w i n) answer
+      → DoesOutside facts a b f g (get_array_region k w i 1) answer
+  does_read_one {a} {b} {f} {g} {answer} k w i n one =
+      subst (λ m. DoesOutside facts a b f g (get_array_region k w i m) answer) one
 
   -- the same number is stored
-  pub does_stored_as : {a b : S} {f g : Frames} {answer : Result Reply Fault} (turns w i : ℕ) (v x : ℤ) → DoesDeed facts a b f g (storing turns w i v) answer → v ≡ x → DoesDeed facts a b f g (storing turns w i x) answer
-  does_stored_as {a} {b} {f} {g} {answer} turns w i v x d is = subst (λ n. DoesDeed facts a b f g (storing turns w i n) answer) is d
+  pub does_stored_as : {a b : S} {f g : Frames} {answer : Result Reply Fault} (turns w i : ℕ) (v x : ℤ)
+      → DoesDeed facts a b f g (storing turns w i v) answer → v ≡ x
+      → DoesDeed facts a b f g (storing turns w i x) answer
+  does_stored_as {a} {b} {f} {g} {answer} turns w i v x d is =
+      subst (λ n. DoesDeed facts a b f g (storing turns w i n) answer) is d

@@ -1,5 +1,6 @@
 -- What calls make up a command about copied elements, for whatever was known.
-use Rattle.std.proofs.Common.{MatchOption, ◌≡◌, ◌∙◌, ℕ, ℤ, List, Option, Some, None, Result, Ok, Err, ap, sym, subst, refl, inl, inr, true}
+use Rattle.std.proofs.Common.{MatchOption, ◌≡◌, ◌∙◌, ℕ, ℤ, List, Option, Some, None}
+use Rattle.std.proofs.Common.{Result, Ok, Err, ap, sym, subst, refl, inl, inr, true}
 use Rattle.std.specs.Result.{IsErrAnd}
 use Rattle.std.specs.Option.{IsSomeAnd}
 use Rattle.std.proofs.lemmas.Result.{err_from_is_err_and}
@@ -10,7 +11,8 @@ use Rattle.jr_model.specs.declared.frames.Mode.TheVariants.{Copy, Commit, Abort}
 use Rattle.jr_model.specs.Frames.{Frames}
 use Rattle.jr_steps.specs.Knowing.{Facts}
 use Rattle.jr_elements.specs.Copies.{answer_in, kept}
-use Rattle.jr_env.specs.Deeds.{Deed, DoesDeed, DoesOutside, answered_by, decided, done, release_answer, release_array_elements, get_array_elements, kind_of, ◌>>◌, ◌>>=◌}
+use Rattle.jr_env.specs.Deeds.{Deed, DoesDeed, DoesOutside, answered_by, decided, done, release_answer}
+use Rattle.jr_env.specs.Deeds.{release_array_elements, get_array_elements, kind_of, ◌>>◌, ◌>>=◌}
 use Rattle.jr_env.proofs.Carrying.{did_answer, did_more, did_refuse, does_nothing}
 use Rattle.jr_env.proofs.EnvCalls.{does_answer, does_refuse}
 use Rattle.jr_syntax.specs.declared.command.Command.TheVariants as commands
@@ -38,81 +40,120 @@ use Rattle.jr_scripts.proofs.CommandDeeds.{does_of_kind, does_tried_form, number
 
 module _ {S : Type 0} {facts : S → Facts} where
   -- a copy of elements, by the call of their kind
-  pub does_copy : {a b c : S} {f g h : Frames} {answer : Result Reply Fault} (turns w : ℕ) (k : Kind) (n : NumberKind) → k ≡ kind_numbered n → DoesDeed facts a b f g (tried turns (kind_of w)) (Ok k)
-      → DoesDeed facts b c g h (answered_by (λ x. replies.Copied x) (tried turns (answered_by (λ words. copy_of (kind_numbered n) words) (get_array_elements (kind_numbered n) w)))) answer → DoesDeed facts a c f h (copying turns w) answer
+  pub does_copy : {a b c : S} {f g h : Frames} {answer : Result Reply Fault} (turns w : ℕ) (k : Kind) (n : NumberKind)
+      → k ≡ kind_numbered n → DoesDeed facts a b f g (tried turns (kind_of w)) (Ok k)
+      → DoesDeed facts b c g h (answered_by (λ x. replies.Copied x) (tried turns
+      (answered_by (λ words. copy_of (kind_numbered n) words) (get_array_elements (kind_numbered n) w)))) answer
+      → DoesDeed facts a c f h (copying turns w) answer
   does_copy turns w k n is first more =
       does_of_kind turns w k (kind_numbered n) (copying_as turns w) is (numbered_has n) first
-      (does_tried_form turns (λ words. copy_of (kind_numbered n) words) (λ x. replies.Copied x) (get_array_elements (kind_numbered n) w) more)
+      (does_tried_form turns (λ words. copy_of (kind_numbered n) words) (λ x. replies.Copied x)
+      (get_array_elements (kind_numbered n) w) more)
 
   module _ {a b : S} {f g : Frames} (w : ℕ) (n m : NumberKind) (is : n ≡ m) where
-    same_kind : (answer : Result Copied Fault) → DoesOutside facts a b f g (answered_by (λ words. copy_of (kind_numbered m) words) (get_array_elements (kind_numbered m) w)) answer → DoesOutside facts a b f g (answered_by (λ words. copy_of (kind_numbered n) words) (get_array_elements (kind_numbered n) w)) answer
-    same_kind answer = subst (λ (x : NumberKind). DoesOutside facts a b f g (answered_by (λ words. copy_of (kind_numbered x) words) (get_array_elements (kind_numbered x) w)) answer) (sym is)
+    same_kind : (answer : Result Copied Fault) → DoesOutside facts a b f g
+        (answered_by (λ words. copy_of (kind_numbered m) words) (get_array_elements (kind_numbered m) w)) answer
+        → DoesOutside facts a b f g
+        (answered_by (λ words. copy_of (kind_numbered n) words) (get_array_elements (kind_numbered n) w)) answer
+    same_kind answer = subst (λ (x : NumberKind). DoesOutside facts a b f g (answered_by
+        (λ words. copy_of (kind_numbered x) words) (get_array_elements (kind_numbered x) w)) answer) (sym is)
 
     -- a copy by the call of a kind that is known
-    pub does_copied : (words : List ℕ) (copied : Copied) → copied ≡ copy_of (kind_numbered m) words → DoesOutside facts a b f g (get_array_elements (kind_numbered m) w) (Ok words) → DoesOutside facts a b f g (answered_by (λ words. copy_of (kind_numbered n) words) (get_array_elements (kind_numbered n) w)) (Ok copied)
-    does_copied words copied made d = same_kind (Ok copied) (does_answer (λ words. copy_of (kind_numbered m) words) made d)
+    pub does_copied : (words : List ℕ) (copied : Copied) → copied ≡ copy_of (kind_numbered m) words
+        → DoesOutside facts a b f g (get_array_elements (kind_numbered m) w) (Ok words) → DoesOutside facts a b f g
+        (answered_by (λ words. copy_of (kind_numbered n) words) (get_array_elements (kind_numbered n) w)) (Ok copied)
+    does_copied words copied made d =
+        same_kind (Ok copied) (does_answer (λ words. copy_of (kind_numbered m) words) made d)
 
-    pub does_not_copy : (e : Fault) (answer : Result Copied Fault) → IsErrAnd answer (λ y. y ≡ e) → DoesOutside facts a b f g (get_array_elements (kind_numbered m) w) (Err e) → DoesOutside facts a b f g (answered_by (λ words. copy_of (kind_numbered n) words) (get_array_elements (kind_numbered n) w)) answer
-    does_not_copy e answer refused d = same_kind answer (does_refuse (λ words. copy_of (kind_numbered m) words) answer refused d)
+    pub does_not_copy : (e : Fault) (answer : Result Copied Fault) → IsErrAnd answer (λ y. y ≡ e)
+        → DoesOutside facts a b f g (get_array_elements (kind_numbered m) w) (Err e) → DoesOutside facts a b f g
+        (answered_by (λ words. copy_of (kind_numbered n) words) (get_array_elements (kind_numbered n) w)) answer
+    does_not_copy e answer refused d =
+        same_kind answer (does_refuse (λ words. copy_of (kind_numbered m) words) answer refused d)
 
 -- elements that a release leaves
-pub some_left : {V : Type 0} (k : Kind) (word_of : V → ℕ) (mode : Mode) (answer : Result Reply Fault) (values left : List V) (b : Copied) → copied_as k word_of values ≡ b → Some left ≡ elements_left mode answer values → Buffer (copied_as k word_of left) ≡ left_by mode answer (Buffer b)
+pub some_left : {V : Type 0} (k : Kind) (word_of : V → ℕ) (mode : Mode) (answer : Result Reply Fault)
+    (values left : List V) (b : Copied) → copied_as k word_of values ≡ b → Some left ≡ elements_left mode answer values
+    → Buffer (copied_as k word_of left) ≡ left_by mode answer (Buffer b)
 some_left k word_of Copy (Ok r) values left b is kept = absurd cc
-some_left k word_of Commit (Ok r) values left b is kept = let same : left ≡ values = cc in ap (λ xs. Buffer (copied_as k word_of xs)) same ∙ ap (λ (x : Copied). Buffer x) is
+some_left k word_of Commit (Ok r) values left b is kept = let same : left ≡ values = cc in
+    ap (λ xs. Buffer (copied_as k word_of xs)) same ∙ ap (λ (x : Copied). Buffer x) is
 some_left k word_of Abort (Ok r) values left b is kept = absurd cc
-some_left k word_of mode (Err e) values left b is kept = let same : left ≡ values = cc in ap (λ xs. Buffer (copied_as k word_of xs)) same ∙ ap (λ (x : Copied). Buffer x) is
+some_left k word_of mode (Err e) values left b is kept = let same : left ≡ values = cc in
+    ap (λ xs. Buffer (copied_as k word_of xs)) same ∙ ap (λ (x : Copied). Buffer x) is
 
 -- and none
-pub none_left : {A : Type 0} (mode : Mode) (answer : Result Reply Fault) (values : A) (s : Binding) → ◌≡◌ {A = Option A} None (elements_left mode answer values) → Nothing ≡ left_by mode answer s
+pub none_left : {A : Type 0} (mode : Mode) (answer : Result Reply Fault) (values : A) (s : Binding)
+    → ◌≡◌ {A = Option A} None (elements_left mode answer values) → Nothing ≡ left_by mode answer s
 none_left Copy (Ok r) values s gone = refl
 none_left Commit (Ok r) values s gone = absurd cc
 none_left Abort (Ok r) values s gone = refl
 none_left mode (Err e) values s gone = absurd cc
 
 -- a call that is made again leaves what stood there
-pub left_again : (mode : Mode) (answer : Result Reply Fault) (s : Binding) → is_tried_again answer ≡ true → left_by mode answer s ≡ s
+pub left_again : (mode : Mode) (answer : Result Reply Fault) (s : Binding) → is_tried_again answer ≡ true
+    → left_by mode answer s ≡ s
 left_again mode (Ok r) s more = absurd cc
 left_again mode (Err e) s more = refl
 
 module _ {S : Type 0} {facts : S → Facts} where
   -- the same is released
-  pub does_release_same : {a b : S} {f g : Frames} {answer : Result Reply Fault} (turns w : ℕ) (mode : Mode) (s t : Binding) → s ≡ t → DoesDeed facts a b f g (tried turns (releasing w mode s)) answer → DoesDeed facts a b f g (tried turns (releasing w mode t)) answer
-  does_release_same {a} {b} {f} {g} {answer} turns w mode s t is = subst (λ (x : Binding). DoesDeed facts a b f g (tried turns (releasing w mode x)) answer) is
+  pub does_release_same : {a b : S} {f g : Frames} {answer : Result Reply Fault} (turns w : ℕ) (mode : Mode)
+      (s t : Binding) → s ≡ t → DoesDeed facts a b f g (tried turns (releasing w mode s)) answer
+      → DoesDeed facts a b f g (tried turns (releasing w mode t)) answer
+  does_release_same {a} {b} {f} {g} {answer} turns w mode s t is =
+      subst (λ (x : Binding). DoesDeed facts a b f g (tried turns (releasing w mode x)) answer) is
 
   -- the same elements are released, and the answer is handed on
-  pub does_release_of : {a b : S} {f g : Frames} (w : ℕ) (mode : Mode) (x y : Copied) (answer handed : Result Reply Fault) → x ≡ y → handed ≡ answer → DoesDeed facts a b f g (answered_by (λ _. replies.Done) (release_array_elements x.kind w x.words mode)) answer → DoesDeed facts a b f g (answered_by (λ _. replies.Done) (release_array_elements y.kind w y.words mode)) handed
+  pub does_release_of : {a b : S} {f g : Frames} (w : ℕ) (mode : Mode) (x y : Copied)
+      (answer handed : Result Reply Fault) → x ≡ y → handed ≡ answer
+      → DoesDeed facts a b f g (answered_by (λ _. replies.Done) (release_array_elements x.kind w x.words mode)) answer
+      → DoesDeed facts a b f g (answered_by (λ _. replies.Done) (release_array_elements y.kind w y.words mode)) handed
   does_release_of {a} {b} {f} {g} w mode x y answer handed is same d =
-      subst (λ (z : Copied). DoesDeed facts a b f g (answered_by (λ _. replies.Done) (release_array_elements z.kind w z.words mode)) handed) is
-      (subst (λ z. DoesDeed facts a b f g (answered_by (λ _. replies.Done) (release_array_elements x.kind w x.words mode)) z) (sym same) d)
+      subst (λ (z : Copied).
+      DoesDeed facts a b f g (answered_by (λ _. replies.Done) (release_array_elements z.kind w z.words mode)) handed) is
+      (subst (λ z. DoesDeed facts a b f g
+      (answered_by (λ _. replies.Done) (release_array_elements x.kind w x.words mode)) z) (sym same) d)
 
   -- a release whose reply is that it was done
-  pub does_released : {A : Type 0} {a b : S} {f g : Frames} {answer : Result Reply Fault} (turns : ℕ) (one : Deed A) → DoesDeed facts a b f g (tried turns (answered_by (λ _. replies.Done) one)) answer → DoesDeed facts a b f g (tried turns one >> done replies.Done) answer
-  does_released {A} {answer = answer} turns one = did_more (λ p q d. let y = tried_formed (λ _. replies.Done) one turns p q answer d in go p q y.0 y.1 y.2)
+  pub does_released : {A : Type 0} {a b : S} {f g : Frames} {answer : Result Reply Fault} (turns : ℕ) (one : Deed A)
+      → DoesDeed facts a b f g (tried turns (answered_by (λ _. replies.Done) one)) answer
+      → DoesDeed facts a b f g (tried turns one >> done replies.Done) answer
+  does_released {A} {answer = answer} turns one =
+      did_more (λ p q d. let y = tried_formed (λ _. replies.Done) one turns p q answer d in go p q y.0 y.1 y.2)
     where
-      go : (p q : ThreadState) (r : Result A Fault) → answer ≡ formed (λ _. replies.Done) r → Tried one turns p r q → (tried turns one >> done replies.Done) p answer q
+      go : (p q : ThreadState) (r : Result A Fault) → answer ≡ formed (λ _. replies.Done) r → Tried one turns p r q
+          → (tried turns one >> done replies.Done) p answer q
       go p q (Ok x) is t = inl (x, q, t, (is, refl))
       go p q (Err e) is t = inr (e, is, t)
 
   -- the answer of a call is what was read of it
-  pub does_read : {A : Type 0} {a b : S} {f g : Frames} {deed : Deed A} (x y : A) → y ≡ x → DoesOutside facts a b f g deed (Ok x) → DoesOutside facts a b f g deed (Ok y)
+  pub does_read : {A : Type 0} {a b : S} {f g : Frames} {deed : Deed A} (x y : A) → y ≡ x
+      → DoesOutside facts a b f g deed (Ok x) → DoesOutside facts a b f g deed (Ok y)
   does_read {A} {a} {b} {f} {g} {deed} x y is = subst (λ z. DoesOutside facts a b f g deed (Ok z)) (sym is)
 
   -- its refusal is handed on
-  pub does_not_read : {A : Type 0} {a b : S} {f g : Frames} {deed : Deed A} (e : Fault) (answer : Result A Fault) → IsErrAnd answer (λ y. y ≡ e) → DoesOutside facts a b f g deed (Err e) → DoesOutside facts a b f g deed answer
-  does_not_read {A} {a} {b} {f} {g} {deed} e answer refused = let why = err_from_is_err_and answer refused in subst (λ z. DoesOutside facts a b f g deed z) (sym (why.1 ∙ ap (λ (v : Fault). Err v) why.2))
+  pub does_not_read : {A : Type 0} {a b : S} {f g : Frames} {deed : Deed A} (e : Fault) (answer : Result A Fault)
+      → IsErrAnd answer (λ y. y ≡ e) → DoesOutside facts a b f g deed (Err e) → DoesOutside facts a b f g deed answer
+  does_not_read {A} {a} {b} {f} {g} {deed} e answer refused = let why = err_from_is_err_and answer refused in
+      subst (λ z. DoesOutside facts a b f g deed z) (sym (why.1 ∙ ap (λ (v : Fault). Err v) why.2))
 
   -- what was decided without a call, and is answered
-  pub does_decide : {A B : Type 0} {a : S} {f : Frames} (r : Result A Fault) (form : A → B) (answer : Result B Fault) → answer ≡ answer_in form r → DoesDeed facts a a f f (decided r >>= (λ x. done (form x))) answer
+  pub does_decide : {A B : Type 0} {a : S} {f : Frames} (r : Result A Fault) (form : A → B) (answer : Result B Fault)
+      → answer ≡ answer_in form r → DoesDeed facts a a f f (decided r >>= (λ x. done (form x))) answer
   does_decide (Ok x) form answer is = does_nothing (λ p. inl (x, p, (refl, refl), (is, refl)))
   does_decide (Err e) form answer is = does_nothing (λ p. inr (e, is, (refl, refl)))
 
   -- a release that was done, whatever it left
-  pub does_release_done : {A : Type 0} {a b : S} {f g : Frames} {one : Deed (Option (List ℕ))} (words : A → List ℕ) (left : Option A) → DoesDeed facts a b f g one (release_answer words (Ok left)) → DoesDeed facts a b f g (answered_by (λ _. replies.Done) one) (Ok replies.Done)
+  pub does_release_done : {A : Type 0} {a b : S} {f g : Frames} {one : Deed (Option (List ℕ))} (words : A → List ℕ)
+      (left : Option A) → DoesDeed facts a b f g one (release_answer words (Ok left))
+      → DoesDeed facts a b f g (answered_by (λ _. replies.Done) one) (Ok replies.Done)
   does_release_done words None d = did_answer (λ _. replies.Done) refl d
   does_release_done words (Some x) d = did_answer (λ _. replies.Done) refl d
 
   -- a release that was refused
-  pub does_release_refused : {A : Type 0} {a b : S} {f g : Frames} {one : Deed A} (e : Fault) → DoesDeed facts a b f g one (Err e) → DoesDeed facts a b f g (answered_by (λ _. replies.Done) one) (Err e)
+  pub does_release_refused : {A : Type 0} {a b : S} {f g : Frames} {one : Deed A} (e : Fault)
+      → DoesDeed facts a b f g one (Err e) → DoesDeed facts a b f g (answered_by (λ _. replies.Done) one) (Err e)
   does_release_refused e d = did_refuse (λ _. replies.Done) (Err e) refl d
 
 -- a release that was done leaves the elements that are kept by mode
@@ -128,33 +169,51 @@ all_left Commit x y e is = ap (λ z. Some z) is
 all_left Abort x y e is = ap (λ z. Some z) is
 
 -- what is left of elements of a type, as what a name stands for
-pub left_mapped : {V : Type 0} (k : Kind) (word_of : V → ℕ) (wrap : List V → CopiedElements) → ((vs : List V) → copied_in (wrap vs) ≡ copied_as k word_of vs) → (mode : Mode) (answer : Result Reply Fault) (values : List V) (left : Option (List V)) (mapped : Option CopiedElements) (b : Copied)
-    → copied_as k word_of values ≡ b → left ≡ elements_left mode answer values → MatchOption left (mapped ≡ None) (λ x. IsSomeAnd mapped (λ y. y ≡ wrap x)) → binding_left mapped ≡ left_by mode answer (Buffer b)
+pub left_mapped : {V : Type 0} (k : Kind) (word_of : V → ℕ) (wrap : List V → CopiedElements)
+    → ((vs : List V) → copied_in (wrap vs) ≡ copied_as k word_of vs) → (mode : Mode) (answer : Result Reply Fault)
+    (values : List V) (left : Option (List V)) (mapped : Option CopiedElements) (b : Copied)
+    → copied_as k word_of values ≡ b → left ≡ elements_left mode answer values
+    → MatchOption left (mapped ≡ None) (λ x. IsSomeAnd mapped (λ y. y ≡ wrap x))
+    → binding_left mapped ≡ left_by mode answer (Buffer b)
 left_mapped k word_of wrap same mode answer values (Some x) (Some y) b is left cases =
-    ap (λ (z : CopiedElements). Buffer (copied_in z)) cases ∙ (ap (λ (z : Copied). Buffer z) (same x) ∙ some_left k word_of mode answer values x b is left)
+    ap (λ (z : CopiedElements). Buffer (copied_in z)) cases
+    ∙ (ap (λ (z : Copied). Buffer z) (same x) ∙ some_left k word_of mode answer values x b is left)
 left_mapped k word_of wrap same mode answer values (Some x) None b is left cases = absurd cases
-left_mapped k word_of wrap same mode answer values None mapped b is left cases = ap binding_left cases ∙ none_left mode answer values (Buffer b) left
+left_mapped k word_of wrap same mode answer values None mapped b is left cases =
+    ap binding_left cases ∙ none_left mode answer values (Buffer b) left
 
 -- what was put was answered so
-pub done_of : {A : Type 0} (r : Result A Fault) → ◌≡◌ {A = Result (Unit {0}) Fault} (Ok tt) (answer_in (λ _. tt) r) → ◌≡◌ {A = Result Reply Fault} (Ok replies.Done) (answer_in (λ _. replies.Done) r)
+pub done_of : {A : Type 0} (r : Result A Fault) → ◌≡◌ {A = Result (Unit {0}) Fault} (Ok tt) (answer_in (λ _. tt) r)
+    → ◌≡◌ {A = Result Reply Fault} (Ok replies.Done) (answer_in (λ _. replies.Done) r)
 done_of (Ok x) is = refl
 done_of (Err e) is = absurd cc
 
-pub refused_of : {A : Type 0} (r : Result A Fault) (e : Fault) (answer : Result Reply Fault) → ◌≡◌ {A = Result (Unit {0}) Fault} (Err e) (answer_in (λ _. tt) r) → IsErrAnd answer (λ y. y ≡ e) → answer ≡ answer_in (λ _. replies.Done) r
+pub refused_of : {A : Type 0} (r : Result A Fault) (e : Fault) (answer : Result Reply Fault)
+    → ◌≡◌ {A = Result (Unit {0}) Fault} (Err e) (answer_in (λ _. tt) r) → IsErrAnd answer (λ y. y ≡ e)
+    → answer ≡ answer_in (λ _. replies.Done) r
 refused_of (Ok x) e answer is given = absurd cc
-refused_of (Err d) e answer is given = let why = err_from_is_err_and answer given in let same : e ≡ d = cc in why.1 ∙ ap (λ (v : Fault). Err v) (why.2 ∙ same)
+refused_of (Err d) e answer is given = let why = err_from_is_err_and answer given in let same : e ≡ d = cc in
+    why.1 ∙ ap (λ (v : Fault). Err v) (why.2 ∙ same)
 
 -- a number at an index, where the verb is known to ask for a buffer's or for a level's
 module _ {S : Type 0} {facts : S → Facts} {a : S} {f : Frames} (turns : ℕ) (names : Names) where
-  pub does_get : (v : OnNameAt) (n : List ℕ) (i : ℕ) (answer : Result Reply Fault) → answer ≡ got_by v (answer_in (λ x. replies.Value x) (getting i (binding names n))) → DoesDeed facts a a f f (deed turns names (commands.OnNameAt v n i)) answer
+  pub does_get : (v : OnNameAt) (n : List ℕ) (i : ℕ) (answer : Result Reply Fault)
+      → answer ≡ got_by v (answer_in (λ x. replies.Value x) (getting i (binding names n)))
+      → DoesDeed facts a a f f (deed turns names (commands.OnNameAt v n i)) answer
   does_get on_name_at.Get n i answer is = does_decide (getting i (binding names n)) (λ x. replies.Value x) answer is
   does_get on_name_at.GetInLevel n i answer is = does_nothing (λ p. (is, refl))
 
-  pub does_put : (v : PutAt) (n : List ℕ) (i : ℕ) (x : ℤ) (answer : Result Reply Fault) → answer ≡ put_by v (answer_in (λ _. replies.Done) (putting i x (binding names n))) → DoesDeed facts a a f f (deed turns names (commands.PutAt v n i x)) answer
+  pub does_put : (v : PutAt) (n : List ℕ) (i : ℕ) (x : ℤ) (answer : Result Reply Fault)
+      → answer ≡ put_by v (answer_in (λ _. replies.Done) (putting i x (binding names n)))
+      → DoesDeed facts a a f f (deed turns names (commands.PutAt v n i x)) answer
   does_put put_at.Put n i x answer is = does_decide (putting i x (binding names n)) (λ _. replies.Done) answer is
   does_put put_at.PutInLevel n i x answer is = does_nothing (λ p. (is, refl))
 
 -- the names once a buffer was changed, or that was refused
-pub buffers_put : (names : Names) (n : List ℕ) (i : ℕ) (x : ℤ) (r : Result Binding Fault) (answer : Result Reply Fault) → answer ≡ answer_in (λ _. replies.Done) r → r ≡ putting i x (binding names n) → names_put names n r ≡ buffers_after (commands.PutAt put_at.Put n i x) answer names
-buffers_put names n i x (Ok s) answer is same = ap (names_put names n) same ∙ ap (λ a. buffers_after (commands.PutAt put_at.Put n i x) a names) (sym is)
-buffers_put names n i x (Err e) answer is same = ap (λ a. buffers_after (commands.PutAt put_at.Put n i x) a names) (sym is)
+pub buffers_put : (names : Names) (n : List ℕ) (i : ℕ) (x : ℤ) (r : Result Binding Fault) (answer : Result Reply Fault)
+    → answer ≡ answer_in (λ _. replies.Done) r → r ≡ putting i x (binding names n)
+    → names_put names n r ≡ buffers_after (commands.PutAt put_at.Put n i x) answer names
+buffers_put names n i x (Ok s) answer is same =
+    ap (names_put names n) same ∙ ap (λ a. buffers_after (commands.PutAt put_at.Put n i x) a names) (sym is)
+buffers_put names n i x (Err e) answer is same =
+    ap (λ a. buffers_after (commands.PutAt put_at.Put n i x) a names) (sym is)

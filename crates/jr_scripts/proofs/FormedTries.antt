@@ -22,11 +22,13 @@ same_again form (Err e) = refl
 
 module _ {A B : Type 0} (form : A → B) (one : Deed A) where
   -- what answered in the one form answered in the other
-  once_formed : (p q : ThreadState) (r : Result B Fault) → answered_by form one p r q → (r' : Result A Fault) × (r ≡ formed form r') × one p r' q
+  once_formed : (p q : ThreadState) (r : Result B Fault) → answered_by form one p r q
+      → (r' : Result A Fault) × (r ≡ formed form r') × one p r' q
   once_formed p q r (inl x) = (Ok x.0, x.3.0, subst (λ m. one p (Ok x.0) m) (sym x.3.1) x.2)
   once_formed p q r (inr y) = (Err y.0, y.1, y.2)
 
-  pub tried_formed : (n : ℕ) (p q : ThreadState) (r : Result B Fault) → Tried (answered_by form one) n p r q → (r' : Result A Fault) × (r ≡ formed form r') × Tried one n p r' q
+  pub tried_formed : (n : ℕ) (p q : ThreadState) (r : Result B Fault) → Tried (answered_by form one) n p r q
+      → (r' : Result A Fault) × (r ≡ formed form r') × Tried one n p r' q
   tried_formed n p q r (answered o settled) =
       let x = once_formed p q r o in
       (x.0, x.1, answered x.2 (sym (same_again form x.0) ∙ (ap is_tried_again (sym x.1) ∙ settled)))
@@ -42,6 +44,8 @@ formed_err form (Ok x) e is = absurd (let bad = is in cc)
 formed_err form (Err d) e is = let same = is in cc
 
 module _ {A B C : Type 0} (form : A → B) (after : B → C) (one : Deed A) (n : ℕ) (p q mid : ThreadState) where
-  pub formed_ok : (y : B) (r : Result A Fault) → Ok y ≡ formed form r → Tried one n p r mid → {answer : Result C Fault} → done (after y) mid answer q → answered_by (λ x. after (form x)) (Tried one n) p answer q
-  formed_ok y (Ok x) is t d = let same : y ≡ form x = (let e = is in cc) in inl (x, mid, t, (d.0 ∙ ap (λ z. Ok (after z)) same, d.1))
+  pub formed_ok : (y : B) (r : Result A Fault) → Ok y ≡ formed form r → Tried one n p r mid → {answer : Result C Fault}
+      → done (after y) mid answer q → answered_by (λ x. after (form x)) (Tried one n) p answer q
+  formed_ok y (Ok x) is t d = let same : y ≡ form x = (let e = is in cc) in
+      inl (x, mid, t, (d.0 ∙ ap (λ z. Ok (after z)) same, d.1))
   formed_ok y (Err e) is t d = absurd (let bad = is in cc)

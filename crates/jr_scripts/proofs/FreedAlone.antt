@@ -28,17 +28,22 @@ plainly : Asked
 plainly = (no_names, commands.Make make.Plain [])
 
 free_alone : (turns : ℕ) → LeadsAlone turns plainly free_locals
-free_alone turns = call_alone turns plainly (λ c. 0) (λ c last t s. references.freeing) (λ c last t s one first. freeing_uncontended s plainly c last t one first) (λ c last t s. refusals_change_nothing c last t s _ CallOf.free_locals)
+free_alone turns = call_alone turns plainly (λ c. 0) (λ c last t s. references.freeing)
+    (λ c last t s one first. freeing_uncontended s plainly c last t one first) (λ c last t s.
+    refusals_change_nothing c last t s _ CallOf.free_locals)
 
-free_answers : (old new : ThreadState) (answer : Result (Unit {0}) Fault) → free_locals old answer new → (answer ≡ Ok tt) ⊎ (answer ≡ Err Barred)
+free_answers : (old new : ThreadState) (answer : Result (Unit {0}) Fault) → free_locals old answer new
+    → (answer ≡ Ok tt) ⊎ (answer ≡ Err Barred)
 free_answers old new answer d = ⊎_elim (λ x. inr x.1) (λ x. inl x.2.1) d.0.ran.is
 
 barred_again : (answer : Result (Unit {0}) Fault) → is_tried_again answer ≡ false → answer ≡ Err Barred → answer ≡ Ok tt
 barred_again answer final is = let again_is = ap is_tried_again is in absurd cc
 
 -- where there is a turn, the references are freed
-freed_all : (n : ℕ) (old new : ThreadState) (answer : Result (Unit {0}) Fault) → IsAlone new.pass → Tried free_locals n old answer new → n ≢ 0 → answer ≡ Ok tt
-freed_all (suc n) old new answer alone (answered d final) some = ⊎_elim (λ e. e) (barred_again answer final) (free_answers old new answer d)
+freed_all : (n : ℕ) (old new : ThreadState) (answer : Result (Unit {0}) Fault) → IsAlone new.pass
+    → Tried free_locals n old answer new → n ≢ 0 → answer ≡ Ok tt
+freed_all (suc n) old new answer alone (answered d final) some =
+    ⊎_elim (λ e. e) (barred_again answer final) (free_answers old new answer d)
 freed_all (suc n) old new answer alone (again {mid = mid} {once = once} d more rest) some =
     let y = tries_alone plainly free_alone n mid new answer alone rest in
     let x = (free_alone 0).led old mid once (was_alone y alone) d in
@@ -46,15 +51,23 @@ freed_all (suc n) old new answer alone (again {mid = mid} {once = once} d more r
 freed_all zero old new answer alone gave_up some = absurd (some refl)
 
 -- A LONE THREAD's commands, and its end
-pub record EndedAlone {talk : Speech} {turns first : ℕ} {opening told left : ThreadState} {commands : List Command} {text : List ℕ} (e : Explained talk turns first opening commands text told) (f : IsFreed turns told left) : Type 0 where
+pub record EndedAlone {talk : Speech} {turns first : ℕ} {opening told left : ThreadState} {commands : List Command}
+    {text : List ℕ} (e : Explained talk turns first opening commands text told)
+    (f : IsFreed turns told left) : Type 0 where
   pub answers : AnswersAlone e.explains
   pub all : turns ≢ 0 → f.answer ≡ Ok tt
   pub uncontended : AllUncontended opening.pass.seen → AllUncontended left.pass.seen
 
-pub ended_alone : {talk : Speech} (turns first : ℕ) (opening told left : ThreadState) (commands : List Command) (text : List ℕ) (e : Explained talk turns first opening commands text told) (f : IsFreed turns told left) → IsAlone left.pass → EndedAlone e f
+pub ended_alone : {talk : Speech} (turns first : ℕ) (opening told left : ThreadState) (commands : List Command)
+    (text : List ℕ) (e : Explained talk turns first opening commands text told) (f : IsFreed turns told left)
+    → IsAlone left.pass → EndedAlone e f
 ended_alone turns first opening told left commands text e f alone =
     let y = tries_alone plainly free_alone turns told left f.answer alone f.tries in
     let here = was_alone y alone in
     let g = given_up_alone e.place.objects e.done told (Ok tt) here e.ended in
     let x = went_alone turns first opening e.done commands text e.place e.words e.explains (led_alone g here) in
-    record { answers = x.answers; all = freed_all turns told left f.answer alone f.tries; uncontended = λ m. y.uncontended (g.uncontended (x.uncontended m)) }
+    record {
+      answers = x.answers;
+      all = freed_all turns told left f.answer alone f.tries;
+      uncontended = λ m. y.uncontended (g.uncontended (x.uncontended m));
+    }

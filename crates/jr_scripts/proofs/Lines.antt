@@ -1,5 +1,6 @@
 -- How many lines the parts of a script are, and how many passes and runs it has.
-use Rattle.std.proofs.Common.{◌≡◌, ◌+◌, ◌<◌, ◌≤◌, ℕ, zero, suc, true, List, [], ◌∷◌, length, drop, refl, sym, ap, ◌∙◌, arith}
+use Rattle.std.proofs.Common.{◌≡◌, ◌+◌, ◌<◌, ◌≤◌, ℕ, zero, suc, true, List, []}
+use Rattle.std.proofs.Common.{◌∷◌, length, drop, refl, sym, ap, ◌∙◌, arith}
 use Rattle.std.proofs.lemmas.List.{length-map, length-append}
 use Rattle.std.proofs.lemmas.Slice.Zip.{AllZip-long}
 use Rattle.std.specs.List.{AllZip}
@@ -26,21 +27,26 @@ numbers_long (suc n) = let e = length-append (numbers_below n) (n ∷ []) in let
 
 -- one pass a thread
 pub passes_long : (c : Config) (last : ℕ) (r : Row) (ps : List Pass) → AreOpened c last r ps → length ps ≡ c.threads
-passes_long c last r ps o = sym (length-map ps (λ (p : Pass). p.thread)) ∙ (ap (λ (ns : List ℕ). length ns) o.threads ∙ numbers_long c.threads)
+passes_long c last r ps o =
+    sym (length-map ps (λ (p : Pass). p.thread)) ∙ (ap (λ (ns : List ℕ). length ns) o.threads ∙ numbers_long c.threads)
 
-pub jobs_long : (turns line : ℕ) (ps : List Pass) (qs : List ThreadPart) (js : List Job) → AreJobsOf turns line ps qs js → length js ≡ length qs
+pub jobs_long : (turns line : ℕ) (ps : List Pass) (qs : List ThreadPart) (js : List Job) → AreJobsOf turns line ps qs js
+    → length js ≡ length qs
 jobs_long turns line [] [] [] jobs = refl
 jobs_long turns line [] [] (j ∷ js) jobs = absurd jobs
 jobs_long turns line [] (q ∷ qs) js jobs = absurd jobs
 jobs_long turns line (p ∷ ps) [] js jobs = absurd jobs
 jobs_long turns line (p ∷ ps) (q ∷ qs) [] jobs = absurd jobs
-jobs_long turns line (p ∷ ps) (q ∷ qs) (j ∷ js) jobs = ap suc (jobs_long turns (line + 1 + length q.commands) ps qs js jobs.1)
+jobs_long turns line (p ∷ ps) (q ∷ qs) (j ∷ js) jobs =
+    ap suc (jobs_long turns (line + 1 + length q.commands) ps qs js jobs.1)
 
 -- one run a part
-pub runs_long : {Q : Type 0} {G : Ghosts Q} (turns line : ℕ) (ps : List Pass) (qs : List ThreadPart) (js : List Job) (xs : List (ThreadRun Q G)) → AreJobsOf turns line ps qs js → AllZip HasRun js xs → length xs ≡ length qs
+pub runs_long : {Q : Type 0} {G : Ghosts Q} (turns line : ℕ) (ps : List Pass) (qs : List ThreadPart) (js : List Job)
+    (xs : List (ThreadRun Q G)) → AreJobsOf turns line ps qs js → AllZip HasRun js xs → length xs ≡ length qs
 runs_long turns line ps qs js xs jobs ran = AllZip-long HasRun js xs ran ∙ jobs_long turns line ps qs js jobs
 
-ends_long : {Q : Type 0} {G : Ghosts Q} (qs : List ThreadPart) (xs : List (ThreadRun Q G)) (ends : List Pass) (text : List ℕ) → AreTold qs xs ends text → length ends ≡ length qs
+ends_long : {Q : Type 0} {G : Ghosts Q} (qs : List ThreadPart) (xs : List (ThreadRun Q G)) (ends : List Pass)
+    (text : List ℕ) → AreTold qs xs ends text → length ends ≡ length qs
 ends_long [] xs [] text told = refl
 ends_long [] [] (e ∷ ends) text told = absurd told
 ends_long [] (x ∷ xs) (e ∷ ends) text told = absurd told
@@ -49,7 +55,9 @@ ends_long (q ∷ qs) (x ∷ xs) [] text told = absurd told
 ends_long (q ∷ qs) (x ∷ xs) (e ∷ ends) text told = ap suc (ends_long qs xs ends told.2 told.4)
 
 -- there is a first pass
-pub some_ends : {Q : Type 0} {G : Ghosts Q} (c : Config) (qs : List ThreadPart) (xs : List (ThreadRun Q G)) (ends : List Pass) (text : List ℕ) → in_limits c ≡ true → length qs ≡ c.threads → AreTold qs xs ends text → 0 < length ends
+pub some_ends : {Q : Type 0} {G : Ghosts Q} (c : Config) (qs : List ThreadPart) (xs : List (ThreadRun Q G))
+    (ends : List Pass) (text : List ℕ) → in_limits c ≡ true → length qs ≡ c.threads → AreTold qs xs ends text
+    → 0 < length ends
 some_ends c qs xs ends text limits long told =
     let least = (limited c limits).threads.0 in
     let same = ends_long qs xs ends text told in

@@ -1,5 +1,6 @@
 -- A script of one thread that is run as one of several: its run is that of the thread alone.
-use Rattle.std.proofs.Common.{◌≡◌, ℕ, Option, Some, None, Ok, List, [], ◌∷◌, ◌++◌, length, refl, sym, ap, subst, ◌∙◌, arith}
+use Rattle.std.proofs.Common.{◌≡◌, ℕ, Option, List, [], ◌∷◌}
+use Rattle.std.proofs.Common.{◌++◌, length, refl, sym, ap, subst, ◌∙◌, arith}
 use Rattle.std.proofs.lemmas.List.{append-nil}
 use Rattle.std.specs.List.{AllByRecursion}
 use Rattle.jr_word.specs.declared.config.Config.{Config}
@@ -36,28 +37,43 @@ meet_changes_nothing s e is = ap (act_after s e.thread) is
 
 meets_change_nothing : (s : State) (es : History) → AllByRecursion (λ e. e.act ≡ Meet) es → state_from s es ≡ s
 meets_change_nothing s [] all = refl
-meets_change_nothing s (e ∷ es) all = ap (λ x. state_from x es) (meet_changes_nothing s e all.0) ∙ meets_change_nothing s es all.1
+meets_change_nothing s (e ∷ es) all =
+    ap (λ x. state_from x es) (meet_changes_nothing s e all.0) ∙ meets_change_nothing s es all.1
 
-module _ (board : List ℕ → Option (ℕ × History)) (rank : List ℕ → ℕ) (turns last : ℕ) (c : Config) (one : c.threads ≡ 1) (whole : History) (legal : IsLegal c last whole) where
+module _ (board : List ℕ → Option (ℕ × History)) (rank : List ℕ → ℕ) (turns last : ℕ) (c : Config) (one : c.threads ≡ 1)
+    (whole : History) (legal : IsLegal c last whole) where
   module _ (part : ThreadPart) (lines : List ℕ) (p : IsPartOf board rank turns last c whole 0 3 part lines) where
     -- behind what the thread has seen stands its look at the gate alone
     same_state : state whole ≡ state p.seen
     same_state =
-        let d : Did (seeing c last p.seen) (seeing c last whole) (Meet ∷ []) = record { config = refl; last = refl; thread = refl; legal = legal; begins = p.begins; own = p.own } in
+        let d : Did (seeing c last p.seen) (seeing c last whole) (Meet ∷ []) =
+        record { config = refl; last = refl; thread = refl; legal = legal; begins = p.begins; own = p.own } in
         let rest = p.begins.0 in
         let own : AllByRecursion (λ e. e.thread ≡ 0) rest
-        = all_back (λ (e : Event). e.thread ≡ 0) p.seen rest (subst (AllByRecursion (λ (e : Event). e.thread ≡ 0)) (sym p.begins.1) (all_map (λ e u. u.own) whole (undisturbed c last one whole legal))) in
-        let meets = own_events (λ a. a ≡ Meet) 0 rest own (subst (AllByRecursion (λ a. a ≡ Meet)) (sym (mine_did (Meet ∷ []) d)) (refl, tt)) in
+        = all_back (λ (e : Event). e.thread ≡ 0) p.seen rest (subst (AllByRecursion (λ (e : Event). e.thread ≡ 0))
+        (sym p.begins.1) (all_map (λ e u. u.own) whole (undisturbed c last one whole legal))) in
+        let meets = own_events (λ a. a ≡ Meet) 0 rest own
+        (subst (AllByRecursion (λ a. a ≡ Meet)) (sym (mine_did (Meet ∷ []) d)) (refl, tt)) in
         ap state (sym p.begins.1) ∙ (state_append p.seen rest ∙ meets_change_nothing (state p.seen) rest meets)
 
-    part_alone : (text : List ℕ) → IsOfPosts part.commands board → text ≡ heading part.name ++ lines ++ ending (summary c last (state whole)) → IsRun turns last c part text
+    part_alone : (text : List ℕ) → IsOfPosts part.commands board
+        → text ≡ heading part.name ++ lines ++ ending (summary c last (state whole)) → IsRun turns last c part text
     part_alone text posted is =
-        let legal_seen : IsLegal c last p.seen = ((legal_append c last p.seen p.begins.0).0 (subst (IsLegal c last) (sym p.begins.1) legal)).0 in
+        let legal_seen : IsLegal c last p.seen =
+        ((legal_append c last p.seen p.begins.0).0 (subst (IsLegal c last) (sym p.begins.1) legal)).0 in
         let all = undisturbed c last one p.seen legal_seen in
         let lone : IsAlone (p.left).pass = subst IsAlone (sym p.saw) (lone_pass (seeing c last p.seen) one refl all) in
         let x = p.explained in
-        let explained : Explained said_alone turns 3 (opening_moment c last) part.commands lines p.told = record { place = x.place; words = x.words; done = x.done; explains = heard_alone x.explains (λ n has. let there = on_board x.explains n has in posted n there.0 there.1); ended = x.ended } in
-        let ended = ended_alone turns 3 (opening_moment c last) p.told p.left part.commands lines explained p.freed lone in
+        let explained : Explained said_alone turns 3 (opening_moment c last) part.commands lines p.told = record {
+          place = x.place;
+          words = x.words;
+          done = x.done;
+          explains =
+              heard_alone x.explains (λ n has. let there = on_board x.explains n has in posted n there.0 there.1);
+          ended = x.ended;
+        } in
+        let ended =
+        ended_alone turns 3 (opening_moment c last) p.told p.left part.commands lines explained p.freed lone in
         record {
           seen = p.seen;
           lines = lines;
@@ -76,13 +92,17 @@ module _ (board : List ℕ → Option (ℕ × History)) (rank : List ℕ → ℕ
         ap-seen : (AllUncontended [] → AllUncontended (p.left).pass.seen) → AllUncontended p.seen
         ap-seen f = subst (λ v. AllUncontended v.seen) p.saw (f tt)
 
-  parts_alone : (part : ThreadPart) (lines : List (List ℕ)) → ArePartsOf board rank turns last c whole 0 2 (part ∷ []) lines → (text : List ℕ) → IsOfPosts part.commands board → text ≡ text_of_parts (part ∷ []) lines ++ ending (summary c last (state whole)) → IsRun turns last c part text
+  parts_alone : (part : ThreadPart) (lines : List (List ℕ))
+      → ArePartsOf board rank turns last c whole 0 2 (part ∷ []) lines → (text : List ℕ) → IsOfPosts part.commands board
+      → text ≡ text_of_parts (part ∷ []) lines ++ ending (summary c last (state whole)) → IsRun turns last c part text
   parts_alone part [] parts text posted is = absurd parts
-  parts_alone part (l ∷ []) parts text posted is = part_alone part l parts.0 text posted (is ∙ ap (λ t. t ++ ending (summary c last (state whole))) (append-nil (heading part.name ++ l)))
+  parts_alone part (l ∷ []) parts text posted is = part_alone part l parts.0 text posted (is
+      ∙ ap (λ t. t ++ ending (summary c last (state whole))) (append-nil (heading part.name ++ l)))
   parts_alone part (l ∷ m ∷ ls) parts text posted is = absurd parts.1
 
 -- a script of one thread, run by whoever runs all threads of a script
-pub lone_run : (turns last : ℕ) (s : Script) (old new text : List ℕ) → new ≡ old ++ text → IsRunOfAll turns last s text → s.config.threads ≡ 1 → RunsSingle turns last s old new
+pub lone_run : (turns last : ℕ) (s : Script) (old new text : List ℕ) → new ≡ old ++ text → IsRunOfAll turns last s text
+    → s.config.threads ≡ 1 → RunsSingle turns last s old new
 lone_run turns last s old new text grew r one =
     let q = one_part s.threads (r.right.one_each ∙ one) in
     record {
@@ -90,6 +110,8 @@ lone_run turns last s old new text grew r one =
       has = record { part_is = q.1; one = one; limits = r.right.limits; once = r.right.once };
       text = text;
       grew = grew;
-      run = parts_alone r.board r.rank turns last s.config one r.whole r.legal q.0 r.lines (subst (λ ps. ArePartsOf r.board r.rank turns last s.config r.whole 0 2 ps r.lines) q.1 r.parts) text (subst (λ cs. IsOfPosts cs r.board) (ap commands_of q.1 ∙ append-nil (q.0).commands) r.posted)
+      run = parts_alone r.board r.rank turns last s.config one r.whole r.legal q.0 r.lines
+          (subst (λ ps. ArePartsOf r.board r.rank turns last s.config r.whole 0 2 ps r.lines) q.1 r.parts) text
+          (subst (λ cs. IsOfPosts cs r.board) (ap commands_of q.1 ∙ append-nil (q.0).commands) r.posted)
           (r.text_is ∙ ap (λ ps. text_of_parts ps r.lines ++ ending (summary s.config last (state r.whole))) q.1);
     }

@@ -13,5 +13,6 @@ joined word [] = sym (append-nil word)
 joined word (u ∷ units) = ap (λ rest. word ++ (32 ∷ rest)) (joined (decimal u) units)
 
 -- two words, and units behind them
-pub units_line : (word subject units : List ℕ) → word ++ (32 ∷ subject ++ spaced_units units) ≡ join_with_byte 32 (word ∷ subject ∷ map decimal units)
+pub units_line : (word subject units : List ℕ)
+    → word ++ (32 ∷ subject ++ spaced_units units) ≡ join_with_byte 32 (word ∷ subject ∷ map decimal units)
 units_line word subject units = ap (λ rest. word ++ (32 ∷ rest)) (sym (joined subject units))

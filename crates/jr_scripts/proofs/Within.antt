@@ -20,13 +20,15 @@ use Rattle.jr_frames.specs.Table.{Table}
 use Rattle.jr_gate.specs.Performing.{Performed}
 use Rattle.jr_gate.proofs.Spending.{made_of, spend_none}
 use Rattle.jr_critical.specs.declared.levels.Levels.{Levels}
-use Rattle.jr_critical.specs.Levels.{KnowsLevels, LearnsFirst, Nests, Opens, Reaches, Stand, TellsKind, level_nested, level_object, object_opened, objects_of, role_opened}
+use Rattle.jr_critical.specs.Levels.{KnowsLevels, LearnsFirst, Nests, Opens, Reaches, Stand, TellsKind}
+use Rattle.jr_critical.specs.Levels.{level_nested, level_object, object_opened, objects_of, role_opened}
 use Rattle.jr_steps.specs.declared.steps.Steps.{Ghosts}
 use Rattle.jr_env.specs.declared.env.Env.{Env}
 use Rattle.jr_env.specs.Envs.{IsOutside}
 use Rattle.jr_env.specs.Criticals.{HasEntered, WasRefused}
 use Rattle.jr_env.specs.Deeds.{CarriedOut, Deed, decided, done, ◌>>=◌, ◌>>◌}
-use Rattle.jr_env.proofs.Carrying.{did_call, did_decided, did_decline, did_in_role, did_more, did_refused, did_reply, did_then, own_call, role_kept}
+use Rattle.jr_env.proofs.Carrying.{did_call, did_decided, did_decline, did_in_role, did_more}
+use Rattle.jr_env.proofs.Carrying.{did_refused, did_reply, did_then, own_call, role_kept}
 use Rattle.jr_syntax.specs.declared.verb.OpenLevel.{OpenLevel}
 use Rattle.jr_scripts.specs.declared.number.NumberKind.{NumberKind}
 use Rattle.jr_scripts.specs.declared.reply.Reply.{Reply}
@@ -42,111 +44,188 @@ use Rattle.jr_syntax.specs.declared.verb.PutAt.TheVariants as put_at
 use Rattle.jr_scripts.proofs.CommandDeeds.{numbered_has}
 use Rattle.jr_scripts.specs.Commands.{opening_by, opens}
 use Rattle.jr_env.specs.StayDeeds.{within_by}
-use Rattle.jr_scripts.specs.RegionCommands.{deed_at, deed_within, kind_of_level, nesting, nests, read_kind, level_reading, reading_as, level_writing, writing_as}
+use Rattle.jr_scripts.specs.RegionCommands.{deed_at, deed_within, kind_of_level, nesting, nests, read_kind}
+use Rattle.jr_scripts.specs.RegionCommands.{level_reading, reading_as, level_writing, writing_as}
 
 module _ {S : Type 0} {facts : S → Facts} where
   -- a number was stored at a level
-  module _ {a b : S} {f g : Frames} {met shown : Known → Type 0} (o i : ℕ) (x z : ℤ) (k : Kind) (word : ℕ) (is : word_of_number k z ≡ Ok word) (same : z ≡ x) where
-    pub did_store : CarriedOut facts a b f g Within met shown (within_by (λ c. 0) (λ c last t s. region_set c last t s k o i word)) (Ok tt) → CarriedOut facts a b f g Within met shown (writing_as o i x k) (Ok replies.Done)
-    did_store d = did_decided (λ word. within_by (λ c. 0) (λ c last t s. region_set c last t s k o i word) >> done replies.Done) (ap (word_of_number k) (sym same) ∙ is) (did_reply (λ _. replies.Done) tt d)
+  module _ {a b : S} {f g : Frames} {met shown : Known → Type 0} (o i : ℕ) (x z : ℤ) (k : Kind) (word : ℕ)
+      (is : word_of_number k z ≡ Ok word) (same : z ≡ x) where
+    pub did_store : CarriedOut facts a b f g Within met shown
+        (within_by (λ c. 0) (λ c last t s. region_set c last t s k o i word)) (Ok tt)
+        → CarriedOut facts a b f g Within met shown (writing_as o i x k) (Ok replies.Done)
+    did_store d =
+        did_decided (λ word. within_by (λ c. 0) (λ c last t s. region_set c last t s k o i word) >> done replies.Done)
+        (ap (word_of_number k) (sym same) ∙ is) (did_reply (λ _. replies.Done) tt d)
 
-    pub did_store_not : (e : Fault) → CarriedOut facts a b f g Within met shown (within_by (λ c. 0) (λ c last t s. region_set c last t s k o i word)) (Err e) → CarriedOut facts a b f g Within met shown (writing_as o i x k) (Err e)
-    did_store_not e d = did_decided (λ word. within_by (λ c. 0) (λ c last t s. region_set c last t s k o i word) >> done replies.Done) (ap (word_of_number k) (sym same) ∙ is) (did_refused (λ _. done replies.Done) e d)
+    pub did_store_not : (e : Fault) → CarriedOut facts a b f g Within met shown
+        (within_by (λ c. 0) (λ c last t s. region_set c last t s k o i word)) (Err e)
+        → CarriedOut facts a b f g Within met shown (writing_as o i x k) (Err e)
+    did_store_not e d =
+        did_decided (λ word. within_by (λ c. 0) (λ c last t s. region_set c last t s k o i word) >> done replies.Done)
+        (ap (word_of_number k) (sym same) ∙ is) (did_refused (λ _. done replies.Done) e d)
 
 module _ {S : Type 0} (facts : S → Facts) (fits : AreOf facts) where
   -- a call in the stay
-  did_inside : {A : Type 0} {a b : S} {f g : Frames} {n : ℕ} {met shown : Known → Type 0} {shows : Known → Known → Type 0} (call : Config → ℕ → ℕ → State → Call A) {answer : Result A Fault}
+  did_inside : {A : Type 0} {a b : S} {f g : Frames} {n : ℕ} {met shown : Known → Type 0}
+      {shows : Known → Known → Type 0} (call : Config → ℕ → ℕ → State → Call A) {answer : Result A Fault}
       → (facts a).stands.role ≡ Within → ((j k : Known) → shows j k → shown k)
-      → Performed facts a b f g n met (λ s. call (facts a).stands.config (facts a).stands.last (facts a).stands.thread s) answer shows → CarriedOut facts a b f g Within met shown (within_by (λ c. n) call) answer
+      → Performed facts a b f g n met
+      (λ s. call (facts a).stands.config (facts a).stands.last (facts a).stands.thread s) answer shows
+      → CarriedOut facts a b f g Within met shown (within_by (λ c. n) call) answer
   did_inside {n = n} call within on p = did_in_role within (did_call facts fits (λ c. n) call on p)
 
   -- a call at a level's object
-  pub did_reach : {A : Type 0} {a b : S} {t : Table} {f g : Frames} {v : Levels} (call : Config → ℕ → ℕ → State → Call A) {answer : Result A Fault} → Stand facts v a t → g ≡ f → Reaches facts a b f v call answer → CarriedOut facts a b f g Within (KnowsLevels v f) (KnowsLevels v g) (within_by (λ c. 0) call) answer
-  did_reach {a = a} {b = b} {f = f} {v = v} call {answer = answer} stand same r = subst (λ h. CarriedOut facts a b f h Within (KnowsLevels v f) (KnowsLevels v h) (within_by (λ c. 0) call) answer) (sym same) (did_inside call stand.ready.role_is (λ j k x. x.1) r)
+  pub did_reach : {A : Type 0} {a b : S} {t : Table} {f g : Frames} {v : Levels}
+      (call : Config → ℕ → ℕ → State → Call A) {answer : Result A Fault} → Stand facts v a t → g ≡ f
+      → Reaches facts a b f v call answer
+      → CarriedOut facts a b f g Within (KnowsLevels v f) (KnowsLevels v g) (within_by (λ c. 0) call) answer
+  did_reach {a = a} {b = b} {f = f} {v = v} call {answer = answer} stand same r =
+      subst (λ h. CarriedOut facts a b f h Within (KnowsLevels v f) (KnowsLevels v h) (within_by (λ c. 0) call) answer)
+      (sym same) (did_inside call stand.ready.role_is (λ j k x. x.1) r)
 
   -- a level was added, or refused
-  pub did_nest : {a b : S} {t : Table} {f g : Frames} {v : Levels} (w : Levels) (verb u : OpenLevel) (word : ℕ) (answer : Result ℕ Fault) → verb ≡ u → Stand facts v a t → g ≡ f → Nests facts a b f word (nests u) v w answer → CarriedOut facts a b f g Within (KnowsLevels v f) (KnowsLevels w g) (nesting verb (objects_of v) word) (level_nested answer w)
+  pub did_nest : {a b : S} {t : Table} {f g : Frames} {v : Levels} (w : Levels) (verb u : OpenLevel) (word : ℕ)
+      (answer : Result ℕ Fault) → verb ≡ u → Stand facts v a t → g ≡ f → Nests facts a b f word (nests u) v w answer
+      → CarriedOut facts a b f g Within (KnowsLevels v f) (KnowsLevels w g) (nesting verb (objects_of v) word)
+      (level_nested answer w)
   did_nest {a = a} {b = b} {f = f} {v = v} w verb u word answer which stand same made =
-      let r : Nests facts a b f word (nests verb) v w answer = subst (λ x. Nests facts a b f word (nests x) v w answer) (sym which) made in
-      let d = did_inside {met = KnowsLevels v f} {shown = KnowsLevels w f} (λ c last t s. nests verb c last t s (objects_of v) r.0) stand.ready.role_is (λ j k x. x) r.2 in
-      subst (λ h. CarriedOut facts a b f h Within (KnowsLevels v f) (KnowsLevels w h) (nesting verb (objects_of v) word) (level_nested answer w)) (sym same) (did_more (λ p q x. (r.0, r.1, x)) d)
+      let r : Nests facts a b f word (nests verb) v w answer =
+      subst (λ x. Nests facts a b f word (nests x) v w answer) (sym which) made in
+      let d = did_inside {met = KnowsLevels v f} {shown = KnowsLevels w f}
+      (λ c last t s. nests verb c last t s (objects_of v) r.0) stand.ready.role_is (λ j k x. x) r.2 in
+      subst (λ h. CarriedOut facts a b f h Within (KnowsLevels v f) (KnowsLevels w h) (nesting verb (objects_of v) word)
+      (level_nested answer w)) (sym same) (did_more (λ p q x. (r.0, r.1, x)) d)
 
   -- the kind of a level's object is known
-  pub did_kind : {a : S} {t : Table} {f : Frames} {v : Levels} (i : ℕ) (k : Kind) → Stand facts v a t → TellsKind v i k → CarriedOut facts a a f f Within (KnowsLevels v f) (KnowsLevels v f) (kind_of_level (level_object v i)) (Ok k)
+  pub did_kind : {a : S} {t : Table} {f : Frames} {v : Levels} (i : ℕ) (k : Kind) → Stand facts v a t → TellsKind v i k
+      → CarriedOut facts a a f f Within (KnowsLevels v f) (KnowsLevels v f) (kind_of_level (level_object v i)) (Ok k)
   did_kind {a = a} {f = f} {v = v} i kind stand tells = record {
     stands_is = role_kept Within stand.ready.role_is;
     did = λ k s m.
         let l = (fits a k s).legal in
-        let ran : Ran (view k) (view k) f f (region_kind k.config k.last k.thread (state_of k) (level_object v i)) (Ok kind) = record { acts = []; did = did_nothing (view k) l; is = tells k.config k.last k.thread k f m.0; begun = k.seen; window = window_nothing (view k); grounds = tt } in
+        let ran : Ran (view k) (view k) f f (region_kind k.config k.last k.thread (state_of k) (level_object v i))
+        (Ok kind) = record {
+          acts = [];
+          did = did_nothing (view k) l;
+          is = tells k.config k.last k.thread k f m.0;
+          begun = k.seen;
+          window = window_nothing (view k);
+          grounds = tt;
+        } in
         (k, s, m, made_of (spend_none (facts a) k f f l) ran);
   }
 
   -- a region was opened
-  pub did_open : {a b : S} {f g : Frames} (verb u : OpenLevel) (word : ℕ) (answer : Result Levels Fault) → verb ≡ u → g ≡ f → Opens facts a b f word (opens u) answer → CarriedOut facts a b f g (role_opened answer) (Holds f) (KnowsOpened answer g) (opening_by verb word) (object_opened answer)
+  pub did_open : {a b : S} {f g : Frames} (verb u : OpenLevel) (word : ℕ) (answer : Result Levels Fault) → verb ≡ u
+      → g ≡ f → Opens facts a b f word (opens u) answer → CarriedOut facts a b f g (role_opened answer) (Holds f)
+      (KnowsOpened answer g) (opening_by verb word) (object_opened answer)
   did_open {a} {b} {f} verb u word answer which same made =
-      let o : Opens facts a b f word (opens verb) answer = subst (λ x. Opens facts a b f word (opens x) answer) (sym which) made in
-      subst (λ h. CarriedOut facts a b f h (role_opened answer) (Holds f) (KnowsOpened answer h) (opening_by verb word) (object_opened answer)) (sym same) (record {
+      let o : Opens facts a b f word (opens verb) answer =
+      subst (λ x. Opens facts a b f word (opens x) answer) (sym which) made in
+      subst (λ h. CarriedOut facts a b f h (role_opened answer) (Holds f) (KnowsOpened answer h) (opening_by verb word)
+      (object_opened answer)) (sym same) (record {
         stands_is = o.2.stands_is;
         did = λ k s m.
-            let x = o.2.ran k s m in
-            (x.0, x.1, held answer k x.0 x.3, (o.0, o.1, own_call facts fits (λ c. 1) (λ c last t s. opens verb c last t s o.0) k x.0 s x.2, gone answer k x.0 x.3));
+            let x = o.2.ran k s m in (
+              x.0,
+              x.1,
+              held answer k x.0 x.3,
+              (
+                o.0,
+                o.1,
+                own_call facts fits (λ c. 1) (λ c last t s. opens verb c last t s o.0) k x.0 s x.2,
+                gone answer k x.0 x.3,
+              ),
+            );
       })
     where
       held : (r : Result Levels Fault) (j k : Known) → LearnsFirst r j k × Holds f k → KnowsOpened r f k
       held (Ok v) j k x = (x.0.0, x.1)
       held (Err e) j k x = x.1
 
-      gone : (r : Result Levels Fault) (j k : Known) → LearnsFirst r j k × Holds f k → IfErr (object_opened r) (λ e. k.holdings ≡ empty)
+      gone : (r : Result Levels Fault) (j k : Known) → LearnsFirst r j k × Holds f k
+          → IfErr (object_opened r) (λ e. k.holdings ≡ empty)
       gone (Ok v) j k x = tt
       gone (Err e) j k x = x.0
 
   -- the number at an index of a level
-  module _ {a : S} {t : Table} {f : Frames} {v : Levels} (i index : ℕ) (k : Kind) (stand : Stand facts v a t) (tells : TellsKind v i k) where
-    pub did_read : {b : S} {g : Frames} {answer : Result Reply Fault} (n u : NumberKind) → read_kind k ≡ kind_numbered n → n ≡ u → CarriedOut facts a b f g Within (KnowsLevels v f) (KnowsLevels v g) (reading_as (level_object v i) index (kind_numbered u)) answer
-        → CarriedOut facts a b f g Within (KnowsLevels v f) (KnowsLevels v g) (level_reading (level_object v i) index) answer
+  module _ {a : S} {t : Table} {f : Frames} {v : Levels} (i index : ℕ) (k : Kind) (stand : Stand facts v a t)
+      (tells : TellsKind v i k) where
+    pub did_read : {b : S} {g : Frames} {answer : Result Reply Fault} (n u : NumberKind) → read_kind k ≡ kind_numbered n
+        → n ≡ u → CarriedOut facts a b f g Within (KnowsLevels v f) (KnowsLevels v g)
+        (reading_as (level_object v i) index (kind_numbered u)) answer
+        → CarriedOut facts a b f g Within (KnowsLevels v f) (KnowsLevels v g) (level_reading (level_object v i) index)
+        answer
     did_read {b} {g} {answer} n u is same d =
         let kind : read_kind k ≡ kind_numbered u = is ∙ ap kind_numbered same in
         let after : Kind → Deed Reply = λ l. decided (has_numbers l) >>= (λ _. reading_as (level_object v i) index l) in
         did_then (λ k. after (read_kind k)) (did_kind i k stand tells)
-        (subst (λ l. CarriedOut facts a b f g Within (KnowsLevels v f) (KnowsLevels v g) (after l) answer) (sym kind) (did_decided (λ _. reading_as (level_object v i) index (kind_numbered u)) (numbered_has u) d))
+        (subst (λ l. CarriedOut facts a b f g Within (KnowsLevels v f) (KnowsLevels v g) (after l) answer) (sym kind)
+        (did_decided (λ _. reading_as (level_object v i) index (kind_numbered u)) (numbered_has u) d))
 
-    pub did_read_not : (e : Fault) → has_numbers (read_kind k) ≡ Err e → CarriedOut facts a a f f Within (KnowsLevels v f) (KnowsLevels v f) (level_reading (level_object v i) index) (Err e)
-    did_read_not e is = did_then (λ k. decided (has_numbers (read_kind k)) >>= (λ _. reading_as (level_object v i) index (read_kind k))) (did_kind i k stand tells) (did_decline (λ _. reading_as (level_object v i) index (read_kind k)) stand.ready.role_is (λ k m. m) is)
+    pub did_read_not : (e : Fault) → has_numbers (read_kind k) ≡ Err e → CarriedOut facts a a f f Within
+        (KnowsLevels v f) (KnowsLevels v f) (level_reading (level_object v i) index) (Err e)
+    did_read_not e is =
+        did_then (λ k. decided (has_numbers (read_kind k)) >>= (λ _. reading_as (level_object v i) index (read_kind k)))
+        (did_kind i k stand tells)
+        (did_decline (λ _. reading_as (level_object v i) index (read_kind k)) stand.ready.role_is (λ k m. m) is)
 
     -- a number was stored at an index of it
-    pub did_write : {b : S} {g : Frames} {answer : Result Reply Fault} (x z : ℤ) (n u : NumberKind) → k ≡ kind_numbered n → n ≡ u → z ≡ x → CarriedOut facts a b f g Within (KnowsLevels v f) (KnowsLevels v g) (writing_as (level_object v i) index z (kind_numbered u)) answer
-        → CarriedOut facts a b f g Within (KnowsLevels v f) (KnowsLevels v g) (level_writing (level_object v i) index x) answer
+    pub did_write : {b : S} {g : Frames} {answer : Result Reply Fault} (x z : ℤ) (n u : NumberKind)
+        → k ≡ kind_numbered n → n ≡ u → z ≡ x → CarriedOut facts a b f g Within (KnowsLevels v f) (KnowsLevels v g)
+        (writing_as (level_object v i) index z (kind_numbered u)) answer
+        → CarriedOut facts a b f g Within (KnowsLevels v f) (KnowsLevels v g) (level_writing (level_object v i) index x)
+        answer
     did_write {b} {g} {answer} x z n u is same number d =
         let kind : k ≡ kind_numbered u = is ∙ ap kind_numbered same in
-        let after : Kind → Deed Reply = λ l. decided (has_numbers l) >>= (λ _. writing_as (level_object v i) index x l) in
-        let stored = subst (λ y. CarriedOut facts a b f g Within (KnowsLevels v f) (KnowsLevels v g) (writing_as (level_object v i) index y (kind_numbered u)) answer) number d in
+        let after : Kind
+        → Deed Reply = λ l. decided (has_numbers l) >>= (λ _. writing_as (level_object v i) index x l) in
+        let stored = subst (λ y. CarriedOut facts a b f g Within (KnowsLevels v f) (KnowsLevels v g)
+        (writing_as (level_object v i) index y (kind_numbered u)) answer) number d in
         did_then after (did_kind i k stand tells)
-        (subst (λ l. CarriedOut facts a b f g Within (KnowsLevels v f) (KnowsLevels v g) (after l) answer) (sym kind) (did_decided (λ _. writing_as (level_object v i) index x (kind_numbered u)) (numbered_has u) stored))
+        (subst (λ l. CarriedOut facts a b f g Within (KnowsLevels v f) (KnowsLevels v g) (after l) answer) (sym kind)
+        (did_decided (λ _. writing_as (level_object v i) index x (kind_numbered u)) (numbered_has u) stored))
 
-    pub did_write_not : (x : ℤ) (e : Fault) → has_numbers k ≡ Err e → CarriedOut facts a a f f Within (KnowsLevels v f) (KnowsLevels v f) (level_writing (level_object v i) index x) (Err e)
-    did_write_not x e is = did_then (λ k. decided (has_numbers k) >>= (λ _. writing_as (level_object v i) index x k)) (did_kind i k stand tells) (did_decline (λ _. writing_as (level_object v i) index x k) stand.ready.role_is (λ k m. m) is)
+    pub did_write_not : (x : ℤ) (e : Fault) → has_numbers k ≡ Err e → CarriedOut facts a a f f Within (KnowsLevels v f)
+        (KnowsLevels v f) (level_writing (level_object v i) index x) (Err e)
+    did_write_not x e is = did_then (λ k. decided (has_numbers k) >>= (λ _. writing_as (level_object v i) index x k))
+        (did_kind i k stand tells)
+        (did_decline (λ _. writing_as (level_object v i) index x k) stand.ready.role_is (λ k m. m) is)
 
 -- a region was opened, or refused, by a call of the env
 module _ {S : Type 0} {G : Ghosts S} (old new : Env S G) (u : OpenLevel) (word : ℕ) where
-  entered_opens : (r : Result Levels Fault) → IsOutside old → IfOk r (λ v. HasEntered old new v word (opens u)) → IfErr r (λ e. WasRefused old new word (opens u) e) → Opens G.facts old.held.steps new.held.steps old.held.frames.frames word (opens u) r
+  entered_opens : (r : Result Levels Fault) → IsOutside old → IfOk r (λ v. HasEntered old new v word (opens u))
+      → IfErr r (λ e. WasRefused old new word (opens u) e)
+      → Opens G.facts old.held.steps new.held.steps old.held.frames.frames word (opens u) r
   entered_opens (Ok v) outside entered refused = entered.opens outside
   entered_opens (Err e) outside entered refused = refused.refuses outside
 
-  entered_frames : (r : Result Levels Fault) → IfOk r (λ v. HasEntered old new v word (opens u)) → IfErr r (λ e. WasRefused old new word (opens u) e) → new.held.frames ≡ old.held.frames
+  entered_frames : (r : Result Levels Fault) → IfOk r (λ v. HasEntered old new v word (opens u))
+      → IfErr r (λ e. WasRefused old new word (opens u) e) → new.held.frames ≡ old.held.frames
   entered_frames (Ok v) entered refused = entered.frames
   entered_frames (Err e) entered refused = refused.frames
 
-pub did_enter : {S : Type 0} {G : Ghosts S} (fits : AreOf G.facts) (old new : Env S G) (verb u : OpenLevel) (word : ℕ) (r : Result Levels Fault) → verb ≡ u → IsOutside old → IfOk r (λ v. HasEntered old new v word (opens u)) → IfErr r (λ e. WasRefused old new word (opens u) e) → DidOpen old new (opening_by verb word) r
+pub did_enter : {S : Type 0} {G : Ghosts S} (fits : AreOf G.facts) (old new : Env S G) (verb u : OpenLevel) (word : ℕ)
+    (r : Result Levels Fault) → verb ≡ u → IsOutside old → IfOk r (λ v. HasEntered old new v word (opens u))
+    → IfErr r (λ e. WasRefused old new word (opens u) e) → DidOpen old new (opening_by verb word) r
 did_enter {S} {G} fits old new verb u word r which outside entered refused =
-    did_open G.facts fits verb u word r which (ap (λ (t : Table). t.frames) (entered_frames old new u word r entered refused)) (entered_opens old new u word r outside entered refused)
+    did_open G.facts fits verb u word r which (ap (λ (t : Table). t.frames)
+    (entered_frames old new u word r entered refused)) (entered_opens old new u word r outside entered refused)
 
 -- no buffer is changed in a region
-pub buffers_kept : (names : Names) (v : PutAt) (n : List ℕ) (i : ℕ) (x : ℤ) (r : Result Reply Fault) → (v ≡ put_at.Put → r ≡ Err fault.InCritical) → names ≡ buffers_after (commands.PutAt v n i x) r names
-buffers_kept names put_at.Put n i x r other = ap (λ a. buffers_after (commands.PutAt put_at.Put n i x) a names) (sym (other refl))
+pub buffers_kept : (names : Names) (v : PutAt) (n : List ℕ) (i : ℕ) (x : ℤ) (r : Result Reply Fault)
+    → (v ≡ put_at.Put → r ≡ Err fault.InCritical) → names ≡ buffers_after (commands.PutAt v n i x) r names
+buffers_kept names put_at.Put n i x r other =
+    ap (λ a. buffers_after (commands.PutAt put_at.Put n i x) a names) (sym (other refl))
 buffers_kept names put_at.PutInLevel n i x r other = refl
 
 -- what is done in a region that has a level
-pub did_at : {S : Type 0} {facts : S → Facts} {a b : S} {f g : Frames} {role : Role} {met shown : Known → Type 0} {answer : Result Reply Fault} (turns : ℕ) (names : Names) (levels : List (List ℕ)) (objects : List ℕ) (c : Command) → 1 ≤ length objects
-    → CarriedOut facts a b f g role met shown (deed_within (record { names = names; levels = levels; objects = objects }) c) answer → CarriedOut facts a b f g role met shown (deed_at turns (record { names = names; levels = levels; objects = objects }) c) answer
+pub did_at : {S : Type 0} {facts : S → Facts} {a b : S} {f g : Frames} {role : Role} {met shown : Known → Type 0}
+    {answer : Result Reply Fault} (turns : ℕ) (names : Names) (levels : List (List ℕ)) (objects : List ℕ) (c : Command)
+    → 1 ≤ length objects
+    → CarriedOut facts a b f g role met shown
+    (deed_within (record { names = names; levels = levels; objects = objects }) c) answer → CarriedOut facts a b f g
+    role met shown (deed_at turns (record { names = names; levels = levels; objects = objects }) c) answer
 did_at turns names levels [] c some d = absurd (omega arith)
 did_at turns names levels (o ∷ os) c some d = d

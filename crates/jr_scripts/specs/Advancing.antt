@@ -37,7 +37,8 @@ put_by put_at.PutInLevel answer = Err fault.InCritical
 
 -- what a command does where the thread stands, with what it says and hears
 abbrev pub deed_spoken : Speech → ℕ → Place → Words → Command → Deed Reply
-deed_spoken speech turns p words c old answer new = deed_at turns p c old answer new × speech p.names words c old.pass.seen answer new.pass.seen
+deed_spoken speech turns p words c old answer new =
+    deed_at turns p c old answer new × speech p.names words c old.pass.seen answer new.pass.seen
 
 -- the names of the levels of a region, the first first
 abbrev pub level_names : Option Region → List (List ℕ)
@@ -82,7 +83,8 @@ module _ {S : Type 0} {G : Ghosts S} where
 module _ {S A : Type 0} {G : Ghosts S} where
   -- the deed was done, from one region to another
   abbrev pub DidWith : Env S G → Env S G → Option Region → Option Region → Deed A → Result A Fault → Type 0
-  DidWith old new region left deed answer = WasDoneFrom old new (KnowsWith region) (KnowsWith left) (role_with left) deed answer
+  DidWith old new region left deed answer =
+      WasDoneFrom old new (KnowsWith region) (KnowsWith left) (role_with left) deed answer
 
   -- the deed was done in the stay of a region, from its levels to these
   abbrev pub DidWithin : Env S G → Env S G → Levels → Levels → Deed A → Result A Fault → Type 0
@@ -91,4 +93,5 @@ module _ {S A : Type 0} {G : Ghosts S} where
 module _ {S : Type 0} {G : Ghosts S} where
   -- a region was opened, or refused
   abbrev pub DidOpen : Env S G → Env S G → Deed ℕ → Result Levels Fault → Type 0
-  DidOpen old new deed answer = WasDoneFrom old new Holds (KnowsOpened answer) (role_opened answer) deed (object_opened answer)
+  DidOpen old new deed answer =
+      WasDoneFrom old new Holds (KnowsOpened answer) (role_opened answer) deed (object_opened answer)

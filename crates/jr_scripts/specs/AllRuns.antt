@@ -1,5 +1,6 @@
 -- Runs of scripts of several threads, in one room and one history.
-use Rattle.std.specs.Prelude.{◌≡◌, Option, ◌+◌, ◌<◌, ◌≤◌, ◌^◌, ℕ, zero, suc, true, false, List, [], ◌∷◌, ◌++◌, length, Result}
+use Rattle.std.specs.Prelude.{◌≡◌, Option, ◌+◌, ◌<◌, ◌^◌, ℕ, zero, suc}
+use Rattle.std.specs.Prelude.{true, false, List, [], ◌∷◌, ◌++◌, length, Result}
 use mathlib.Core.List.{IsPrefix}
 use Rattle.jr_word.specs.declared.config.Config.{Config}
 use Rattle.jr_word.specs.declared.fault.Fault.{Fault}
@@ -26,29 +27,42 @@ use Rattle.jr_scripts.specs.Posting.{Speech, said}
 use Rattle.jr_scripts.specs.Explains.{Explained}
 use Rattle.jr_scripts.specs.Runs.{IsFreed, RunsSingle, running_to_end}
 
--- a thread ran these commands with its pass, which was spent first, freed its local references, and handed the pass back, not fresh
-pub record RanPass (speech : Speech) (turns first : ℕ) (commands : List Command) (old new : Pass) (answer : Result (Unit {0}) Fault) (text : List ℕ) : Type 0 where
+-- a thread ran these commands with its pass, which was spent first,
+-- freed its local references, and handed the pass back, not fresh
+pub record RanPass (speech : Speech) (turns first : ℕ) (commands : List Command) (old new : Pass)
+    (answer : Result (Unit {0}) Fault) (text : List ℕ) : Type 0 where
   pub spent : Holder
   pub spends : Spent facts_of (holder_of old) spent
   pub used_up : new.fresh ≡ false
   pub frames : Frames
-  pub ran : DoesDeed facts_of spent (holder_of new) (fresh_frames (standing_of old).config.locals) frames (running_to_end speech turns first commands text) answer
+  pub ran : DoesDeed facts_of spent (holder_of new) (fresh_frames (standing_of old).config.locals) frames
+      (running_to_end speech turns first commands text) answer
 
 -- a pass of the thread that has seen this
 abbrev pub seeing_as : Config → ℕ → ℕ → History → PassView
 seeing_as c last t seen = record { config = c; last = last; thread = t; seen = seen }
 
--- before the thread's first command: it has seen nothing, no local reference stands, its pass is spent, and its first search for a free slot begins at slot 0
+-- before the thread's first command: it has seen nothing, no local reference
+-- stands, its pass is spent, and its first search for a free slot begins at slot 0
 abbrev pub opening_of : Config → ℕ → ℕ → ThreadState
-opening_of c last t = record { pass = seeing_as c last t []; frames = fresh_frames c.locals; held = empty; fresh = false; hint = 0; taken = 0 }
+opening_of c last t = record {
+  pass = seeing_as c last t [];
+  frames = fresh_frames c.locals;
+  held = empty;
+  fresh = false;
+  hint = 0;
+  taken = 0;
+}
 
 -- what closing the room adds: the first thread looks at the gate
 abbrev pub closing_acts : ℕ → List Act
 closing_acts zero = Meet ∷ []
 closing_acts (suc t) = []
 
--- A THREAD'S PART in the one history: up to a moment it explains the thread's lines, up to a later one the thread's local references were freed, and from there on it has no more of the thread's events
-pub record IsPartOf (board : List ℕ → Option (ℕ × History)) (rank : List ℕ → ℕ) (turns last : ℕ) (c : Config) (whole : History) (t first : ℕ) (part : ThreadPart) (lines : List ℕ) : Type 0 where
+-- A THREAD'S PART in the one history: up to a moment it explains the thread's lines, up to a later one
+-- the thread's local references were freed, and from there on it has no more of the thread's events
+pub record IsPartOf (board : List ℕ → Option (ℕ × History)) (rank : List ℕ → ℕ) (turns last : ℕ) (c : Config)
+    (whole : History) (t first : ℕ) (part : ThreadPart) (lines : List ℕ) : Type 0 where
   pub told : ThreadState
   pub explained : Explained (said board rank) turns first (opening_of c last t) part.commands lines told
   pub left : ThreadState
@@ -59,9 +73,12 @@ pub record IsPartOf (board : List ℕ → Option (ℕ × History)) (rank : List 
   pub own : mine whole t ≡ mine seen t ++ closing_acts t
 
 -- the parts of the threads from t on, of which the first stands on this line
-abbrev pub ArePartsOf : (List ℕ → Option (ℕ × History)) → (List ℕ → ℕ) → ℕ → ℕ → Config → History → ℕ → ℕ → List ThreadPart → List (List ℕ) → Type 0
+abbrev pub ArePartsOf : (List ℕ → Option (ℕ × History)) → (List ℕ → ℕ) → ℕ → ℕ → Config → History → ℕ → ℕ
+    → List ThreadPart → List (List ℕ) → Type 0
 ArePartsOf board rank turns last c whole t line [] [] = Unit {0}
-ArePartsOf board rank turns last c whole t line (p ∷ ps) (lines ∷ rest) = IsPartOf board rank turns last c whole t (line + 1) p lines × ArePartsOf board rank turns last c whole (suc t) (line + 1 + length p.commands) ps rest
+ArePartsOf board rank turns last c whole t line (p ∷ ps) (lines ∷ rest) =
+    IsPartOf board rank turns last c whole t (line + 1) p lines
+    × ArePartsOf board rank turns last c whole (suc t) (line + 1 + length p.commands) ps rest
 ArePartsOf board rank turns last c whole t line _ _ = ⊥
 
 -- how many lines these parts are: each thread's own, and one for each command
@@ -69,7 +86,8 @@ abbrev pub lines_of_parts : List ThreadPart → ℕ
 lines_of_parts [] = 0
 lines_of_parts (p ∷ ps) = 1 + length p.commands + lines_of_parts ps
 
--- A SCRIPT THAT CAN BE RUN has one part a thread and sizes within the limits, and posts no name twice; and the line behind its parts, which begin on line 2, has a number of 64 bits
+-- A SCRIPT THAT CAN BE RUN has one part a thread and sizes within the limits, and posts no name twice;
+-- and the line behind its parts, which begin on line 2, has a number of 64 bits
 pub record CanBeRun (s : Script) : Type 0 where
   pub one_each : length s.threads ≡ s.config.threads
   pub limits : in_limits s.config ≡ true
@@ -81,7 +99,12 @@ abbrev pub text_of_parts : List ThreadPart → List (List ℕ) → List ℕ
 text_of_parts (p ∷ ps) (lines ∷ rest) = heading p.name ++ lines ++ text_of_parts ps rest
 text_of_parts _ _ = []
 
--- A RUN OF ALL: the script can be run, and there is one legal history, which keeps the laws, with the events of the threads' calls and of their ends and no others, but for the look as the room closes, that explains each thread's part of the text; there is one board, with words only under names that a line posts, each with what its poster had seen, of which each post of whichever thread has the word and just what the thread had seen, and each wait has the word, and all that the poster had seen is seen behind it; each name has a rank, and no post hangs on one of no lower rank; and the last lines tell of the last state
+-- A RUN OF ALL: the script can be run, and there is one legal history, which keeps the laws, with the events
+-- of the threads' calls and of their ends and no others, but for the look as the room closes, that explains
+-- each thread's part of the text; there is one board, with words only under names that a line posts, each
+-- with what its poster had seen, of which each post of whichever thread has the word and just what the
+-- thread had seen, and each wait has the word, and all that the poster had seen is seen behind it; each name
+-- has a rank, and no post hangs on one of no lower rank; and the last lines tell of the last state
 pub record IsRunOfAll (turns last : ℕ) (s : Script) (text : List ℕ) : Type 0 where
   pub whole : History
   pub legal : IsLegal s.config last whole
@@ -94,7 +117,8 @@ pub record IsRunOfAll (turns last : ℕ) (s : Script) (text : List ℕ) : Type 0
   pub parts : ArePartsOf board rank turns last s.config whole 0 2 s.threads lines
   pub text_is : text ≡ text_of_parts s.threads lines ++ ending (summary s.config last (state whole))
 
--- the script was run, and the output grew by its text; that of a script of one thread is the text of a run of that thread alone
+-- the script was run, and the output grew by its text;
+-- that of a script of one thread is the text of a run of that thread alone
 pub record RunsAll (turns last : ℕ) (s : Script) (old new : List ℕ) : Type 0 where
   pub text : List ℕ
   pub grew : new ≡ old ++ text

@@ -44,7 +44,12 @@ use Rattle.jr_scripts.specs.Buffers.{copy_of}
 use Rattle.jr_scripts.specs.Names.{Names, buffer_in, getting, putting, reference_in, referent, binding, wanted}
 use Rattle.jr_weak.specs.declared.collecting.Collected.{Collected}
 use Rattle.jr_env.specs.Collections.{announced_collection, collection}
-use Rattle.jr_env.specs.Deeds.{Deed, decided, done, new_plain, new_array, new_object_array, new_string, new_reference, new_local_ref, delete_reference, delete_local_ref, is_same_object, get_object_ref_type, push_local_frame, ensure_local_capacity, pop_local_frame, kind_of, get_array_length, get_string_length, get_object_array_element, set_object_array_element, get_array_region, set_array_region, get_array_elements, release_array_elements, get_string_chars, answered_by, ◌>>=◌, ◌>>◌}
+use Rattle.jr_env.specs.Deeds.{Deed, decided, done, new_plain, new_array, new_object_array, new_string}
+use Rattle.jr_env.specs.Deeds.{new_reference, new_local_ref, delete_reference, delete_local_ref, is_same_object}
+use Rattle.jr_env.specs.Deeds.{get_object_ref_type, push_local_frame, ensure_local_capacity, pop_local_frame}
+use Rattle.jr_env.specs.Deeds.{kind_of, get_array_length, get_string_length, get_object_array_element}
+use Rattle.jr_env.specs.Deeds.{set_object_array_element, get_array_region, set_array_region, get_array_elements}
+use Rattle.jr_env.specs.Deeds.{release_array_elements, get_string_chars, answered_by, ◌>>=◌, ◌>>◌}
 use Rattle.jr_env.specs.StayDeeds.{within_by}
 use Rattle.jr_scripts.specs.Tries.{Tried}
 use Rattle.jr_scripts.specs.Numbers.{has_numbers, word_of_number, first_number}
@@ -142,7 +147,8 @@ module _ (turns : ℕ) where
     decided (has_numbers k)
     storing_as w i v k
 
--- the buffer that stands there is released to the array that a word names, by one call: E2 where nothing stands there, E4 where a reference does
+-- the buffer that stands there is released to the array that a word names, by one call:
+-- E2 where nothing stands there, E4 where a reference does
 abbrev pub releasing : ℕ → Mode → Binding → Deed Reply
 releasing w mode bound.Nothing = decided (Err fault.Stale)
 releasing w mode (bound.Reference h) = decided (Err fault.WrongKind)
@@ -153,10 +159,12 @@ abbrev pub opens : OpenLevel → Config → ℕ → ℕ → State → Word → C
 opens at.Array = get_array_critical
 opens at.Text = get_string_critical
 
--- a region is opened over what a word names: the object of its first level; where it is refused the thread holds nothing afterwards
+-- a region is opened over what a word names: the object of its first level;
+-- where it is refused the thread holds nothing afterwards
 abbrev pub opening_by : OpenLevel → ℕ → Deed ℕ
 opening_by v w old answer new =
-    (a : Word) × IsReadAs w a × within_by (λ c. 1) (λ c last t s. opens v c last t s a) old answer new × IfErr answer (λ e. new.held ≡ empty)
+    (a : Word) × IsReadAs w a × within_by (λ c. 1) (λ c last t s. opens v c last t s a) old answer new
+    × IfErr answer (λ e. new.held ≡ empty)
 
 -- a collection, or so many threads were not outside. It is tried once, and never refused
 abbrev pub collecting : Deed Reply
@@ -172,14 +180,16 @@ told (Err e) = Err e
 
 -- a collection that is announced, with so many tries to shut the gate
 abbrev pub collecting_announced : ℕ → ℕ → Deed Reply
-collecting_announced turns tries old answer new = (once : Result Collected Fault) × (answer ≡ told once) × tried turns (announced_collection tries) old once new
+collecting_announced turns tries old answer new =
+    (once : Result Collected Fault) × (answer ≡ told once) × tried turns (announced_collection tries) old once new
 
 -- a collection as the command asks for it
 abbrev pub collecting_by : ℕ → Command → Deed Reply
 collecting_by turns (commands.WithTries v tries) = collecting_announced turns tries
 collecting_by turns _ = collecting
 
--- A THREAD LEARNS: all that others have done in between is seen, by at most one operation, and nothing else of it changes
+-- A THREAD LEARNS:
+-- all that others have done in between is seen, by at most one operation, and nothing else of it changes
 pub record HasLearned (old new : ThreadState) : Type 0 where
   pub did : Did old.pass new.pass []
   pub frames : new.frames ≡ old.frames
@@ -190,9 +200,11 @@ pub record HasLearned (old new : ThreadState) : Type 0 where
   pub most : without ≤ 1
   pub taken : new.taken ≡ old.taken + without
 
--- a name was waited for: some word, with which the thread learns what its poster had seen; or the turns ran out, and nothing has changed
+-- a name was waited for: some word, with which the thread learns what its poster had seen;
+-- or the turns ran out, and nothing has changed
 abbrev pub awaited : Deed Reply
-awaited old answer new = ((w : Handle) × (answer ≡ Ok (replies.Made (Some w))) × HasLearned old new) ⊎ ((answer ≡ Err fault.Turns) × (new ≡ old))
+awaited old answer new = ((w : Handle) × (answer ≡ Ok (replies.Made (Some w))) × HasLearned old new)
+    ⊎ ((answer ≡ Err fault.Turns) × (new ≡ old))
 
 module _ (turns : ℕ) where
   -- what is made of nothing else, or waited for

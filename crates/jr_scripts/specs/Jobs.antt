@@ -29,16 +29,20 @@ module _ {Q : Type 0} {G : Ghosts Q} where
 
   -- the thread did its job, with what its notes tell
   abbrev pub HasRun : Job → ThreadRun Q G → Type 0
-  HasRun j r = RanPass (talk_told r.notes.is_lost r.notes.posts.now.numbers.entries r.notes.notes.items) j.turns j.first j.part.now.commands j.pass r.pass r.answer r.text.items
+  HasRun j r = RanPass (talk_told r.notes.is_lost r.notes.posts.now.numbers.entries r.notes.notes.items) j.turns j.first
+      j.part.now.commands j.pass r.pass r.answer r.text.items
 
   -- the thread did its job, with what the board has
   abbrev pub HasSaid : (List ℕ → Option (ℕ × History)) → (List ℕ → ℕ) → Job → ThreadRun Q G → Type 0
-  HasSaid board rank j r = RanPass (said board rank) j.turns j.first j.part.now.commands j.pass r.pass r.answer r.text.items
+  HasSaid board rank j r =
+      RanPass (said board rank) j.turns j.first j.part.now.commands j.pass r.pass r.answer r.text.items
 
   -- what the thread's notes tell is what the board has
   pub record IsToldBy (board : List ℕ → Option (ℕ × History)) (rank : List ℕ → ℕ) (r : ThreadRun Q G) : Type 0 where
-    pub posted : (words : Words) (n : List ℕ) (w : ℕ) (h : History) → (account_in r).posted words n w h → (board n ≡ Some (w, h)) × AllByRecursion (λ x. rank x.0 < rank n) words
-    pub heard : (n : List ℕ) (w : ℕ) (h : History) → (account_in r).heard n w h → (begun : History) × (board n ≡ Some (w, begun)) × IsPrefix begun h
+    pub posted : (words : Words) (n : List ℕ) (w : ℕ) (h : History) → (account_in r).posted words n w h
+        → (board n ≡ Some (w, h)) × AllByRecursion (λ x. rank x.0 < rank n) words
+    pub heard : (n : List ℕ) (w : ℕ) (h : History) → (account_in r).heard n w h
+        → (begun : History) × (board n ≡ Some (w, begun)) × IsPrefix begun h
 
   -- the thread's notes are of this board
   abbrev pub IsOver : Layout → ThreadRun Q G → Type 0
@@ -69,7 +73,8 @@ pub record IsJobOf (turns line : ℕ) (p : Pass) (q : ThreadPart) (j : Job) : Ty
 -- the jobs of the parts, of which the first stands on this line
 abbrev pub AreJobsOf : ℕ → ℕ → List Pass → List ThreadPart → List Job → Type 0
 AreJobsOf turns line [] [] [] = Unit {0}
-AreJobsOf turns line (p ∷ ps) (q ∷ qs) (j ∷ js) = IsJobOf turns line p q j × AreJobsOf turns (line + 1 + length q.commands) ps qs js
+AreJobsOf turns line (p ∷ ps) (q ∷ qs) (j ∷ js) =
+    IsJobOf turns line p q j × AreJobsOf turns (line + 1 + length q.commands) ps qs js
 AreJobsOf turns line _ _ _ = ⊥
 
 -- the stamp of what was posted
@@ -98,11 +103,13 @@ module _ {Q : Type 0} {G : Ghosts Q} where
   -- none of the threads was refused memory, these are their passes, and this is what they print
   abbrev pub AreTold : List ThreadPart → List (ThreadRun Q G) → List Pass → List ℕ → Type 0
   AreTold [] rs [] text = text ≡ []
-  AreTold (q ∷ qs) (r ∷ rs) (p ∷ ps) text = IsDone r × (r.pass ≡ p) × (rest : List ℕ) × (text ≡ heading q.name ++ r.text.items ++ rest) × AreTold qs rs ps rest
+  AreTold (q ∷ qs) (r ∷ rs) (p ∷ ps) text = IsDone r × (r.pass ≡ p) × (rest : List ℕ)
+      × (text ≡ heading q.name ++ r.text.items ++ rest) × AreTold qs rs ps rest
   AreTold _ _ _ text = ⊥
 
   -- the same, and what each thread's notes tell is what one board has, in which only these names stand
-  pub record AreToldAlike (numbers : List (List ℕ × ℕ)) (qs : List ThreadPart) (rs : List (ThreadRun Q G)) (ps : List Pass) (text : List ℕ) : Type 0 where
+  pub record AreToldAlike (numbers : List (List ℕ × ℕ)) (qs : List ThreadPart) (rs : List (ThreadRun Q G))
+      (ps : List Pass) (text : List ℕ) : Type 0 where
     pub board : List ℕ → Option (ℕ × History)
     pub rank : List ℕ → ℕ
     pub told : AreTold qs rs ps text
@@ -110,7 +117,8 @@ module _ {Q : Type 0} {G : Ghosts Q} where
     pub named : (n : List ℕ) (x : ℕ × History) → board n ≡ Some x → IsSome (cell_number numbers n)
 
   -- the threads of the parts did their jobs, with notes of this board, and this is what is told of them
-  pub record HaveTold (board : Posts (PinnedNoteOf Q G)) (js : List Job) (qs : List ThreadPart) (ps : List Pass) (text : List ℕ) : Type 0 where
+  pub record HaveTold (board : Posts (PinnedNoteOf Q G)) (js : List Job) (qs : List ThreadPart) (ps : List Pass)
+      (text : List ℕ) : Type 0 where
     pub runs : List (ThreadRun Q G)
     pub ran : HaveRun (layout_of board) js runs
     pub alike : AreToldAlike board.numbers.entries qs runs ps text

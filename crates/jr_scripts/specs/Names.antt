@@ -43,7 +43,8 @@ binding_back (bound.Buffer b) = refl
 
 -- what a name stands for as numbers
 abbrev pub coded_binding : Coded Binding
-coded_binding = code_by (Option (Handle ⊎ Copied)) (coded_option (coded⊎ coded_handle coded_copied)) binding_parts binding_of_parts binding_back
+coded_binding = code_by (Option (Handle ⊎ Copied)) (coded_option (coded⊎ coded_handle coded_copied)) binding_parts
+    binding_of_parts binding_back
 
 -- what names stand for: a map from each name that was set to what it was set to last
 abbrev pub Names : Type 0

@@ -1,5 +1,6 @@
 -- Elements of arrays as the numbers of a script.
-use Rattle.std.specs.Prelude.{ℕ, ℤ, pos, neg_ℤ, ◌^◌, ◌&&◌, Bool, List, [], ◌∷◌, Result, Ok, Err, int_le, int_lt, unsigned_abs, if◌then◌else◌}
+use Rattle.std.specs.Prelude.{ℕ, ℤ, pos, neg_ℤ, ◌^◌, ◌&&◌, Bool, List, [], ◌∷◌, Result}
+use Rattle.std.specs.Prelude.{Ok, Err, int_le, int_lt, unsigned_abs, if◌then◌else◌}
 use Rattle.std.specs.Int.{w8, w16, w32, w64, cast_signed, int_rem_euclid}
 use Rattle.jr_word.specs.declared.fault.Fault.{Fault}
 use Rattle.jr_word.specs.declared.fault.Fault.TheVariants as fault
@@ -39,9 +40,11 @@ number_limit k = pos (word_limit k)
 abbrev pub is_number_of : Kind → ℤ → Bool
 is_number_of k v = int_le (least_number k) v && int_lt v (number_limit k)
 
--- THE WORD OF A NUMBER: the number modulo the count of words that the kind has, and E18 where no element of the kind is that number
+-- THE WORD OF A NUMBER:
+-- the number modulo the count of words that the kind has, and E18 where no element of the kind is that number
 abbrev pub word_of_number : Kind → ℤ → Result ℕ Fault
-word_of_number k v = if is_number_of k v then Ok (unsigned_abs (int_rem_euclid v (pos (word_limit k)))) else Err fault.Value
+word_of_number k v =
+    if is_number_of k v then Ok (unsigned_abs (int_rem_euclid v (pos (word_limit k)))) else Err fault.Value
 
 -- THE NUMBER OF A WORD: bytes, shorts, ints and longs have a sign, a boolean is 0 or 1, and a char is 0 to 65,535
 abbrev pub number_of_word : Kind → ℕ → ℤ

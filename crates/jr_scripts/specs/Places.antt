@@ -1,5 +1,6 @@
 -- Where a thread stands between its commands: what its names stand for, and the levels of its critical region.
-use Rattle.std.specs.Prelude.{ℕ, suc, Bool, true, false, Option, Some, None, List, [], ◌∷◌, ◌++◌, slice_index_or, Result, Ok, Err}
+use Rattle.std.specs.Prelude.{ℕ, suc, Bool, true, false, Option, Some, None, List}
+use Rattle.std.specs.Prelude.{[], ◌∷◌, ◌++◌, slice_index_or, Result, Ok, Err}
 use Rattle.std.specs.Str.{bytes_eq}
 use Rattle.jr_word.specs.declared.fault.Fault.{Fault}
 use Rattle.jr_word.specs.declared.fault.Fault.TheVariants as fault
@@ -11,7 +12,8 @@ use Rattle.jr_scripts.specs.declared.reply.Reply.TheVariants as replies
 use Rattle.jr_scripts.specs.Names.{Names, no_names}
 use Rattle.jr_scripts.specs.Text.{names_after}
 
--- A PLACE in a script: what the names stand for, and the names of the levels of the region with their objects, the first first; there are none where no region stands
+-- A PLACE in a script: what the names stand for, and the names of the levels of the
+-- region with their objects, the first first; there are none where no region stands
 pub record Place : Type 0 where
   pub names : Names
   pub levels : List (List ℕ)
@@ -66,7 +68,11 @@ objects_after _ _ objects = objects
 
 -- THE PLACE AFTER A COMMAND
 abbrev pub place_after : Command → Result Reply Fault → Place → Place
-place_after c answer p = record { names = names_after c answer p.names; levels = levels_after c answer p.levels; objects = objects_after c answer p.objects }
+place_after c answer p = record {
+  names = names_after c answer p.names;
+  levels = levels_after c answer p.levels;
+  objects = objects_after c answer p.objects;
+}
 
 -- whether a command opens a level
 abbrev pub is_opening : Command → Bool

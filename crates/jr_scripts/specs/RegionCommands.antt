@@ -37,7 +37,8 @@ nests at.Text = nest_string
 
 -- a level is added over what a word names: its number, and the objects then
 abbrev pub nesting : OpenLevel → List ℕ → ℕ → Deed (ℕ × List ℕ)
-nesting v objects w old answer new = (a : Word) × IsReadAs w a × within_by (λ c. 1) (λ c last t s. nests v c last t s objects a) old answer new
+nesting v objects w old answer new =
+    (a : Word) × IsReadAs w a × within_by (λ c. 1) (λ c last t s. nests v c last t s objects a) old answer new
 
 -- the kind of which elements are read: the units of a string are chars
 abbrev pub read_kind : Kind → Kind
@@ -68,7 +69,8 @@ writing_as o i x k = do
   within_by (λ c. 0) (λ c last t s. region_set c last t s k o i word)
   done replies.Done
 
--- a number is stored at an index of a level's array: E5 at a string, then E18 where no element is that number, and then E7
+-- a number is stored at an index of a level's array:
+-- E5 at a string, then E18 where no element is that number, and then E7
 abbrev pub level_writing : ℕ → ℕ → ℤ → Deed Reply
 level_writing o i x = do
   k ← kind_of_level o

@@ -24,4 +24,5 @@ module _ {Q : Type 0} {G : Ghosts Q} where
 
   -- what a thread said and heard by them
   abbrev pub talk_told : Bool → List (List ℕ × ℕ) → List (Option (Note (PinnedNoteOf Q G))) → Speech
-  talk_told lost numbers notes = speaks (account_told lost numbers notes).posted (account_told lost numbers notes).heard (λ n. Unit {0})
+  talk_told lost numbers notes =
+      speaks (account_told lost numbers notes).posted (account_told lost numbers notes).heard (λ n. Unit {0})

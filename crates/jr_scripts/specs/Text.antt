@@ -1,5 +1,6 @@
 -- What commands print, and the names that they set.
-use Rattle.std.specs.Prelude.{ℕ, Bool, true, false, Option, Some, None, List, [], ◌∷◌, ◌++◌, map, Result, Ok, Err, codes}
+use Rattle.std.specs.Prelude.{ℕ, Bool, true, false, Option, Some, None, List}
+use Rattle.std.specs.Prelude.{[], ◌∷◌, ◌++◌, map, Result, Ok, Err, codes}
 use Rattle.std.specs.Fmt.{decimal, signed_decimal}
 use Rattle.jr_word.specs.declared.fault.Fault.{Fault}
 use Rattle.jr_word.specs.declared.fault.Fault.TheVariants as fault
@@ -34,7 +35,8 @@ verdict false = codes "false"
 
 -- what is printed of a collection, announced or not
 abbrev pub said_of_collection : Reply → List ℕ
-said_of_collection (replies.Collected c) = text_line (verb_word (OfRoom Collect) ∷ codes "cleared" ∷ decimal c.cleared ∷ codes "dropped" ∷ decimal c.dropped ∷ codes "used" ∷ decimal c.used ∷ [])
+said_of_collection (replies.Collected c) = text_line (verb_word (OfRoom Collect) ∷ codes "cleared" ∷ decimal c.cleared
+    ∷ codes "dropped" ∷ decimal c.dropped ∷ codes "used" ∷ decimal c.used ∷ [])
 said_of_collection (replies.Busy n) = text_line (verb_word (OfRoom Collect) ∷ codes "busy" ∷ decimal n ∷ [])
 said_of_collection _ = []
 
@@ -44,10 +46,13 @@ says (commands.MakeFrom v n r) (replies.Made None) = text_line (verb_word (MakeF
 says (commands.On v r) (replies.Type t) = text_line (verb_word (On v) ∷ reference_word r ∷ decimal t ∷ [])
 says (commands.On v r) (replies.Length n) = text_line (verb_word (On v) ∷ reference_word r ∷ decimal n ∷ [])
 says (commands.On v r) (replies.Units units) = text_line (verb_word (On v) ∷ reference_word r ∷ map decimal units)
-says (commands.OnBoth v q r) (replies.Same same) = text_line (verb_word (OnBoth v) ∷ reference_word q ∷ reference_word r ∷ verdict same ∷ [])
+says (commands.OnBoth v q r) (replies.Same same) =
+    text_line (verb_word (OnBoth v) ∷ reference_word q ∷ reference_word r ∷ verdict same ∷ [])
 says (commands.MakeAt v n r i) (replies.Made None) = text_line (verb_word (MakeAt v) ∷ n ∷ codes "null" ∷ [])
-says (commands.OnAt v r i) (replies.Value x) = text_line (verb_word (OnAt v) ∷ reference_word r ∷ decimal i ∷ signed_decimal x ∷ [])
-says (commands.OnNameAt v n i) (replies.Value x) = text_line (verb_word (OnNameAt v) ∷ n ∷ decimal i ∷ signed_decimal x ∷ [])
+says (commands.OnAt v r i) (replies.Value x) =
+    text_line (verb_word (OnAt v) ∷ reference_word r ∷ decimal i ∷ signed_decimal x ∷ [])
+says (commands.OnNameAt v n i) (replies.Value x) =
+    text_line (verb_word (OnNameAt v) ∷ n ∷ decimal i ∷ signed_decimal x ∷ [])
 says (commands.OfRoom v) reply = said_of_collection reply
 says (commands.WithTries v tries) reply = said_of_collection reply
 says _ _ = []
@@ -111,7 +116,8 @@ left_by mode (Ok _) s = bound.Nothing
 -- the names once a command changed or freed the buffer of its name, which no other command does, and no refused one
 abbrev pub buffers_after : Command → Result Reply Fault → Names → Names
 buffers_after (commands.PutAt put_at.Put n i x) (Ok reply) names = names_put names n (putting i x (binding names n))
-buffers_after (commands.Release release.Elements n r mode) (Ok reply) names = with_name names n (left_by mode (Ok reply) (binding names n))
+buffers_after (commands.Release release.Elements n r mode) (Ok reply) names =
+    with_name names n (left_by mode (Ok reply) (binding names n))
 buffers_after _ _ names = names
 
 -- THE NAMES after a command
@@ -124,4 +130,5 @@ heading name = codes "[" ++ name ++ codes "]" ++ 10 ∷ []
 
 -- the last two lines: what stands at the end
 abbrev pub ending : Summary → List ℕ
-ending s = text_line (codes "[end]" ∷ []) ++ text_line (codes "globals" ∷ decimal s.globals ∷ codes "weaks" ∷ decimal s.weaks ∷ codes "live" ∷ decimal s.live ∷ codes "used" ∷ decimal s.used ∷ [])
+ending s = text_line (codes "[end]" ∷ []) ++ text_line (codes "globals" ∷ decimal s.globals ∷ codes "weaks"
+    ∷ decimal s.weaks ∷ codes "live" ∷ decimal s.live ∷ codes "used" ∷ decimal s.used ∷ [])

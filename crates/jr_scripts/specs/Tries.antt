@@ -6,6 +6,8 @@ use Rattle.jr_env.specs.Tries.{is_tried_again}
 
 -- up to so many tries, until one is answered otherwise; and else the turns ran out
 pub data Tried {M A : Type 0} (one : M → Result A Fault → M → Type 0) : ℕ → M → Result A Fault → M → Type 0 where
-  answered : {n : ℕ} {old new : M} {answer : Result A Fault} → one old answer new → is_tried_again answer ≡ false → Tried one (suc n) old answer new
-  again : {n : ℕ} {old mid new : M} {once answer : Result A Fault} → one old once mid → is_tried_again once ≡ true → Tried one n mid answer new → Tried one (suc n) old answer new
+  answered : {n : ℕ} {old new : M} {answer : Result A Fault} → one old answer new → is_tried_again answer ≡ false
+      → Tried one (suc n) old answer new
+  again : {n : ℕ} {old mid new : M} {once answer : Result A Fault} → one old once mid → is_tried_again once ≡ true
+      → Tried one n mid answer new → Tried one (suc n) old answer new
   gave_up : {old : M} → Tried one 0 old (Err fault.Turns) old

@@ -1,5 +1,5 @@
 -- What the parts of a gate's word say of those who keep it closed.
-use Rattle.std.proofs.Common.{◌≡◌, ⊎_elim, ℕ, Bool, true, false, refl, ap}
+use Rattle.std.proofs.Common.{◌≡◌, ⊎_elim, ℕ, true, false, refl, ap}
 use Rattle.jr_word.specs.declared.config.Config.{Config}
 use Rattle.jr_word.specs.declared.gate.GateParts.{GateParts}
 use Rattle.jr_word.specs.declared.gate.GateState.{GateState}
@@ -13,7 +13,8 @@ use Rattle.jr_steps.specs.Acts.{is_closed}
 use Rattle.jr_steps.specs.Says.{SaysOfGate}
 
 -- a gate that is not open is kept closed by somebody, and an open one by nobody
-pub somebody_closes : {c : Config} {role : ℕ → Role} {p : GateParts} → SaysOfGate c role p → is_closed p.state ≡ true → (t : ℕ) × (is_barring (role t) ≡ true)
+pub somebody_closes : {c : Config} {role : ℕ → Role} {p : GateParts} → SaysOfGate c role p → is_closed p.state ≡ true
+    → (t : ℕ) × (is_barring (role t) ≡ true)
 somebody_closes {role = role} {p} says = go p.state refl
   where
     go : (st : GateState) → p.state ≡ st → is_closed st ≡ true → (t : ℕ) × (is_barring (role t) ≡ true)
@@ -21,7 +22,8 @@ somebody_closes {role = role} {p} says = go p.state refl
     go Announced e closed = let u = says.announced.0 e in (u.0, ap is_barring u.1)
     go Shut e closed = let u = says.shut.0 e in (u.0, ap is_barring u.1)
 
-pub nobody_closes : {c : Config} {role : ℕ → Role} {p : GateParts} → SaysOfGate c role p → is_closed p.state ≡ false → (t : ℕ) → is_barring (role t) ≡ false
+pub nobody_closes : {c : Config} {role : ℕ → Role} {p : GateParts} → SaysOfGate c role p → is_closed p.state ≡ false
+    → (t : ℕ) → is_barring (role t) ≡ false
 nobody_closes {role = role} {p} says is_open t = not_true (is_barring (role t)) (λ e. ⊎_elim
     (λ (z : role t ≡ Announcing). let state = ap is_closed (says.announced.1 (t, z)) in cc)
     (λ (z : role t ≡ Collecting). let state = ap is_closed (says.shut.1 (t, z)) in cc)

@@ -1,5 +1,7 @@
 -- What follows from a step, and one step after the other.
-use Rattle.std.proofs.Common.{◌≡◌, ◌≢◌, ⊎_elim, ◌<◌, ◌==◌, ℕ, Bool, true, false, cond, Result, Ok, Err, eq-eqb, length, List, [], ◌∷◌, ◌++◌, Option, Some, None, IsSome, refl, sym, ap, subst, ◌∙◌, arith, append_assoc}
+use Rattle.std.proofs.Common.{◌≡◌, ◌≢◌, ⊎_elim, ◌<◌, ◌==◌, ℕ, Bool, true, false, cond, Result}
+use Rattle.std.proofs.Common.{Ok, Err, eq-eqb, length, List, [], ◌∷◌, ◌++◌, Option, Some}
+use Rattle.std.proofs.Common.{None, IsSome, refl, sym, ap, subst, ◌∙◌, arith, append_assoc}
 use Rattle.std.proofs.lemmas.List.{append-nil}
 use Rattle.std.specs.List.{AllByRecursion}
 use mathlib.Core.Logic.{∥∥₁_map}
@@ -23,7 +25,9 @@ use Rattle.jr_steps.specs.declared.known.Known.{Known}
 use Rattle.jr_steps.specs.declared.known.Holdings.{Holdings}
 use Rattle.jr_steps.specs.Acts.{act_of_reservation}
 use Rattle.jr_steps.specs.Holdings.{words_at}
-use Rattle.jr_steps.specs.Knowing.{Facts, Standing, IsOf, MayKnow, DidAll, keeps, ShowsUsed, IsClosedNow, view, anything, state_of, Goes, HasObject, HasLooked, WasUsed, ShowsPublished, ShowsRange, HasWord, Took, TookWith}
+use Rattle.jr_steps.specs.Knowing.{Facts, Standing, IsOf, MayKnow, DidAll, keeps, ShowsUsed}
+use Rattle.jr_steps.specs.Knowing.{IsClosedNow, view, anything, state_of, Goes, HasObject, HasLooked}
+use Rattle.jr_steps.specs.Knowing.{WasUsed, ShowsPublished, ShowsRange, HasWord, Took, TookWith}
 
 -- a step is what the thread did
 pub goes_did : {k k' : Known} {acts : List Act} → Goes k acts k' → Did (view k) (view k') acts
@@ -38,16 +42,21 @@ pub none_mine : (es : History) (t : ℕ) → mine es t ≡ [] → AllByRecursion
 none_mine [] t e = tt
 none_mine (f ∷ es) t e = go (f.thread == t) refl (none_mine es t)
   where
-    go : (b : Bool) → (f.thread == t) ≡ b → (mine es t ≡ [] → AllByRecursion (λ (g : Event). g.thread ≢ t) es) → AllByRecursion (λ (g : Event). g.thread ≢ t) (f ∷ es)
-    go true q rest = let here : mine (f ∷ es) t ≡ f.act ∷ mine es t = ap (λ b. cond b (f.act ∷ mine es t) (mine es t)) q in absurd (let z = sym here ∙ e in cc)
-    go false q rest = let here : mine (f ∷ es) t ≡ mine es t = ap (λ b. cond b (f.act ∷ mine es t) (mine es t)) q in (eq_false f.thread t q, rest (sym here ∙ e))
+    go : (b : Bool) → (f.thread == t) ≡ b → (mine es t ≡ [] → AllByRecursion (λ (g : Event). g.thread ≢ t) es)
+        → AllByRecursion (λ (g : Event). g.thread ≢ t) (f ∷ es)
+    go true q rest = let here : mine (f ∷ es) t ≡ f.act ∷ mine es t =
+        ap (λ b. cond b (f.act ∷ mine es t) (mine es t)) q in absurd (let z = sym here ∙ e in cc)
+    go false q rest = let here : mine (f ∷ es) t ≡ mine es t = ap (λ b. cond b (f.act ∷ mine es t) (mine es t)) q in
+        (eq_false f.thread t q, rest (sym here ∙ e))
 
 -- where the thread itself did all that was seen, nobody did anything in between
 pub none_between : {k k' : Known} {acts : List Act} (g : Goes k acts k') → DidAll k' → g.between ≡ []
 none_between {k} {k'} {acts} g all =
-    go k.seen g.between _ (subst (λ (z : ℕ × History). AllByRecursion (λ e. e.thread ≡ z.0) z.1) (λ i. (g.thread i, g.seen i)) all) (none_mine g.between k.thread g.others)
+    go k.seen g.between _ (subst (λ (z : ℕ × History). AllByRecursion (λ e. e.thread ≡ z.0) z.1)
+    (λ i. (g.thread i, g.seen i)) all) (none_mine g.between k.thread g.others)
   where
-    go : (xs es ys : History) → AllByRecursion (λ e. e.thread ≡ k.thread) ((xs ++ es) ++ ys) → AllByRecursion (λ e. e.thread ≢ k.thread) es → es ≡ []
+    go : (xs es ys : History) → AllByRecursion (λ e. e.thread ≡ k.thread) ((xs ++ es) ++ ys)
+        → AllByRecursion (λ e. e.thread ≢ k.thread) es → es ≡ []
     go (x ∷ xs) es ys own none = go xs es ys own.1 none
     go [] [] ys own none = refl
     go [] (e ∷ es) ys own none = absurd (none.0 own.0)
@@ -75,10 +84,12 @@ looked_now {k} {k'} h r g = record {
 
 -- so many words were used just now, in this stay
 pub used_now : (u : ℕ) (k : Known) → role_of (view k) ≡ Within → (state_of k).used ≡ u → WasUsed u k
-used_now u k within used = record { before = k.seen; since = []; is = sym (append-nil k.seen); used = used; within = within; stays = tt }
+used_now u k within used =
+    record { before = k.seen; since = []; is = sym (append-nil k.seen); used = used; within = within; stays = tt }
 
 -- and were so at a moment of the stay, whatever the thread has done since but leave
-pub used_later : (u : ℕ) (k k' : Known) (acts : List Act) → Did (view k) (view k') acts → AllByRecursion (λ a. a ≢ Gate Leave) acts → WasUsed u k → WasUsed u k'
+pub used_later : (u : ℕ) (k k' : Known) (acts : List Act) → Did (view k) (view k') acts
+    → AllByRecursion (λ a. a ≢ Gate Leave) acts → WasUsed u k → WasUsed u k'
 used_later u k k' acts d q w =
     let more : History = d.begins.0 in
     let own : mine more k.thread ≡ acts = mine_did acts d in
@@ -89,15 +100,19 @@ used_later u k k' acts d q w =
       used = w.used;
       within = subst (λ t. (state w.before).role t ≡ Within) (sym d.thread) w.within;
       stays = subst (λ t. AllByRecursion (λ a. a ≢ Gate Leave) (mine (w.since ++ more) t)) (sym d.thread)
-          (subst (λ l. AllByRecursion (λ a. a ≢ Gate Leave) l) (sym (mine_append w.since more k.thread ∙ ap (λ l. mine w.since k.thread ++ l) own)) (all_append (mine w.since k.thread) acts w.stays q));
+          (subst (λ l. AllByRecursion (λ a. a ≢ Gate Leave) l)
+          (sym (mine_append w.since more k.thread ∙ ap (λ l. mine w.since k.thread ++ l) own))
+          (all_append (mine w.since k.thread) acts w.stays q));
     }
   where
-    all_append : (xs ys : List Act) → AllByRecursion (λ a. a ≢ Gate Leave) xs → AllByRecursion (λ a. a ≢ Gate Leave) ys → AllByRecursion (λ a. a ≢ Gate Leave) (xs ++ ys)
+    all_append : (xs ys : List Act) → AllByRecursion (λ a. a ≢ Gate Leave) xs → AllByRecursion (λ a. a ≢ Gate Leave) ys
+        → AllByRecursion (λ a. a ≢ Gate Leave) (xs ++ ys)
     all_append [] ys p r = r
     all_append (x ∷ xs) ys p r = (p.0, all_append xs ys p.1 r)
 
 -- an exchange of the top is no leave
-pub reserving_stays : (looked n : ℕ) (r : Result (Unit {0}) ℕ) → AllByRecursion (λ a. a ≢ Gate Leave) (act_of_reservation looked n r ∷ [])
+pub reserving_stays : (looked n : ℕ) (r : Result (Unit {0}) ℕ)
+    → AllByRecursion (λ a. a ≢ Gate Leave) (act_of_reservation looked n r ∷ [])
 reserving_stays looked n (Ok u) = ((λ e. cc), tt)
 reserving_stays looked n (Err f) = ((λ e. cc), tt)
 
@@ -114,17 +129,20 @@ shut_closed {k} {k'} g =
     let before = k.seen ++ g.between in
     let e = by k.thread (Gate Shut) in
     let both = (legal_push k.config k.last before e).0 (subst (IsLegal k.config k.last) g.seen g.legal) in
-    let closed : IsClosed (state before) = (sound_state k.config k.last before both.0).closed (λ u z. absurd (⊎_elim (λ e. cc) (λ e. cc) (all_may_shut (state before).role k.thread both.1.1.0 both.1.1.1 u))) in
+    let closed : IsClosed (state before) = (sound_state k.config k.last before both.0).closed (λ u z.
+    absurd (⊎_elim (λ e. cc) (λ e. cc) (all_may_shut (state before).role k.thread both.1.1.0 both.1.1.1 u))) in
     subst (λ (s : State). IsClosed s) (sym (ap state g.seen ∙ state_push before e)) closed
 
 -- what is present stays, until the thread leaves
-pub present_stays : (k k' : Known) (acts : List Act) (o : ℕ) → Did (view k) (view k') acts → role_of (view k) ≡ Within → AllByRecursion (λ a. a ≢ Gate Leave) acts → HasObject o k → HasObject o k'
+pub present_stays : (k k' : Known) (acts : List Act) (o : ℕ) → Did (view k) (view k') acts → role_of (view k) ≡ Within
+    → AllByRecursion (λ a. a ≢ Gate Leave) acts → HasObject o k → HasObject o k'
 present_stays k k' acts o d w q p = present_still (state_of k) (state_of k') o (still_did acts d w q) p
 
 -- the words that were reserved are the pass's own
 pub reserved_word : (looked n i : ℕ) (k k' : Known) → i < n → ShowsRange looked n (Ok tt) k k' → HasWord looked i k'
 reserved_word looked n i k k' l shown =
-    let here : words_at looked k'.holdings.ranges ≡ shown.0 = ap (λ (g : Holdings). words_at looked g.ranges) shown.2 ∙ ap (λ b. cond b shown.0 (words_at looked k.holdings.ranges)) (eq-eqb looked looked refl) in
+    let here : words_at looked k'.holdings.ranges ≡ shown.0 = ap (λ (g : Holdings). words_at looked g.ranges) shown.2
+    ∙ ap (λ b. cond b shown.0 (words_at looked k.holdings.ranges)) (eq-eqb looked looked refl) in
     let long = shown.1 in
     subst (λ ws. i < length ws) (sym here) (omega arith)
 
@@ -135,14 +153,27 @@ shown_published o h false k k' shown = shown.0
 
 module _ {S : Type 0} {facts : S → Facts} where
   -- a step shows less, too
-  pub took_less : {old new : S} {acts : Known → List Act} {stood : Standing} {met : Known → Type 0} {shows shows' : Known → Known → Type 0} → ((k k' : Known) → shows k k' → shows' k k') → TookWith facts old new acts stood met shows → TookWith facts old new acts stood met shows'
-  took_less less t = record { stands_is = t.stands_is; hint_is = t.hint_is; goes = λ k s m. let g = t.goes k s m in (g.0, g.1, g.2, less k g.0 g.3) }
+  pub took_less : {old new : S} {acts : Known → List Act} {stood : Standing} {met : Known → Type 0}
+      {shows shows' : Known → Known → Type 0} → ((k k' : Known) → shows k k' → shows' k k')
+      → TookWith facts old new acts stood met shows → TookWith facts old new acts stood met shows'
+  took_less less t = record {
+    stands_is = t.stands_is;
+    hint_is = t.hint_is;
+    goes = λ k s m. let g = t.goes k s m in (g.0, g.1, g.2, less k g.0 g.3);
+  }
 
   -- what may be known after a step
-  pub may_then : {old new : S} {acts : Known → List Act} {stood : Standing} {met : Known → Type 0} {shows : Known → Known → Type 0} {was is : Known → Type 0} → TookWith facts old new acts stood met shows → ((k : Known) → (facts old).knows k → was k → met k) → MayKnow facts old was
+  pub may_then : {old new : S} {acts : Known → List Act} {stood : Standing} {met : Known → Type 0}
+      {shows : Known → Known → Type 0} {was is : Known → Type 0} → TookWith facts old new acts stood met shows
+      → ((k : Known) → (facts old).knows k → was k → met k) → MayKnow facts old was
       → ((k k' : Known) → (facts old).knows k → was k → Goes k (acts k) k' → shows k k' → is k') → MayKnow facts new is
-  may_then t meets may then' = ∥∥₁_map may (λ k. let g = t.goes k.0 k.1 (meets k.0 k.1 k.2) in (g.0, g.1, then' k.0 g.0 k.1 k.2 g.2 g.3))
+  may_then t meets may then' =
+      ∥∥₁_map may (λ k. let g = t.goes k.0 k.1 (meets k.0 k.1 k.2) in (g.0, g.1, then' k.0 g.0 k.1 k.2 g.2 g.3))
 
   -- how many words were used is known from a look on, until the thread leaves
-  pub used_seen : {old new : S} {acts : List Act} {u : ℕ} → ((k : Known) → (facts new).knows k → IsOf (facts new).stands k) → MayKnow facts old anything → (facts new).stands.role ≡ Within → Took facts old new acts anything (λ j k. ShowsUsed u k × keeps j k) → MayKnow facts new (WasUsed u)
-  used_seen {u = u} fits some within t = ∥∥₁_map some (λ k. let g = t.goes k.0 k.1 tt in (g.0, g.1, used_now u g.0 ((fits g.0 g.1).role ∙ within) g.3.0))
+  pub used_seen : {old new : S} {acts : List Act} {u : ℕ}
+      → ((k : Known) → (facts new).knows k → IsOf (facts new).stands k) → MayKnow facts old anything
+      → (facts new).stands.role ≡ Within → Took facts old new acts anything (λ j k. ShowsUsed u k × keeps j k)
+      → MayKnow facts new (WasUsed u)
+  used_seen {u = u} fits some within t =
+      ∥∥₁_map some (λ k. let g = t.goes k.0 k.1 tt in (g.0, g.1, used_now u g.0 ((fits g.0 g.1).role ∙ within) g.3.0))

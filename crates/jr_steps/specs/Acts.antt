@@ -1,5 +1,6 @@
 -- The acts of steps, by what they found.
-use Rattle.std.specs.Prelude.{◌≡◌, ◌≢◌, ℕ, suc, ◌+◌, if◌then◌else◌, ◌==◌, ◌&&◌, nat_lt, cond, Bool, true, false, Option, Some, None, Result, Ok, Err, List, [], ◌∷◌}
+use Rattle.std.specs.Prelude.{◌≡◌, ◌≢◌, ℕ, ◌+◌, if◌then◌else◌, ◌==◌, ◌&&◌, nat_lt, cond, Bool}
+use Rattle.std.specs.Prelude.{true, false, Option, Some, None, Result, Ok, Err, List, [], ◌∷◌}
 use Rattle.jr_word.specs.declared.handle.RefKind.{RefKind}
 use Rattle.jr_word.specs.declared.handle.RefKind.TheVariants.{Local, Global, Weak}
 use Rattle.jr_word.specs.declared.gate.GateParts.{GateParts}
@@ -13,7 +14,9 @@ use Rattle.jr_model.specs.declared.event.Role.TheVariants.{Outside, Knocking}
 use Rattle.jr_model.specs.declared.event.Found.{Found}
 use Rattle.jr_model.specs.declared.event.Found.TheVariants.{Object, Cleared, Stale}
 use Rattle.jr_model.specs.declared.event.Act.{Act}
-use Rattle.jr_model.specs.declared.event.Act.TheVariants.{Gate, ShutBusy, Meet, Create, Look, Probe, Delete, DeleteStale, LocalPut, LocalDrop, New, Reserve, ReserveFull, ReserveLost}
+use Rattle.jr_model.specs.declared.event.Act.TheVariants.{Gate, ShutBusy, Meet, Create, Look, Probe}
+use Rattle.jr_model.specs.declared.event.Act.TheVariants.{Delete, DeleteStale, LocalPut, LocalDrop}
+use Rattle.jr_model.specs.declared.event.Act.TheVariants.{New, Reserve, ReserveFull, ReserveLost}
 use Rattle.jr_model.specs.declared.event.GateAct.TheVariants.{Enter, Knock, Leave, Withdraw, Announce, Shut}
 use Rattle.jr_model.specs.State.{Handle, same_kind}
 use Rattle.jr_steps.specs.declared.loads.SlotLoad.{SlotLoad}
@@ -33,7 +36,8 @@ abbrev pub act_of_exit : Role → Act
 act_of_exit Knocking = Gate Withdraw
 act_of_exit _ = Gate Leave
 
--- the exchange of an open, empty gate for a shut one: where it is lost, so many other threads are inside, knocking, announcing or collecting
+-- the exchange of an open, empty gate for a shut one:
+-- where it is lost, so many other threads are inside, knocking, announcing or collecting
 abbrev pub act_of_bar : Result (Unit {0}) ℕ → Act
 act_of_bar (Ok _) = Gate Shut
 act_of_bar (Err n) = ShutBusy n
@@ -57,7 +61,8 @@ abbrev pub act_of_gate_load : GateLoad → GateParts → Act
 act_of_gate_load gate.Busy p = (if is_closed p.state then ShutBusy (all_counted p) else Meet)
 act_of_gate_load gate.Meet p = Meet
 
--- the exchange of an open gate for one that is announced to be shut: where it is lost, the gate was closed, or another thread went in or out
+-- the exchange of an open gate for one that is announced to be shut:
+-- where it is lost, the gate was closed, or another thread went in or out
 abbrev pub act_of_announcement : Result (Unit {0}) GateParts → Act
 act_of_announcement (Ok _) = Gate Announce
 act_of_announcement (Err p) = act_of_gate_load gate.Busy p

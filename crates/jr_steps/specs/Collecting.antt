@@ -40,13 +40,15 @@ ShowsDropped o k k' = k'.holdings ≡ without_header k.holdings o
 
 -- the word at the place is of no other list: the header of each other object with elements is known, and says so
 abbrev pub IsFree : ℕ → ℕ → Known → Type 0
-IsFree o at k = (r : ℕ) (x : Contents) → o ≢ r → (state_of k).objects r ≡ Some x → 1 ≤ length x.words → (h : HeaderParts) × KnowsHeader r h k × ((i : ℕ) → i < h.length → h.place + i ≢ at)
+IsFree o at k = (r : ℕ) (x : Contents) → o ≢ r → (state_of k).objects r ≡ Some x → 1 ≤ length x.words
+    → (h : HeaderParts) × KnowsHeader r h k × ((i : ℕ) → i < h.length → h.place + i ≢ at)
 
 -- an array may have a word there: it lies below the top
 abbrev pub IsRoom : ℕ → Known → Type 0
 IsRoom at k = at < (state_of k).used
 
--- AN ELEMENT MAY BE MOVED: it is the next one of the object's move to the place, and its new word is one of no other list, and of none of the object's elements that are still to be moved
+-- AN ELEMENT MAY BE MOVED: it is the next one of the object's move to the place, and its new
+-- word is one of no other list, and of none of the object's elements that are still to be moved
 pub record CanMove (o : ℕ) (h : HeaderParts) (place i v : ℕ) (k : Known) : Type 0 where
   pub known : KnowsHeader o h k
   pub done : HasDone k.holdings.moving o place i
@@ -72,8 +74,10 @@ pub record CanPlace (o : ℕ) (h : HeaderParts) (place : ℕ) (k : Known) : Type
 abbrev pub ShowsPlaced : ℕ → HeaderParts → ℕ → Known → Known → Type 0
 ShowsPlaced o h place k k' = k'.holdings ≡ with_header (with_move k.holdings None) o (placed h place)
 
--- THE TOP MAY BE SET: no move is unfinished, so many words have the present objects, and the known header of each that has elements says that they lie below
+-- THE TOP MAY BE SET: no move is unfinished, so many words have the present
+-- objects, and the known header of each that has elements says that they lie below
 pub record CanSettle (used : ℕ) (k : Known) : Type 0 where
   pub settled : IsSettled k
   pub sum : used ≡ present_words k.config (state_of k)
-  pub below : (r : ℕ) (x : Contents) → (state_of k).objects r ≡ Some x → 1 ≤ length x.words → (h : HeaderParts) × KnowsHeader r h k × (h.place + h.length ≤ used)
+  pub below : (r : ℕ) (x : Contents) → (state_of k).objects r ≡ Some x → 1 ≤ length x.words
+      → (h : HeaderParts) × KnowsHeader r h k × (h.place + h.length ≤ used)

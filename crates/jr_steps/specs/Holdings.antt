@@ -24,15 +24,18 @@ header_in o (h ∷ hs) = cond (h.object == o) h.header (header_in o hs)
 
 -- the range at a place has these words now
 abbrev pub with_range : Holdings → ℕ → List ℕ → Holdings
-with_range g p ws = record { ranges = record { place = p; words = ws } ∷ g.ranges; headers = g.headers; moving = g.moving }
+with_range g p ws =
+    record { ranges = record { place = p; words = ws } ∷ g.ranges; headers = g.headers; moving = g.moving }
 
 -- the header of an object is known
 abbrev pub with_header : Holdings → ℕ → HeaderParts → Holdings
-with_header g o h = record { ranges = g.ranges; headers = record { object = o; header = Some h } ∷ g.headers; moving = g.moving }
+with_header g o h =
+    record { ranges = g.ranges; headers = record { object = o; header = Some h } ∷ g.headers; moving = g.moving }
 
 -- no header of the object is known any more
 abbrev pub without_header : Holdings → ℕ → Holdings
-without_header g o = record { ranges = g.ranges; headers = record { object = o; header = None } ∷ g.headers; moving = g.moving }
+without_header g o =
+    record { ranges = g.ranges; headers = record { object = o; header = None } ∷ g.headers; moving = g.moving }
 
 -- this move is not finished, or none is
 abbrev pub with_move : Holdings → Option Move → Holdings
@@ -53,11 +56,13 @@ HasDone (Some m) o place done = m ≡ move_of o place done
 
 -- no word is an element of two objects whose headers are known
 abbrev pub ShareNoWord : Holdings → Type 0
-ShareNoWord g = (o r : ℕ) (h k : HeaderParts) (i j : ℕ) → o ≢ r → header_in o g.headers ≡ Some h → header_in r g.headers ≡ Some k → i < h.length → j < k.length → h.place + i ≢ k.place + j
+ShareNoWord g = (o r : ℕ) (h k : HeaderParts) (i j : ℕ) → o ≢ r → header_in o g.headers ≡ Some h
+    → header_in r g.headers ≡ Some k → i < h.length → j < k.length → h.place + i ≢ k.place + j
 
 -- what is held lies in the space: each word of an own range, and each element of an object whose header is known
 pub record InSpace (c : Config) (g : Holdings) : Type 0 where
   pub own : (p i : ℕ) → i < length (words_at p g.ranges) → p + i < c.words
   pub good : (o : ℕ) (h : HeaderParts) → header_in o g.headers ≡ Some h → IsHeader h
-  pub elements : (o : ℕ) (h : HeaderParts) → header_in o g.headers ≡ Some h → (i : ℕ) → i < h.length → h.place + i < c.words
+  pub elements : (o : ℕ) (h : HeaderParts) → header_in o g.headers ≡ Some h → (i : ℕ) → i < h.length
+      → h.place + i < c.words
   pub apart : g.moving ≡ None → ShareNoWord g

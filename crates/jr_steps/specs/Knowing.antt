@@ -1,5 +1,6 @@
 -- What a caller of the steps knows of them.
-use Rattle.std.specs.Prelude.{◌≡◌, ◌≢◌, ◌⊎◌, ◌↔◌, ◌<◌, ◌+◌, ℕ, Bool, true, false, Result, Ok, Err, Option, Some, None, List, [], ◌∷◌, ◌++◌, ◌==◌, cond, map, length, slice_set}
+use Rattle.std.specs.Prelude.{◌≡◌, ◌≢◌, ◌⊎◌, ◌↔◌, ◌<◌, ◌+◌, ℕ, Bool, true, false, Result, Ok, Err, Option}
+use Rattle.std.specs.Prelude.{Some, None, List, [], ◌∷◌, ◌++◌, ◌==◌, cond, map, length, slice_set}
 use Rattle.std.specs.List.{AllByRecursion}
 use Rattle.atomic_table.specs.Seated.{TableId}
 use Rattle.jr_word.specs.declared.config.Config.{Config}
@@ -59,7 +60,14 @@ state_of k = state k.seen
 
 -- the standing after acts
 abbrev pub standing_after : Standing → List Act → Standing
-standing_after s acts = record { room = s.room; config = s.config; last = s.last; thread = s.thread; role = role_from s.role acts; fresh = fresh_from s.fresh acts }
+standing_after s acts = record {
+  room = s.room;
+  config = s.config;
+  last = s.last;
+  thread = s.thread;
+  role = role_from s.role acts;
+  fresh = fresh_from s.fresh acts;
+}
 
 -- what is known is of this room and thread, and its history is legal
 pub record IsOf (s : Standing) (k : Known) : Type 0 where
@@ -69,7 +77,8 @@ pub record IsOf (s : Standing) (k : Known) : Type 0 where
   pub role : role_of (view k) ≡ s.role
   pub legal : IsLegal k.config k.last k.seen
 
--- WHAT A STEP makes of what was known: what others did in between, and then the acts of the step, one or none; and it is one step more
+-- WHAT A STEP makes of what was known: what others did in between, and then the acts of the step, one or none;
+-- and it is one step more
 pub record Goes (k : Known) (acts : List Act) (k' : Known) : Type 0 where
   pub config : k'.config ≡ k.config
   pub last : k'.last ≡ k.last
@@ -172,7 +181,8 @@ pub record IsFilled (h : HeaderParts) (k : Known) : Type 0 where
 abbrev pub without_range_of : HeaderParts → Holdings → Holdings
 without_range_of h g = cond (h.length == 0) g (with_range g h.place [])
 
--- WHAT A LOAD OF A HEADER SHOWS: the object that is present then, and its header is known from now on, the one that was known before if any was; or that none is
+-- WHAT A LOAD OF A HEADER SHOWS: the object that is present then, and its header
+-- is known from now on, the one that was known before if any was; or that none is
 pub record ShowsObject (o : ℕ) (h : HeaderParts) (k : Known) : Type 0 where
   pub contents : Contents
   pub is : (state_of k).objects o ≡ Some contents
@@ -180,24 +190,29 @@ pub record ShowsObject (o : ℕ) (h : HeaderParts) (k : Known) : Type 0 where
 
 abbrev pub ShowsHeader : ℕ → Option HeaderParts → Known → Known → Type 0
 ShowsHeader o None k k' = ((state_of k').objects o ≡ None) × keeps k k'
-ShowsHeader o (Some h) k k' = ShowsObject o h k' × (k'.holdings ≡ with_header k.holdings o h) × ((g : HeaderParts) → header_in o k.holdings.headers ≡ Some g → g ≡ h)
+ShowsHeader o (Some h) k k' = ShowsObject o h k' × (k'.holdings ≡ with_header k.holdings o h)
+    × ((g : HeaderParts) → header_in o k.holdings.headers ≡ Some g → g ≡ h)
 
 -- what a load of the top shows: how many words are used then
 abbrev pub ShowsUsed : ℕ → Known → Type 0
 ShowsUsed u k = (state_of k).used ≡ u
 
--- what a reservation shows: a range of the pass's own, of so many words, where it had none before; and right behind it that many more words are used than the number that the caller named, so that just before it that number was
+-- what a reservation shows: a range of the pass's own, of so many words, where it had none before; and right behind
+-- it that many more words are used than the number that the caller named, so that just before it that number was
 abbrev pub ShowsRange : ℕ → ℕ → Result (Unit {0}) ℕ → Known → Known → Type 0
-ShowsRange looked n (Ok _) k k' = (ws : List ℕ) × (length ws ≡ n) × (k'.holdings ≡ with_range k.holdings looked ws) × (words_at looked k.holdings.ranges ≡ []) × ShowsUsed (looked + n) k'
+ShowsRange looked n (Ok _) k k' = (ws : List ℕ) × (length ws ≡ n) × (k'.holdings ≡ with_range k.holdings looked ws)
+    × (words_at looked k.holdings.ranges ≡ []) × ShowsUsed (looked + n) k'
 ShowsRange looked n (Err found) k k' = keeps k k'
 
 -- what a store in a range of the pass's own shows
 abbrev pub ShowsWord : ℕ → ℕ → ℕ → Known → Known → Type 0
 ShowsWord place i v k k' = k'.holdings ≡ with_range k.holdings place (slice_set (words_at place k.holdings.ranges) i v)
 
--- WHAT AN EXCHANGE OF A HEADER SHOWS: the object is present; and where it is new, the range is no more the pass's own, and the header, of an object of which the pass knew none, is known from now on
+-- WHAT AN EXCHANGE OF A HEADER SHOWS: the object is present; and where it is new, the range is no
+-- more the pass's own, and the header, of an object of which the pass knew none, is known from now on
 abbrev pub ShowsPublished : ℕ → HeaderParts → Bool → Known → Known → Type 0
-ShowsPublished o h true k k' = HasObject o k' × (k'.holdings ≡ with_header (without_range_of h k.holdings) o h) × (header_in o k.holdings.headers ≡ None)
+ShowsPublished o h true k k' = HasObject o k' × (k'.holdings ≡ with_header (without_range_of h k.holdings) o h)
+    × (header_in o k.holdings.headers ≡ None)
 ShowsPublished o h false k k' = HasObject o k' × keeps k k'
 
 -- no present object array names an absent object
@@ -217,10 +232,12 @@ abbrev pub ShowsBarred : Result (Unit {0}) ℕ → Known → Known → Type 0
 ShowsBarred (Ok _) k k' = lets_go k k'
 ShowsBarred (Err n) k k' = keeps k k'
 
--- what an exchange shows that announces a shut where the gate was open with this count: where it is lost, the gate has other parts
+-- what an exchange shows that announces a shut where the gate was open with this count:
+-- where it is lost, the gate has other parts
 abbrev pub ShowsAnnounced : ℕ → Result (Unit {0}) GateParts → Known → Known → Type 0
 ShowsAnnounced looked (Ok _) k k' = lets_go k k'
-ShowsAnnounced looked (Err found) k k' = (found ≢ record { count = looked; state = Open }) × ShowsGate found k' × keeps k k'
+ShowsAnnounced looked (Err found) k k' =
+    (found ≢ record { count = looked; state = Open }) × ShowsGate found k' × keeps k k'
 
 -- a lost claim: the index was occupied in between, and the word that was found stands there
 abbrev pub LostClaim : ℕ → Result (Unit {0}) SlotParts → Known → Known → Type 0
@@ -251,18 +268,25 @@ AreLone {S = S} facts = (s : S) (k : Known) → (facts s).stands.room ≡ None �
 abbrev pub AreOf : {S : Type 0} → (S → Facts) → Type 0
 AreOf {S = S} facts = (s : S) (k : Known) → (facts s).knows k → IsOf (facts s).stands k
 
--- FOR WHATEVER WAS KNOWN of the old and meets the condition, something is known of the new that was made of it so, and that shows this
-abbrev pub Leads : {S : Type 0} → (S → Facts) → S → S → (Known → Type 0) → (Known → Known → Type 0) → (Known → Known → Type 0) → Type 0
-Leads facts old new met made shows = (k : Known) → (facts old).knows k → met k → (k' : Known) × (facts new).knows k' × made k k' × shows k k'
+-- FOR WHATEVER WAS KNOWN of the old and meets the condition, something
+-- is known of the new that was made of it so, and that shows this
+abbrev pub Leads : {S : Type 0} → (S → Facts) → S → S → (Known → Type 0) → (Known → Known → Type 0)
+    → (Known → Known → Type 0) → Type 0
+Leads facts old new met made shows =
+    (k : Known) → (facts old).knows k → met k → (k' : Known) × (facts new).knows k' × made k k' × shows k k'
 
--- THESE WORDS WERE READ IN TURN at elements of the object from an index on, each by one step more, and the pass holds what it held
+-- THESE WORDS WERE READ IN TURN at elements of the object from an
+-- index on, each by one step more, and the pass holds what it held
 abbrev pub ReadsInTurn : ℕ → ℕ → List ℕ → Known → Known → Type 0
 ReadsInTurn o i [] k k' = k' ≡ k
-ReadsInTurn o i (v ∷ vs) k k' = (next : Known) × Goes k (Read o i v ∷ []) next × keeps k next × ReadsInTurn o (i + 1) vs next k'
+ReadsInTurn o i (v ∷ vs) k k' =
+    (next : Known) × Goes k (Read o i v ∷ []) next × keeps k next × ReadsInTurn o (i + 1) vs next k'
 
 module _ {S : Type 0} (facts : S → Facts) where
-  -- ONE STEP WAS TAKEN, with acts that may depend on what was known: it leaves the pass standing so, leaves the hint as it was, and shows this
-  pub record TookWith (old new : S) (acts : Known → List Act) (stood : Standing) (met : Known → Type 0) (shows : Known → Known → Type 0) : Type 0 where
+  -- ONE STEP WAS TAKEN, with acts that may depend on what was known:
+  -- it leaves the pass standing so, leaves the hint as it was, and shows this
+  pub record TookWith (old new : S) (acts : Known → List Act) (stood : Standing) (met : Known → Type 0)
+      (shows : Known → Known → Type 0) : Type 0 where
     pub stands_is : (facts new).stands ≡ stood
     pub hint_is : (facts new).hint ≡ (facts old).hint
     pub goes : Leads facts old new met (λ k k'. Goes k (acts k) k') shows
@@ -271,8 +295,10 @@ module _ {S : Type 0} (facts : S → Facts) where
   abbrev pub Took : S → S → List Act → (Known → Type 0) → (Known → Known → Type 0) → Type 0
   Took old new acts met shows = TookWith old new (λ k. acts) (standing_after (facts old).stands acts) met shows
 
-  -- SEVERAL STEPS WERE TAKEN: they leave the pass standing so, leave the hint as it was, made this of what was known, and show this
-  pub record Went (old new : S) (stood : Standing) (met : Known → Type 0) (made shows : Known → Known → Type 0) : Type 0 where
+  -- SEVERAL STEPS WERE TAKEN:
+  -- they leave the pass standing so, leave the hint as it was, made this of what was known, and show this
+  pub record Went (old new : S) (stood : Standing) (met : Known → Type 0)
+      (made shows : Known → Known → Type 0) : Type 0 where
     pub stands_is : (facts new).stands ≡ stood
     pub hint_is : (facts new).hint ≡ (facts old).hint
     pub leads : Leads facts old new met made shows
@@ -293,8 +319,10 @@ module _ {S : Type 0} (facts : S → Facts) where
     pub stands_is : (facts new).stands ≡ (facts old).stands
     pub same : (k : Known) → (facts old).knows k ↔ (facts new).knows k
 
-  -- A PART OF AN OBJECT WAS READ: words of its elements from an index on, a step for each, which leave the pass standing so; and these values are what the words are taken for
-  pub record SawPart {V : Type 0} (old new : S) (o : ℕ) (h : HeaderParts) (start : ℕ) (taken : ℕ → V) (values : List V) : Type 0 where
+  -- A PART OF AN OBJECT WAS READ: words of its elements from an index on, a step for each,
+  -- which leave the pass standing so; and these values are what the words are taken for
+  pub record SawPart {V : Type 0} (old new : S) (o : ℕ) (h : HeaderParts) (start : ℕ) (taken : ℕ → V)
+      (values : List V) : Type 0 where
     pub words : List ℕ
     pub are : values ≡ map taken words
     pub stands_is : (facts new).stands ≡ (facts old).stands

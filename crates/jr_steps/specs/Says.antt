@@ -1,5 +1,7 @@
--- WHAT THE PARTS OF A WORD SAY of the machine's state. The rule of the row says it of each word, and a load shows it of the word that it found.
-use Rattle.std.specs.Prelude.{◌≡◌, ◌≢◌, ◌↔◌, ◌+◌, ◌<◌, ◌≤◌, ◌==◌, ◌&&◌, nat_lt, cond, ℕ, Bool, true, false, IsTrue, Option, Some, None, length}
+-- WHAT THE PARTS OF A WORD SAY of the machine's state.
+-- The rule of the row says it of each word, and a load shows it of the word that it found.
+use Rattle.std.specs.Prelude.{◌≡◌, ◌≢◌, ◌↔◌, ◌+◌, ◌<◌, ◌≤◌, ◌==◌, ◌&&◌, nat_lt, cond}
+use Rattle.std.specs.Prelude.{ℕ, Bool, true, false, Option, Some, None, length}
 use Rattle.jr_word.specs.declared.config.Config.{Config}
 use Rattle.jr_word.specs.declared.gate.GateParts.{GateParts}
 use Rattle.jr_word.specs.declared.gate.GateState.TheVariants.{Announced, Shut}
@@ -18,7 +20,8 @@ use Rattle.jr_model.specs.State.{Handle, Contents, is_inside}
 use Rattle.jr_steps.specs.declared.known.Move.{Move}
 use Rattle.jr_steps.specs.Acts.{found_of, handle_of}
 
--- THE GATE counts the threads within or knocking, is shut exactly where one is collecting, and announced to be exactly where one has announced it
+-- THE GATE counts the threads within or knocking, is shut exactly where one
+-- is collecting, and announced to be exactly where one has announced it
 pub record SaysOfGate (c : Config) (role : ℕ → Role) (parts : GateParts) : Type 0 where
   pub count : parts.count ≡ count_below c.threads (λ t. is_inside (role t))
   pub shut : (parts.state ≡ Shut) ↔ ((t : ℕ) × (role t ≡ Collecting))
@@ -46,8 +49,10 @@ StandsAs last refs i next (slot.Retired serial) = NoneStands refs i × (serial �
 StandsAs last refs i next (slot.Global serial o) = StandsAlone refs next (handle_of Global serial i) (Object o)
 StandsAs last refs i next (slot.Weak serial o) = StandsAlone refs next (handle_of Weak serial i) (found_of o)
 
--- THE SLOT of an index has the kind, serial and object of the reference that stands there; else it is free with the next serial, or retired
-pub record SaysOfSlot (last : ℕ) (refs : Handle → Found) (given : Handle → Bool) (i : ℕ) (parts : SlotParts) : Type 0 where
+-- THE SLOT of an index has the kind, serial and object of the reference that stands there;
+-- else it is free with the next serial, or retired
+pub record SaysOfSlot (last : ℕ) (refs : Handle → Found) (given : Handle → Bool) (i : ℕ)
+    (parts : SlotParts) : Type 0 where
   pub next : ℕ
   pub serials : AreGivenBelow given i next
   pub stands : StandsAs last refs i next parts
@@ -62,7 +67,8 @@ pub record SaysOfHeader (x : Contents) (parts : HeaderParts) : Type 0 where
   pub kind : x.kind ≡ parts.kind
   pub long : length x.words ≡ parts.length
 
--- where element j of an object stands whose header says the place p: those that an unfinished move has done stand at its new place
+-- where element j of an object stands whose header says the place p:
+-- those that an unfinished move has done stand at its new place
 abbrev pub element_spot : Option Move → ℕ → ℕ → ℕ → ℕ
 element_spot None o p j = p + j
 element_spot (Some m) o p j = cond ((m.object == o) && nat_lt j m.done) (m.place + j) (p + j)

@@ -1,10 +1,13 @@
 -- Numbers and their digits.
-use Rattle.std.proofs.Common.{◌≡◌, ℕ, zero, suc, ◌^◌, ◌<◌, true, List, length, get_or, refl, arith, inl, inr, eqb, rules}
+use Rattle.std.proofs.Common.{◌≡◌, ℕ, zero, suc, ◌^◌, ◌<◌, true, List, length}
+use Rattle.std.proofs.Common.{get_or, refl, arith, inl, inr, eqb, rules}
 use Rattle.std.specs.Prelude.{◌||◌, not, nat_le}
 use Rattle.std.specs.Fmt.{decimal}
-use Rattle.std.proofs.lemmas.Bool.{and_parts, and_from, leb-true, le-leb, eqb-true, eqb-false, ne_eqb, not-true, or_cases}
+use Rattle.std.proofs.lemmas.Bool.{and_parts, and_from, leb-true, le-leb, eqb-true}
+use Rattle.std.proofs.lemmas.Bool.{eqb-false, ne_eqb, not-true, or_cases}
 use Rattle.std.proofs.lemmas.Str.Parse.{IsNumeralModel, IsDigitsTest, numerals_by_fold}
-use Rattle.std.proofs.lemmas.Fmt.{decimal-digits_value, digits_decimal, digits_value-decimal, decimal_digit, decimal_nonempty, first_decimal}
+use Rattle.std.proofs.lemmas.Fmt.{decimal-digits_value, digits_decimal, digits_value-decimal}
+use Rattle.std.proofs.lemmas.Fmt.{decimal_digit, decimal_nonempty, first_decimal}
 use Rattle.jr_syntax.specs.Number.{all_digits, is_number, number_from, number_of_digits}
 
 -- a number up to the greatest has few bits
@@ -43,4 +46,5 @@ no_zero (suc n) h =
 
 pub decimal_form : (n : ℕ) → n < 2 ^ 64 → is_number (decimal n) ≡ true
 decimal_form n h =
-    and_from _ _ (and_from _ _ (le-leb 1 (length (decimal n)) (omega (arith, decimal_nonempty n h))) (decimal_digits n h)) (no_zero n h)
+    and_from _ _ (and_from _ _ (le-leb 1 (length (decimal n)) (omega (arith, decimal_nonempty n h)))
+    (decimal_digits n h)) (no_zero n h)

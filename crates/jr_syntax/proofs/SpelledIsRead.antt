@@ -1,5 +1,6 @@
 -- What is spelled is read again, as what it was.
-use Rattle.std.proofs.Common.{◌≡◌, ℕ, suc, ℤ, pos, negsuc, ◌^◌, ◌<◌, ◌≤◌, Bool, true, false, cond, List, [], ◌∷◌, ◌++◌, refl, ap, ◌∙◌, arith, inl, inr, leb, eqb, length, map, Option, Some}
+use Rattle.std.proofs.Common.{◌≡◌, ℕ, suc, ℤ, pos, negsuc, ◌^◌, ◌<◌, ◌≤◌, Bool, true, false, cond, List, []}
+use Rattle.std.proofs.Common.{◌∷◌, ◌++◌, refl, ap, ◌∙◌, arith, inl, inr, leb, eqb, length, map, Option, Some}
 use Rattle.std.specs.Prelude.{◌&&◌, not, nat_le, codes}
 use Rattle.std.specs.Option.{option_map, option_map_or}
 use Rattle.std.specs.Str.{bytes_eq}
@@ -9,7 +10,9 @@ use Rattle.std.proofs.lemmas.Bool.{and_parts, and_from, leb-true, le-leb, eq-eqb
 use Rattle.std.proofs.lemmas.List.{length-map}
 use Rattle.jr_word.specs.Config.{is_between}
 use Rattle.jr_syntax.specs.declared.verb.Verb.{Verb}
-use Rattle.jr_syntax.specs.declared.verb.Verb.TheVariants.{Make, MakeFrom, On, OnBoth, OnName, WithCount, MakeSized, MakeFilled, MakeText, MakeAt, OnAt, SetAt, StoreAt, OnNameAt, PutAt, Release, OpenLevel, CloseLevel, OfRoom, WithTries}
+use Rattle.jr_syntax.specs.declared.verb.Verb.TheVariants.{Make, MakeFrom, On, OnBoth, OnName, WithCount, MakeSized}
+use Rattle.jr_syntax.specs.declared.verb.Verb.TheVariants.{MakeFilled, MakeText, MakeAt, OnAt, SetAt, StoreAt, OnNameAt}
+use Rattle.jr_syntax.specs.declared.verb.Verb.TheVariants.{PutAt, Release, OpenLevel, CloseLevel, OfRoom, WithTries}
 use Rattle.jr_syntax.specs.declared.verb.Make.TheVariants.{Plain}
 use Rattle.jr_syntax.specs.declared.verb.MakeFrom.TheVariants.{Global}
 use Rattle.jr_syntax.specs.declared.verb.On.TheVariants as on
@@ -46,7 +49,8 @@ use Rattle.jr_syntax.specs.Value.{is_long, value}
 use Rattle.jr_model.specs.declared.frames.Mode.{Mode}
 use Rattle.jr_model.specs.declared.frames.Mode.TheVariants.{Copy, Commit, Abort}
 use Rattle.jr_syntax.specs.Modes.{mode, is_mode_word, mode_of, word_of_mode}
-use Rattle.jr_syntax.specs.Command.{verb_word, verb_of, behind_verb, spelling_of, words_of_command, is_command, line_has_form, line_in_range, line_command}
+use Rattle.jr_syntax.specs.Command.{verb_word, verb_of, behind_verb, spelling_of, words_of_command}
+use Rattle.jr_syntax.specs.Command.{is_command, line_has_form, line_in_range, line_command}
 use Rattle.jr_syntax.specs.Script.{thread}
 use Rattle.jr_syntax.proofs.DecimalLaws.{few_bits, decimal_digits, decimal_form, number_decimal}
 use Rattle.jr_syntax.proofs.ValueLaws.{or_right, long_above, long_below, value_form, value_again}
@@ -57,7 +61,8 @@ use Rattle.jr_syntax.proofs.VmLaws.{not_all}
 abbrev pub is_solid : List ℕ → Bool
 is_solid w = list_all (is_between 33 126) w
 
-all_weaker : (p q : ℕ → Bool) → ((c : ℕ) → p c ≡ true → q c ≡ true) → (w : List ℕ) → list_all p w ≡ true → list_all q w ≡ true
+all_weaker : (p q : ℕ → Bool) → ((c : ℕ) → p c ≡ true → q c ≡ true) → (w : List ℕ) → list_all p w ≡ true
+    → list_all q w ≡ true
 all_weaker p q h [] f = refl
 all_weaker p q h (c ∷ cs) f = let r = and_parts _ _ f in and_from _ _ (h c r.0) (all_weaker p q h cs r.1)
 
@@ -70,13 +75,17 @@ between low high lo hi c l h f =
 
 name_byte_solid : (c : ℕ) → is_name_byte c ≡ true → is_between 33 126 c ≡ true
 name_byte_solid c f =
-    elim (or_cases _ _ f) [ inl l ↦ between 97 122 33 126 c (omega arith) (omega arith) l | inr d ↦ between 48 57 33 126 c (omega arith) (omega arith) d ]
+    elim (or_cases _ _ f) [
+      | inl l ↦ between 97 122 33 126 c (omega arith) (omega arith) l
+      | inr d ↦ between 48 57 33 126 c (omega arith) (omega arith) d
+    ]
 
 pub name_solid : (w : List ℕ) → is_name w ≡ true → is_solid w ≡ true
 name_solid w f = all_weaker is_name_byte (is_between 33 126) name_byte_solid w (and_parts _ _ (and_parts _ _ f).0).1
 
 digits_solid : (w : List ℕ) → all_digits w ≡ true → is_solid w ≡ true
-digits_solid w f = all_weaker is_digit (is_between 33 126) (λ c d. between 48 57 33 126 c (omega arith) (omega arith) d) w f
+digits_solid w f =
+    all_weaker is_digit (is_between 33 126) (λ c d. between 48 57 33 126 c (omega arith) (omega arith) d) w f
 
 pub decimal_solid : (n : ℕ) → n < 2 ^ 64 → is_solid (decimal n) ≡ true
 decimal_solid n h = digits_solid (decimal n) (decimal_digits n h)
@@ -133,7 +142,12 @@ value_solid (pos n) g = let small = long_above n g in decimal_solid n (omega (ar
 value_solid (negsuc n) g = let small = long_below n g in decimal_solid (suc n) (omega (arith, small))
 
 value_word_again : AgainWord value
-value_word_again = record { solid = value_solid; form = value_form; range = λ z g. ap is_long (value_again z g) ∙ g; back = value_again }
+value_word_again = record {
+  solid = value_solid;
+  form = value_form;
+  range = λ z g. ap is_long (value_again z g) ∙ g;
+  back = value_again;
+}
 
 mode_solid : (m : Mode) → is_solid (word_of_mode m) ≡ true
 mode_solid Copy = refl
@@ -151,7 +165,8 @@ mode_back Commit = refl
 mode_back Abort = refl
 
 mode_again : AgainWord mode
-mode_again = record { solid = λ m g. mode_solid m; form = λ m g. mode_form m; range = λ m g. refl; back = λ m g. mode_back m }
+mode_again =
+    record { solid = λ m g. mode_solid m; form = λ m g. mode_form m; range = λ m g. refl; back = λ m g. mode_back m }
 
 -- ---- arguments
 
@@ -181,23 +196,29 @@ two_again k l t u = record {
   back = λ x g. let p = and_parts _ _ g in rw (t.back x.0 p.0, u.back x.1 p.1) refl;
 }
 
-three_again : {X Y Z : Type 0} (k : WordKind X) (l : WordKind Y) (m : WordKind Z) → AgainWord k → AgainWord l → AgainWord m → Again (three k l m)
+three_again : {X Y Z : Type 0} (k : WordKind X) (l : WordKind Y) (m : WordKind Z) → AgainWord k → AgainWord l
+    → AgainWord m → Again (three k l m)
 three_again k l m t u v = record {
   solid = λ x g.
       let p = and_parts _ _ g in
       let q = and_parts _ _ p.0 in
       and_from _ _ (t.solid x.0 q.0) (and_from _ _ (u.solid x.1 q.1) (and_from _ _ (v.solid x.2 p.1) refl));
-  form = λ x g. let p = and_parts _ _ g in let q = and_parts _ _ p.0 in and_from _ _ (and_from _ _ (t.form x.0 q.0) (u.form x.1 q.1)) (v.form x.2 p.1);
-  range = λ x g. let p = and_parts _ _ g in let q = and_parts _ _ p.0 in and_from _ _ (and_from _ _ (t.range x.0 q.0) (u.range x.1 q.1)) (v.range x.2 p.1);
-  back = λ x g. let p = and_parts _ _ g in let q = and_parts _ _ p.0 in rw (t.back x.0 q.0, u.back x.1 q.1, v.back x.2 p.1) refl;
+  form = λ x g. let p = and_parts _ _ g in let q = and_parts _ _ p.0 in
+      and_from _ _ (and_from _ _ (t.form x.0 q.0) (u.form x.1 q.1)) (v.form x.2 p.1);
+  range = λ x g. let p = and_parts _ _ g in let q = and_parts _ _ p.0 in
+      and_from _ _ (and_from _ _ (t.range x.0 q.0) (u.range x.1 q.1)) (v.range x.2 p.1);
+  back = λ x g. let p = and_parts _ _ g in let q = and_parts _ _ p.0 in
+      rw (t.back x.0 q.0, u.back x.1 q.1, v.back x.2 p.1) refl;
 }
 
 -- what holds of each word that is spelled holds of all
-all_spelled : {X : Type 0} (k : WordKind X) (p : List ℕ → Bool) → ((x : X) → k.is_good x ≡ true → p (k.spell x) ≡ true) → (xs : List X) → list_all k.is_good xs ≡ true → list_all p (map k.spell xs) ≡ true
+all_spelled : {X : Type 0} (k : WordKind X) (p : List ℕ → Bool) → ((x : X) → k.is_good x ≡ true → p (k.spell x) ≡ true)
+    → (xs : List X) → list_all k.is_good xs ≡ true → list_all p (map k.spell xs) ≡ true
 all_spelled k p h [] g = refl
 all_spelled k p h (x ∷ xs) g = let q = and_parts _ _ g in and_from _ _ (h x q.0) (all_spelled k p h xs q.1)
 
-all_again : {X : Type 0} (k : WordKind X) → AgainWord k → (xs : List X) → list_all k.is_good xs ≡ true → map k.value (map k.spell xs) ≡ xs
+all_again : {X : Type 0} (k : WordKind X) → AgainWord k → (xs : List X) → list_all k.is_good xs ≡ true
+    → map k.value (map k.spell xs) ≡ xs
 all_again k t [] g = refl
 all_again k t (x ∷ xs) g = let q = and_parts _ _ g in rw (t.back x q.0, all_again k t xs q.1) refl
 
@@ -216,7 +237,8 @@ before_again k a t u = record {
   solid = λ x g. let p = and_parts _ _ g in and_from _ _ (t.solid x.0 p.0) (u.solid x.1 p.1);
   form = λ x g.
       let p = and_parts _ _ g in
-      and_from _ _ (and_from _ _ (le-leb 1 (length (k.spell x.0 ∷ a.spell x.1)) (omega arith)) (t.form x.0 p.0)) (u.form x.1 p.1);
+      and_from _ _ (and_from _ _ (le-leb 1 (length (k.spell x.0 ∷ a.spell x.1)) (omega arith)) (t.form x.0 p.0))
+      (u.form x.1 p.1);
   range = λ x g. let p = and_parts _ _ g in and_from _ _ (t.range x.0 p.0) (u.range x.1 p.1);
   back = λ x g. let p = and_parts _ _ g in rw (t.back x.0 p.0, u.back x.1 p.1) refl;
 }
@@ -232,7 +254,8 @@ uncut c (x ∷ xs) le h =
     let low = leb-true 33 x q.0 in
     rw (ne_eqb x c (λ (z : x ≡ c). omega (arith, low, z)), uncut c xs le p.1) refl
 
-cut_behind : (c : ℕ) (w rest : List ℕ) → c ≤ 32 → is_solid w ≡ true → slice_split (λ b. eqb b c) (w ++ c ∷ rest) ≡ w ∷ slice_split (λ b. eqb b c) rest
+cut_behind : (c : ℕ) (w rest : List ℕ) → c ≤ 32 → is_solid w ≡ true
+    → slice_split (λ b. eqb b c) (w ++ c ∷ rest) ≡ w ∷ slice_split (λ b. eqb b c) rest
 cut_behind c [] rest le h = rw (eq-eqb c c refl) refl
 cut_behind c (x ∷ xs) rest le h =
     let p = and_parts _ _ h in
@@ -240,7 +263,8 @@ cut_behind c (x ∷ xs) rest le h =
     let low = leb-true 33 x q.0 in
     rw (ne_eqb x c (λ (z : x ≡ c). omega (arith, low, z)), cut_behind c xs rest le p.1) refl
 
-pub words_again : (w : List ℕ) (ws : List (List ℕ)) → list_all is_solid (w ∷ ws) ≡ true → words_of (line (w ∷ ws)) ≡ w ∷ ws
+pub words_again : (w : List ℕ) (ws : List (List ℕ)) → list_all is_solid (w ∷ ws) ≡ true
+    → words_of (line (w ∷ ws)) ≡ w ∷ ws
 words_again w [] h = uncut 32 w (omega arith) (and_parts _ _ h).0
 words_again w (v ∷ ws) h =
     let p = and_parts _ _ h in
@@ -248,9 +272,11 @@ words_again w (v ∷ ws) h =
 
 -- a line of solid words is printable
 printable : (w : List ℕ) → is_solid w ≡ true → list_all (is_between 32 126) w ≡ true
-printable w h = all_weaker (is_between 33 126) (is_between 32 126) (λ c d. between 33 126 32 126 c (omega arith) (omega arith) d) w h
+printable w h = all_weaker (is_between 33 126) (is_between 32 126)
+    (λ c d. between 33 126 32 126 c (omega arith) (omega arith) d) w h
 
-all_joined : (p : ℕ → Bool) (xs ys : List ℕ) → list_all p xs ≡ true → list_all p ys ≡ true → list_all p (xs ++ ys) ≡ true
+all_joined : (p : ℕ → Bool) (xs ys : List ℕ) → list_all p xs ≡ true → list_all p ys ≡ true
+    → list_all p (xs ++ ys) ≡ true
 all_joined p [] ys h g = g
 all_joined p (x ∷ xs) ys h g = let q = and_parts _ _ h in and_from _ _ q.0 (all_joined p xs ys q.1 g)
 
@@ -258,7 +284,8 @@ pub line_printable : (ws : List (List ℕ)) → list_all is_solid ws ≡ true �
 line_printable [] h = refl
 line_printable (w ∷ []) h = printable w (and_parts _ _ h).0
 line_printable (w ∷ v ∷ ws) h =
-    let p = and_parts _ _ h in all_joined (is_between 32 126) w (32 ∷ line (v ∷ ws)) (printable w p.0) (and_from _ _ refl (line_printable (v ∷ ws) p.1))
+    let p = and_parts _ _ h in all_joined (is_between 32 126) w (32 ∷ line (v ∷ ws)) (printable w p.0)
+    (and_from _ _ refl (line_printable (v ∷ ws) p.1))
 
 -- ---- commands
 
@@ -298,14 +325,16 @@ verb_again (WithTries CollectAnnounced) = refl
 abbrev can_begin : Verb → Bool
 can_begin v = is_solid (verb_word v) && not (bytes_eq (verb_word v) (codes "thread"))
 
-begins_at : (p q : Verb → Bool) (u v : Verb) (rest : Option Verb) (b : Bool) → p u ≡ b → q u ≡ true → (rest ≡ Some v → q v ≡ true) → cond b (Some u) rest ≡ Some v → q v ≡ true
+begins_at : (p q : Verb → Bool) (u v : Verb) (rest : Option Verb) (b : Bool) → p u ≡ b → q u ≡ true
+    → (rest ≡ Some v → q v ≡ true) → cond b (Some u) rest ≡ Some v → q v ≡ true
 begins_at p q u v rest true h g ih e = let same : u ≡ v = cc in rw (← same) g
 begins_at p q u v rest false h g ih e = ih e
 
 -- what holds of each in a list holds of what is found in it
 found_so : (p q : Verb → Bool) (vs : List Verb) (v : Verb) → list_all q vs ≡ true → find p vs ≡ Some v → q v ≡ true
 found_so p q [] v h e = absurd cc
-found_so p q (u ∷ vs) v h e = let a = and_parts _ _ h in begins_at p q u v (find p vs) (p u) refl a.0 (found_so p q vs v a.1) e
+found_so p q (u ∷ vs) v h e = let a = and_parts _ _ h in
+    begins_at p q u v (find p vs) (p u) refl a.0 (found_so p q vs v a.1) e
 
 verb_begins : (v : Verb) → can_begin v ≡ true
 unfolding verb_of
@@ -320,36 +349,70 @@ pub record IsLineOf (ws : List (List ℕ)) (c : Command) : Type 0 where
   pub command : line_command ws ≡ Some c
 
 -- the line of a verb and its arguments
-by : {X : Type 0} (a : Arguments X) → Again a → (v : Verb) → (make : X → Command) → ((ws : List (List ℕ)) → (behind_verb v).has_form ws ≡ a.has_form ws) → ((ws : List (List ℕ)) → (behind_verb v).in_range ws ≡ a.in_range ws) → ((ws : List (List ℕ)) → (behind_verb v).value ws ≡ make (a.value ws)) → (x : X) → a.is_good x ≡ true → IsLineOf (verb_word v ∷ a.spell x) (make x)
+by : {X : Type 0} (a : Arguments X) → Again a → (v : Verb) → (make : X → Command)
+    → ((ws : List (List ℕ)) → (behind_verb v).has_form ws ≡ a.has_form ws)
+    → ((ws : List (List ℕ)) → (behind_verb v).in_range ws ≡ a.in_range ws)
+    → ((ws : List (List ℕ)) → (behind_verb v).value ws ≡ make (a.value ws)) → (x : X) → a.is_good x ≡ true
+    → IsLineOf (verb_word v ∷ a.spell x) (make x)
 unfolding line_has_form line_in_range line_command
 by a t v make f r m x g = let begins = and_parts _ _ (verb_begins v) in record {
-  plain = not_all (leb 1 (length (verb_word v ∷ a.spell x))) (bytes_eq (verb_word v) (codes "thread")) _ (not-true _ begins.1);
+  plain = not_all (leb 1 (length (verb_word v ∷ a.spell x))) (bytes_eq (verb_word v) (codes "thread")) _
+      (not-true _ begins.1);
   solid = and_from _ _ begins.0 (t.solid x g);
-  form = ap (λ o. option_map_or (λ u. (behind_verb u).has_form (a.spell x)) o false) (verb_again v) ∙ f (a.spell x) ∙ t.form x g;
-  range = ap (λ o. option_map_or (λ u. (behind_verb u).in_range (a.spell x)) o false) (verb_again v) ∙ r (a.spell x) ∙ t.range x g;
-  command = ap (λ o. option_map (λ u. (behind_verb u).value (a.spell x)) o) (verb_again v) ∙ ap (λ k. Some k) (m (a.spell x) ∙ ap make (t.back x g));
+  form = ap (λ o. option_map_or (λ u. (behind_verb u).has_form (a.spell x)) o false) (verb_again v) ∙ f (a.spell x)
+      ∙ t.form x g;
+  range = ap (λ o. option_map_or (λ u. (behind_verb u).in_range (a.spell x)) o false) (verb_again v) ∙ r (a.spell x)
+      ∙ t.range x g;
+  command = ap (λ o. option_map (λ u. (behind_verb u).value (a.spell x)) o) (verb_again v)
+      ∙ ap (λ k. Some k) (m (a.spell x) ∙ ap make (t.back x g));
 }
 
 -- a line for each shape
 pub command_again : (c : Command) → is_command c ≡ true → IsLineOf (words_of_command c) c
 unfolding behind_verb spelling_of
-command_again (commands.Make v n) g = by _ (one_again name name_again) (Make v) (λ x. commands.Make v x) (λ _. refl) (λ _. refl) (λ _. refl) n g
-command_again (commands.MakeFrom v n r) g = by _ (two_again name reference name_again reference_again) (MakeFrom v) (λ x. commands.MakeFrom v x.0 x.1) (λ _. refl) (λ _. refl) (λ _. refl) (n, r) g
-command_again (commands.On v r) g = by _ (one_again reference reference_again) (On v) (λ x. commands.On v x) (λ _. refl) (λ _. refl) (λ _. refl) r g
-command_again (commands.OnBoth v l r) g = by _ (two_again reference reference reference_again reference_again) (OnBoth v) (λ x. commands.OnBoth v x.0 x.1) (λ _. refl) (λ _. refl) (λ _. refl) (l, r) g
-command_again (commands.OnName v n) g = by _ (one_again name name_again) (OnName v) (λ x. commands.OnName v x) (λ _. refl) (λ _. refl) (λ _. refl) n g
-command_again (commands.WithCount v n) g = by _ (one_again count count_again) (WithCount v) (λ x. commands.WithCount v x) (λ _. refl) (λ _. refl) (λ _. refl) n g
-command_again (commands.MakeSized v n l) g = by _ (two_again name count name_again count_again) (MakeSized v) (λ x. commands.MakeSized v x.0 x.1) (λ _. refl) (λ _. refl) (λ _. refl) (n, l) g
-command_again (commands.MakeFilled v n l r) g = by _ (three_again name count reference name_again count_again reference_again) (MakeFilled v) (λ x. commands.MakeFilled v x.0 x.1 x.2) (λ _. refl) (λ _. refl) (λ _. refl) (n, l, r) g
-command_again (commands.MakeText v n us) g = by _ (before_again name units name_again (up_to_again most_units unit unit_again)) (MakeText v) (λ x. commands.MakeText v x.0 x.1) (λ _. refl) (λ _. refl) (λ _. refl) (n, us) g
-command_again (commands.MakeAt v n r i) g = by _ (three_again name reference count name_again reference_again count_again) (MakeAt v) (λ x. commands.MakeAt v x.0 x.1 x.2) (λ _. refl) (λ _. refl) (λ _. refl) (n, r, i) g
-command_again (commands.OnAt v r i) g = by _ (two_again reference count reference_again count_again) (OnAt v) (λ x. commands.OnAt v x.0 x.1) (λ _. refl) (λ _. refl) (λ _. refl) (r, i) g
-command_again (commands.SetAt v r i q) g = by _ (three_again reference count reference reference_again count_again reference_again) (SetAt v) (λ x. commands.SetAt v x.0 x.1 x.2) (λ _. refl) (λ _. refl) (λ _. refl) (r, i, q) g
-command_again (commands.StoreAt v r i x) g = by _ (three_again reference count value reference_again count_again value_word_again) (StoreAt v) (λ y. commands.StoreAt v y.0 y.1 y.2) (λ _. refl) (λ _. refl) (λ _. refl) (r, i, x) g
-command_again (commands.OnNameAt v n i) g = by _ (two_again name count name_again count_again) (OnNameAt v) (λ x. commands.OnNameAt v x.0 x.1) (λ _. refl) (λ _. refl) (λ _. refl) (n, i) g
-command_again (commands.PutAt v n i x) g = by _ (three_again name count value name_again count_again value_word_again) (PutAt v) (λ y. commands.PutAt v y.0 y.1 y.2) (λ _. refl) (λ _. refl) (λ _. refl) (n, i, x) g
-command_again (commands.Release v n r m) g = by _ (three_again name reference mode name_again reference_again mode_again) (Release v) (λ x. commands.Release v x.0 x.1 x.2) (λ _. refl) (λ _. refl) (λ _. refl) (n, r, m) g
-command_again (commands.OpenLevel v n r) g = by _ (two_again name reference name_again reference_again) (OpenLevel v) (λ x. commands.OpenLevel v x.0 x.1) (λ _. refl) (λ _. refl) (λ _. refl) (n, r) g
-command_again (commands.CloseLevel v m) g = by _ (one_again mode mode_again) (CloseLevel v) (λ x. commands.CloseLevel v x) (λ _. refl) (λ _. refl) (λ _. refl) m g
-command_again (commands.OfRoom v) g = by _ nothing_again (OfRoom v) (λ x. commands.OfRoom v) (λ _. refl) (λ _. refl) (λ _. refl) tt g
-command_again (commands.WithTries v n) g = by _ (one_again tries tries_again) (WithTries v) (λ x. commands.WithTries v x) (λ _. refl) (λ _. refl) (λ _. refl) n g
+command_again (commands.Make v n) g =
+    by _ (one_again name name_again) (Make v) (λ x. commands.Make v x) (λ _. refl) (λ _. refl) (λ _. refl) n g
+command_again (commands.MakeFrom v n r) g = by _ (two_again name reference name_again reference_again) (MakeFrom v)
+    (λ x. commands.MakeFrom v x.0 x.1) (λ _. refl) (λ _. refl) (λ _. refl) (n, r) g
+command_again (commands.On v r) g =
+    by _ (one_again reference reference_again) (On v) (λ x. commands.On v x) (λ _. refl) (λ _. refl) (λ _. refl) r g
+command_again (commands.OnBoth v l r) g = by _ (two_again reference reference reference_again reference_again)
+    (OnBoth v) (λ x. commands.OnBoth v x.0 x.1) (λ _. refl) (λ _. refl) (λ _. refl) (l, r) g
+command_again (commands.OnName v n) g =
+    by _ (one_again name name_again) (OnName v) (λ x. commands.OnName v x) (λ _. refl) (λ _. refl) (λ _. refl) n g
+command_again (commands.WithCount v n) g = by _ (one_again count count_again) (WithCount v)
+    (λ x. commands.WithCount v x) (λ _. refl) (λ _. refl) (λ _. refl) n g
+command_again (commands.MakeSized v n l) g = by _ (two_again name count name_again count_again) (MakeSized v)
+    (λ x. commands.MakeSized v x.0 x.1) (λ _. refl) (λ _. refl) (λ _. refl) (n, l) g
+command_again (commands.MakeFilled v n l r) g =
+    by _ (three_again name count reference name_again count_again reference_again) (MakeFilled v)
+    (λ x. commands.MakeFilled v x.0 x.1 x.2) (λ _. refl) (λ _. refl) (λ _. refl) (n, l, r) g
+command_again (commands.MakeText v n us) g =
+    by _ (before_again name units name_again (up_to_again most_units unit unit_again)) (MakeText v)
+    (λ x. commands.MakeText v x.0 x.1) (λ _. refl) (λ _. refl) (λ _. refl) (n, us) g
+command_again (commands.MakeAt v n r i) g =
+    by _ (three_again name reference count name_again reference_again count_again) (MakeAt v)
+    (λ x. commands.MakeAt v x.0 x.1 x.2) (λ _. refl) (λ _. refl) (λ _. refl) (n, r, i) g
+command_again (commands.OnAt v r i) g = by _ (two_again reference count reference_again count_again) (OnAt v)
+    (λ x. commands.OnAt v x.0 x.1) (λ _. refl) (λ _. refl) (λ _. refl) (r, i) g
+command_again (commands.SetAt v r i q) g =
+    by _ (three_again reference count reference reference_again count_again reference_again) (SetAt v)
+    (λ x. commands.SetAt v x.0 x.1 x.2) (λ _. refl) (λ _. refl) (λ _. refl) (r, i, q) g
+command_again (commands.StoreAt v r i x) g =
+    by _ (three_again reference count value reference_again count_again value_word_again) (StoreAt v)
+    (λ y. commands.StoreAt v y.0 y.1 y.2) (λ _. refl) (λ _. refl) (λ _. refl) (r, i, x) g
+command_again (commands.OnNameAt v n i) g = by _ (two_again name count name_again count_again) (OnNameAt v)
+    (λ x. commands.OnNameAt v x.0 x.1) (λ _. refl) (λ _. refl) (λ _. refl) (n, i) g
+command_again (commands.PutAt v n i x) g = by _ (three_again name count value name_again count_again value_word_again)
+    (PutAt v) (λ y. commands.PutAt v y.0 y.1 y.2) (λ _. refl) (λ _. refl) (λ _. refl) (n, i, x) g
+command_again (commands.Release v n r m) g =
+    by _ (three_again name reference mode name_again reference_again mode_again) (Release v)
+    (λ x. commands.Release v x.0 x.1 x.2) (λ _. refl) (λ _. refl) (λ _. refl) (n, r, m) g
+command_again (commands.OpenLevel v n r) g = by _ (two_again name reference name_again reference_again) (OpenLevel v)
+    (λ x. commands.OpenLevel v x.0 x.1) (λ _. refl) (λ _. refl) (λ _. refl) (n, r) g
+command_again (commands.CloseLevel v m) g = by _ (one_again mode mode_again) (CloseLevel v)
+    (λ x. commands.CloseLevel v x) (λ _. refl) (λ _. refl) (λ _. refl) m g
+command_again (commands.OfRoom v) g =
+    by _ nothing_again (OfRoom v) (λ x. commands.OfRoom v) (λ _. refl) (λ _. refl) (λ _. refl) tt g
+command_again (commands.WithTries v n) g = by _ (one_again tries tries_again) (WithTries v)
+    (λ x. commands.WithTries v x) (λ _. refl) (λ _. refl) (λ _. refl) n g

@@ -1,5 +1,6 @@
 -- Values, as words and as integers.
-use Rattle.std.proofs.Common.{◌≡◌, ℕ, zero, suc, ℤ, pos, negsuc, ◌^◌, ◌<◌, ◌≤◌, Bool, true, false, cond, List, [], ◌∷◌, refl, sym, ap, subst, ◌∙◌, arith, eqb, leb, length, inl, inr}
+use Rattle.std.proofs.Common.{◌≡◌, ℕ, zero, suc, ℤ, pos, negsuc, ◌^◌, ◌<◌, ◌≤◌, Bool, true, false, cond}
+use Rattle.std.proofs.Common.{List, [], ◌∷◌, refl, sym, ap, subst, ◌∙◌, arith, eqb, leb, length, inl, inr}
 use Rattle.std.specs.Prelude.{◌&&◌, ◌||◌, not, codes, neg_ℤ}
 use Rattle.std.specs.Str.{bytes_eq}
 use Rattle.std.specs.Fmt.{decimal, signed_decimal}
@@ -38,7 +39,8 @@ not_zero ds f other e =
     let same : ds ≡ codes "0" = sym back ∙ ap decimal e ∙ decimal_digit 0 (omega arith) in
     false≢true (sym other ∙ (bytes_eq-Decides ds (codes "0")).1 same)
 
-minus_at : (ds : List ℕ) (n : ℕ) → number_of_digits ds ≡ n → is_number ds ≡ true → bytes_eq ds (codes "0") ≡ false → is_long (neg_ℤ (pos n)) ≡ true → signed_decimal (neg_ℤ (pos n)) ≡ 45 ∷ ds
+minus_at : (ds : List ℕ) (n : ℕ) → number_of_digits ds ≡ n → is_number ds ≡ true → bytes_eq ds (codes "0") ≡ false
+    → is_long (neg_ℤ (pos n)) ≡ true → signed_decimal (neg_ℤ (pos n)) ≡ 45 ∷ ds
 minus_at ds zero e f other r = absurd (not_zero ds f other e)
 minus_at ds (suc n) e f other r =
     let small = long_below n r in
@@ -48,18 +50,23 @@ minus_at ds (suc n) e f other r =
 no_number : (ds : List ℕ) → is_number (45 ∷ ds) ≡ false
 no_number ds = not_all (leb 1 (length (45 ∷ ds))) (all_digits (45 ∷ ds)) _ refl
 
-minus_number : (ds : List ℕ) → is_value_word (45 ∷ ds) ≡ true → (is_number ds ≡ true) × (bytes_eq ds (codes "0") ≡ false)
+minus_number : (ds : List ℕ) → is_value_word (45 ∷ ds) ≡ true
+    → (is_number ds ≡ true) × (bytes_eq ds (codes "0") ≡ false)
 minus_number ds f =
-    let negative : is_negative_word (45 ∷ ds) ≡ true = ap (λ b. b || is_negative_word (45 ∷ ds)) (sym (no_number ds)) ∙ f in
+    let negative : is_negative_word (45 ∷ ds) ≡ true =
+    ap (λ b. b || is_negative_word (45 ∷ ds)) (sym (no_number ds)) ∙ f in
     let p = and_parts (is_number ds) (not (bytes_eq ds (codes "0"))) negative in
     (p.0, not-true _ p.1)
 
-minus_back : (ds : List ℕ) → is_value_word (45 ∷ ds) ≡ true → is_long (value_of (45 ∷ ds)) ≡ true → signed_decimal (value_of (45 ∷ ds)) ≡ 45 ∷ ds
+minus_back : (ds : List ℕ) → is_value_word (45 ∷ ds) ≡ true → is_long (value_of (45 ∷ ds)) ≡ true
+    → signed_decimal (value_of (45 ∷ ds)) ≡ 45 ∷ ds
 minus_back ds f r = let p = minus_number ds f in minus_at ds (number_of_digits ds) refl p.0 p.1 r
 
-value_back_at : (c : ℕ) (ds : List ℕ) (b : Bool) → eqb c 45 ≡ b → is_value_word (c ∷ ds) ≡ true → is_long (value_of (c ∷ ds)) ≡ true → signed_decimal (value_of (c ∷ ds)) ≡ c ∷ ds
+value_back_at : (c : ℕ) (ds : List ℕ) (b : Bool) → eqb c 45 ≡ b → is_value_word (c ∷ ds) ≡ true
+    → is_long (value_of (c ∷ ds)) ≡ true → signed_decimal (value_of (c ∷ ds)) ≡ c ∷ ds
 value_back_at c ds true e f r =
-    let P : ℕ → Type 0 = λ x. is_value_word (x ∷ ds) ≡ true → is_long (value_of (x ∷ ds)) ≡ true → signed_decimal (value_of (x ∷ ds)) ≡ x ∷ ds in
+    let P : ℕ → Type 0 = λ x. is_value_word (x ∷ ds) ≡ true → is_long (value_of (x ∷ ds)) ≡ true
+    → signed_decimal (value_of (x ∷ ds)) ≡ x ∷ ds in
     subst P (sym (eqb-true c 45 e)) (minus_back ds) f r
 value_back_at c ds false e f r =
     let is = plain_value c ds e in
@@ -101,7 +108,8 @@ not_so false h = refl
 no_zero : (n : ℕ) → suc n < 2 ^ 64 → bytes_eq (decimal (suc n)) (codes "0") ≡ false
 no_zero n h =
     let apart : bytes_eq (decimal (suc n)) (codes "0") ≡ true → ⊥ = λ e.
-    let same : decimal (suc n) ≡ decimal 0 = (bytes_eq-Decides (decimal (suc n)) (codes "0")).0 e ∙ sym (decimal_digit 0 (omega arith)) in
+    let same : decimal (suc n) ≡ decimal 0 =
+    (bytes_eq-Decides (decimal (suc n)) (codes "0")).0 e ∙ sym (decimal_digit 0 (omega arith)) in
     let is = decimal_injective (suc n) 0 h (omega arith) same in omega (arith, is) in
     not_so (bytes_eq (decimal (suc n)) (codes "0")) apart
 
@@ -111,7 +119,8 @@ value_form (pos n) g = let small = long_above n g in or_left _ _ (decimal_form n
 value_form (negsuc n) g =
     let small = long_below n g in
     let lt : suc n < 2 ^ 64 = omega (arith, small) in
-    or_right _ _ (and_from (is_number (decimal (suc n))) (not (bytes_eq (decimal (suc n)) (codes "0"))) (decimal_form (suc n) lt) (ap not (no_zero n lt)))
+    or_right _ _ (and_from (is_number (decimal (suc n))) (not (bytes_eq (decimal (suc n)) (codes "0")))
+    (decimal_form (suc n) lt) (ap not (no_zero n lt)))
 
 -- and is read again
 pub value_again : (z : ℤ) → is_long z ≡ true → value_of (signed_decimal z) ≡ z

@@ -1,5 +1,6 @@
 -- The first line.
-use Rattle.std.proofs.Common.{◌≡◌, ℕ, ◌^◌, ◌<◌, Bool, true, false, List, [], ◌∷◌, length, Ok, Err, refl, sym, ap, subst, ◌∙◌, arith, leb, eqb}
+use Rattle.std.proofs.Common.{◌≡◌, ℕ, ◌^◌, ◌<◌, Bool, true, false, List, [], ◌∷◌, length}
+use Rattle.std.proofs.Common.{Ok, Err, refl, sym, ap, subst, ◌∙◌, arith, leb, eqb}
 use Rattle.std.specs.Prelude.{◌&&◌, codes}
 use Rattle.std.specs.Str.{bytes_eq}
 use Rattle.std.proofs.lemmas.Bool.{and_parts, eqb-true, false≢true}
@@ -22,20 +23,23 @@ vm_form : (a b c d e : List ℕ) → AreNumbers a b c d e → vm.has_form (vm_wo
 vm_form a b c d e h = rw (h.threads, h.slots, h.objects, h.words, h.locals) refl
 
 -- what they are read as
-pub vm_read : (ws : List (List ℕ)) (a b c d e : List ℕ) (k : Config) → ws ≡ vm_words a b c d e → AreNumbers a b c d e → k ≡ vm.value (vm_words a b c d e) → in_limits k ≡ true → Reads (reading vm) ws (Ok k)
+pub vm_read : (ws : List (List ℕ)) (a b c d e : List ℕ) (k : Config) → ws ≡ vm_words a b c d e → AreNumbers a b c d e
+    → k ≡ vm.value (vm_words a b c d e) → in_limits k ≡ true → Reads (reading vm) ws (Ok k)
 vm_read ws a b c d e k is h v l =
     let P : List (List ℕ) → Type 0 = λ x. Reads (reading vm) x (Ok k) in
     subst P (sym is) (vm_form a b c d e h, ap in_limits (sym v) ∙ l, v)
 
 -- where a size is out of its bounds
-pub vm_out : (ws : List (List ℕ)) (a b c d e : List ℕ) → ws ≡ vm_words a b c d e → AreNumbers a b c d e → vm.in_range (vm_words a b c d e) ≡ false → Reads (reading vm) ws (Err errors.Range)
+pub vm_out : (ws : List (List ℕ)) (a b c d e : List ℕ) → ws ≡ vm_words a b c d e → AreNumbers a b c d e
+    → vm.in_range (vm_words a b c d e) ≡ false → Reads (reading vm) ws (Err errors.Range)
 vm_out ws a b c d e is h o =
     let P : List (List ℕ) → Type 0 = λ x. Reads (reading vm) x (Err errors.Range) in
     subst P (sym is) (vm_form a b c d e h, o)
 
 -- ---- a first line is its words
 
-pair_words : (key : List ℕ) (ws : List (List ℕ)) → is_pair key ws ≡ true → (ws ≡ key ∷ word_at ws 1 ∷ behind (behind ws)) × (is_number (word_at ws 1) ≡ true)
+pair_words : (key : List ℕ) (ws : List (List ℕ)) → is_pair key ws ≡ true
+    → (ws ≡ key ∷ word_at ws 1 ∷ behind (behind ws)) × (is_number (word_at ws 1) ≡ true)
 pair_words key [] h = absurd (false≢true h)
 pair_words key (a ∷ []) h = absurd (false≢true h)
 pair_words key (a ∷ b ∷ ws) h =
@@ -73,10 +77,17 @@ pub record IsVm (ws : List (List ℕ)) : Type 0 where
   pub first : word_at ws 0 ≡ codes "vm"
   pub back : in_limits (config_at ws) ≡ true → vm.spell (config_at ws) ≡ ws
 
-vm_back : (a b c d e : List ℕ) → AreNumbers a b c d e → in_limits (config_at (vm_words a b c d e)) ≡ true → vm.spell (config_at (vm_words a b c d e)) ≡ vm_words a b c d e
+vm_back : (a b c d e : List ℕ) → AreNumbers a b c d e → in_limits (config_at (vm_words a b c d e)) ≡ true
+    → vm.spell (config_at (vm_words a b c d e)) ≡ vm_words a b c d e
 vm_back a b c d e n h =
     let s = config_fits (config_at (vm_words a b c d e)) h in
-    rw (decimal_number a n.threads s.threads, decimal_number b n.slots s.slots, decimal_number c n.objects s.objects, decimal_number d n.words s.words, decimal_number e n.locals s.locals) refl
+    rw (
+      decimal_number a n.threads s.threads,
+      decimal_number b n.slots s.slots,
+      decimal_number c n.objects s.objects,
+      decimal_number d n.words s.words,
+      decimal_number e n.locals s.locals,
+    ) refl
 
 pub vm_taken : (ws : List (List ℕ)) → vm.has_form ws ≡ true → IsVm ws
 vm_taken [] h = absurd (false≢true h)
@@ -105,12 +116,19 @@ vm_taken (w ∷ r0) h =
     let d = word_at r3 1 in
     let e = word_at r4 1 in
     let e4 : r4 ≡ codes "locals" ∷ e ∷ [] = w4.0 ∙ ap (λ (x : List (List ℕ)). codes "locals" ∷ e ∷ x) end in
-    let e3 : r3 ≡ codes "words" ∷ d ∷ codes "locals" ∷ e ∷ [] = w3.0 ∙ ap (λ (x : List (List ℕ)). codes "words" ∷ d ∷ x) e4 in
-    let e2 : r2 ≡ codes "objects" ∷ c ∷ codes "words" ∷ d ∷ codes "locals" ∷ e ∷ [] = w2.0 ∙ ap (λ (x : List (List ℕ)). codes "objects" ∷ c ∷ x) e3 in
-    let e1 : r1 ≡ codes "slots" ∷ b ∷ codes "objects" ∷ c ∷ codes "words" ∷ d ∷ codes "locals" ∷ e ∷ [] = w1.0 ∙ ap (λ (x : List (List ℕ)). codes "slots" ∷ b ∷ x) e2 in
-    let e0 : r0 ≡ codes "threads" ∷ a ∷ codes "slots" ∷ b ∷ codes "objects" ∷ c ∷ codes "words" ∷ d ∷ codes "locals" ∷ e ∷ [] = w0.0 ∙ ap (λ (x : List (List ℕ)). codes "threads" ∷ a ∷ x) e1 in
-    let whole : w ∷ r0 ≡ vm_words a b c d e = ap (λ (x : List ℕ). x ∷ r0) first ∙ ap (λ (x : List (List ℕ)). codes "vm" ∷ x) e0 in
-    let numbers : AreNumbers a b c d e = record { threads = w0.1; slots = w1.1; objects = w2.1; words = w3.1; locals = w4.1 } in
+    let e3 : r3 ≡ codes "words" ∷ d ∷ codes "locals" ∷ e ∷ [] =
+    w3.0 ∙ ap (λ (x : List (List ℕ)). codes "words" ∷ d ∷ x) e4 in
+    let e2 : r2 ≡ codes "objects" ∷ c ∷ codes "words" ∷ d ∷ codes "locals" ∷ e ∷ [] =
+    w2.0 ∙ ap (λ (x : List (List ℕ)). codes "objects" ∷ c ∷ x) e3 in
+    let e1 : r1 ≡ codes "slots" ∷ b ∷ codes "objects" ∷ c ∷ codes "words" ∷ d ∷ codes "locals" ∷ e ∷ [] =
+    w1.0 ∙ ap (λ (x : List (List ℕ)). codes "slots" ∷ b ∷ x) e2 in
+    let e0 : r0
+    ≡ codes "threads" ∷ a ∷ codes "slots" ∷ b ∷ codes "objects" ∷ c ∷ codes "words" ∷ d ∷ codes "locals" ∷ e ∷ [] =
+    w0.0 ∙ ap (λ (x : List (List ℕ)). codes "threads" ∷ a ∷ x) e1 in
+    let whole : w ∷ r0 ≡ vm_words a b c d e =
+    ap (λ (x : List ℕ). x ∷ r0) first ∙ ap (λ (x : List (List ℕ)). codes "vm" ∷ x) e0 in
+    let numbers : AreNumbers a b c d e =
+    record { threads = w0.1; slots = w1.1; objects = w2.1; words = w3.1; locals = w4.1 } in
     subst IsVm (sym whole) (record { first = refl; back = vm_back a b c d e numbers })
 
 -- ---- it is no thread line

@@ -6,7 +6,9 @@ use Rattle.std.specs.Str.{bytes_eq}
 use Rattle.jr_syntax.specs.declared.argument.LineError.{LineError}
 use Rattle.jr_syntax.specs.declared.argument.LineError.TheVariants as errors
 use Rattle.jr_syntax.specs.declared.verb.Verb.{Verb}
-use Rattle.jr_syntax.specs.declared.verb.Verb.TheVariants.{Make, MakeFrom, On, OnBoth, OnName, WithCount, MakeSized, MakeFilled, MakeText, MakeAt, OnAt, SetAt, StoreAt, OnNameAt, PutAt, Release, OpenLevel, CloseLevel, OfRoom, WithTries}
+use Rattle.jr_syntax.specs.declared.verb.Verb.TheVariants.{Make, MakeFrom, On, OnBoth, OnName, WithCount, MakeSized}
+use Rattle.jr_syntax.specs.declared.verb.Verb.TheVariants.{MakeFilled, MakeText, MakeAt, OnAt, SetAt, StoreAt, OnNameAt}
+use Rattle.jr_syntax.specs.declared.verb.Verb.TheVariants.{PutAt, Release, OpenLevel, CloseLevel, OfRoom, WithTries}
 use Rattle.jr_syntax.specs.declared.verb.Make.TheVariants.{Plain, Wait}
 use Rattle.jr_syntax.specs.declared.verb.MakeFrom.TheVariants.{Global, Weak, Local, Pop, Elements}
 use Rattle.jr_syntax.specs.declared.verb.On.TheVariants as on

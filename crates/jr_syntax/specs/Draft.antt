@@ -1,12 +1,15 @@
 -- For the crate's own functions: a script as it is read, line by line.
-use Rattle.std.specs.Prelude.{◌≡◌, ℕ, Bool, false, not, List, [], ◌∷◌, ◌++◌, length, Option, Some, None, is_none, Result, Ok, Err, nat_le, nat_lt, if◌then◌else◌}
+use Rattle.std.specs.Prelude.{◌≡◌, ℕ, Bool, false, not, List, [], ◌∷◌, ◌++◌, length, Option, Some}
+use Rattle.std.specs.Prelude.{None, is_none, Result, Ok, Err, nat_le, nat_lt, if◌then◌else◌}
 use Rattle.std.specs.Option.{option_map, option_map_or}
 use Rattle.std.specs.List.{list_all, list_any}
 use Rattle.std.specs.Str.{bytes_eq}
 use Rattle.jr_word.specs.Config.{is_between}
 use Rattle.jr_syntax.specs.declared.command.Command.{Command}
 use Rattle.jr_syntax.specs.declared.fault.Reason.{Reason}
-use Rattle.jr_syntax.specs.declared.fault.Reason.TheVariants.{TooLong, UnfinishedLine, NotAscii, VmLineExpected, ThreadLineExpected, TooManyThreads, NameUsedTwice, CommandExpected, NumberOutOfRange, PostedTwice}
+use Rattle.jr_syntax.specs.declared.fault.Reason.TheVariants.{TooLong, UnfinishedLine, NotAscii, VmLineExpected}
+use Rattle.jr_syntax.specs.declared.fault.Reason.TheVariants.{ThreadLineExpected, TooManyThreads, NameUsedTwice}
+use Rattle.jr_syntax.specs.declared.fault.Reason.TheVariants.{CommandExpected, NumberOutOfRange, PostedTwice}
 use Rattle.jr_syntax.specs.declared.fault.ScriptFault.{ScriptFault}
 use Rattle.jr_syntax.specs.declared.fault.ScriptFault.TheVariants as script_faults
 use Rattle.jr_syntax.specs.declared.draft.LineFault.{LineFault}
@@ -49,12 +52,15 @@ first_rows l =
 -- the table for a thread line behind what was read
 abbrev pub thread_rows : Draft → List ℕ → List (Reason × Bool)
 thread_rows d word =
-    (TooManyThreads, nat_le d.config.threads (length (parts_of d))) ∷ (NameUsedTwice, list_any (bytes_eq word) (names_of (parts_of d))) ∷ []
+    (TooManyThreads, nat_le d.config.threads (length (parts_of d)))
+    ∷ (NameUsedTwice, list_any (bytes_eq word) (names_of (parts_of d))) ∷ []
 
 -- the table for another line behind what was read
 abbrev pub command_rows : Draft → List (List ℕ) → List (Reason × Bool)
 command_rows d ws =
-    (ThreadLineExpected, is_none d.last) ∷ (CommandExpected, not (line_has_form ws)) ∷ (NumberOutOfRange, not (line_in_range ws)) ∷ (PostedTwice, share (option_map_or posted (line_command ws) []) (posts_of (parts_of d))) ∷ []
+    (ThreadLineExpected, is_none d.last) ∷ (CommandExpected, not (line_has_form ws))
+    ∷ (NumberOutOfRange, not (line_in_range ws))
+    ∷ (PostedTwice, share (option_map_or posted (line_command ws) []) (posts_of (parts_of d))) ∷ []
 
 -- the table for a line behind the first, by what was read
 abbrev pub rows : ℕ → Draft → Line → List (Reason × Bool)
@@ -62,7 +68,8 @@ rows number d l =
     (TooLong, nat_lt most_lines number)
     ∷ (UnfinishedLine, not l.1)
     ∷ (NotAscii, not (list_all (is_between 32 126) l.0))
-    ∷ (if thread.has_form (words_of l.0) then thread_rows d (thread.value (words_of l.0)) else command_rows d (words_of l.0))
+    ∷ (if thread.has_form (words_of l.0) then thread_rows d (thread.value (words_of l.0))
+    else command_rows d (words_of l.0))
 
 -- one more command in the last part
 abbrev pub with_command : List ThreadPart → Command → List ThreadPart
@@ -77,18 +84,22 @@ begun word = record { name = word; commands = [] }
 -- What a thread line did.
 abbrev pub ReadsThreadLine : Draft → List ℕ → Result (Unit {0}) LineFault → Draft → Type 0
 ReadsThreadLine old word result new =
-    Gave (thread_rows old word) result ((new.config ≡ old.config) × (parts_of new ≡ parts_of old ++ begun word ∷ []) × (is_none new.last ≡ false))
+    Gave (thread_rows old word) result ((new.config ≡ old.config) × (parts_of new ≡ parts_of old ++ begun word ∷ [])
+    × (is_none new.last ≡ false))
 
 -- What a command's line did.
 abbrev pub Adds : Draft → List (List ℕ) → Result (Unit {0}) LineFault → Draft → Type 0
 Adds old ws result new =
-    Gave (command_rows old ws) result ((new.config ≡ old.config) × (Some (parts_of new) ≡ option_map (with_command (parts_of old)) (line_command ws)) × (is_none new.last ≡ false))
+    Gave (command_rows old ws) result ((new.config ≡ old.config)
+    × (Some (parts_of new) ≡ option_map (with_command (parts_of old)) (line_command ws)) × (is_none new.last ≡ false))
 
 -- What a line without a fault adds.
 abbrev pub Grown : Draft → List ℕ → Draft → Type 0
 Grown old l new =
     (new.config ≡ old.config)
-    × (Some (parts_of new) ≡ (if thread.has_form (words_of l) then Some (parts_of old ++ begun (thread.value (words_of l)) ∷ []) else option_map (with_command (parts_of old)) (line_command (words_of l))))
+    × (Some (parts_of new)
+    ≡ (if thread.has_form (words_of l) then Some (parts_of old ++ begun (thread.value (words_of l)) ∷ [])
+    else option_map (with_command (parts_of old)) (line_command (words_of l))))
     × (is_none new.last ≡ false)
 
 -- the fault of a line, at its number

@@ -1,11 +1,15 @@
 -- THE FAULTS: the first line with a fault, and the first text of the table that fits it.
-use Rattle.std.specs.Prelude.{ℕ, ◌+◌, Bool, ◌&&◌, not, List, [], ◌∷◌, ◌++◌, length, map, filter, Option, Some, None, nat_le, nat_lt, ◌==◌, codes, if◌then◌else◌}
+use Rattle.std.specs.Prelude.{ℕ, ◌+◌, Bool, ◌&&◌, not, List, [], ◌∷◌, ◌++◌, length, map, filter}
+use Rattle.std.specs.Prelude.{Option, Some, None, nat_le, nat_lt, ◌==◌, codes, if◌then◌else◌}
 use Rattle.std.specs.List.{list_all, list_any, flat_map}
 use Rattle.std.specs.Option.{option_map_or}
 use Rattle.std.specs.Str.{bytes_eq}
 use Rattle.jr_word.specs.Config.{is_between}
 use Rattle.jr_syntax.specs.declared.fault.Reason.{Reason}
-use Rattle.jr_syntax.specs.declared.fault.Reason.TheVariants.{TooLong, EmptyInput, UnfinishedLine, NotAscii, VmLineExpected, ThreadLineExpected, TooManyThreads, NameUsedTwice, CommandExpected, NumberOutOfRange, PostedTwice}
+use Rattle.jr_syntax.specs.declared.fault.Reason.TheVariants.{TooLong, EmptyInput, UnfinishedLine, NotAscii}
+use Rattle.jr_syntax.specs.declared.fault.Reason.TheVariants.{VmLineExpected, ThreadLineExpected}
+use Rattle.jr_syntax.specs.declared.fault.Reason.TheVariants.{TooManyThreads, NameUsedTwice, CommandExpected}
+use Rattle.jr_syntax.specs.declared.fault.Reason.TheVariants.{NumberOutOfRange, PostedTwice}
 use Rattle.jr_syntax.specs.Line.{Line, lines_of, words_of, word_at}
 use Rattle.jr_syntax.specs.Command.{line_has_form, line_in_range, line_command}
 use Rattle.jr_syntax.specs.Script.{vm, thread, posted, most_lines, most_bytes}

@@ -1,5 +1,6 @@
 -- Kinds of words and of arguments: how they are read, and how they are spelled.
-use Rattle.std.specs.Prelude.{◌≡◌, Bool, true, false, List, ℕ, [], ◌∷◌, ◌&&◌, ◌==◌, nat_le, length, map, Result, Ok, Err, MatchOption, Option}
+use Rattle.std.specs.Prelude.{◌≡◌, Bool, true, false, List, ℕ, [], ◌∷◌, ◌&&◌, ◌==◌}
+use Rattle.std.specs.Prelude.{nat_le, length, map, Result, Ok, Err, MatchOption, Option}
 use Rattle.std.specs.List.{list_all}
 use Rattle.jr_syntax.specs.declared.argument.LineError.{LineError}
 use Rattle.jr_syntax.specs.declared.argument.LineError.TheVariants as errors
@@ -69,7 +70,8 @@ two k l = record {
 -- three arguments
 abbrev pub three : {X Y Z : Type 0} → WordKind X → WordKind Y → WordKind Z → Arguments (X × Y × Z)
 three k l m = record {
-  has_form = λ ws. (length ws == 3) && k.has_form (word_at ws 0) && l.has_form (word_at ws 1) && m.has_form (word_at ws 2);
+  has_form =
+      λ ws. (length ws == 3) && k.has_form (word_at ws 0) && l.has_form (word_at ws 1) && m.has_form (word_at ws 2);
   in_range = λ ws. k.in_range (word_at ws 0) && l.in_range (word_at ws 1) && m.in_range (word_at ws 2);
   value = λ ws. (k.value (word_at ws 0), l.value (word_at ws 1), m.value (word_at ws 2));
   spell = λ x. k.spell x.0 ∷ l.spell x.1 ∷ m.spell x.2 ∷ [];

@@ -1,5 +1,6 @@
 -- Lines and their words.
-use Rattle.std.specs.Prelude.{ℕ, Bool, List, [], ◌∷◌, ◌==◌, length, true, false, Option, Some, None, if◌then◌else◌, zero, suc}
+use Rattle.std.specs.Prelude.{ℕ, Bool, List, [], ◌∷◌, ◌==◌, length, true, false}
+use Rattle.std.specs.Prelude.{Option, Some, None, if◌then◌else◌, zero, suc}
 use Rattle.std.specs.List.{join_with_byte, slice_split}
 use Rattle.std.specs.Borrow.{Bor}
 

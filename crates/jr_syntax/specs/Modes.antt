@@ -21,4 +21,5 @@ word_of_mode Abort = codes "abort"
 
 -- a MODE
 abbrev pub mode : WordKind Mode
-mode = record { has_form = is_mode_word; in_range = λ _. true; value = mode_of; spell = word_of_mode; is_good = λ _. true }
+mode =
+    record { has_form = is_mode_word; in_range = λ _. true; value = mode_of; spell = word_of_mode; is_good = λ _. true }

@@ -18,7 +18,8 @@ is_name_byte c = is_letter c || is_digit c
 -- a letter, and at most 15 letters and digits behind it; not `null`
 abbrev pub is_name : List ℕ → Bool
 is_name word =
-    nat_le 1 (length word) && nat_le (length word) 16 && is_letter (slice_index word 0) && list_all is_name_byte word && not (bytes_eq word (codes "null"))
+    nat_le 1 (length word) && nat_le (length word) 16 && is_letter (slice_index word 0) && list_all is_name_byte word
+    && not (bytes_eq word (codes "null"))
 
 -- a name or `null`
 abbrev pub is_reference : List ℕ → Bool

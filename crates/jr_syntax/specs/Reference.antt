@@ -22,4 +22,10 @@ is_good_reference (Named n) = is_name n
 
 -- a REF
 abbrev pub reference : WordKind Reference
-reference = record { has_form = is_reference; in_range = λ _. true; value = reference_at; spell = reference_word; is_good = is_good_reference }
+reference = record {
+  has_form = is_reference;
+  in_range = λ _. true;
+  value = reference_at;
+  spell = reference_word;
+  is_good = is_good_reference;
+}

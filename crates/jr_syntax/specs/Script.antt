@@ -45,7 +45,8 @@ vm = record {
   has_form = λ ws. nat_le 1 (length ws) && bytes_eq (word_at ws 0) (codes "vm") && are_pairs vm_keys (behind ws);
   in_range = λ ws. in_limits (config_at ws);
   value = config_at;
-  spell = λ c. codes "vm" ∷ codes "threads" ∷ decimal c.threads ∷ codes "slots" ∷ decimal c.slots ∷ codes "objects" ∷ decimal c.objects ∷ codes "words" ∷ decimal c.words ∷ codes "locals" ∷ decimal c.locals ∷ [];
+  spell = λ c. codes "vm" ∷ codes "threads" ∷ decimal c.threads ∷ codes "slots" ∷ decimal c.slots ∷ codes "objects"
+      ∷ decimal c.objects ∷ codes "words" ∷ decimal c.words ∷ codes "locals" ∷ decimal c.locals ∷ [];
   is_good = in_limits;
 }
 
@@ -104,7 +105,8 @@ most_lines = 4096
 abbrev pub most_bytes : ℕ
 most_bytes = 65536
 
--- A script: sizes within their limits, a part for each thread, names of threads that differ, names that are posted once, and a text within its limits.
+-- A script: sizes within their limits, a part for each thread, names of threads
+-- that differ, names that are posted once, and a text within its limits.
 pub record IsScript (s : Script) : Type 0 where
   pub config : in_limits s.config ≡ true
   pub threads : length s.threads ≡ s.config.threads

@@ -1,5 +1,6 @@
 -- Values: what an element is set to.
-use Rattle.std.specs.Prelude.{ℕ, ℤ, pos, negsuc, neg_ℤ, Bool, false, ◌&&◌, ◌||◌, not, List, [], ◌∷◌, ◌==◌, codes, int_le, if◌then◌else◌}
+use Rattle.std.specs.Prelude.{ℕ, ℤ, pos, negsuc, neg_ℤ, Bool, false, ◌&&◌, ◌||◌, not}
+use Rattle.std.specs.Prelude.{List, [], ◌∷◌, ◌==◌, codes, int_le, if◌then◌else◌}
 use Rattle.std.specs.Str.{bytes_eq}
 use Rattle.std.specs.Fmt.{signed_decimal}
 use Rattle.jr_syntax.specs.Number.{is_number, number_of_digits}
@@ -25,4 +26,10 @@ is_long n = int_le (negsuc 9223372036854775807) n && int_le n (pos 9223372036854
 
 -- a VALUE
 abbrev pub value : WordKind ℤ
-value = record { has_form = is_value_word; in_range = λ w. is_long (value_of w); value = value_of; spell = signed_decimal; is_good = is_long }
+value = record {
+  has_form = is_value_word;
+  in_range = λ w. is_long (value_of w);
+  value = value_of;
+  spell = signed_decimal;
+  is_good = is_long;
+}

@@ -5,7 +5,8 @@ use Rattle.jr_syntax.specs.Number.{is_number}
 -- the first line with these words for its sizes
 abbrev pub vm_words : List ℕ → List ℕ → List ℕ → List ℕ → List ℕ → List (List ℕ)
 vm_words a b c d e =
-    codes "vm" ∷ codes "threads" ∷ a ∷ codes "slots" ∷ b ∷ codes "objects" ∷ c ∷ codes "words" ∷ d ∷ codes "locals" ∷ e ∷ []
+    codes "vm" ∷ codes "threads" ∷ a ∷ codes "slots" ∷ b ∷ codes "objects" ∷ c ∷ codes "words" ∷ d ∷ codes "locals" ∷ e
+    ∷ []
 
 -- These words are numbers.
 pub record AreNumbers (a b c d e : List ℕ) : Type 0 where

@@ -1,5 +1,7 @@
 -- The passes of a site's room: they are the room's own, and as many as it has threads.
-use Rattle.std.proofs.Common.{◌≡◌, ◌⊎◌, inl, inr, ⊎_elim, ◌≤◌, ◌++◌, ◌∷◌, [], ◌↔◌, ℕ, zero, suc, Some, slice_index_or, Result, Ok, Err, Bool, true, false, List, length, length-append, map, subst, get_or, ◌<◌, sym, ap, ◌∙◌, refl, arith}
+use Rattle.std.proofs.Common.{◌≡◌, ◌⊎◌, inl, inr, ⊎_elim, ◌≤◌, ◌++◌, ◌∷◌, [], ◌↔◌, ℕ, zero, suc}
+use Rattle.std.proofs.Common.{Some, slice_index_or, Result, Ok, Err, Bool, true, false, List, length}
+use Rattle.std.proofs.Common.{length-append, map, subst, get_or, ◌<◌, sym, ap, ◌∙◌, refl, arith}
 use Rattle.std.proofs.lemmas.List.{length-map}
 use Rattle.std.proofs.lemmas.List.Elements.{All-from_recursion, All-head, All-tail}
 use Rattle.std.specs.List.{All, AllByRecursion, remove}
@@ -22,20 +24,32 @@ use Rattle.jr_rule.specs.Sites.{IsPassOf}
 use Rattle.jr_threads.specs.Sites.{passes_in, AreBack, IsBack}
 
 -- a pass that came back from its site is one of the room's own, and outside
-pub is_back : (room : Room 4294967295) (p q : Pass) → IsPassOf (Some room.row.table.shared.table_id) room.row.config 4294967295 (known_of p).thread q → q.role ≡ Outside → IsBack room.row p q
-is_back room p q h out = record { at = record { row = (let e = h.room_is in cc); config = h.sizes_are; last = h.last_is ∙ sym room.last }; thread = h.own; outside = out }
+pub is_back : (room : Room 4294967295) (p q : Pass)
+    → IsPassOf (Some room.row.table.shared.table_id) room.row.config 4294967295 (known_of p).thread q → q.role ≡ Outside
+    → IsBack room.row p q
+is_back room p q h out = record {
+  at = record { row = (let e = h.room_is in cc); config = h.sizes_are; last = h.last_is ∙ sym room.last };
+  thread = h.own;
+  outside = out;
+}
 
 -- what threads gave back, one by one
-pub all_back : {A : Type 0} (r : Row) (ps : List Pass) (es : List (Ended A)) → length es ≡ length ps → ((i : ℕ) (d : Ended A) → i < length ps → (p : Pass) × ((e : Pass) → get_or ps i e ≡ p) × IsBack r p (get_or es i d).pass) → AreBack r ps (passes_in es)
+pub all_back : {A : Type 0} (r : Row) (ps : List Pass) (es : List (Ended A)) → length es ≡ length ps
+    → ((i : ℕ) (d : Ended A) → i < length ps
+    → (p : Pass) × ((e : Pass) → get_or ps i e ≡ p) × IsBack r p (get_or es i d).pass) → AreBack r ps (passes_in es)
 all_back r [] [] same each = tt
 all_back r [] (e ∷ es) same each = absurd (omega arith)
 all_back r (p ∷ ps) [] same each = absurd (omega arith)
 all_back r (p ∷ ps) (e ∷ es) same each =
-    let first = each 0 e (omega arith) in
-    (subst (λ (z : Pass). IsBack r z e.pass) (sym (first.1 p)) first.2, all_back r ps es (omega arith) (λ i d l. each (suc i) d (omega arith)))
+    let first = each 0 e (omega arith) in (
+      subst (λ (z : Pass). IsBack r z e.pass) (sym (first.1 p)) first.2,
+      all_back r ps es (omega arith) (λ i d l. each (suc i) d (omega arith)),
+    )
 
 module _ (r : Row) (ps : List Pass) (q : Pass) (others : List Pass) (back : AreBack r ps (q ∷ others)) where
-  backs : (ps qs : List Pass) → AreBack r ps qs → AllByRecursion (IsAt r) qs × AllByRecursion (λ (z : Pass). z.role ≡ Outside) qs × (map (λ (k : Known). k.thread) (map known_of qs) ≡ map (λ (z : Pass). z.thread) ps)
+  backs : (ps qs : List Pass) → AreBack r ps qs
+      → AllByRecursion (IsAt r) qs × AllByRecursion (λ (z : Pass). z.role ≡ Outside) qs
+      × (map (λ (k : Known). k.thread) (map known_of qs) ≡ map (λ (z : Pass). z.thread) ps)
   backs [] [] b = (tt, tt, refl)
   backs [] (y ∷ ys) b = absurd b
   backs (x ∷ xs) [] b = absurd b
@@ -77,7 +91,8 @@ has_below (suc n) t l = dite (ℕ_discrete n t)
     (λ e. subst (λ z. HasNumber (numbers_below n ++ n ∷ []) z) e (has_last (numbers_below n) n))
     (λ ne. has_front (numbers_below n) (n ∷ []) t (has_below n t (omega arith)))
 
-has_pass : (ns : List ℕ) (ks : List Known) (t : ℕ) → map (λ (k : Known). k.thread) ks ≡ ns → HasNumber ns t → HasPass ks t
+has_pass : (ns : List ℕ) (ks : List Known) (t : ℕ) → map (λ (k : Known). k.thread) ks ≡ ns → HasNumber ns t
+    → HasPass ks t
 has_pass [] ks t e h = absurd h
 has_pass (n ∷ ns) [] t e h = absurd cc
 has_pass (n ∷ ns) (k ∷ ks) t e h =
@@ -86,19 +101,30 @@ has_pass (n ∷ ns) (k ∷ ks) t e h =
     ⊎_elim (λ (s : n ≡ t). inl (first ∙ s)) (λ (o : HasNumber ns t). inr (has_pass ns ks t rest o)) h
 
 -- each thread has its pass among those that came back
-pub each_has : (r : Row) (ps : List Pass) (q : Pass) (others : List Pass) → AreOpened r.config r.last r ps → AreBack r ps (q ∷ others) → HasEachPass r.config (map known_of (q ∷ others))
-each_has r ps q others o back t l = has_pass (numbers_below r.config.threads) (map known_of (q ∷ others)) t (threads_back r ps q others back ∙ o.threads) (has_below r.config.threads t l)
+pub each_has : (r : Row) (ps : List Pass) (q : Pass) (others : List Pass) → AreOpened r.config r.last r ps
+    → AreBack r ps (q ∷ others) → HasEachPass r.config (map known_of (q ∷ others))
+each_has r ps q others o back t l = has_pass (numbers_below r.config.threads) (map known_of (q ∷ others)) t
+    (threads_back r ps q others back ∙ o.threads) (has_below r.config.threads t l)
 
-pub opened_so : {c : Config} {last : ℕ} {r : Row} {ps : List Pass} → AreOpened c last r ps → AreOpened r.config r.last r ps
-opened_so o = record { same_config = refl; same_last = refl; threads = o.threads ∙ ap (λ (d : Config). numbers_below d.threads) (sym o.same_config); each = o.each }
+pub opened_so : {c : Config} {last : ℕ} {r : Row} {ps : List Pass} → AreOpened c last r ps
+    → AreOpened r.config r.last r ps
+opened_so o = record {
+  same_config = refl;
+  same_last = refl;
+  threads = o.threads ∙ ap (λ (d : Config). numbers_below d.threads) (sym o.same_config);
+  each = o.each;
+}
 
 -- a list of which the first was removed
-pub taken : {A : Type 0} (xs ys : List A) (x : A) → 0 < length xs → x ≡ slice_index_or xs 0 x → ys ≡ remove xs 0 → xs ≡ x ∷ ys
+pub taken : {A : Type 0} (xs ys : List A) (x : A) → 0 < length xs → x ≡ slice_index_or xs 0 x → ys ≡ remove xs 0
+    → xs ≡ x ∷ ys
 taken [] ys x some is rest = absurd (omega arith)
 taken (z ∷ zs) ys x some is rest = λ i. sym is i ∷ sym rest i
 
-pub some_left : {A : Type 0} (ps : List Pass) (es : List (Ended A)) (ls : List Pass) → ls ≡ passes_in es → length es ≡ length ps → 1 ≤ length ps → 0 < length ls
-some_left ps es ls is same some = let long = ap (λ (l : List Pass). length l) is ∙ length-map es (λ e. e.pass) in omega arith
+pub some_left : {A : Type 0} (ps : List Pass) (es : List (Ended A)) (ls : List Pass) → ls ≡ passes_in es
+    → length es ≡ length ps → 1 ≤ length ps → 0 < length ls
+some_left ps es ls is same some = let long = ap (λ (l : List Pass). length l) is ∙ length-map es (λ e. e.pass) in
+    omega arith
 
 numbers_long : (n : ℕ) → length (numbers_below n) ≡ n
 numbers_long zero = refl
@@ -106,18 +132,23 @@ numbers_long (suc n) = let e = length-append (numbers_below n) (n ∷ []) in let
 
 -- one pass a thread
 pub passes_long : (c : Config) (last : ℕ) (r : Row) (ps : List Pass) → AreOpened c last r ps → length ps ≡ c.threads
-passes_long c last r ps o = sym (length-map ps (λ (p : Pass). p.thread)) ∙ (ap (λ (ns : List ℕ). length ns) o.threads ∙ numbers_long c.threads)
+passes_long c last r ps o =
+    sym (length-map ps (λ (p : Pass). p.thread)) ∙ (ap (λ (ns : List ℕ). length ns) o.threads ∙ numbers_long c.threads)
 
 -- a room that was opened has a thread
-pub some_thread : {A : Type 0} (c : Config) (a : A) → (◌≡◌ {A = Result A Fault} (Ok a) (Err Size)) ↔ (in_limits c ≡ false) → 1 ≤ c.threads
+pub some_thread : {A : Type 0} (c : Config) (a : A)
+    → (◌≡◌ {A = Result A Fault} (Ok a) (Err Size)) ↔ (in_limits c ≡ false) → 1 ≤ c.threads
 some_thread c a size = go (in_limits c) refl where
   go : (b : Bool) → in_limits c ≡ b → 1 ≤ c.threads
   go true e = (limited c e).threads.0
   go false e = absurd (let z = size.1 e in cc)
 
 -- one more of a list
-pub pass_more : {A : Type 0} (es : List (Ended A)) (xs ys : List Pass) (e : Ended A) → xs ≡ passes_in es → ys ≡ xs ++ e.pass ∷ [] → ys ≡ passes_in (es ++ e ∷ [])
+pub pass_more : {A : Type 0} (es : List (Ended A)) (xs ys : List Pass) (e : Ended A) → xs ≡ passes_in es
+    → ys ≡ xs ++ e.pass ∷ [] → ys ≡ passes_in (es ++ e ∷ [])
 pass_more es xs ys e was is = is ∙ (ap (λ l. l ++ e.pass ∷ []) was ∙ sym (map-append (λ z. z.pass) es (e ∷ [])))
 
-pub one_more : {A B : Type 0} (xs ys : List A) (zs : List B) (x : A) (z : B) → ys ≡ xs ++ x ∷ [] → length xs ≡ length zs → length ys ≡ length (zs ++ z ∷ [])
-one_more xs ys zs x z is same = let d = ap (λ l. length l) is in let e = length-append xs (x ∷ []) in let f = length-append zs (z ∷ []) in omega arith
+pub one_more : {A B : Type 0} (xs ys : List A) (zs : List B) (x : A) (z : B) → ys ≡ xs ++ x ∷ [] → length xs ≡ length zs
+    → length ys ≡ length (zs ++ z ∷ [])
+one_more xs ys zs x z is same = let d = ap (λ l. length l) is in let e = length-append xs (x ∷ []) in
+    let f = length-append zs (z ∷ []) in omega arith

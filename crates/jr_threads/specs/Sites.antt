@@ -24,7 +24,9 @@ passes_in es = map (λ e. e.pass) es
 abbrev pub AreBack : Row → List Pass → List Pass → Type 0
 AreBack r ps qs = AllZip (IsBack r) ps qs
 
--- A ROOM WAS CLOSED with passes of it, one of each of its threads, of these sizes and this last serial: what is told is what stands at the end of one legal history, which begins with all that each of them has seen and has no more of their events
+-- A ROOM WAS CLOSED with passes of it, one of each of its threads, of these sizes
+-- and this last serial: what is told is what stands at the end of one legal history,
+-- which begins with all that each of them has seen and has no more of their events
 pub record IsClosedBehind (c : Config) (last : ℕ) (s : Summary) : Type 0 where
   pub first : Known
   pub others : List Known

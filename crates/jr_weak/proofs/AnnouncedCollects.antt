@@ -1,5 +1,6 @@
 -- A collection that was announced is the model's, and so is one that was given up.
-use Rattle.std.proofs.Common.{◌≡◌, ◌≢◌, ◌+◌, ℕ, inl, inr, List, [], ◌∷◌, ◌++◌, map, length, refl, sym, ap, subst, ◌∙◌, arith, append_assoc}
+use Rattle.std.proofs.Common.{◌≡◌, ◌≢◌, ◌+◌, ℕ, inl, inr, List, [], ◌∷◌, ◌++◌, map}
+use Rattle.std.proofs.Common.{length, refl, sym, ap, subst, ◌∙◌, arith, append_assoc}
 use Rattle.std.proofs.lemmas.List.{length-append, length-map}
 use Rattle.std.specs.List.{AllByRecursion}
 use Rattle.jr_word.specs.declared.config.Config.{Config}
@@ -24,22 +25,28 @@ use Rattle.jr_gate.specs.Acting.{ActedTo}
 use Rattle.jr_gate.specs.Announcing.{AnnouncesInTwo, WasNotAnnounced}
 use Rattle.jr_compact.specs.Counting.{TakesWithin}
 use Rattle.jr_weak.specs.Counting.{collection_steps}
-use Rattle.jr_weak.specs.Collecting.{Finishes, GivesUp, MakesAnnouncedCollection, closed_at_look, closed_at_exchange, moved_at_exchange, taken_back}
+use Rattle.jr_weak.specs.Collecting.{Finishes, GivesUp, MakesAnnouncedCollection, closed_at_look}
+use Rattle.jr_weak.specs.Collecting.{closed_at_exchange, moved_at_exchange, taken_back}
 use Rattle.jr_weak.specs.Waiting.{CancelsAfter, ShutsAfter}
 use Rattle.jr_weak.proofs.Collects.{collects_since, within_since}
 use Rattle.jr_weak.proofs.Tries.{one_more}
 
 -- a call that begins with a look, and ends with an act that takes its thread outside
-collection_window : {old new : PassView} (refused : List ℕ) (cleared : List Handle) (dropped : List ℕ) (used : ℕ) → Did old new (announcing_acts refused ++ collection_acts cleared dropped used) → IsLastSeen new (Gate Reopen)
+collection_window : {old new : PassView} (refused : List ℕ) (cleared : List Handle) (dropped : List ℕ) (used : ℕ)
+    → Did old new (announcing_acts refused ++ collection_acts cleared dropped used) → IsLastSeen new (Gate Reopen)
     → IsWindow old new (announcing_acts refused ++ collection_acts cleared dropped used) old.seen
 collection_window {old} {new} refused cleared dropped used d last = record {
   from = prefix_self old.seen;
   to = d.begins;
   first = tt;
-  last = ends_behind old new (announcing_acts refused) (Gate Shut) (sweeping_acts cleared dropped used ++ Gate Reopen ∷ []) (ends_behind old new (Gate Shut ∷ sweeping_acts cleared dropped used) (Gate Reopen) [] (λ out. last));
+  last =
+      ends_behind old new (announcing_acts refused) (Gate Shut) (sweeping_acts cleared dropped used ++ Gate Reopen ∷ [])
+      (ends_behind old new (Gate Shut ∷ sweeping_acts cleared dropped used) (Gate Reopen) [] (λ out. last));
 }
 
-cancel_window : {old new : PassView} (refused : List ℕ) (n : ℕ) → Did old new (announcing_acts refused ++ ShutBusy n ∷ Gate Cancel ∷ []) → IsLastSeen new (Gate Cancel) → IsWindow old new (announcing_acts refused ++ ShutBusy n ∷ Gate Cancel ∷ []) old.seen
+cancel_window : {old new : PassView} (refused : List ℕ) (n : ℕ)
+    → Did old new (announcing_acts refused ++ ShutBusy n ∷ Gate Cancel ∷ []) → IsLastSeen new (Gate Cancel)
+    → IsWindow old new (announcing_acts refused ++ ShutBusy n ∷ Gate Cancel ∷ []) old.seen
 cancel_window {old} {new} refused n d last = record {
   from = prefix_self old.seen;
   to = d.begins;
@@ -51,36 +58,46 @@ cancel_window {old} {new} refused n d last = record {
 abbrev Spares : Act → List Act → Type 0
 Spares x acts = AllByRecursion (λ a. a ≢ x) acts
 
-busy_spares : (x : Act) → ((n : ℕ) → ShutBusy n ≢ x) → (refused : List ℕ) (n : ℕ) → Spares x (map ShutBusy refused ++ ShutBusy n ∷ [])
+busy_spares : (x : Act) → ((n : ℕ) → ShutBusy n ≢ x) → (refused : List ℕ) (n : ℕ)
+    → Spares x (map ShutBusy refused ++ ShutBusy n ∷ [])
 busy_spares x ne [] n = (ne n, tt)
 busy_spares x ne (m ∷ refused) n = (ne m, busy_spares x ne refused n)
 
-shut_spares : (x : Act) → ((n : ℕ) → ShutBusy n ≢ x) → Gate Shut ≢ x → (refused : List ℕ) (acts : List Act) → Spares x acts → Spares x (map ShutBusy refused ++ Gate Shut ∷ acts)
+shut_spares : (x : Act) → ((n : ℕ) → ShutBusy n ≢ x) → Gate Shut ≢ x → (refused : List ℕ) (acts : List Act)
+    → Spares x acts → Spares x (map ShutBusy refused ++ Gate Shut ∷ acts)
 shut_spares x ne shut [] acts rest = (shut, rest)
 shut_spares x ne shut (m ∷ refused) acts rest = (ne m, shut_spares x ne shut refused acts rest)
 
-sweeping_spares : (x : Act) → ((h : Handle) → Clear h ≢ x) → ((o : ℕ) → Drop o ≢ x) → ((n : ℕ) → Settle n ≢ x) → (cleared : List Handle) (dropped : List ℕ) (used : ℕ) → Spares x (sweeping_acts cleared dropped used)
+sweeping_spares : (x : Act) → ((h : Handle) → Clear h ≢ x) → ((o : ℕ) → Drop o ≢ x) → ((n : ℕ) → Settle n ≢ x)
+    → (cleared : List Handle) (dropped : List ℕ) (used : ℕ) → Spares x (sweeping_acts cleared dropped used)
 sweeping_spares x clear drop settle [] [] used = (settle used, tt)
-sweeping_spares x clear drop settle [] (o ∷ dropped) used = (drop o, sweeping_spares x clear drop settle [] dropped used)
-sweeping_spares x clear drop settle (h ∷ cleared) dropped used = (clear h, sweeping_spares x clear drop settle cleared dropped used)
+sweeping_spares x clear drop settle [] (o ∷ dropped) used =
+    (drop o, sweeping_spares x clear drop settle [] dropped used)
+sweeping_spares x clear drop settle (h ∷ cleared) dropped used =
+    (clear h, sweeping_spares x clear drop settle cleared dropped used)
 
 -- one operation for each of the acts up to the shut
-announcing_takes : (refused : List ℕ) (j k l : Known) → Takes 2 j k → Takes (length refused) k l → Takes (length (announcing_acts refused)) j l
-announcing_takes refused j k l a b = let long : length (map ShutBusy refused) ≡ length refused = length-map refused ShutBusy in omega (arith, a, b, long)
+announcing_takes : (refused : List ℕ) (j k l : Known) → Takes 2 j k → Takes (length refused) k l
+    → Takes (length (announcing_acts refused)) j l
+announcing_takes refused j k l a b =
+    let long : length (map ShutBusy refused) ≡ length refused = length-map refused ShutBusy in omega (arith, a, b, long)
 
 -- and then no more than these from the shut on
 then_within : (n m : ℕ) (j k l : Known) → Takes n j k → TakesWithin m k l → TakesWithin (n + m) j l
 then_within n m j k l a b = omega arith
 
 -- one for each act up to the cancel
-cancel_long : (refused : List ℕ) (n : ℕ) → length (announcing_acts refused ++ ShutBusy n ∷ Gate Cancel ∷ []) ≡ length refused + 4
+cancel_long : (refused : List ℕ) (n : ℕ)
+    → length (announcing_acts refused ++ ShutBusy n ∷ Gate Cancel ∷ []) ≡ length refused + 4
 cancel_long refused n =
-    let both : length (map ShutBusy refused ++ ShutBusy n ∷ Gate Cancel ∷ []) ≡ length (map ShutBusy refused) + 2 = length-append (map ShutBusy refused) (ShutBusy n ∷ Gate Cancel ∷ []) in
+    let both : length (map ShutBusy refused ++ ShutBusy n ∷ Gate Cancel ∷ []) ≡ length (map ShutBusy refused) + 2 =
+    length-append (map ShutBusy refused) (ShutBusy n ∷ Gate Cancel ∷ []) in
     let long : length (map ShutBusy refused) ≡ length refused = length-map refused ShutBusy in
     omega arith
 
 -- IT WAS NOT ANNOUNCED, and so it was given up
-pub not_announced : {S : Type 0} (facts : S → Facts) {a b : S} (tries : ℕ) (e : Fault) → WasNotAnnounced facts a b e → GivesUp facts a b tries e
+pub not_announced : {S : Type 0} (facts : S → Facts) {a b : S} (tries : ℕ) (e : Fault) → WasNotAnnounced facts a b e
+    → GivesUp facts a b tries e
 not_announced facts tries e (inl z) = record {
   acts = ShutBusy z.0 ∷ [];
   went = record {
@@ -89,8 +106,12 @@ not_announced facts tries e (inl z) = record {
     leads = λ k s m.
         let y = (z.3).goes k s tt in
         let did = goes_did y.2 in
-        let one = (y.2).taken in
-        (y.0, y.1, did, (closed_at_look z.0 refl z.1 z.2 y.3.1 y.3.0, omega arith, window_act (ShutBusy z.0) did tt tt));
+        let one = (y.2).taken in (
+          y.0,
+          y.1,
+          did,
+          (closed_at_look z.0 refl z.1 z.2 y.3.1 y.3.0, omega arith, window_act (ShutBusy z.0) did tt tt),
+        );
   };
 }
 not_announced facts tries e (inr (inl z)) = record {
@@ -100,8 +121,16 @@ not_announced facts tries e (inr (inl z)) = record {
     hint_is = (z.3).hint_is;
     leads = λ k s m.
         let y = (z.3).leads k s tt in
-        let two = y.3.0.0.1 in
-        (y.0, y.1, y.2, (closed_at_exchange z.0 refl z.1 z.2 y.3.0.1 y.3.0.0.0, omega arith, window_some Meet (ShutBusy z.0 ∷ []) y.2 (refl, (refl, tt))));
+        let two = y.3.0.0.1 in (
+          y.0,
+          y.1,
+          y.2,
+          (
+            closed_at_exchange z.0 refl z.1 z.2 y.3.0.1 y.3.0.0.0,
+            omega arith,
+            window_some Meet (ShutBusy z.0 ∷ []) y.2 (refl, (refl, tt)),
+          ),
+        );
   };
 }
 not_announced facts tries e (inr (inr z)) = record {
@@ -112,13 +141,24 @@ not_announced facts tries e (inr (inr z)) = record {
     leads = λ k s m.
         let y = (z.4).leads k s tt in
         let shown = y.3.0 in
-        let two = shown.1.1 in
-        (y.0, y.1, y.2, (moved_at_exchange z.0 z.1 refl z.2 shown.0 shown.1.0, omega arith, window_some Meet (Meet ∷ []) y.2 (refl, (refl, tt))));
+        let two = shown.1.1 in (
+          y.0,
+          y.1,
+          y.2,
+          (
+            moved_at_exchange z.0 z.1 refl z.2 shown.0 shown.1.0,
+            omega arith,
+            window_some Meet (Meet ∷ []) y.2 (refl, (refl, tt)),
+          ),
+        );
   };
 }
 
-module _ {S : Type 0} (facts : S → Facts) {a b : S} (tries : ℕ) (outside : (facts a).stands.role ≡ Outside) (announced : ActedTo facts a b (Meet ∷ Gate Announce ∷ []) anything AnnouncesInTwo) where
-  pub makes_announced : {d z : S} {cleared_count dropped_count used : ℕ} → ShutsAfter facts b d tries → Finishes facts d z cleared_count dropped_count used → MakesAnnouncedCollection facts a z tries cleared_count dropped_count used
+module _ {S : Type 0} (facts : S → Facts) {a b : S} (tries : ℕ) (outside : (facts a).stands.role ≡ Outside)
+    (announced : ActedTo facts a b (Meet ∷ Gate Announce ∷ []) anything AnnouncesInTwo) where
+  pub makes_announced : {d z : S} {cleared_count dropped_count used : ℕ} → ShutsAfter facts b d tries
+      → Finishes facts d z cleared_count dropped_count used
+      → MakesAnnouncedCollection facts a z tries cleared_count dropped_count used
   makes_announced {used = used} sh rest = record {
     refused = sh.refused;
     few = sh.few;
@@ -138,23 +178,38 @@ module _ {S : Type 0} (facts : S → Facts) {a b : S} (tries : ℕ) (outside : (
           let kd = sh.shut.goes kc.0 kc.1 tt in
           let kz = rest.went.leads kd.0 kd.1 (kd.3.0, ap (λ (g : Holdings). g.moving) kd.3.1) in
           let since = collects_since rest.cleared rest.dropped used kd.2 kz.2 in
-          let waiting : Did (view k) (view kc.0) (announcing_acts sh.refused) = did_then (Meet ∷ Gate Announce ∷ []) (map ShutBusy sh.refused) kb.2 kc.2 in
+          let waiting : Did (view k) (view kc.0) (announcing_acts sh.refused) =
+          did_then (Meet ∷ Gate Announce ∷ []) (map ShutBusy sh.refused) kb.2 kc.2 in
           let acts = sweeping_acts rest.cleared rest.dropped used in
-          let swept : Did (view kb.0) (view (kz.2).opening) (map ShutBusy sh.refused ++ Gate Shut ∷ acts) = did_then (map ShutBusy sh.refused) (Gate Shut ∷ acts) kc.2 (did_then (Gate Shut ∷ []) acts (goes_did kd.2) (kz.2).swept) in
-          let did = did_then (announcing_acts sh.refused) (collection_acts rest.cleared rest.dropped used) waiting since.collects.did in (
+          let swept : Did (view kb.0) (view (kz.2).opening) (map ShutBusy sh.refused ++ Gate Shut ∷ acts) =
+          did_then (map ShutBusy sh.refused) (Gate Shut ∷ acts) kc.2
+          (did_then (Gate Shut ∷ []) acts (goes_did kd.2) (kz.2).swept) in
+          let did = did_then (announcing_acts sh.refused) (collection_acts rest.cleared rest.dropped used) waiting
+          since.collects.did in (
             kz.0,
             kz.1,
             record {
               shutting = view kc.0;
               announced = waiting;
               collects = since.collects;
-              until = announced_until (map ShutBusy sh.refused ++ Gate Shut ∷ acts) Reopen (shut_spares (Gate Cancel) (λ n e. cc) (λ e. cc) sh.refused acts (sweeping_spares (Gate Cancel) (λ h e. cc) (λ o e. cc) (λ n e. cc) rest.cleared rest.dropped used)) (shut_spares (Gate Reopen) (λ n e. cc) (λ e. cc) sh.refused acts (sweeping_spares (Gate Reopen) (λ h e. cc) (λ o e. cc) (λ n e. cc) rest.cleared rest.dropped used)) kb.3.0.1 swept (goes_stepped (kz.2).opened);
+              until = announced_until (map ShutBusy sh.refused ++ Gate Shut ∷ acts) Reopen
+                  (shut_spares (Gate Cancel) (λ n e. cc) (λ e. cc) sh.refused acts
+                  (sweeping_spares (Gate Cancel) (λ h e. cc) (λ o e. cc) (λ n e. cc) rest.cleared rest.dropped used))
+                  (shut_spares (Gate Reopen) (λ n e. cc) (λ e. cc) sh.refused acts
+                  (sweeping_spares (Gate Reopen) (λ h e. cc) (λ o e. cc) (λ n e. cc) rest.cleared rest.dropped used))
+                  kb.3.0.1 swept (goes_stepped (kz.2).opened);
             },
             (
               kz.3,
-              (k.seen, collection_window sh.refused rest.cleared rest.dropped used did (stepped_last (goes_stepped (kz.2).opened))),
-              then_within (length (announcing_acts sh.refused)) (collection_steps k.config) k kc.0 kz.0 (announcing_takes sh.refused k kb.0 kc.0 kb.3.0.0.1 kc.3.1)
-                  (subst (λ (c : Config). TakesWithin (collection_steps c) kc.0 kz.0) waiting.config (within_since kz.0 kd.2 (kz.2).taken)),
+              (
+                k.seen,
+                collection_window sh.refused rest.cleared rest.dropped used did
+                    (stepped_last (goes_stepped (kz.2).opened)),
+              ),
+              then_within (length (announcing_acts sh.refused)) (collection_steps k.config) k kc.0 kz.0
+                  (announcing_takes sh.refused k kb.0 kc.0 kb.3.0.0.1 kc.3.1)
+                  (subst (λ (c : Config). TakesWithin (collection_steps c) kc.0 kz.0) waiting.config
+                  (within_since kz.0 kd.2 (kz.2).taken)),
             ),
           );
     };
@@ -164,23 +219,39 @@ module _ {S : Type 0} (facts : S → Facts) {a b : S} (tries : ℕ) (outside : (
   gives_up e u = record {
     acts = announcing_acts u.refused ++ ShutBusy u.count ∷ Gate Cancel ∷ [];
     went = record {
-      stands_is = u.cancelled.stands_is ∙ (ap (λ s. standing_after s (Gate Cancel ∷ [])) (u.waited.went.stands_is ∙ announced.stands_is) ∙ ap (λ r. record ((facts a).stands) { role = r }) (sym outside));
+      stands_is = u.cancelled.stands_is
+          ∙ (ap (λ s. standing_after s (Gate Cancel ∷ [])) (u.waited.went.stands_is ∙ announced.stands_is)
+          ∙ ap (λ r. record ((facts a).stands) { role = r }) (sym outside));
       hint_is = u.cancelled.hint_is ∙ (u.waited.went.hint_is ∙ announced.hint_is);
       leads = λ k s m.
           let kb = announced.leads k s tt in
           let kc = u.waited.went.leads kb.0 kb.1 tt in
           let kz = u.cancelled.goes kc.0 kc.1 tt in
           let acts = map ShutBusy u.refused ++ ShutBusy u.count ∷ [] in
-          let waiting : Did (view kb.0) (view kc.0) acts = subst (λ (l : List Act). Did (view kb.0) (view kc.0) l) (one_more u.refused u.count) kc.2 in
-          let both : Did (view kb.0) (view kz.0) (map ShutBusy u.refused ++ ShutBusy u.count ∷ Gate Cancel ∷ []) = subst (λ (l : List Act). Did (view kb.0) (view kz.0) l)
-          (append_assoc (map ShutBusy u.refused) (ShutBusy u.count ∷ []) (Gate Cancel ∷ [])) (did_then acts (Gate Cancel ∷ []) waiting (goes_did kz.2)) in
-          let did = did_then (Meet ∷ Gate Announce ∷ []) (map ShutBusy u.refused ++ ShutBusy u.count ∷ Gate Cancel ∷ []) kb.2 both in
-          let long : length (u.refused ++ u.count ∷ []) ≡ length u.refused + 1 = length-append u.refused (u.count ∷ []) in
+          let waiting : Did (view kb.0) (view kc.0) acts =
+          subst (λ (l : List Act). Did (view kb.0) (view kc.0) l) (one_more u.refused u.count) kc.2 in
+          let both : Did (view kb.0) (view kz.0) (map ShutBusy u.refused ++ ShutBusy u.count ∷ Gate Cancel ∷ []) =
+          subst (λ (l : List Act). Did (view kb.0) (view kz.0) l)
+          (append_assoc (map ShutBusy u.refused) (ShutBusy u.count ∷ []) (Gate Cancel ∷ []))
+          (did_then acts (Gate Cancel ∷ []) waiting (goes_did kz.2)) in
+          let did = did_then (Meet ∷ Gate Announce ∷ []) (map ShutBusy u.refused ++ ShutBusy u.count ∷ Gate Cancel ∷ [])
+          kb.2 both in
+          let long : length (u.refused ++ u.count ∷ []) ≡ length u.refused + 1 =
+          length-append u.refused (u.count ∷ []) in
           let first = kb.3.0.0.1 in
           let then' = kc.3.1 in
           let last = (kz.2).taken in
-          let until = announced_until acts Cancel (busy_spares (Gate Cancel) (λ n e. cc) u.refused u.count) (busy_spares (Gate Reopen) (λ n e. cc) u.refused u.count) kb.3.0.1 waiting (goes_stepped kz.2) in
-          let all = cancel_long u.refused u.count in
-          (kz.0, kz.1, did, (taken_back u.refused u.count refl u.busy u.some u.all until kz.3, omega arith, cancel_window u.refused u.count did (stepped_last (goes_stepped kz.2))));
+          let until = announced_until acts Cancel (busy_spares (Gate Cancel) (λ n e. cc) u.refused u.count)
+          (busy_spares (Gate Reopen) (λ n e. cc) u.refused u.count) kb.3.0.1 waiting (goes_stepped kz.2) in
+          let all = cancel_long u.refused u.count in (
+            kz.0,
+            kz.1,
+            did,
+            (
+              taken_back u.refused u.count refl u.busy u.some u.all until kz.3,
+              omega arith,
+              cancel_window u.refused u.count did (stepped_last (goes_stepped kz.2)),
+            ),
+          );
     };
   }

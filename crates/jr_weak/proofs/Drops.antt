@@ -1,5 +1,7 @@
 -- Objects are dropped, number by number.
-use Rattle.std.proofs.Common.{◌≡◌, ⊎_elim, inl, inr, ◌+◌, ◌<◌, ◌≤◌, ℕ, Bool, true, false, Option, Some, None, IsSome, is_some, List, [], ◌∷◌, ◌++◌, length, map, Contains, refl, sym, ap, subst, ◌∙◌, arith, nat_eq, ne_eqb}
+use Rattle.std.proofs.Common.{◌≡◌, ⊎_elim, inl, inr, ◌+◌, ◌<◌, ◌≤◌, ℕ, Bool, true, false}
+use Rattle.std.proofs.Common.{Option, Some, None, IsSome, is_some, List, [], ◌∷◌, ◌++◌, length}
+use Rattle.std.proofs.Common.{map, Contains, refl, sym, ap, subst, ◌∙◌, arith, nat_eq, ne_eqb}
 use Rattle.std.specs.List.{AllByRecursion, IsDistinct}
 use Rattle.std.proofs.lemmas.List.{append-nil, map-append, length-append}
 use Rattle.std.proofs.lemmas.List.Elements.{Contains-push, Contains-append_left}
@@ -24,29 +26,39 @@ use Rattle.jr_steps.proofs.CollectorFacts.{same_tables}
 use Rattle.jr_steps.proofs.StepFacts.{goes_did}
 use Rattle.jr_compact.specs.Counting.{TakesWithin}
 use Rattle.jr_weak.specs.Marks.{IsMarked}
-use Rattle.jr_weak.specs.Sweeping.{drop_acts, MayDrop, NumberIsSwept, SweepsNumber, AreCleared, AreDropped, DropsUnreached}
+use Rattle.jr_weak.specs.Sweeping.{drop_acts, MayDrop, NumberIsSwept, SweepsNumber}
+use Rattle.jr_weak.specs.Sweeping.{AreCleared, AreDropped, DropsUnreached}
 use Rattle.jr_weak.proofs.Kept.{DroppedFrom, dropped_from, exactly_same, exactly_dropped}
 use Rattle.jr_weak.proofs.Leading.{reached_on, reached_present}
 use Rattle.jr_weak.proofs.Sweeps.{all_more, all_weaker, distinct_more, distinct_none}
 
-may_on : (marks : List Bool) (k k' : Known) → HaveSameTables (state_of k) (state_of k') → k'.holdings.moving ≡ k.holdings.moving → MayDrop marks k → MayDrop marks k'
+may_on : (marks : List Bool) (k k' : Known) → HaveSameTables (state_of k) (state_of k')
+    → k'.holdings.moving ≡ k.holdings.moving → MayDrop marks k → MayDrop marks k'
 may_on marks k k' same held m = record {
   exactly = exactly_same marks (state_of k) (state_of k') same m.exactly;
   named = λ h o kind is. m.named h o kind (ap (λ (f : Handle → Found). f h) (sym same.refs) ∙ is);
   settled = held ∙ m.settled;
 }
 
-shown_moving : (o : ℕ) (x : Option HeaderParts) (j k : Known) → ShowsHeader o x j k → k.holdings.moving ≡ j.holdings.moving
+shown_moving : (o : ℕ) (x : Option HeaderParts) (j k : Known) → ShowsHeader o x j k
+    → k.holdings.moving ≡ j.holdings.moving
 shown_moving o None j k s = ap (λ (g : Holdings). g.moving) s.1
 shown_moving o (Some h) j k s = ap (λ (g : Holdings). g.moving) s.1
 
 back_tables : {s t : State} → HaveSameTables s t → HaveSameTables t s
-back_tables same = record { refs = sym same.refs; given = sym same.given; locals = sym same.locals; objects = sym same.objects; used = sym same.used }
+back_tables same = record {
+  refs = sym same.refs;
+  given = sym same.given;
+  locals = sym same.locals;
+  objects = sym same.objects;
+  used = sym same.used;
+}
 
 absent : (s : State) (o : ℕ) → s.objects o ≡ None → ¬ (IsPresent s o)
 absent s o e p = let z = subst (λ (x : Option Contents). IsSome x) e p in cc
 
-module _ {S : Type 0} {facts : S → Facts} (fits : AreOf facts) (marks : List Bool) (o : ℕ) {a : S} (collects : (facts a).stands.role ≡ Collecting) where
+module _ {S : Type 0} {facts : S → Facts} (fits : AreOf facts) (marks : List Bool) (o : ℕ) {a : S}
+    (collects : (facts a).stands.role ≡ Collecting) where
   -- it is marked, and stays
   pub number_marked : IsMarked marks o → SweepsNumber facts marks o a a false
   number_marked marked = record {
@@ -90,15 +102,18 @@ module _ {S : Type 0} {facts : S → Facts} (fits : AreOf facts) (marks : List B
               others = λ r ne. ap (λ (f : ℕ → Option Contents). f r) same.objects;
               kept = λ x e. ap (λ (f : ℕ → Option Contents). f o) (sym same.objects) ∙ e;
               marked = λ p. absurd (absent (state_of y.0) o y.3.0 p);
-              all = λ d. absurd (absent (state_of k) o (ap (λ (f : ℕ → Option Contents). f o) (sym same.objects) ∙ y.3.0) d.0);
+              all = λ d.
+                  absurd (absent (state_of k) o (ap (λ (f : ℕ → Option Contents). f o) (sym same.objects) ∙ y.3.0) d.0);
               only = λ r e. absurd cc;
             },
           );
     };
   }
 
-  module _ {b : S} (unmarked : ¬ (IsMarked marks o)) (h : HeaderParts) (t : Took facts a b [] anything (ShowsHeader o (Some h))) where
-    can_drop : (k k' : Known) → MayDrop marks k → HaveSameTables (state_of k) (state_of k') → ShowsHeader o (Some h) k k' → CanDrop o k'
+  module _ {b : S} (unmarked : ¬ (IsMarked marks o)) (h : HeaderParts)
+      (t : Took facts a b [] anything (ShowsHeader o (Some h))) where
+    can_drop : (k k' : Known) → MayDrop marks k → HaveSameTables (state_of k) (state_of k')
+        → ShowsHeader o (Some h) k k' → CanDrop o k'
     can_drop k k' m same x = record {
       present = subst (λ (z : Option Contents). IsSome z) (sym (x.0).is) refl;
       unreached = λ r. unmarked ((m.exactly o).1 (reached_on (back_tables same) o r));
@@ -107,9 +122,11 @@ module _ {S : Type 0} {facts : S → Facts} (fits : AreOf facts) (marks : List B
     }
 
     pub number_may : MayKnow facts a (MayDrop marks) → MayKnow facts b (CanDrop o)
-    number_may may = ∥∥₁_map may (λ k. let y = t.goes k.0 k.1 tt in (y.0, y.1, can_drop k.0 y.0 k.2 (same_tables y.2 ((fits a k.0 k.1).role ∙ collects)) y.3))
+    number_may may = ∥∥₁_map may (λ k. let y = t.goes k.0 k.1 tt in
+        (y.0, y.1, can_drop k.0 y.0 k.2 (same_tables y.2 ((fits a k.0 k.1).role ∙ collects)) y.3))
 
-    pub number_dropped : {c : S} → Took facts b c (Drop o ∷ []) (CanDrop o) (ShowsDropped o) → SweepsNumber facts marks o a c true
+    pub number_dropped : {c : S} → Took facts b c (Drop o ∷ []) (CanDrop o) (ShowsDropped o)
+        → SweepsNumber facts marks o a c true
     number_dropped {c} u = record {
       dropped = Some o;
       counted = refl;
@@ -121,26 +138,45 @@ module _ {S : Type 0} {facts : S → Facts} (fits : AreOf facts) (marks : List B
             let same = same_tables y.2 ((fits a k s).role ∙ collects) in
             let can = can_drop k y.0 m same y.3 in
             let z = u.goes y.0 y.1 can in
-            let from = dropped_from o z.2 ((fits b y.0 y.1).role ∙ (ap (λ (z : Standing). z.role) t.stands_is ∙ collects)) in
-            (z.0, z.1, (did_then [] (Drop o ∷ []) (goes_did y.2) (goes_did z.2), let one = (y.2).taken in let two = (z.2).taken in omega arith), swept k y.0 z.0 same (may_on marks k y.0 same (shown_moving o (Some h) k y.0 y.3) m) can from (ap (λ (g : Holdings). g.moving) z.3));
+            let from =
+            dropped_from o z.2 ((fits b y.0 y.1).role ∙ (ap (λ (z : Standing). z.role) t.stands_is ∙ collects)) in (
+              z.0,
+              z.1,
+              (
+                did_then [] (Drop o ∷ []) (goes_did y.2) (goes_did z.2),
+                let one = (y.2).taken in let two = (z.2).taken in omega arith,
+              ),
+              swept k y.0 z.0 same (may_on marks k y.0 same (shown_moving o (Some h) k y.0 y.3) m) can from
+                  (ap (λ (g : Holdings). g.moving) z.3),
+            );
       };
     }
       where
         gone : (y z : Known) → DroppedFrom o (state_of y) (state_of z) → (state_of z).objects o ≡ None
         gone y z from = ap (λ (f : ℕ → Option Contents). f o) from.objects ∙ at_number_self (state_of y).objects o None
 
-        swept : (k y z : Known) → HaveSameTables (state_of k) (state_of y) → MayDrop marks y → CanDrop o y → DroppedFrom o (state_of y) (state_of z) → z.holdings.moving ≡ y.holdings.moving → NumberIsSwept marks o (Some o) k z
+        swept : (k y z : Known) → HaveSameTables (state_of k) (state_of y) → MayDrop marks y → CanDrop o y
+            → DroppedFrom o (state_of y) (state_of z) → z.holdings.moving ≡ y.holdings.moving
+            → NumberIsSwept marks o (Some o) k z
         swept k y z same m can from moving = record {
           may = record {
             exactly = exactly_dropped marks o (state_of y) (state_of z) can.unreached from m.exactly;
             named = λ g r kind is. m.named g r kind (ap (λ (f : Handle → Found). f g) (sym from.refs) ∙ is);
             settled = moving ∙ m.settled;
           };
-          others = λ r ne. ap (λ (f : ℕ → Option Contents). f r) from.objects ∙ (at_number (λ x. x ≡ (state_of y).objects r) (state_of y).objects o r None (λ e. absurd (ne (sym e))) (λ q. refl) ∙ ap (λ (f : ℕ → Option Contents). f r) same.objects);
+          others = λ r ne. ap (λ (f : ℕ → Option Contents). f r) from.objects
+              ∙ (at_number (λ x. x ≡ (state_of y).objects r) (state_of y).objects o r None (λ e. absurd (ne (sym e)))
+              (λ q. refl) ∙ ap (λ (f : ℕ → Option Contents). f r) same.objects);
           kept = λ x e. absurd (let w = sym (gone y z from) ∙ e in cc);
           marked = λ p. absurd (absent (state_of z) o (gone y z from) p);
           all = λ d. refl;
-          only = λ r e. let same_number : o ≡ r = cc in (subst (λ q. IsToDrop (state_of k) q) same_number (subst (λ (f : ℕ → Option Contents). IsSome (f o)) same.objects can.present, λ reached. can.unreached (reached_on same o reached)), sym same_number);
+          only = λ r e. let same_number : o ≡ r = cc in (
+            subst (λ q. IsToDrop (state_of k) q) same_number (
+              subst (λ (f : ℕ → Option Contents). IsSome (f o)) same.objects can.present,
+              λ reached. can.unreached (reached_on same o reached),
+            ),
+            sym same_number,
+          );
         }
 
 -- THE NUMBERS up to n are swept
@@ -157,21 +193,33 @@ pub record DroppedTo (marks : List Bool) (n : ℕ) (dropped : List ℕ) (j k : K
 pub record DropsTo {S : Type 0} (facts : S → Facts) (marks : List Bool) (n : ℕ) (old new : S) (count : ℕ) : Type 0 where
   pub dropped : List ℕ
   pub counted : length dropped ≡ count
-  pub went : Went facts old new (facts old).stands (AreCleared marks) (λ j k. Did (view j) (view k) (map Drop dropped) × TakesWithin (n + n) j k) (DroppedTo marks n dropped)
+  pub went : Went facts old new (facts old).stands (AreCleared marks)
+      (λ j k. Did (view j) (view k) (map Drop dropped) × TakesWithin (n + n) j k) (DroppedTo marks n dropped)
 
 to_may : (marks : List Bool) (k : Known) → AreCleared marks k → MayDrop marks k
 to_may marks k m = record { exactly = m.marked.0; named = m.named; settled = m.marked.1.1 }
 
-to_drop_on : (marks : List Bool) (j k : Known) (r : ℕ) → MayDrop marks k → MayDrop marks j → (state_of k).objects r ≡ (state_of j).objects r → IsToDrop (state_of j) r → IsToDrop (state_of k) r
-to_drop_on marks j k r m m' same d = (subst (λ (x : Option Contents). IsSome x) (sym same) d.0, λ reached. d.1 ((m'.exactly r).0 ((m.exactly r).1 reached)))
+to_drop_on : (marks : List Bool) (j k : Known) (r : ℕ) → MayDrop marks k → MayDrop marks j
+    → (state_of k).objects r ≡ (state_of j).objects r → IsToDrop (state_of j) r → IsToDrop (state_of k) r
+to_drop_on marks j k r m m' same d = (
+  subst (λ (x : Option Contents). IsSome x) (sym same) d.0,
+  λ reached. d.1 ((m'.exactly r).0 ((m.exactly r).1 reached)),
+)
 
 module _ (marks : List Bool) where
   -- what was kept, and is marked, with one number more
-  kept_more : (i : ℕ) (l : List ℕ) (d : Option ℕ) (j k k' : Known) → DroppedTo marks i l j k → NumberIsSwept marks (i + 1) d k k' → (r : ℕ) (x : Contents) → (state_of k').objects r ≡ Some x → (state_of j).objects r ≡ Some x
-  kept_more i l d j k k' was z r x e = was.kept r x (dite (ℕ_discrete r (i + 1)) (λ same. subst (λ q. (state_of k).objects q ≡ Some x) (sym same) (z.kept x (subst (λ q. (state_of k').objects q ≡ Some x) same e))) (λ ne. sym (z.others r ne) ∙ e))
+  kept_more : (i : ℕ) (l : List ℕ) (d : Option ℕ) (j k k' : Known) → DroppedTo marks i l j k
+      → NumberIsSwept marks (i + 1) d k k' → (r : ℕ) (x : Contents) → (state_of k').objects r ≡ Some x
+      → (state_of j).objects r ≡ Some x
+  kept_more i l d j k k' was z r x e =
+      was.kept r x (dite (ℕ_discrete r (i + 1)) (λ same. subst (λ q. (state_of k).objects q ≡ Some x) (sym same)
+      (z.kept x (subst (λ q. (state_of k').objects q ≡ Some x) same e))) (λ ne. sym (z.others r ne) ∙ e))
 
-  marked_then : (i : ℕ) (l : List ℕ) (d : Option ℕ) (j k k' : Known) → DroppedTo marks i l j k → NumberIsSwept marks (i + 1) d k k' → (r : ℕ) → 1 ≤ r → r ≤ i + 1 → IsPresent (state_of k') r → IsMarked marks r
-  marked_then i l d j k k' was z r low high p = dite (ℕ_discrete r (i + 1)) (λ same. subst (IsMarked marks) (sym same) (z.marked (subst (IsPresent (state_of k')) same p))) (λ ne. was.marked r low (omega arith) (subst (λ (x : Option Contents). IsSome x) (z.others r ne) p))
+  marked_then : (i : ℕ) (l : List ℕ) (d : Option ℕ) (j k k' : Known) → DroppedTo marks i l j k
+      → NumberIsSwept marks (i + 1) d k k' → (r : ℕ) → 1 ≤ r → r ≤ i + 1 → IsPresent (state_of k') r → IsMarked marks r
+  marked_then i l d j k k' was z r low high p = dite (ℕ_discrete r (i + 1))
+      (λ same. subst (IsMarked marks) (sym same) (z.marked (subst (IsPresent (state_of k')) same p))) (λ ne.
+      was.marked r low (omega arith) (subst (λ (x : Option Contents). IsSome x) (z.others r ne) p))
 
 module _ {S : Type 0} {facts : S → Facts} (fits : AreOf facts) (marks : List Bool) where
   pub drops_none : (a : S) → DropsTo facts marks 0 a a 0
@@ -199,10 +247,13 @@ module _ {S : Type 0} {facts : S → Facts} (fits : AreOf facts) (marks : List B
     };
   }
 
-  pub drops_may : {a b : S} {i n : ℕ} → MayKnow facts a (AreCleared marks) → DropsTo facts marks i a b n → MayKnow facts b (MayDrop marks)
-  drops_may {i = i} may p = ∥∥₁_map may (λ k. let x = p.went.leads k.0 k.1 k.2 in let z : DroppedTo marks i p.dropped k.0 x.0 = x.3 in (x.0, x.1, z.may))
+  pub drops_may : {a b : S} {i n : ℕ} → MayKnow facts a (AreCleared marks) → DropsTo facts marks i a b n
+      → MayKnow facts b (MayDrop marks)
+  drops_may {i = i} may p = ∥∥₁_map may (λ k. let x = p.went.leads k.0 k.1 k.2 in
+      let z : DroppedTo marks i p.dropped k.0 x.0 = x.3 in (x.0, x.1, z.may))
 
-  drops_same : {a b c : S} {n : ℕ} (i : ℕ) → (p : DropsTo facts marks i a b n) → (q : SweepsNumber facts marks (i + 1) b c false) → q.dropped ≡ None → DropsTo facts marks (i + 1) a c n
+  drops_same : {a b c : S} {n : ℕ} (i : ℕ) → (p : DropsTo facts marks i a b n)
+      → (q : SweepsNumber facts marks (i + 1) b c false) → q.dropped ≡ None → DropsTo facts marks (i + 1) a c n
   drops_same {a} {b} {c} i p q none = record {
     dropped = p.dropped;
     counted = p.counted;
@@ -216,14 +267,19 @@ module _ {S : Type 0} {facts : S → Facts} (fits : AreOf facts) (marks : List B
           let z : NumberIsSwept marks (i + 1) q.dropped x.0 y.0 = y.3 in (
             y.0,
             y.1,
-            (subst (λ l. Did (view k) (view y.0) l) (append-nil (map Drop p.dropped)) (did_then (map Drop p.dropped) [] x.2.0 (subst (λ (o : Option ℕ). Did (view x.0) (view y.0) (drop_acts o)) none y.2.0)), let some = x.2.1 in let two = y.2.1 in omega arith),
+            (
+              subst (λ l. Did (view k) (view y.0) l) (append-nil (map Drop p.dropped)) (did_then (map Drop p.dropped) []
+                  x.2.0 (subst (λ (o : Option ℕ). Did (view x.0) (view y.0) (drop_acts o)) none y.2.0)),
+              let some = x.2.1 in let two = y.2.1 in omega arith,
+            ),
             record {
               may = z.may;
               ahead = λ r l. z.others r (λ e. absurd (omega arith)) ∙ was.ahead r (omega arith);
               kept = kept_more marks i p.dropped q.dropped k x.0 y.0 was z;
               marked = marked_then marks i p.dropped q.dropped k x.0 y.0 was z;
               all = λ r low high d. dite (ℕ_discrete r (i + 1))
-                  (λ e. let w = sym none ∙ z.all (subst (IsToDrop (state_of x.0)) e (to_drop_on marks k x.0 r was.may (to_may marks k m) (was.ahead r (omega arith)) d)) in absurd cc)
+                  (λ e. let w = sym none ∙ z.all (subst (IsToDrop (state_of x.0)) e
+                  (to_drop_on marks k x.0 r was.may (to_may marks k m) (was.ahead r (omega arith)) d)) in absurd cc)
                   (λ ne. was.all r low (omega arith) d);
               only = was.only;
               low = all_weaker (λ r. r ≤ i) (λ r. r ≤ i + 1) p.dropped (λ r l. omega arith) was.low;
@@ -233,7 +289,9 @@ module _ {S : Type 0} {facts : S → Facts} (fits : AreOf facts) (marks : List B
     };
   }
 
-  drops_more : {a b c : S} {n : ℕ} (i : ℕ) → (p : DropsTo facts marks i a b n) → (q : SweepsNumber facts marks (i + 1) b c true) → (g : ℕ) → q.dropped ≡ Some g → DropsTo facts marks (i + 1) a c (n + 1)
+  drops_more : {a b c : S} {n : ℕ} (i : ℕ) → (p : DropsTo facts marks i a b n)
+      → (q : SweepsNumber facts marks (i + 1) b c true) → (g : ℕ) → q.dropped ≡ Some g
+      → DropsTo facts marks (i + 1) a c (n + 1)
   drops_more {a} {b} {c} {n} i p q g one = record {
     dropped = p.dropped ++ g ∷ [];
     counted = let l = length-append p.dropped (g ∷ []) in let e = p.counted in omega arith;
@@ -249,7 +307,12 @@ module _ {S : Type 0} {facts : S → Facts} (fits : AreOf facts) (marks : List B
           let at = only.1 in (
             y.0,
             y.1,
-            (subst (λ l. Did (view k) (view y.0) l) (sym (map-append Drop p.dropped (g ∷ []))) (did_then (map Drop p.dropped) (Drop g ∷ []) x.2.0 (subst (λ (o : Option ℕ). Did (view x.0) (view y.0) (drop_acts o)) one y.2.0)), let some = x.2.1 in let two = y.2.1 in omega arith),
+            (
+              subst (λ l. Did (view k) (view y.0) l) (sym (map-append Drop p.dropped (g ∷ [])))
+                  (did_then (map Drop p.dropped) (Drop g ∷ []) x.2.0
+                  (subst (λ (o : Option ℕ). Did (view x.0) (view y.0) (drop_acts o)) one y.2.0)),
+              let some = x.2.1 in let two = y.2.1 in omega arith,
+            ),
             record {
               may = z.may;
               ahead = λ r l. z.others r (λ e. absurd (omega arith)) ∙ was.ahead r (omega arith);
@@ -258,29 +321,41 @@ module _ {S : Type 0} {facts : S → Facts} (fits : AreOf facts) (marks : List B
               all = λ r low high d. dite (ℕ_discrete r (i + 1))
                   (λ e. subst (λ f. Contains (p.dropped ++ g ∷ []) f) (at ∙ sym e) (Contains-push p.dropped g))
                   (λ ne. Contains-append_left p.dropped (g ∷ []) r (was.all r low (omega arith) d));
-              only = all_more (IsToDrop (state_of k)) p.dropped g was.only (to_drop_on marks x.0 k g (to_may marks k m) was.may (sym (was.ahead g (omega arith))) only.0);
-              low = all_more (λ r. r ≤ i + 1) p.dropped g (all_weaker (λ r. r ≤ i) (λ r. r ≤ i + 1) p.dropped (λ r l. omega arith) was.low) (omega arith);
-              once = distinct_more nat_eq p.dropped g was.once (all_weaker (λ r. r ≤ i) (λ r. nat_eq r g ≡ false) p.dropped (λ r l. ne_eqb r g (λ e. absurd (omega arith))) was.low);
+              only = all_more (IsToDrop (state_of k)) p.dropped g was.only
+                  (to_drop_on marks x.0 k g (to_may marks k m) was.may (sym (was.ahead g (omega arith))) only.0);
+              low = all_more (λ r. r ≤ i + 1) p.dropped g
+                  (all_weaker (λ r. r ≤ i) (λ r. r ≤ i + 1) p.dropped (λ r l. omega arith) was.low) (omega arith);
+              once = distinct_more nat_eq p.dropped g was.once (all_weaker (λ r. r ≤ i) (λ r. nat_eq r g ≡ false)
+                  p.dropped (λ r l. ne_eqb r g (λ e. absurd (omega arith))) was.low);
             },
           );
     };
   }
 
-  pub drops_next_not : {a b c : S} {n : ℕ} (i o : ℕ) (did : Bool) → did ≡ false → o ≡ i + 1 → DropsTo facts marks i a b n → SweepsNumber facts marks o b c did → DropsTo facts marks (i + 1) a c n
-  drops_next_not {a} {b} {c} {n} i o did e at p q0 = let q : SweepsNumber facts marks (i + 1) b c false = subst (λ (d : Bool × ℕ). SweepsNumber facts marks d.1 b c d.0) (λ j. (e j, at j)) q0 in go q q.dropped refl q.counted
+  pub drops_next_not : {a b c : S} {n : ℕ} (i o : ℕ) (did : Bool) → did ≡ false → o ≡ i + 1
+      → DropsTo facts marks i a b n → SweepsNumber facts marks o b c did → DropsTo facts marks (i + 1) a c n
+  drops_next_not {a} {b} {c} {n} i o did e at p q0 = let q : SweepsNumber facts marks (i + 1) b c false =
+      subst (λ (d : Bool × ℕ). SweepsNumber facts marks d.1 b c d.0) (λ j. (e j, at j)) q0 in
+      go q q.dropped refl q.counted
     where
-      go : (q : SweepsNumber facts marks (i + 1) b c false) (x : Option ℕ) → q.dropped ≡ x → is_some q.dropped ≡ false → DropsTo facts marks (i + 1) a c n
+      go : (q : SweepsNumber facts marks (i + 1) b c false) (x : Option ℕ) → q.dropped ≡ x → is_some q.dropped ≡ false
+          → DropsTo facts marks (i + 1) a c n
       go q None is m = drops_same i p q is
       go q (Some h) is m = absurd (let z = sym m ∙ ap (λ (o : Option ℕ). is_some o) is in cc)
 
-  pub drops_next_one : {a b c : S} {n : ℕ} (i o : ℕ) (did : Bool) → did ≡ true → o ≡ i + 1 → DropsTo facts marks i a b n → SweepsNumber facts marks o b c did → DropsTo facts marks (i + 1) a c (n + 1)
-  drops_next_one {a} {b} {c} {n} i o did e at p q0 = let q : SweepsNumber facts marks (i + 1) b c true = subst (λ (d : Bool × ℕ). SweepsNumber facts marks d.1 b c d.0) (λ j. (e j, at j)) q0 in go q q.dropped refl q.counted
+  pub drops_next_one : {a b c : S} {n : ℕ} (i o : ℕ) (did : Bool) → did ≡ true → o ≡ i + 1 → DropsTo facts marks i a b n
+      → SweepsNumber facts marks o b c did → DropsTo facts marks (i + 1) a c (n + 1)
+  drops_next_one {a} {b} {c} {n} i o did e at p q0 = let q : SweepsNumber facts marks (i + 1) b c true =
+      subst (λ (d : Bool × ℕ). SweepsNumber facts marks d.1 b c d.0) (λ j. (e j, at j)) q0 in
+      go q q.dropped refl q.counted
     where
-      go : (q : SweepsNumber facts marks (i + 1) b c true) (x : Option ℕ) → q.dropped ≡ x → is_some q.dropped ≡ true → DropsTo facts marks (i + 1) a c (n + 1)
+      go : (q : SweepsNumber facts marks (i + 1) b c true) (x : Option ℕ) → q.dropped ≡ x → is_some q.dropped ≡ true
+          → DropsTo facts marks (i + 1) a c (n + 1)
       go q None is m = absurd (let z = sym m ∙ ap (λ (o : Option ℕ). is_some o) is in cc)
       go q (Some h) is m = drops_more i p q h is
 
-  pub drops_all : {a b : S} {n : ℕ} (i : ℕ) → i ≡ (facts a).stands.config.objects → DropsTo facts marks i a b n → DropsUnreached facts marks a b n
+  pub drops_all : {a b : S} {n : ℕ} (i : ℕ) → i ≡ (facts a).stands.config.objects → DropsTo facts marks i a b n
+      → DropsUnreached facts marks a b n
   drops_all {a} {b} i end p = record {
     dropped = p.dropped;
     counted = p.counted;
@@ -302,19 +377,22 @@ module _ {S : Type 0} {facts : S → Facts} (fits : AreOf facts) (marks : List B
                 only = z.only;
                 once = z.once;
               },
-              left k x.0 m z (λ o present. let row = number b x.0 x.1 o present in let high = row.1 in z.marked o row.0 (omega arith) present),
+              left k x.0 m z (λ o present. let row = number b x.0 x.1 o present in let high = row.1 in
+                  z.marked o row.0 (omega arith) present),
             ),
           );
     };
   }
     where
-      number : (d : S) (k : Known) → (facts d).knows k → (o : ℕ) → IsPresent (state_of k) o → (1 ≤ o) × (o ≤ (facts d).stands.config.objects)
+      number : (d : S) (k : Known) → (facts d).knows k → (o : ℕ) → IsPresent (state_of k) o
+          → (1 ≤ o) × (o ≤ (facts d).stands.config.objects)
       number d k s o present =
           let of = fits d k s in
           let row = (in_room k.config k.last k.seen of.legal).objects o present in
           (row.0, subst (λ (c : Config). o ≤ c.objects) of.config row.1)
 
-      left : (j k : Known) → AreCleared marks j → DroppedTo marks i p.dropped j k → ((o : ℕ) → IsPresent (state_of k) o → IsMarked marks o) → AreDropped marks k
+      left : (j k : Known) → AreCleared marks j → DroppedTo marks i p.dropped j k
+          → ((o : ℕ) → IsPresent (state_of k) o → IsMarked marks o) → AreDropped marks k
       left j k m z marked = record {
         present = marked;
         marked = λ o q. reached_present (state_of k) o (((z.may).exactly o).0 q);
@@ -325,4 +403,6 @@ module _ {S : Type 0} {facts : S → Facts} (fits : AreOf facts) (marks : List B
           closed r x is kind n v at =
               let was = z.kept r x is in
               let here : IsMarked marks r = marked r (subst (λ (y : Option Contents). IsSome y) (sym is) refl) in
-              ⊎_elim (λ none. inl none) (λ present. inr (reached_present (state_of k) v (((z.may).exactly v).0 ((m.marked.0 v).1 (from_element r n x ((m.marked.0 r).0 here) was kind at present))))) (m.marked.1.0 r x was kind n v at)
+              ⊎_elim (λ none. inl none) (λ present. inr (reached_present (state_of k) v (((z.may).exactly v).0
+              ((m.marked.0 v).1 (from_element r n x ((m.marked.0 r).0 here) was kind at present)))))
+              (m.marked.1.0 r x was kind n v at)

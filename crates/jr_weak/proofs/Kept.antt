@@ -25,14 +25,16 @@ pub record DroppedFrom (o : ℕ) (s s' : State) : Type 0 where
   pub locals : s'.locals ≡ s.locals
   pub objects : s'.objects ≡ update nat_eq s.objects o None
 
-pub cleared_from : {k k' : Known} (h : Handle) → Goes k (Clear h ∷ []) k' → role_of (view k) ≡ Collecting → ClearedFrom h (state_of k) (state_of k')
+pub cleared_from : {k k' : Known} (h : Handle) → Goes k (Clear h ∷ []) k' → role_of (view k) ≡ Collecting
+    → ClearedFrom h (state_of k) (state_of k')
 cleared_from h g collects = let z = goes_act g collects in record {
   refs = ap (λ (s : State). s.refs) z.2 ∙ ap (λ f. update same_handle f h Cleared) (z.1).refs;
   locals = ap (λ (s : State). s.locals) z.2 ∙ (z.1).locals;
   objects = ap (λ (s : State). s.objects) z.2 ∙ (z.1).objects;
 }
 
-pub dropped_from : {k k' : Known} (o : ℕ) → Goes k (Drop o ∷ []) k' → role_of (view k) ≡ Collecting → DroppedFrom o (state_of k) (state_of k')
+pub dropped_from : {k k' : Known} (o : ℕ) → Goes k (Drop o ∷ []) k' → role_of (view k) ≡ Collecting
+    → DroppedFrom o (state_of k) (state_of k')
 dropped_from o g collects = let z = goes_act g collects in record {
   refs = ap (λ (s : State). s.refs) z.2 ∙ (z.1).refs;
   locals = ap (λ (s : State). s.locals) z.2 ∙ (z.1).locals;
@@ -42,12 +44,14 @@ dropped_from o g collects = let z = goes_act g collects in record {
 kept_cleared : (h : Handle) (s s' : State) → h.kind ≡ Weak → ClearedFrom h s s' → IsSameReach s s'
 kept_cleared h s s' w c = record {
   forth = record {
-    globals = λ g o k r. subst (λ (f : Handle → Found). f g ≡ Object o) (sym c.refs) (at_handle (λ x. x ≡ Object o) s.refs h g Cleared (λ e. let kinds = ap (λ (f : Handle). f.kind) e in absurd cc) (λ ne. r));
+    globals = λ g o k r. subst (λ (f : Handle → Found). f g ≡ Object o) (sym c.refs) (at_handle (λ x. x ≡ Object o)
+        s.refs h g Cleared (λ e. let kinds = ap (λ (f : Handle). f.kind) e in absurd cc) (λ ne. r));
     locals = λ t p o r. ap (λ (f : ℕ → ℕ → Option ℕ). f t p) c.locals ∙ r;
     objects = λ o x z e. ap (λ (f : ℕ → Option Contents). f o) c.objects ∙ e;
   };
   back = record {
-    globals = λ g o k r. at_handle (λ x. x ≡ Object o → s.refs g ≡ Object o) s.refs h g Cleared (λ e q. absurd cc) (λ ne q. q) (subst (λ (f : Handle → Found). f g ≡ Object o) c.refs r);
+    globals = λ g o k r. at_handle (λ x. x ≡ Object o → s.refs g ≡ Object o) s.refs h g Cleared (λ e q. absurd cc)
+        (λ ne q. q) (subst (λ (f : Handle → Found). f g ≡ Object o) c.refs r);
     locals = λ t p o r. ap (λ (f : ℕ → ℕ → Option ℕ). f t p) (sym c.locals) ∙ r;
     objects = λ o x z e. ap (λ (f : ℕ → Option Contents). f o) (sym c.objects) ∙ e;
   };
@@ -58,29 +62,42 @@ kept_dropped p s s' un c = record {
   forth = record {
     globals = λ g o k r. ap (λ (f : Handle → Found). f g) c.refs ∙ r;
     locals = λ t q o r. ap (λ (f : ℕ → ℕ → Option ℕ). f t q) c.locals ∙ r;
-    objects = λ o x z e. subst (λ (f : ℕ → Option Contents). f o ≡ Some x) (sym c.objects) (at_number (λ y. y ≡ Some x) s.objects p o None (λ same. absurd (un (subst (λ j. IsReached s j) (sym same) z))) (λ ne. e));
+    objects = λ o x z e. subst (λ (f : ℕ → Option Contents). f o ≡ Some x) (sym c.objects) (at_number (λ y. y ≡ Some x)
+        s.objects p o None (λ same. absurd (un (subst (λ j. IsReached s j) (sym same) z))) (λ ne. e));
   };
   back = record {
     globals = λ g o k r. ap (λ (f : Handle → Found). f g) (sym c.refs) ∙ r;
     locals = λ t q o r. ap (λ (f : ℕ → ℕ → Option ℕ). f t q) (sym c.locals) ∙ r;
-    objects = λ o x z e. at_number (λ y. y ≡ Some x → s.objects o ≡ Some x) s.objects p o None (λ same r. absurd cc) (λ ne r. r) (subst (λ (f : ℕ → Option Contents). f o ≡ Some x) c.objects e);
+    objects = λ o x z e. at_number (λ y. y ≡ Some x → s.objects o ≡ Some x) s.objects p o None (λ same r. absurd cc)
+        (λ ne r. r) (subst (λ (f : ℕ → Option Contents). f o ≡ Some x) c.objects e);
   };
 }
 
 same_kept : (s s' : State) → HaveSameTables s s' → IsSameReach s s'
 same_kept s s' same = record {
-  forth = record { globals = λ g o k r. ap (λ (f : Handle → Found). f g) same.refs ∙ r; locals = λ t q o r. ap (λ (f : ℕ → ℕ → Option ℕ). f t q) same.locals ∙ r; objects = λ o x z e. ap (λ (f : ℕ → Option Contents). f o) same.objects ∙ e };
-  back = record { globals = λ g o k r. ap (λ (f : Handle → Found). f g) (sym same.refs) ∙ r; locals = λ t q o r. ap (λ (f : ℕ → ℕ → Option ℕ). f t q) (sym same.locals) ∙ r; objects = λ o x z e. ap (λ (f : ℕ → Option Contents). f o) (sym same.objects) ∙ e };
+  forth = record {
+    globals = λ g o k r. ap (λ (f : Handle → Found). f g) same.refs ∙ r;
+    locals = λ t q o r. ap (λ (f : ℕ → ℕ → Option ℕ). f t q) same.locals ∙ r;
+    objects = λ o x z e. ap (λ (f : ℕ → Option Contents). f o) same.objects ∙ e;
+  };
+  back = record {
+    globals = λ g o k r. ap (λ (f : Handle → Found). f g) (sym same.refs) ∙ r;
+    locals = λ t q o r. ap (λ (f : ℕ → ℕ → Option ℕ). f t q) (sym same.locals) ∙ r;
+    objects = λ o x z e. ap (λ (f : ℕ → Option Contents). f o) (sym same.objects) ∙ e;
+  };
 }
 
 exactly_on : (marks : List Bool) (s s' : State) → IsSameReach s s' → IsExactly marks s → IsExactly marks s'
-exactly_on marks s s' same e o = ((λ m. reached_mono s s' same.forth ((e o).0 m)), (λ r. (e o).1 (reached_mono s' s same.back r)))
+exactly_on marks s s' same e o =
+    ((λ m. reached_mono s s' same.forth ((e o).0 m)), (λ r. (e o).1 (reached_mono s' s same.back r)))
 
 pub exactly_same : (marks : List Bool) (s s' : State) → HaveSameTables s s' → IsExactly marks s → IsExactly marks s'
 exactly_same marks s s' same = exactly_on marks s s' (same_kept s s' same)
 
-pub exactly_cleared : (marks : List Bool) (h : Handle) (s s' : State) → h.kind ≡ Weak → ClearedFrom h s s' → IsExactly marks s → IsExactly marks s'
+pub exactly_cleared : (marks : List Bool) (h : Handle) (s s' : State) → h.kind ≡ Weak → ClearedFrom h s s'
+    → IsExactly marks s → IsExactly marks s'
 exactly_cleared marks h s s' w c = exactly_on marks s s' (kept_cleared h s s' w c)
 
-pub exactly_dropped : (marks : List Bool) (o : ℕ) (s s' : State) → ¬ (IsReached s o) → DroppedFrom o s s' → IsExactly marks s → IsExactly marks s'
+pub exactly_dropped : (marks : List Bool) (o : ℕ) (s s' : State) → ¬ (IsReached s o) → DroppedFrom o s s'
+    → IsExactly marks s → IsExactly marks s'
 exactly_dropped marks o s s' un c = exactly_on marks s s' (kept_dropped o s s' un c)

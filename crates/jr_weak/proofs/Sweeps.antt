@@ -1,5 +1,6 @@
 -- Weak references are cleared, slot by slot.
-use Rattle.std.proofs.Common.{◌≡◌, ◌≢◌, ◌+◌, ◌<◌, ◌≤◌, ℕ, Bool, true, false, Option, Some, None, is_some, List, [], ◌∷◌, ◌++◌, length, map, Contains, refl, sym, ap, subst, ◌∙◌, arith}
+use Rattle.std.proofs.Common.{◌≡◌, ◌≢◌, ◌+◌, ◌<◌, ◌≤◌, ℕ, Bool, true, false, Option, Some, None, is_some}
+use Rattle.std.proofs.Common.{List, [], ◌∷◌, ◌++◌, length, map, Contains, refl, sym, ap, subst, ◌∙◌, arith}
 use Rattle.std.specs.List.{AllByRecursion, IsDistinct}
 use Rattle.std.proofs.lemmas.List.{append-nil, map-append, length-append}
 use Rattle.std.proofs.lemmas.List.Elements.{Contains-push, Contains-append_left}
@@ -23,7 +24,8 @@ use Rattle.jr_steps.specs.declared.known.Known.{Known}
 use Rattle.jr_steps.specs.declared.known.Holdings.{Holdings}
 use Rattle.jr_steps.specs.Acts.{handle_of}
 use Rattle.jr_steps.specs.Collecting.{CanWipe}
-use Rattle.jr_steps.specs.Knowing.{Facts, Standing, AreOf, MayKnow, Went, Took, anything, view, state_of, keeps, ShowsSlot}
+use Rattle.jr_steps.specs.Knowing.{Facts, Standing, AreOf, MayKnow, Went, Took}
+use Rattle.jr_steps.specs.Knowing.{anything, view, state_of, keeps, ShowsSlot}
 use Rattle.jr_steps.proofs.CollectorFacts.{same_tables}
 use Rattle.jr_steps.proofs.StepFacts.{goes_did}
 use Rattle.jr_compact.specs.Counting.{TakesWithin}
@@ -39,10 +41,12 @@ weak_is (slot.Free m) n o e = absurd cc
 weak_is (slot.Retired m) n o e = absurd cc
 weak_is (slot.Global m r) n o e = absurd cc
 weak_is (slot.Weak m None) n o e = absurd cc
-weak_is (slot.Weak m (Some r)) n o e = let z : (m, r) ≡ (n, o) = cc in let a = ap (λ (p : ℕ × ℕ). p.0) z in let b = ap (λ (p : ℕ × ℕ). p.1) z in ap (λ (p : ℕ × ℕ). slot.Weak p.0 (Some p.1)) z
+weak_is (slot.Weak m (Some r)) n o e = let z : (m, r) ≡ (n, o) = cc in let a = ap (λ (p : ℕ × ℕ). p.0) z in
+    let b = ap (λ (p : ℕ × ℕ). p.1) z in ap (λ (p : ℕ × ℕ). slot.Weak p.0 (Some p.1)) z
 
 -- what is told of a slot is its weak reference that is not cleared, if one stands
-weak_of : (i : ℕ) (q : SlotParts) (k : Known) → ShowsSlot i q k → (h : Handle) (o : ℕ) → h.kind ≡ Weak → h.index ≡ i → (state_of k).refs h ≡ Object o → (n : ℕ) × (weak_in q ≡ Some (n, o)) × (h ≡ handle_of Weak n i)
+weak_of : (i : ℕ) (q : SlotParts) (k : Known) → ShowsSlot i q k → (h : Handle) (o : ℕ) → h.kind ≡ Weak → h.index ≡ i
+    → (state_of k).refs h ≡ Object o → (n : ℕ) × (weak_in q ≡ Some (n, o)) × (h ≡ handle_of Weak n i)
 weak_of i (slot.Free n) k x h o kind at e = let z = x.stands.0 h at in absurd (let y = sym z ∙ e in cc)
 weak_of i (slot.Retired n) k x h o kind at e = let z = x.stands.0 h at in absurd (let y = sym z ∙ e in cc)
 weak_of i (slot.Global n r) k x h o kind at e =
@@ -59,14 +63,20 @@ weak_of i (slot.Weak n (Some r)) k x h o kind at e =
     let w : r ≡ o = cc in
     (n, ap (λ z. Some (n, z)) w, same)
 
-weak_stands : (i n o : ℕ) (q : SlotParts) (k : Known) → weak_in q ≡ Some (n, o) → ShowsSlot i q k → (state_of k).refs (handle_of Weak n i) ≡ Object o
-weak_stands i n o q k e x = let y : ShowsSlot i (slot.Weak n (Some o)) k = subst (λ q. ShowsSlot i q k) (weak_is q n o e) x in (y.stands).found
+weak_stands : (i n o : ℕ) (q : SlotParts) (k : Known) → weak_in q ≡ Some (n, o) → ShowsSlot i q k
+    → (state_of k).refs (handle_of Weak n i) ≡ Object o
+weak_stands i n o q k e x =
+    let y : ShowsSlot i (slot.Weak n (Some o)) k = subst (λ q. ShowsSlot i q k) (weak_is q n o e) x in (y.stands).found
 
-weak_alone : (i n o : ℕ) (q : SlotParts) (k : Known) → weak_in q ≡ Some (n, o) → ShowsSlot i q k → (g : Handle) → g.index ≡ i → g ≢ handle_of Weak n i → (state_of k).refs g ≡ Stale
-weak_alone i n o q k e x = let y : ShowsSlot i (slot.Weak n (Some o)) k = subst (λ q. ShowsSlot i q k) (weak_is q n o e) x in (y.stands).alone
+weak_alone : (i n o : ℕ) (q : SlotParts) (k : Known) → weak_in q ≡ Some (n, o) → ShowsSlot i q k → (g : Handle)
+    → g.index ≡ i → g ≢ handle_of Weak n i → (state_of k).refs g ≡ Stale
+weak_alone i n o q k e x =
+    let y : ShowsSlot i (slot.Weak n (Some o)) k = subst (λ q. ShowsSlot i q k) (weak_is q n o e) x in (y.stands).alone
 
-one_weak : (i : ℕ) (q : SlotParts) (n o m r : ℕ) → weak_in q ≡ Some (n, o) → weak_in q ≡ Some (m, r) → handle_of Weak n i ≡ handle_of Weak m i
-one_weak i q n o m r e f = let z : Some (n, o) ≡ Some (m, r) = sym e ∙ f in let w : (n, o) ≡ (m, r) = cc in ap (λ (p : ℕ × ℕ). handle_of Weak p.0 i) w
+one_weak : (i : ℕ) (q : SlotParts) (n o m r : ℕ) → weak_in q ≡ Some (n, o) → weak_in q ≡ Some (m, r)
+    → handle_of Weak n i ≡ handle_of Weak m i
+one_weak i q n o m r e f = let z : Some (n, o) ≡ Some (m, r) = sym e ∙ f in let w : (n, o) ≡ (m, r) = cc in
+    ap (λ (p : ℕ × ℕ). handle_of Weak p.0 i) w
 
 some_same : (g h : Handle) → Some g ≡ Some h → g ≡ h
 some_same g h e = cc
@@ -74,10 +84,16 @@ some_same g h e = cc
 closed_same : (s s' : State) → s'.objects ≡ s.objects → IsClosed s → IsClosed s'
 closed_same s s' e c = subst (λ (f : ℕ → Option Contents). IsClosed (record s' { objects = f })) (sym e) c
 
-pub marked_on : (marks : List Bool) (k k' : Known) → HaveSameTables (state_of k) (state_of k') → keeps k k' → IsMarkedNow marks k → IsMarkedNow marks k'
-marked_on marks k k' same held m = (exactly_same marks (state_of k) (state_of k') same m.0, (closed_on (state_of k) (state_of k') same m.1.0, ap (λ (g : Holdings). g.moving) held ∙ m.1.1))
+pub marked_on : (marks : List Bool) (k k' : Known) → HaveSameTables (state_of k) (state_of k') → keeps k k'
+    → IsMarkedNow marks k → IsMarkedNow marks k'
+marked_on marks k k' same held m = (
+  exactly_same marks (state_of k) (state_of k') same m.0,
+  (closed_on (state_of k) (state_of k') same m.1.0, ap (λ (g : Holdings). g.moving) held ∙ m.1.1),
+)
 
-module _ {S : Type 0} {facts : S → Facts} (fits : AreOf facts) (marks : List Bool) (i : ℕ) {a b : S} (collects : (facts a).stands.role ≡ Collecting) (q : SlotParts) (t : Took facts a b [] anything (λ j k. ShowsSlot i q k × keeps j k)) where
+module _ {S : Type 0} {facts : S → Facts} (fits : AreOf facts) (marks : List Bool) (i : ℕ) {a b : S}
+    (collects : (facts a).stands.role ≡ Collecting) (q : SlotParts)
+    (t : Took facts a b [] anything (λ j k. ShowsSlot i q k × keeps j k)) where
   -- nothing is to be cleared there
   pub slot_left : ((n o : ℕ) → weak_in q ≡ Some (n, o) → IsMarked marks o) → SweepsSlot facts marks i a b false
   slot_left left = record {
@@ -89,7 +105,8 @@ module _ {S : Type 0} {facts : S → Facts} (fits : AreOf facts) (marks : List B
       leads = λ k s m.
           let y = t.goes k s tt in
           let same = same_tables y.2 ((fits a k s).role ∙ collects) in
-          let names : (h : Handle) (o : ℕ) → h.kind ≡ Weak → h.index ≡ i → (state_of y.0).refs h ≡ Object o → IsMarked marks o = λ h o kind at is. let w = weak_of i q y.0 y.3.0 h o kind at is in left w.0 o w.1 in (
+          let names : (h : Handle) (o : ℕ) → h.kind ≡ Weak → h.index ≡ i → (state_of y.0).refs h ≡ Object o
+          → IsMarked marks o = λ h o kind at is. let w = weak_of i q y.0 y.3.0 h o kind at is in left w.0 o w.1 in (
             y.0,
             y.1,
             (goes_did y.2, let one = (y.2).taken in omega arith),
@@ -98,7 +115,8 @@ module _ {S : Type 0} {facts : S → Facts} (fits : AreOf facts) (marks : List B
               objects = same.objects;
               others = λ h ne. ap (λ (f : Handle → Found). f h) same.refs;
               named = names;
-              all = λ h at c. absurd (c.3 ((m.0 c.1).0 (names h c.1 c.0 at (ap (λ (f : Handle → Found). f h) same.refs ∙ c.2))));
+              all = λ h at c.
+                  absurd (c.3 ((m.0 c.1).0 (names h c.1 c.0 at (ap (λ (f : Handle → Found). f h) same.refs ∙ c.2))));
               only = λ h e. absurd cc;
             },
           );
@@ -106,14 +124,26 @@ module _ {S : Type 0} {facts : S → Facts} (fits : AreOf facts) (marks : List B
   }
 
   module _ (n o : ℕ) (is : weak_in q ≡ Some (n, o)) (unmarked : ¬ (IsMarked marks o)) where
-    can_wipe : (k k' : Known) → IsMarkedNow marks k → HaveSameTables (state_of k) (state_of k') → ShowsSlot i q k' → CanWipe i n o k'
-    can_wipe k k' m same x = (weak_stands i n o q k' is x, λ r. unmarked ((m.0 o).1 (reached_on (record { refs = sym same.refs; given = sym same.given; locals = sym same.locals; objects = sym same.objects; used = sym same.used }) o r)))
+    can_wipe : (k k' : Known) → IsMarkedNow marks k → HaveSameTables (state_of k) (state_of k') → ShowsSlot i q k'
+        → CanWipe i n o k'
+    can_wipe k k' m same x = (
+      weak_stands i n o q k' is x,
+      λ r. unmarked ((m.0 o).1 (reached_on (record {
+        refs = sym same.refs;
+        given = sym same.given;
+        locals = sym same.locals;
+        objects = sym same.objects;
+        used = sym same.used;
+      }) o r)),
+    )
 
     pub slot_may : MayKnow facts a (IsMarkedNow marks) → MayKnow facts b (CanWipe i n o)
-    slot_may may = ∥∥₁_map may (λ k. let y = t.goes k.0 k.1 tt in (y.0, y.1, can_wipe k.0 y.0 k.2 (same_tables y.2 ((fits a k.0 k.1).role ∙ collects)) y.3.0))
+    slot_may may = ∥∥₁_map may (λ k. let y = t.goes k.0 k.1 tt in
+        (y.0, y.1, can_wipe k.0 y.0 k.2 (same_tables y.2 ((fits a k.0 k.1).role ∙ collects)) y.3.0))
 
     -- the reference is cleared
-    pub slot_cleared : {c : S} → Took facts b c (Clear (handle_of Weak n i) ∷ []) (CanWipe i n o) keeps → SweepsSlot facts marks i a c true
+    pub slot_cleared : {c : S} → Took facts b c (Clear (handle_of Weak n i) ∷ []) (CanWipe i n o) keeps
+        → SweepsSlot facts marks i a c true
     slot_cleared {c} u = record {
       cleared = Some (handle_of Weak n i);
       counted = refl;
@@ -125,24 +155,55 @@ module _ {S : Type 0} {facts : S → Facts} (fits : AreOf facts) (marks : List B
             let same = same_tables y.2 ((fits a k s).role ∙ collects) in
             let can = can_wipe k y.0 m same y.3.0 in
             let z = u.goes y.0 y.1 can in
-            let from = cleared_from (handle_of Weak n i) z.2 ((fits b y.0 y.1).role ∙ (ap (λ (z : Standing). z.role) t.stands_is ∙ collects)) in
-            let mid = marked_on marks k y.0 same y.3.1 m in
-            (z.0, z.1, (did_then [] (Clear (handle_of Weak n i) ∷ []) (goes_did y.2) (goes_did z.2), let one = (y.2).taken in let two = (z.2).taken in omega arith), swept k y.0 z.0 m same y.3.0 mid z.3 from can.1);
+            let from = cleared_from (handle_of Weak n i) z.2 ((fits b y.0 y.1).role
+            ∙ (ap (λ (z : Standing). z.role) t.stands_is ∙ collects)) in
+            let mid = marked_on marks k y.0 same y.3.1 m in (
+              z.0,
+              z.1,
+              (
+                did_then [] (Clear (handle_of Weak n i) ∷ []) (goes_did y.2) (goes_did z.2),
+                let one = (y.2).taken in let two = (z.2).taken in omega arith,
+              ),
+              swept k y.0 z.0 m same y.3.0 mid z.3 from can.1,
+            );
       };
     }
       where
-        swept : (k y z : Known) → IsMarkedNow marks k → HaveSameTables (state_of k) (state_of y) → ShowsSlot i q y → IsMarkedNow marks y → keeps y z → ClearedFrom (handle_of Weak n i) (state_of y) (state_of z) → ¬ (IsReached (state_of y) o) → SlotIsSwept marks i (Some (handle_of Weak n i)) k z
+        swept : (k y z : Known) → IsMarkedNow marks k → HaveSameTables (state_of k) (state_of y) → ShowsSlot i q y
+            → IsMarkedNow marks y → keeps y z → ClearedFrom (handle_of Weak n i) (state_of y) (state_of z)
+            → ¬ (IsReached (state_of y) o) → SlotIsSwept marks i (Some (handle_of Weak n i)) k z
         swept k y z m same x mid held from un = record {
-          marked = (exactly_cleared marks (handle_of Weak n i) (state_of y) (state_of z) refl from mid.0, (closed_same (state_of y) (state_of z) from.objects mid.1.0, ap (λ (g : Holdings). g.moving) held ∙ mid.1.1));
+          marked = (
+            exactly_cleared marks (handle_of Weak n i) (state_of y) (state_of z) refl from mid.0,
+            (
+              closed_same (state_of y) (state_of z) from.objects mid.1.0,
+              ap (λ (g : Holdings). g.moving) held ∙ mid.1.1,
+            ),
+          );
           objects = from.objects ∙ same.objects;
-          others = λ h ne. ap (λ (f : Handle → Found). f h) from.refs ∙ (at_handle (λ x. x ≡ (state_of y).refs h) (state_of y).refs (handle_of Weak n i) h Cleared (λ e. absurd (ne (sym (ap (λ (g : Handle). g.index) e)))) (λ ne. refl) ∙ ap (λ (f : Handle → Found). f h) same.refs);
-          named = λ h r kind at is'. absurd (at_handle (λ x. ¬ (x ≡ Object r)) (state_of y).refs (handle_of Weak n i) h Cleared (λ e f. let w = f in cc) (λ ne f. let stale = weak_alone i n o q y is x h at (λ e. ne (sym e)) in let w = sym stale ∙ f in cc) (ap (λ (f : Handle → Found). f h) (sym from.refs) ∙ is'));
-          all = λ h at c. let w = weak_of i q y x h c.1 c.0 at (ap (λ (f : Handle → Found). f h) same.refs ∙ c.2) in ap (λ g. Some g) (one_weak i q n o w.0 c.1 is w.1 ∙ sym w.2);
-          only = λ h e. let here : handle_of Weak n i ≡ h = some_same (handle_of Weak n i) h e in subst (λ g. IsToClear (state_of k) g × (g.index ≡ i)) here ((refl, o, ap (λ (f : Handle → Found). f (handle_of Weak n i)) (sym same.refs) ∙ weak_stands i n o q y is x, λ r. un (reached_on same o r)), refl);
+          others = λ h ne. ap (λ (f : Handle → Found). f h) from.refs
+              ∙ (at_handle (λ x. x ≡ (state_of y).refs h) (state_of y).refs (handle_of Weak n i) h Cleared (λ e. absurd
+              (ne (sym (ap (λ (g : Handle). g.index) e)))) (λ ne. refl) ∙ ap (λ (f : Handle → Found). f h) same.refs);
+          named = λ h r kind at is'. absurd (at_handle (λ x. ¬ (x ≡ Object r)) (state_of y).refs (handle_of Weak n i) h
+              Cleared (λ e f. let w = f in cc) (λ ne f. let stale = weak_alone i n o q y is x h at (λ e. ne (sym e)) in
+              let w = sym stale ∙ f in cc) (ap (λ (f : Handle → Found). f h) (sym from.refs) ∙ is'));
+          all = λ h at c. let w = weak_of i q y x h c.1 c.0 at (ap (λ (f : Handle → Found). f h) same.refs ∙ c.2) in
+              ap (λ g. Some g) (one_weak i q n o w.0 c.1 is w.1 ∙ sym w.2);
+          only = λ h e. let here : handle_of Weak n i ≡ h = some_same (handle_of Weak n i) h e in
+              subst (λ g. IsToClear (state_of k) g × (g.index ≡ i)) here (
+                (
+                  refl,
+                  o,
+                  ap (λ (f : Handle → Found). f (handle_of Weak n i)) (sym same.refs) ∙ weak_stands i n o q y is x,
+                  λ r. un (reached_on same o r),
+                ),
+                refl,
+              );
         }
 
 pub weak_pair : (q : SlotParts) (n o m r : ℕ) → weak_in q ≡ Some (n, o) → weak_in q ≡ Some (m, r) → o ≡ r
-weak_pair q n o m r e f = let z : Some (n, o) ≡ Some (m, r) = sym e ∙ f in let w : (n, o) ≡ (m, r) = cc in ap (λ (p : ℕ × ℕ). p.1) w
+weak_pair q n o m r e f = let z : Some (n, o) ≡ Some (m, r) = sym e ∙ f in let w : (n, o) ≡ (m, r) = cc in
+    ap (λ (p : ℕ × ℕ). p.1) w
 
 -- THE SLOTS BELOW i are swept
 pub record ClearedTo (marks : List Bool) (i : ℕ) (cleared : List Handle) (j k : Known) : Type 0 where
@@ -155,20 +216,25 @@ pub record ClearedTo (marks : List Bool) (i : ℕ) (cleared : List Handle) (j k 
   pub low : AllByRecursion (λ h. h.index < i) cleared
   pub once : IsDistinct same_handle cleared
 
-pub record ClearsTo {S : Type 0} (facts : S → Facts) (marks : List Bool) (i : ℕ) (old new : S) (count : ℕ) : Type 0 where
+pub record ClearsTo {S : Type 0} (facts : S → Facts) (marks : List Bool) (i : ℕ) (old new : S)
+    (count : ℕ) : Type 0 where
   pub cleared : List Handle
   pub counted : length cleared ≡ count
-  pub went : Went facts old new (facts old).stands (IsMarkedNow marks) (λ j k. Did (view j) (view k) (map Clear cleared) × TakesWithin (i + i) j k) (ClearedTo marks i cleared)
+  pub went : Went facts old new (facts old).stands (IsMarkedNow marks)
+      (λ j k. Did (view j) (view k) (map Clear cleared) × TakesWithin (i + i) j k) (ClearedTo marks i cleared)
 
-pub all_more : {X : Type 0} (P : X → Type 0) (xs : List X) (x : X) → AllByRecursion P xs → P x → AllByRecursion P (xs ++ x ∷ [])
+pub all_more : {X : Type 0} (P : X → Type 0) (xs : List X) (x : X) → AllByRecursion P xs → P x
+    → AllByRecursion P (xs ++ x ∷ [])
 all_more P [] x a p = (p, tt)
 all_more P (y ∷ xs) x a p = (a.0, all_more P xs x a.1 p)
 
-pub all_weaker : {X : Type 0} (P Q : X → Type 0) (xs : List X) → ((x : X) → P x → Q x) → AllByRecursion P xs → AllByRecursion Q xs
+pub all_weaker : {X : Type 0} (P Q : X → Type 0) (xs : List X) → ((x : X) → P x → Q x) → AllByRecursion P xs
+    → AllByRecursion Q xs
 all_weaker P Q [] f a = tt
 all_weaker P Q (y ∷ xs) f a = (f y a.0, all_weaker P Q xs f a.1)
 
-pub distinct_more : {X : Type 0} (same : X → X → Bool) (xs : List X) (x : X) → IsDistinct same xs → AllByRecursion (λ y. same y x ≡ false) xs → IsDistinct same (xs ++ x ∷ [])
+pub distinct_more : {X : Type 0} (same : X → X → Bool) (xs : List X) (x : X) → IsDistinct same xs
+    → AllByRecursion (λ y. same y x ≡ false) xs → IsDistinct same (xs ++ x ∷ [])
 unfolding IsDistinct
 distinct_more same [] x d a = (tt, tt)
 distinct_more same (y ∷ xs) x d a = (all_more (λ z. same y z ≡ false) xs x d.0 a.0, distinct_more same xs x d.1 a.1)
@@ -184,7 +250,9 @@ below_apart h g l = go (same_handle h g) refl
     go true z = let q = ap (λ (f : Handle). f.index) (handle_true h g z) in absurd (omega arith)
     go false z = refl
 
-to_clear_back : (j k : Known) (h : Handle) → (state_of k).refs h ≡ (state_of j).refs h → ((o : ℕ) → IsReached (state_of j) o → IsReached (state_of k) o) → IsToClear (state_of k) h → IsToClear (state_of j) h
+to_clear_back : (j k : Known) (h : Handle) → (state_of k).refs h ≡ (state_of j).refs h
+    → ((o : ℕ) → IsReached (state_of j) o → IsReached (state_of k) o) → IsToClear (state_of k) h
+    → IsToClear (state_of j) h
 to_clear_back j k h same r c = (c.0, c.1, sym same ∙ c.2, λ z. c.3 (r c.1 z))
 
 module _ {S : Type 0} {facts : S → Facts} (fits : AreOf facts) (marks : List Bool) where
@@ -213,11 +281,14 @@ module _ {S : Type 0} {facts : S → Facts} (fits : AreOf facts) (marks : List B
     };
   }
 
-  pub clears_may : {a b : S} {i n : ℕ} → MayKnow facts a (IsMarkedNow marks) → ClearsTo facts marks i a b n → MayKnow facts b (IsMarkedNow marks)
-  clears_may {i = i} may p = ∥∥₁_map may (λ k. let x = p.went.leads k.0 k.1 k.2 in let z : ClearedTo marks i p.cleared k.0 x.0 = x.3 in (x.0, x.1, z.marked))
+  pub clears_may : {a b : S} {i n : ℕ} → MayKnow facts a (IsMarkedNow marks) → ClearsTo facts marks i a b n
+      → MayKnow facts b (IsMarkedNow marks)
+  clears_may {i = i} may p = ∥∥₁_map may (λ k. let x = p.went.leads k.0 k.1 k.2 in
+      let z : ClearedTo marks i p.cleared k.0 x.0 = x.3 in (x.0, x.1, z.marked))
 
   -- one slot more
-  clears_same : {a b c : S} {n : ℕ} (i : ℕ) → (p : ClearsTo facts marks i a b n) → (q : SweepsSlot facts marks i b c false) → q.cleared ≡ None → ClearsTo facts marks (i + 1) a c n
+  clears_same : {a b c : S} {n : ℕ} (i : ℕ) → (p : ClearsTo facts marks i a b n)
+      → (q : SweepsSlot facts marks i b c false) → q.cleared ≡ None → ClearsTo facts marks (i + 1) a c n
   clears_same {a} {b} {c} i p q none = record {
     cleared = p.cleared;
     counted = p.counted;
@@ -231,13 +302,19 @@ module _ {S : Type 0} {facts : S → Facts} (fits : AreOf facts) (marks : List B
           let z : SlotIsSwept marks i q.cleared x.0 y.0 = y.3 in (
             y.0,
             y.1,
-            (subst (λ l. Did (view k) (view y.0) l) (append-nil (map Clear p.cleared)) (did_then (map Clear p.cleared) [] x.2.0 (subst (λ (o : Option Handle). Did (view x.0) (view y.0) (clear_acts o)) none y.2.0)), let some = x.2.1 in let two = y.2.1 in omega arith),
+            (
+              subst (λ l. Did (view k) (view y.0) l) (append-nil (map Clear p.cleared)) (did_then (map Clear p.cleared)
+                  [] x.2.0 (subst (λ (o : Option Handle). Did (view x.0) (view y.0) (clear_acts o)) none y.2.0)),
+              let some = x.2.1 in let two = y.2.1 in omega arith,
+            ),
             record {
               marked = z.marked;
               objects = z.objects ∙ was.objects;
               ahead = λ h l. z.others h (λ e. absurd (omega arith)) ∙ was.ahead h (omega arith);
-              named = λ h o kind l is. dite (ℕ_discrete h.index i) (λ e. z.named h o kind e is) (λ ne. was.named h o kind (omega arith) (sym (z.others h ne) ∙ is));
-              all = λ h l c. dite (ℕ_discrete h.index i) (λ e. let w = sym none ∙ z.all h e (again k x.0 h was (omega arith) m c) in absurd cc) (λ ne. was.all h (omega arith) c);
+              named = λ h o kind l is. dite (ℕ_discrete h.index i) (λ e. z.named h o kind e is) (λ ne.
+                  was.named h o kind (omega arith) (sym (z.others h ne) ∙ is));
+              all = λ h l c. dite (ℕ_discrete h.index i) (λ e. let w = sym none
+                  ∙ z.all h e (again k x.0 h was (omega arith) m c) in absurd cc) (λ ne. was.all h (omega arith) c);
               only = was.only;
               low = all_weaker (λ h. h.index < i) (λ h. h.index < i + 1) p.cleared (λ h l. omega arith) was.low;
               once = was.once;
@@ -246,10 +323,13 @@ module _ {S : Type 0} {facts : S → Facts} (fits : AreOf facts) (marks : List B
     };
   }
     where
-      again : (j k : Known) (h : Handle) → ClearedTo marks i p.cleared j k → i ≤ h.index → IsMarkedNow marks j → IsToClear (state_of j) h → IsToClear (state_of k) h
+      again : (j k : Known) (h : Handle) → ClearedTo marks i p.cleared j k → i ≤ h.index → IsMarkedNow marks j
+          → IsToClear (state_of j) h → IsToClear (state_of k) h
       again j k h was l m c = to_clear_back k j h (sym (was.ahead h l)) (λ o r. (m.0 o).0 ((was.marked.0 o).1 r)) c
 
-  clears_more : {a b c : S} {n : ℕ} (i : ℕ) → (p : ClearsTo facts marks i a b n) → (q : SweepsSlot facts marks i b c true) → (g : Handle) → q.cleared ≡ Some g → ClearsTo facts marks (i + 1) a c (n + 1)
+  clears_more : {a b c : S} {n : ℕ} (i : ℕ) → (p : ClearsTo facts marks i a b n)
+      → (q : SweepsSlot facts marks i b c true) → (g : Handle) → q.cleared ≡ Some g
+      → ClearsTo facts marks (i + 1) a c (n + 1)
   clears_more {a} {b} {c} {n} i p q g one = record {
     cleared = p.cleared ++ g ∷ [];
     counted = let l = length-append p.cleared (g ∷ []) in let e = p.counted in omega arith;
@@ -265,41 +345,59 @@ module _ {S : Type 0} {facts : S → Facts} (fits : AreOf facts) (marks : List B
           let at = only.1 in (
             y.0,
             y.1,
-            (subst (λ l. Did (view k) (view y.0) l) (sym (map-append Clear p.cleared (g ∷ []))) (did_then (map Clear p.cleared) (Clear g ∷ []) x.2.0 (subst (λ (o : Option Handle). Did (view x.0) (view y.0) (clear_acts o)) one y.2.0)), let some = x.2.1 in let two = y.2.1 in omega arith),
+            (
+              subst (λ l. Did (view k) (view y.0) l) (sym (map-append Clear p.cleared (g ∷ [])))
+                  (did_then (map Clear p.cleared) (Clear g ∷ []) x.2.0
+                  (subst (λ (o : Option Handle). Did (view x.0) (view y.0) (clear_acts o)) one y.2.0)),
+              let some = x.2.1 in let two = y.2.1 in omega arith,
+            ),
             record {
               marked = z.marked;
               objects = z.objects ∙ was.objects;
               ahead = λ h l. z.others h (λ e. absurd (omega arith)) ∙ was.ahead h (omega arith);
-              named = λ h o kind l is. dite (ℕ_discrete h.index i) (λ e. z.named h o kind e is) (λ ne. was.named h o kind (omega arith) (sym (z.others h ne) ∙ is));
+              named = λ h o kind l is. dite (ℕ_discrete h.index i) (λ e. z.named h o kind e is) (λ ne.
+                  was.named h o kind (omega arith) (sym (z.others h ne) ∙ is));
               all = λ h l c. dite (ℕ_discrete h.index i)
-                  (λ e. let w = some_same g h (sym one ∙ z.all h e (again k x.0 h was (omega arith) m c)) in subst (λ f. Contains (p.cleared ++ g ∷ []) f) w (Contains-push p.cleared g))
+                  (λ e. let w = some_same g h (sym one ∙ z.all h e (again k x.0 h was (omega arith) m c)) in
+                  subst (λ f. Contains (p.cleared ++ g ∷ []) f) w (Contains-push p.cleared g))
                   (λ ne. Contains-append_left p.cleared (g ∷ []) h (was.all h (omega arith) c));
-              only = all_more (IsToClear (state_of k)) p.cleared g was.only (to_clear_back k x.0 g (was.ahead g (omega arith)) (λ o r. (was.marked.0 o).0 ((m.0 o).1 r)) only.0);
-              low = all_more (λ h. h.index < i + 1) p.cleared g (all_weaker (λ h. h.index < i) (λ h. h.index < i + 1) p.cleared (λ h l. omega arith) was.low) (omega arith);
-              once = distinct_more same_handle p.cleared g was.once (all_weaker (λ h. h.index < i) (λ h. same_handle h g ≡ false) p.cleared (λ h l. below_apart h g (omega arith)) was.low);
+              only = all_more (IsToClear (state_of k)) p.cleared g was.only
+                  (to_clear_back k x.0 g (was.ahead g (omega arith)) (λ o r. (was.marked.0 o).0 ((m.0 o).1 r)) only.0);
+              low = all_more (λ h. h.index < i + 1) p.cleared g (all_weaker (λ h. h.index < i) (λ h. h.index < i + 1)
+                  p.cleared (λ h l. omega arith) was.low) (omega arith);
+              once = distinct_more same_handle p.cleared g was.once (all_weaker (λ h. h.index < i)
+                  (λ h. same_handle h g ≡ false) p.cleared (λ h l. below_apart h g (omega arith)) was.low);
             },
           );
     };
   }
     where
-      again : (j k : Known) (h : Handle) → ClearedTo marks i p.cleared j k → i ≤ h.index → IsMarkedNow marks j → IsToClear (state_of j) h → IsToClear (state_of k) h
+      again : (j k : Known) (h : Handle) → ClearedTo marks i p.cleared j k → i ≤ h.index → IsMarkedNow marks j
+          → IsToClear (state_of j) h → IsToClear (state_of k) h
       again j k h was l m c = to_clear_back k j h (sym (was.ahead h l)) (λ o r. (m.0 o).0 ((was.marked.0 o).1 r)) c
 
-  pub clears_next_not : {a b c : S} {n : ℕ} (i : ℕ) (did : Bool) → did ≡ false → ClearsTo facts marks i a b n → SweepsSlot facts marks i b c did → ClearsTo facts marks (i + 1) a c n
-  clears_next_not {a} {b} {c} {n} i did e p q0 = let q : SweepsSlot facts marks i b c false = subst (λ d. SweepsSlot facts marks i b c d) e q0 in go q q.cleared refl q.counted
+  pub clears_next_not : {a b c : S} {n : ℕ} (i : ℕ) (did : Bool) → did ≡ false → ClearsTo facts marks i a b n
+      → SweepsSlot facts marks i b c did → ClearsTo facts marks (i + 1) a c n
+  clears_next_not {a} {b} {c} {n} i did e p q0 = let q : SweepsSlot facts marks i b c false =
+      subst (λ d. SweepsSlot facts marks i b c d) e q0 in go q q.cleared refl q.counted
     where
-      go : (q : SweepsSlot facts marks i b c false) (x : Option Handle) → q.cleared ≡ x → is_some q.cleared ≡ false → ClearsTo facts marks (i + 1) a c n
+      go : (q : SweepsSlot facts marks i b c false) (x : Option Handle) → q.cleared ≡ x → is_some q.cleared ≡ false
+          → ClearsTo facts marks (i + 1) a c n
       go q None is m = clears_same i p q is
       go q (Some h) is m = absurd (let z = sym m ∙ ap (λ (o : Option Handle). is_some o) is in cc)
 
-  pub clears_next_one : {a b c : S} {n : ℕ} (i : ℕ) (did : Bool) → did ≡ true → ClearsTo facts marks i a b n → SweepsSlot facts marks i b c did → ClearsTo facts marks (i + 1) a c (n + 1)
-  clears_next_one {a} {b} {c} {n} i did e p q0 = let q : SweepsSlot facts marks i b c true = subst (λ d. SweepsSlot facts marks i b c d) e q0 in go q q.cleared refl q.counted
+  pub clears_next_one : {a b c : S} {n : ℕ} (i : ℕ) (did : Bool) → did ≡ true → ClearsTo facts marks i a b n
+      → SweepsSlot facts marks i b c did → ClearsTo facts marks (i + 1) a c (n + 1)
+  clears_next_one {a} {b} {c} {n} i did e p q0 = let q : SweepsSlot facts marks i b c true =
+      subst (λ d. SweepsSlot facts marks i b c d) e q0 in go q q.cleared refl q.counted
     where
-      go : (q : SweepsSlot facts marks i b c true) (x : Option Handle) → q.cleared ≡ x → is_some q.cleared ≡ true → ClearsTo facts marks (i + 1) a c (n + 1)
+      go : (q : SweepsSlot facts marks i b c true) (x : Option Handle) → q.cleared ≡ x → is_some q.cleared ≡ true
+          → ClearsTo facts marks (i + 1) a c (n + 1)
       go q None is m = absurd (let z = sym m ∙ ap (λ (o : Option Handle). is_some o) is in cc)
       go q (Some h) is m = clears_more i p q h is
 
-  pub clears_all : {a b : S} {n : ℕ} (i : ℕ) → i ≡ (facts a).stands.config.slots → ClearsTo facts marks i a b n → ClearsUnreached facts marks a b n
+  pub clears_all : {a b : S} {n : ℕ} (i : ℕ) → i ≡ (facts a).stands.config.slots → ClearsTo facts marks i a b n
+      → ClearsUnreached facts marks a b n
   clears_all {a} {b} i end p = record {
     cleared = p.cleared;
     counted = p.counted;
@@ -323,14 +421,16 @@ module _ {S : Type 0} {facts : S → Facts} (fits : AreOf facts) (marks : List B
               z.objects,
               record {
                 marked = z.marked;
-                named = λ h o kind is. let l = in_row b x.0 x.1 h (λ e. let w = sym e ∙ is in cc) in let same = ap (λ (t : Standing). t.config.slots) p.went.stands_is in z.named h o kind (omega arith) is;
+                named = λ h o kind is. let l = in_row b x.0 x.1 h (λ e. let w = sym e ∙ is in cc) in let same =
+                    ap (λ (t : Standing). t.config.slots) p.went.stands_is in z.named h o kind (omega arith) is;
               },
             ),
           );
     };
   }
     where
-      in_row : (d : S) (k : Known) → (facts d).knows k → (h : Handle) → (state_of k).refs h ≢ Stale → h.index < (facts d).stands.config.slots
+      in_row : (d : S) (k : Known) → (facts d).knows k → (h : Handle) → (state_of k).refs h ≢ Stale
+          → h.index < (facts d).stands.config.slots
       in_row d k s h is =
           let of = fits d k s in
           let kept = kept_state k.config k.last k.seen of.legal in

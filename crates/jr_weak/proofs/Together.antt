@@ -12,7 +12,8 @@ use Rattle.jr_weak.specs.Marks.{IsQueue}
 use Rattle.jr_weak.specs.Sweeping.{AreDropped}
 use Rattle.jr_weak.proofs.Queues.{listed_each, listed_once}
 
-module _ (ms : List Bool) (found : List ℕ) (count : ℕ) (q : IsQueue ms found count) (now : List ℕ) (is : now ≡ found) where
+module _ (ms : List Bool) (found : List ℕ) (count : ℕ) (q : IsQueue ms found count) (now : List ℕ)
+    (is : now ≡ found) where
   can_compact : (k : Known) → AreDropped ms k → CanCompact (take count now) k
   can_compact k d =
       let each = listed_each ms found count q now is in
@@ -27,8 +28,11 @@ module _ (ms : List Bool) (found : List ℕ) (count : ℕ) (q : IsQueue ms found
     may_compact may = ∥∥₁_map may (λ k. (k.0, k.1, can_compact k.0 k.2))
 
     -- and they are moved together, of no more objects than the list has room for
-    pub acted_compact : (b : S) (used room : ℕ) → length now ≤ room → ActedTo facts a b (Settle used ∷ []) (CanCompact (take count now)) (λ j k. AreCompacted used j k × TakesWithin (length (take count now) + (used + used + used) + 1) j k)
-        → ActedTo facts a b (Settle used ∷ []) (AreDropped ms) (λ j k. AreCompacted used j k × TakesWithin (room + (used + used + used) + 1) j k)
+    pub acted_compact : (b : S) (used room : ℕ) → length now ≤ room
+        → ActedTo facts a b (Settle used ∷ []) (CanCompact (take count now)) (λ j k. AreCompacted used j k
+        × TakesWithin (length (take count now) + (used + used + used) + 1) j k)
+        → ActedTo facts a b (Settle used ∷ []) (AreDropped ms) (λ j k. AreCompacted used j k
+        × TakesWithin (room + (used + used + used) + 1) j k)
     acted_compact b used room short p = record {
       stands_is = p.stands_is;
       hint_is = p.hint_is;

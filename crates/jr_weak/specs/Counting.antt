@@ -2,7 +2,8 @@
 use Rattle.std.specs.Prelude.{◌+◌, ◌*◌, ℕ}
 use Rattle.jr_word.specs.declared.config.Config.{Config}
 
--- to mark: a look at each slot, at each local place of each thread, at the header of each object, and at each word of the space
+-- to mark:
+-- a look at each slot, at each local place of each thread, at the header of each object, and at each word of the space
 abbrev pub marking_steps : Config → ℕ
 marking_steps c = c.slots + c.threads * c.locals + (c.objects + c.words)
 
@@ -14,7 +15,8 @@ clearing_steps c = c.slots + c.slots
 abbrev pub dropping_steps : Config → ℕ
 dropping_steps c = c.objects + c.objects
 
--- to move together: a look at the header of each object, three operations for each word of the space, and a store at the top
+-- to move together:
+-- a look at the header of each object, three operations for each word of the space, and a store at the top
 abbrev pub moving_steps : Config → ℕ
 moving_steps c = c.objects + (c.words + c.words + c.words) + 1
 

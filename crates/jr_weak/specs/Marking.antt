@@ -16,11 +16,14 @@ pub record IsMarking (marks : List Bool) (k : Known) : Type 0 where
 abbrev pub IsMarkedNow : List Bool → Known → Type 0
 IsMarkedNow marks k = IsExactly marks (state_of k) × CanReopen k
 
--- the marks go on, for whatever was known, by no act of one's own and no more steps than this: they have this of the state, and still only what is reached
-pub record MarkedTo {S : Type 0} (facts : S → Facts) (most : Known → ℕ) (marks marks' : List Bool) (old new : S) (has : List Bool → Known → Type 0) : Type 0 where
+-- the marks go on, for whatever was known, by no act of one's own and no more steps than this:
+-- they have this of the state, and still only what is reached
+pub record MarkedTo {S : Type 0} (facts : S → Facts) (most : Known → ℕ) (marks marks' : List Bool) (old new : S)
+    (has : List Bool → Known → Type 0) : Type 0 where
   pub more : (o : ℕ) → IsMarked marks o → IsMarked marks' o
   pub saw : SawWithin facts most old new (IsMarking marks) (λ j k. IsMarking marks' k × has marks' k)
 
 -- the same, of the state alone
-abbrev pub MarksAll : {S : Type 0} → (S → Facts) → (Known → ℕ) → List Bool → List Bool → S → S → (List Bool → State → Type 0) → Type 0
+abbrev pub MarksAll : {S : Type 0} → (S → Facts) → (Known → ℕ) → List Bool → List Bool → S → S
+    → (List Bool → State → Type 0) → Type 0
 MarksAll facts most marks marks' old new has = MarkedTo facts most marks marks' old new (λ ms k. has ms (state_of k))

@@ -1,5 +1,6 @@
 -- Marks of objects, and what they say of what is reached.
-use Rattle.std.specs.Prelude.{◌≡◌, ◌≢◌, ◌↔◌, ◌+◌, ◌<◌, ◌≤◌, ℕ, suc, Bool, true, false, cond, Option, Some, None, List, [], ◌∷◌, length, slice_get, slice_set, slice_index, slice_index_or}
+use Rattle.std.specs.Prelude.{◌≡◌, ◌≢◌, ◌↔◌, ◌+◌, ◌<◌, ◌≤◌, ℕ, suc, Bool, true, false, cond, Option, Some}
+use Rattle.std.specs.Prelude.{None, List, [], ◌∷◌, length, slice_get, slice_set, slice_index, slice_index_or}
 use Rattle.jr_word.specs.declared.handle.RefKind.TheVariants.{Global}
 use Rattle.jr_word.specs.declared.kind.Kind.TheVariants.{Objects}
 use Rattle.jr_word.specs.declared.local.LocalParts.{LocalParts}
@@ -71,7 +72,8 @@ HasLocals marks s = (t : ℕ) → HasLocalsOf t marks s
 
 -- with an object array each object that it names is marked, or with each that is marked
 abbrev pub HasElementsOf : ℕ → List Bool → State → Type 0
-HasElementsOf a marks s = (i o : ℕ) (x : Contents) → s.objects a ≡ Some x → x.kind ≡ Objects → slice_get x.words i ≡ Some o → o ≢ 0 → IsMarked marks o
+HasElementsOf a marks s = (i o : ℕ) (x : Contents) → s.objects a ≡ Some x → x.kind ≡ Objects
+    → slice_get x.words i ≡ Some o → o ≢ 0 → IsMarked marks o
 
 abbrev pub HasElements : List Bool → State → Type 0
 HasElements marks s = (a : ℕ) → IsMarked marks a → HasElementsOf a marks s

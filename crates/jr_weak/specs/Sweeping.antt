@@ -38,7 +38,8 @@ pub record AreDropped (marks : List Bool) (k : Known) : Type 0 where
   pub marked : (o : ℕ) → IsMarked marks o → IsPresent (state_of k) o
   pub can : CanReopen k
 
--- For the crate's own functions: marked means reached, no weak reference names an object that isn't, and no move is unfinished
+-- For the crate's own functions:
+-- marked means reached, no weak reference names an object that isn't, and no move is unfinished
 pub record MayDrop (marks : List Bool) (k : Known) : Type 0 where
   pub exactly : IsExactly marks (state_of k)
   pub named : (h : Handle) (o : ℕ) → h.kind ≡ Weak → (state_of k).refs h ≡ Object o → IsMarked marks o
@@ -76,22 +77,27 @@ module _ {S : Type 0} (facts : S → Facts) where
   pub record SweepsSlot (marks : List Bool) (i : ℕ) (old new : S) (did : Bool) : Type 0 where
     pub cleared : Option Handle
     pub counted : is_some cleared ≡ did
-    pub went : Went facts old new (facts old).stands (IsMarkedNow marks) (λ j k. Did (view j) (view k) (clear_acts cleared) × TakesWithin 2 j k) (SlotIsSwept marks i cleared)
+    pub went : Went facts old new (facts old).stands (IsMarkedNow marks)
+        (λ j k. Did (view j) (view k) (clear_acts cleared) × TakesWithin 2 j k) (SlotIsSwept marks i cleared)
 
   -- a number was swept, by two steps at the most, and something was dropped or not
   pub record SweepsNumber (marks : List Bool) (o : ℕ) (old new : S) (did : Bool) : Type 0 where
     pub dropped : Option ℕ
     pub counted : is_some dropped ≡ did
-    pub went : Went facts old new (facts old).stands (MayDrop marks) (λ j k. Did (view j) (view k) (drop_acts dropped) × TakesWithin 2 j k) (NumberIsSwept marks o dropped)
+    pub went : Went facts old new (facts old).stands (MayDrop marks)
+        (λ j k. Did (view j) (view k) (drop_acts dropped) × TakesWithin 2 j k) (NumberIsSwept marks o dropped)
 
   -- SO MANY WEAK REFERENCES WERE CLEARED, exactly those that were to be
   pub record ClearsUnreached (marks : List Bool) (old new : S) (count : ℕ) : Type 0 where
     pub cleared : List Handle
     pub counted : length cleared ≡ count
-    pub went : Went facts old new (facts old).stands (IsMarkedNow marks) (λ j k. Did (view j) (view k) (map Clear cleared) × TakesWithin (clearing_steps j.config) j k) (λ j k. IsExactlyToClear (state_of j) cleared × ((state_of k).objects ≡ (state_of j).objects) × AreCleared marks k)
+    pub went : Went facts old new (facts old).stands (IsMarkedNow marks)
+        (λ j k. Did (view j) (view k) (map Clear cleared) × TakesWithin (clearing_steps j.config) j k) (λ j k.
+        IsExactlyToClear (state_of j) cleared × ((state_of k).objects ≡ (state_of j).objects) × AreCleared marks k)
 
   -- SO MANY OBJECTS WERE DROPPED, exactly those that were to be
   pub record DropsUnreached (marks : List Bool) (old new : S) (count : ℕ) : Type 0 where
     pub dropped : List ℕ
     pub counted : length dropped ≡ count
-    pub went : Went facts old new (facts old).stands (AreCleared marks) (λ j k. Did (view j) (view k) (map Drop dropped) × TakesWithin (dropping_steps j.config) j k) (λ j k. IsExactlyToDrop (state_of j) dropped × AreDropped marks k)
+    pub went : Went facts old new (facts old).stands (AreCleared marks) (λ j k. Did (view j) (view k) (map Drop dropped)
+        × TakesWithin (dropping_steps j.config) j k) (λ j k. IsExactlyToDrop (state_of j) dropped × AreDropped marks k)

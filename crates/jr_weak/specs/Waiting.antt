@@ -10,7 +10,8 @@ use Rattle.jr_steps.specs.Knowing.{Facts, Went, Took, Takes, anything, keeps, le
 module _ {S : Type 0} (facts : S → Facts) where
   -- so many tries were refused, with these counts, and nothing else was done
   pub record RefusedTries (old new : S) (refused : List ℕ) : Type 0 where
-    pub went : Went facts old new (facts old).stands anything (λ j k. Did (view j) (view k) (map ShutBusy refused)) (λ j k. keeps j k × Takes (length refused) j k)
+    pub went : Went facts old new (facts old).stands anything (λ j k. Did (view j) (view k) (map ShutBusy refused))
+        (λ j k. keeps j k × Takes (length refused) j k)
 
   -- THE GATE WAS SHUT after fewer refused tries than these
   pub record ShutsAfter (old new : S) (tries : ℕ) : Type 0 where

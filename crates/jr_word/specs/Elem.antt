@@ -1,12 +1,15 @@
 -- Elements as words.
-use Rattle.std.specs.Prelude.{◌≡◌, ℕ, ℤ, pos, ◌^◌, ◌<◌, ◌%◌, Bool, true, false, Option, Some, None, IsSome, nat_lt, unsigned_abs, ◌==◌, if◌then◌else◌}
+use Rattle.std.specs.Prelude.{◌≡◌, ℕ, ℤ, pos, ◌^◌, ◌<◌, ◌%◌, Bool, true, false, Option}
+use Rattle.std.specs.Prelude.{Some, None, IsSome, nat_lt, unsigned_abs, ◌==◌, if◌then◌else◌}
 use Rattle.std.specs.Int.{Width, cast_signed, int_rem_euclid}
 use Rattle.jr_word.specs.declared.kind.Kind.{Kind}
 use Rattle.jr_word.specs.Kind.{word_limit}
 use mir.Val.{bits}
 
--- THE LAWS of a type of elements: which values it has, the word of each, the value that each word is, and what a word is taken for where it is known to be one
-pub record ElemLaws {V : Type 0} (kind : Kind) (Fits : V → Type 0) (word_of : V → ℕ) (value_at : ℕ → Option V) (element_of : ℕ → V) : Type 0 where
+-- THE LAWS of a type of elements: which values it has, the word of each, the value
+-- that each word is, and what a word is taken for where it is known to be one
+pub record ElemLaws {V : Type 0} (kind : Kind) (Fits : V → Type 0) (word_of : V → ℕ) (value_at : ℕ → Option V)
+    (element_of : ℕ → V) : Type 0 where
   -- what was written is read
   pub reads_back : (value : V) → Fits value → value_at (word_of value) ≡ Some value
   -- a word is read as the one value that is written so

@@ -1,5 +1,6 @@
 -- How each type of elements meets the laws: the impls cite these, and there is nothing to believe.
-use Rattle.std.specs.Prelude.{◌≡◌, ℕ, zero, suc, ℤ, pos, negsuc, ◌*◌, ◌%◌, ◌^◌, ◌<◌, ◌≤◌, ⊤, Bool, true, false, Some, None, IsSome, FitsSigned}
+use Rattle.std.specs.Prelude.{◌≡◌, ℕ, zero, suc, ℤ, pos, negsuc, ◌*◌, ◌%◌, ◌^◌, ◌<◌}
+use Rattle.std.specs.Prelude.{◌≤◌, ⊤, Bool, true, false, Some, None, IsSome, FitsSigned}
 use Rattle.std.specs.Int.{Width, w8, w16, w32, w64, w128, cast_signed, cast_unsigned}
 use Rattle.std.proofs.Common.{refl, inl, inr, ap, sym, subst, ◌∙◌, arith}
 use Rattle.std.proofs.Math.Nat.{mod-eq_of_lt}
@@ -8,7 +9,8 @@ use Rattle.std.proofs.lemmas.Bool.{cases_lt}
 use Rattle.std.proofs.Math.Facts.{sfits_to_z}
 use Rattle.std.proofs.lemmas.Bool.Decides.{nat_tests}
 use Rattle.jr_word.specs.declared.kind.Kind.TheVariants.{Boolean, Byte, Char, Short, Int, Long}
-use Rattle.jr_word.specs.Elem.{ElemLaws, bool_word, bool_at, bool_of, signed_word, signed_at, signed_of, unsigned_at, unsigned_of}
+use Rattle.jr_word.specs.Elem.{ElemLaws, bool_word, bool_at, bool_of, signed_word}
+use Rattle.jr_word.specs.Elem.{signed_at, signed_of, unsigned_at, unsigned_of}
 use mir.Val.{bits, hbits}
 
 -- ---- booleans
@@ -111,14 +113,17 @@ at_no_word : (w : Width) (word : ℕ) → 2 ^ bits w ≤ word → signed_at w wo
 at_no_word w word above = grind (arith, nat_tests)
 
 signed_back : (w : Width) (value : ℤ) → FitsSigned w value → signed_at w (signed_word w value) ≡ Some value
-signed_back w value fits = at_word w (signed_word w value) (signed_below w value fits) ∙ ap Some (ap (cast_signed w) (signed_word-is w value fits) ∙ to_z-of_z w value fits)
+signed_back w value fits = at_word w (signed_word w value) (signed_below w value fits)
+    ∙ ap Some (ap (cast_signed w) (signed_word-is w value fits) ∙ to_z-of_z w value fits)
 
 signed_fits : (w : Width) (word : ℕ) → word < 2 ^ bits w → FitsSigned w (cast_signed w word)
 signed_fits w word below = sfits_to_z (record { fits = below })
 
-signed_own : (w : Width) (word : ℕ) (value : ℤ) → signed_at w word ≡ Some value → FitsSigned w value × (word ≡ signed_word w value)
+signed_own : (w : Width) (word : ℕ) (value : ℤ) → signed_at w word ≡ Some value
+    → FitsSigned w value × (word ≡ signed_word w value)
 signed_own w word value e =
-    elim (cases_lt word (2 ^ bits w)) [ inl below ↦ read below | inr above ↦ absurd (let nothing = at_no_word w word above in cc) ]
+    elim (cases_lt word
+    (2 ^ bits w)) [ inl below ↦ read below | inr above ↦ absurd (let nothing = at_no_word w word above in cc) ]
   where
     read : word < 2 ^ bits w → FitsSigned w value × (word ≡ signed_word w value)
     read below =
@@ -134,19 +139,53 @@ signed_of-is : (w : Width) (word : ℕ) → word < 2 ^ bits w → signed_of w wo
 signed_of-is w word below = ap (cast_signed w) (mod-eq_of_lt below)
 
 signed_taken : (w : Width) (word : ℕ) → word < 2 ^ bits w → signed_word w (signed_of w word) ≡ word
-signed_taken w word below = ap (signed_word w) (signed_of-is w word below) ∙ (signed_word-is w (cast_signed w word) (signed_fits w word below) ∙ of_z-to_z w word below)
+signed_taken w word below = ap (signed_word w) (signed_of-is w word below)
+    ∙ (signed_word-is w (cast_signed w word) (signed_fits w word below) ∙ of_z-to_z w word below)
 
 signed_takes : (w : Width) (value : ℤ) → FitsSigned w value → signed_of w (signed_word w value) ≡ value
-signed_takes w value fits = signed_of-is w (signed_word w value) (signed_below w value fits) ∙ (ap (cast_signed w) (signed_word-is w value fits) ∙ to_z-of_z w value fits)
+signed_takes w value fits = signed_of-is w (signed_word w value) (signed_below w value fits)
+    ∙ (ap (cast_signed w) (signed_word-is w value fits) ∙ to_z-of_z w value fits)
 
 pub i8_laws : ElemLaws Byte (FitsSigned w8) (signed_word w8) (signed_at w8) (signed_of w8)
-i8_laws = record { reads_back = signed_back w8; reads_own = signed_own w8; writes_below = signed_below w8; zero_below = let e : 0 < 256 = omega arith in e; reads_below = signed_all w8; takes_below = signed_taken w8; takes_back = signed_takes w8 }
+i8_laws = record {
+  reads_back = signed_back w8;
+  reads_own = signed_own w8;
+  writes_below = signed_below w8;
+  zero_below = let e : 0 < 256 = omega arith in e;
+  reads_below = signed_all w8;
+  takes_below = signed_taken w8;
+  takes_back = signed_takes w8;
+}
 
 pub i16_laws : ElemLaws Short (FitsSigned w16) (signed_word w16) (signed_at w16) (signed_of w16)
-i16_laws = record { reads_back = signed_back w16; reads_own = signed_own w16; writes_below = signed_below w16; zero_below = let e : 0 < 65536 = omega arith in e; reads_below = signed_all w16; takes_below = signed_taken w16; takes_back = signed_takes w16 }
+i16_laws = record {
+  reads_back = signed_back w16;
+  reads_own = signed_own w16;
+  writes_below = signed_below w16;
+  zero_below = let e : 0 < 65536 = omega arith in e;
+  reads_below = signed_all w16;
+  takes_below = signed_taken w16;
+  takes_back = signed_takes w16;
+}
 
 pub i32_laws : ElemLaws Int (FitsSigned w32) (signed_word w32) (signed_at w32) (signed_of w32)
-i32_laws = record { reads_back = signed_back w32; reads_own = signed_own w32; writes_below = signed_below w32; zero_below = let e : 0 < 4294967296 = omega arith in e; reads_below = signed_all w32; takes_below = signed_taken w32; takes_back = signed_takes w32 }
+i32_laws = record {
+  reads_back = signed_back w32;
+  reads_own = signed_own w32;
+  writes_below = signed_below w32;
+  zero_below = let e : 0 < 4294967296 = omega arith in e;
+  reads_below = signed_all w32;
+  takes_below = signed_taken w32;
+  takes_back = signed_takes w32;
+}
 
 pub i64_laws : ElemLaws Long (FitsSigned w64) (signed_word w64) (signed_at w64) (signed_of w64)
-i64_laws = record { reads_back = signed_back w64; reads_own = signed_own w64; writes_below = signed_below w64; zero_below = let e : 0 < 18446744073709551616 = omega arith in e; reads_below = signed_all w64; takes_below = signed_taken w64; takes_back = signed_takes w64 }
+i64_laws = record {
+  reads_back = signed_back w64;
+  reads_own = signed_own w64;
+  writes_below = signed_below w64;
+  zero_below = let e : 0 < 18446744073709551616 = omega arith in e;
+  reads_below = signed_all w64;
+  takes_below = signed_taken w64;
+  takes_back = signed_takes w64;
+}

@@ -1,7 +1,10 @@
 -- Refusals, by number.
 use Rattle.std.specs.Prelude.{ℕ, ℤ, negsuc, Option, Some, None}
 use Rattle.jr_word.specs.declared.fault.Fault.{Fault}
-use Rattle.jr_word.specs.declared.fault.Fault.TheVariants.{Null, Stale, Foreign, WrongKind, NotArray, WrongElement, Range, RowFull, LocalsFull, SpaceFull, ObjectsFull, Raced, Barred, Busy, NoFrame, Memory, Size, Value, InCritical, Turns, NotFresh, LeftInside, Moved}
+use Rattle.jr_word.specs.declared.fault.Fault.TheVariants.{Null, Stale, Foreign, WrongKind, NotArray, WrongElement}
+use Rattle.jr_word.specs.declared.fault.Fault.TheVariants.{Range, RowFull, LocalsFull, SpaceFull, ObjectsFull}
+use Rattle.jr_word.specs.declared.fault.Fault.TheVariants.{Raced, Barred, Busy, NoFrame, Memory, Size, Value}
+use Rattle.jr_word.specs.declared.fault.Fault.TheVariants.{InCritical, Turns, NotFresh, LeftInside, Moved}
 
 -- the number of a refusal
 abbrev pub fault_number : Fault → ℕ

@@ -15,4 +15,5 @@ narrow_handle_word p = reference_code p.kind + 4 * p.serial + 2 ^ 18 * p.index +
 
 -- a word of the earlier layout widens to a word of today's: null to null, and a handle to the handle of the same parts
 abbrev pub Widens : ℕ → ℕ → Type 0
-Widens word wide = ((word ≡ 0) × (wide ≡ 0)) ⊎ ((parts : HandleParts) × IsNarrowHandle parts × (word ≡ narrow_handle_word parts) × (wide ≡ handle_word parts))
+Widens word wide = ((word ≡ 0) × (wide ≡ 0))
+    ⊎ ((parts : HandleParts) × IsNarrowHandle parts × (word ≡ narrow_handle_word parts) × (wide ≡ handle_word parts))

@@ -14,7 +14,8 @@ use Rattle.jrefs.specs.Check.{commands_in}
 within_lines : (parts : List ThreadPart) → commands_in parts ≤ length (flat_map part_lines parts)
 within_lines [] = omega arith
 within_lines (p ∷ ps) =
-    let lines : length (part_lines p) ≡ length p.commands + 1 = omega (arith, length-map p.commands (λ c. line (words_of_command c))) in
+    let lines : length (part_lines p) ≡ length p.commands + 1 =
+    omega (arith, length-map p.commands (λ c. line (words_of_command c))) in
     omega (arith, within_lines ps, length-append (part_lines p) (flat_map part_lines ps))
 
 -- so a script has no more than lines

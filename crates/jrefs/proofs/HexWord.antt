@@ -1,5 +1,6 @@
 -- What hexadecimal digits stand for.
-use Rattle.std.proofs.Common.{◌≡◌, ℕ, ◌<◌, ◌≤◌, ◌^◌, ◌==◌, true, false, List, [], ◌∷◌, length, Some, refl, sym, ap, ◌∙◌, subst, arith}
+use Rattle.std.proofs.Common.{◌≡◌, ℕ, ◌<◌, ◌≤◌, ◌^◌, ◌==◌, true, false, List, []}
+use Rattle.std.proofs.Common.{◌∷◌, length, Some, refl, sym, ap, ◌∙◌, subst, arith}
 use Rattle.std.specs.List.{list_all}
 use Rattle.std.specs.Char.{is_ascii_hexdigit, digit_value}
 use Rattle.std.specs.Prelude.{Result, Ok, Err}
@@ -33,8 +34,11 @@ within_word text few are =
     omega arith
 
 -- 1 to 16 of them are read as a word
-pub read_as_word : {E : Type 0} (text : List ℕ) (read : Result ℕ E) → 0 < length text → length text ≤ 16 → list_all is_ascii_hexdigit text ≡ true → ParsesUnsigned 64 16 text read → result_ok read ≡ Some (digits_value 16 text)
+pub read_as_word : {E : Type 0} (text : List ℕ) (read : Result ℕ E) → 0 < length text → length text ≤ 16
+    → list_all is_ascii_hexdigit text ≡ true → ParsesUnsigned 64 16 text read
+    → result_ok read ≡ Some (digits_value 16 text)
 read_as_word text (Ok n) some few are parses = ap Some (parses.1 ∙ ap (digits_value 16) (no_plus text are))
 read_as_word text (Err e) some few are fails =
     let digits = all_digits text are in
-    absurd (fails (subst (λ (t : List ℕ). IsNumeral 16 t × (digits_value 16 t < 2 ^ 64)) (sym (no_plus text are)) ((some, digits), within_word text few digits)))
+    absurd (fails (subst (λ (t : List ℕ). IsNumeral 16 t × (digits_value 16 t < 2 ^ 64)) (sym (no_plus text are))
+    ((some, digits), within_word text few digits)))

@@ -48,9 +48,11 @@ AppendsBeginning old new bytes = (n : ℕ) × Appends old new (take n bytes)
 abbrev pub ReadsAtMost : ℕ → Option (List ℕ) → Option (List ℕ) → Type 0
 ReadsAtMost most old new = (bytes : List ℕ) × (length bytes ≤ most) × Consumes old new bytes
 
--- why a request has no output: the first fault of what was there to be read, or a reader that failed before the limit; of want of memory nothing is said
+-- why a request has no output: the first fault of what was there to be read, or a reader that failed before the limit;
+-- of want of memory nothing is said
 abbrev pub Stops : Trouble → Request → Option (List ℕ) → Option (List ℕ) → Type 0
-Stops (troubles.Script line reason) r old new = AsksOfScript r × IfSome old (λ text. first_fault text ≡ Some (line, reason))
+Stops (troubles.Script line reason) r old new =
+    AsksOfScript r × IfSome old (λ text. first_fault text ≡ Some (line, reason))
 Stops troubles.Memory r old new = ⊤
 Stops troubles.Input r old new = AsksOfScript r × ReadsAtMost 65536 old new
 Stops _ r old new = ⊥
@@ -62,11 +64,14 @@ Prevents troubles.Memory words old new = ⊤
 Prevents t words old new = (r : Request) × (asked_for words ≡ Some r) × Stops t r old new
 
 -- what a trouble leaves written: a beginning of the output where a write failed, and else nothing
-abbrev pub LeavesWritten : Trouble → List Text → Option (List ℕ) → Option (List ℕ) → Option (List ℕ) → Option (List ℕ) → Type 0
-LeavesWritten troubles.Output words read left old new = (output : List ℕ) × IsOutputFor words read output × AppendsBeginning old new output
+abbrev pub LeavesWritten : Trouble → List Text → Option (List ℕ) → Option (List ℕ) → Option (List ℕ) → Option (List ℕ)
+    → Type 0
+LeavesWritten troubles.Output words read left old new =
+    (output : List ℕ) × IsOutputFor words read output × AppendsBeginning old new output
 LeavesWritten t words read left old new = Prevents t words read left × Keeps old new
 
--- the program failed with this status: a trouble left what it leaves, and of the line that tells of it a beginning was told
+-- the program failed with this status:
+-- a trouble left what it leaves, and of the line that tells of it a beginning was told
 pub record Fails (status : ℕ) (words : List Text) (read left old new told tells : Option (List ℕ)) : Type 0 where
   pub trouble : Trouble
   pub status_is : status ≡ status_of trouble

@@ -12,7 +12,8 @@ commands_in (p ∷ ps) = length p.commands + commands_in ps
 
 -- the line of a script: `ok threads N commands M`
 abbrev pub check_line : Script → List ℕ
-check_line s = codes "ok threads " ++ decimal (length s.threads) ++ codes " commands " ++ decimal (commands_in s.threads) ++ 10 ∷ []
+check_line s = codes "ok threads " ++ decimal (length s.threads) ++ codes " commands "
+    ++ decimal (commands_in s.threads) ++ 10 ∷ []
 
 -- the input is the text of a script, and the output is its line
 abbrev pub IsCheck : List ℕ → List ℕ → Type 0

@@ -1,9 +1,11 @@
 -- The program's command line.
-use Rattle.std.specs.Prelude.{◌≡◌, ◌≢◌, ◌⊎◌, ℕ, true, false, List, [], ◌∷◌, Option, Some, None, ⊤, codes, if◌then◌else◌, option_and_then, option_map}
+use Rattle.std.specs.Prelude.{◌≡◌, ◌≢◌, ◌⊎◌, ℕ, true, false, List, [], ◌∷◌, Option, Some}
+use Rattle.std.specs.Prelude.{None, ⊤, codes, if◌then◌else◌, option_and_then, option_map}
 use Rattle.std.specs.Str.{bytes_eq}
 use Rattle.clap.specs.declared.builder.command.Command.{Command}
 use Rattle.clap.specs.declared.builder.command.Command.TheViews.{out-Command}
-use Rattle.clap.specs.Words.{App, app_of, Row, Rule, Shape, Text, first_of, new_app, new_rule, subcommand_of, fault_of, with_subcommand}
+use Rattle.clap.specs.Words.{App, app_of, Row, Rule, Shape, Text, first_of, new_app}
+use Rattle.clap.specs.Words.{new_rule, subcommand_of, fault_of, with_subcommand}
 use Rattle.clap.specs.Simple.{on_top, new_shape}
 use Rattle.jrefs.specs.declared.request.Request.{Request}
 use Rattle.jrefs.specs.declared.request.Request.TheVariants.{Run, Check, Word, Widen}
@@ -28,7 +30,8 @@ pub record IsHexCommand (name : Text) (c : Command) : Type 0 where
 
 -- its command line: `run`, `check`, `word HEX` or `widen HEX`
 abbrev pub command_line : App
-command_line = with_subcommand (with_subcommand (with_subcommand (with_subcommand own_app (new_shape (codes "run"))) (new_shape (codes "check"))) (hex_command (codes "word"))) (hex_command (codes "widen"))
+command_line = with_subcommand (with_subcommand (with_subcommand (with_subcommand own_app (new_shape (codes "run")))
+    (new_shape (codes "check"))) (hex_command (codes "word"))) (hex_command (codes "widen"))
 
 -- the word that an argument says, if it says one
 abbrev pub hex_found : Option Text → Option ℕ

@@ -9,4 +9,5 @@ abbrev pub invariant-loop : goal.invariant-loop
 invariant-loop g l =
     IsOutside l.env
     × FitsRoom l.marker l.env
-    × DoesDeed g.S.Steps.facts l.fn.env.held.steps l.env.held.steps l.fn.env.held.frames.frames l.env.held.frames.frames getting_no_turn (Ok tt)
+    × DoesDeed g.S.Steps.facts l.fn.env.held.steps l.env.held.steps l.fn.env.held.frames.frames l.env.held.frames.frames
+    getting_no_turn (Ok tt)

@@ -10,7 +10,10 @@ use Rattle.first_room.proofs.read_within.Goals as goal
 pub returns : goal.returns
 returns g c =
     let opened = c.in_ok-region.ensures.opened in
-    let read : IfOk c.get-read.result (λ x. Does c.args.env.now c.release_all.result.now (reading_within c.args.array.0) (Ok (signed_word w32 x))) =
-    reads_within {facts = g.S.Steps.facts} g.met.S.Steps.fits _ _ _ _ _ _ _ _ _ _ _ _ c.requires (opened.opens c.requires) opened.one opened.frames c.get-read.ensures.frames c.release_all.ensures.frames c.get-read.ensures.levels
+    let read : IfOk c.get-read.result
+    (λ x. Does c.args.env.now c.release_all.result.now (reading_within c.args.array.0) (Ok (signed_word w32 x))) =
+    reads_within {facts = g.S.Steps.facts} g.met.S.Steps.fits _ _ _ _ _ _ _ _ _ _ _ _ c.requires
+    (opened.opens c.requires) opened.one opened.frames c.get-read.ensures.frames c.release_all.ensures.frames
+    c.get-read.ensures.levels
     (c.get-read.ensures.call).did c.release_all.ensures.call c.release_all.ensures.outside in
     search rules

@@ -11,21 +11,44 @@ use Rattle.first_room.proofs.run_in.Goals as goal
 
 pub close_all-requires : goal.close_all-requires
 close_all-requires g c =
-    let rest = none_left _ _ _ c.args.passes.items c.remove-first.new.self.items c.remove-second.new.self.items refl c.requires.passes c.remove-first.ensures.items c.remove-second.ensures.items in
+    let rest = none_left _ _ _ c.args.passes.items c.remove-first.new.self.items c.remove-second.new.self.items refl
+    c.requires.passes c.remove-first.ensures.items c.remove-second.ensures.items in
     let pushed : c.push.new.self.items ≡ c.remove-second.new.self.items ++ c.in_ok-second.second ∷ [] = search rules in
-    let back : IsAt c.args.room.row c.in_ok-second.second = search rules in
-    (search rules, (search rules, (search rules, one_all (IsAt c.args.room.row) c.remove-second.new.self.items c.push.new.self.items c.in_ok-second.second rest pushed back)))
+    let back : IsAt c.args.room.row c.in_ok-second.second = search rules in (
+      search rules,
+      (
+        search rules,
+        (
+          search rules,
+          one_all (IsAt c.args.room.row) c.remove-second.new.self.items c.push.new.self.items c.in_ok-second.second rest
+              pushed back,
+        ),
+      ),
+    )
 
 pub returns : goal.returns
 returns g c =
     let some : 1 ≤ c.in_ok-first.inside = search rules in
-    let rest = none_left _ _ _ c.args.passes.items c.remove-first.new.self.items c.remove-second.new.self.items refl c.requires.passes c.remove-first.ensures.items c.remove-second.ensures.items in
+    let rest = none_left _ _ _ c.args.passes.items c.remove-first.new.self.items c.remove-second.new.self.items refl
+    c.requires.passes c.remove-first.ensures.items c.remove-second.ensures.items in
     let pushed : c.push.new.self.items ≡ c.remove-second.new.self.items ++ c.in_ok-second.second ∷ [] = search rules in
-    let shares : HasShared c.remove-first.result c.in_ok-first.first c.in_ok-first.inside c.in_ok-first.cleared c.in_ok-first.kind = search rules in
+    let shares : HasShared c.remove-first.result c.in_ok-first.first c.in_ok-first.inside c.in_ok-first.cleared
+    c.in_ok-first.kind = search rules in
     let visits : HasVisited c.remove-second.result c.in_ok-second.second c.in_ok-second.read = search rules in
-    let closes : ClosesAll (known_of c.in_ok-first.first) (map known_of c.push.new.self.items) c.in_ok-left.left = ok_as Fault c.close_all.result c.in_ok-left.left (λ s. ClosesAll (known_of c.in_ok-first.first) (map known_of c.push.new.self.items) s) c.in_ok-left.ensures.cases c.close_all.ensures.ok in
+    let closes : ClosesAll (known_of c.in_ok-first.first) (map known_of c.push.new.self.items) c.in_ok-left.left =
+    ok_as Fault c.close_all.result c.in_ok-left.left (λ s. ClosesAll (known_of c.in_ok-first.first)
+    (map known_of c.push.new.self.items) s) c.in_ok-left.ensures.cases c.close_all.ensures.ok in
     let fits : FitsSigned w32 c.in_ok-second.read = search rules in
     let own : to_z w32 (of_z w32 c.in_ok-second.read) ≡ c.in_ok-second.read = search rules in
-    let is_true = all_true c.args.room.row c.args.passes.items c.remove-first.new.self.items c.push.new.self.items c.remove-first.result c.remove-second.result c.in_ok-first.first c.in_ok-second.second c.in_ok-first.inside c.in_ok-first.cleared c.in_ok-first.kind c.in_ok-second.read c.in_ok-left.left c.requires.passes c.remove-first.ensures.value c.remove-first.ensures.items c.remove-second.ensures.value shares visits
+    let is_true = all_true c.args.room.row c.args.passes.items c.remove-first.new.self.items c.push.new.self.items
+    c.remove-first.result c.remove-second.result c.in_ok-first.first c.in_ok-second.second c.in_ok-first.inside
+    c.in_ok-first.cleared c.in_ok-first.kind c.in_ok-second.read c.in_ok-left.left c.requires.passes
+    c.remove-first.ensures.value c.remove-first.ensures.items c.remove-second.ensures.value shares visits
     (pushed ∙ ap (λ l. l ++ c.in_ok-second.second ∷ []) rest) closes some fits in
-    subst (λ z. IsTrueReport (record { read = z; inside = c.in_ok-first.inside; cleared = c.in_ok-first.cleared; kind = c.in_ok-first.kind; left = c.in_ok-left.left })) (sym own) is_true
+    subst (λ z. IsTrueReport (record {
+      read = z;
+      inside = c.in_ok-first.inside;
+      cleared = c.in_ok-first.cleared;
+      kind = c.in_ok-first.kind;
+      left = c.in_ok-left.left;
+    })) (sym own) is_true

@@ -15,7 +15,8 @@ use Rattle.first_room.proofs.share.Goals as goal
 
 pub collect_in_turn-requires-clause-room : goal.collect_in_turn-requires-clause-room
 collect_in_turn-requires-clause-room g c =
-    let first : room_of c.in_ok-marker.marker ≡ (stepping_pass c.note-note.new.self.held.steps.cells.seat.me).config.objects = search rules in
+    let first : room_of c.in_ok-marker.marker
+    ≡ (stepping_pass c.note-note.new.self.held.steps.cells.seat.me).config.objects = search rules in
     let same = ((c.in-Err-Busy.ensures.call first).does (search rules)).stands_is.config in
     c.collect.ensures.room ∙ (first ∙ sym (ap (λ (k : Config). k.objects) same))
 
@@ -32,17 +33,23 @@ invariant_of-put g c =
     let is = c.requires.opened in
     let weak = word_made c.in_ok-new_weak_global_ref.field-0 in
     let global = word_made c.in_ok-new_global_ref.field-0 in
-    let calls = prepared _ _ _ _ _ _ _ _ _ _ _ _ _ _ _ _ c.in_ok-lost.lost c.in_ok-array.array c.in_ok-new_weak_global_ref.field-0 c.in_ok-new_global_ref.field-0 c.in_ok-pop_local_frame.field-0 c.in-Ok.ensures.outside d1 d2 d3 d4 d5 d6 d7 in
+    let calls =
+    prepared _ _ _ _ _ _ _ _ _ _ _ _ _ _ _ _ c.in_ok-lost.lost c.in_ok-array.array c.in_ok-new_weak_global_ref.field-0
+    c.in_ok-new_global_ref.field-0 c.in_ok-pop_local_frame.field-0 c.in-Ok.ensures.outside d1 d2 d3 d4 d5 d6 d7 in
     let now : Holder = holder_over c.pop_local_frame.new.self.held.steps in
-    let came = come holder_over preparing c.new.result _ _ c.args.pass now _ _ (weak, global) c.in-Ok.ensures.steps calls c.new.ensures.pass refl
+    let came = come holder_over preparing c.new.result _ _ c.args.pass now _ _ (weak, global) c.in-Ok.ensures.steps
+    calls c.new.ensures.pass refl
     (c.in-Ok.ensures.frames ∙ ap (λ (h : Holder). fresh_frames (facts_of h).stands.config.locals) c.new.ensures.pass) in
-    let made = is_prepared c.args.room.now.row c.args.pass now weak global c.note-note.result.note c.requires.same_config c.requires.same_last is c.requires.thread came c.pop_local_frame.new.self.held.steps.stands.some n.note in
+    let made =
+    is_prepared c.args.room.now.row c.args.pass now weak global c.note-note.result.note c.requires.same_config
+    c.requires.same_last is c.requires.thread came c.pop_local_frame.new.self.held.steps.stands.some n.note in
     let named = word_or_null c.in_ok-new_global_ref.field-0 c.unwrap_or-global.result c.unwrap_or-global.ensures in
     record { prepared = subst (λ w. ∥ HasPrepared w (seen_by_note c.note-note.result.note) ∥₁) (sym named) made }
 
 pub returns : goal.returns
 returns g c =
-    let fits : room_of c.in_ok-marker.marker ≡ (stepping_pass c.note-note.new.self.held.steps.cells.seat.me).config.objects = search rules in
+    let fits : room_of c.in_ok-marker.marker
+    ≡ (stepping_pass c.note-note.new.self.held.steps.cells.seat.me).config.objects = search rules in
     let d1 = c.in_ok-push_local_frame.ensures in
     let d2 = c.in_ok-lost.ensures in
     let d3 = c.in_ok-new_weak_global_ref.ensures in
@@ -51,7 +58,8 @@ returns g c =
     let d6 = c.in_ok-new_global_ref.ensures in
     let d7 = c.in_ok-pop_local_frame.ensures in
     let n = c.note-note.ensures in
-    let d8 = behind_note _ _ _ _ _ _ n.same.0 (ap (λ (t : Table). t.frames) n.same.1) (c.in-Err-Busy.ensures.call fits) in
+    let d8 =
+    behind_note _ _ _ _ _ _ n.same.0 (ap (λ (t : Table). t.frames) n.same.1) (c.in-Err-Busy.ensures.call fits) in
     let d9 = c.in_ok-collect_in_turn.ensures in
     let d10 = c.in_ok-cleared.ensures in
     let d11 = c.in_ok-delete_global_ref.ensures in
@@ -71,11 +79,18 @@ returns g c =
     (same_before (d12.does d11.outside).stands_is)))))))))))) in
     let weak = word_or_null c.in_ok-new_weak_global_ref.field-0 c.unwrap_or-weak.result c.unwrap_or-weak.ensures in
     let global = word_or_null c.in_ok-new_global_ref.field-0 c.unwrap_or-global.result c.unwrap_or-global.ensures in
-    let calls = shared _ _ _ _ _ _ _ _ _ _ _ _ _ _ _ _ _ _ _ _ _ _ _ _ _ _ c.in_ok-lost.lost c.in_ok-array.array c.in_ok-new_weak_global_ref.field-0 c.in_ok-new_global_ref.field-0 c.in_ok-pop_local_frame.field-0 c.in-Err-Busy.inside c.in_ok-collect_in_turn.field-0 c.in_ok-cleared.cleared c.in_ok-kind.kind
-    c.in-Ok.ensures.outside d1 d2 d3 d4 d5 d6 d7 (refused_as c.in-Err-Busy.field-0-is d8) d9 (same_on _ _ 0 _ weak d10) (deleted_on _ _ _ global d11) (typed_on _ _ _ global d12) in
+    let calls = shared _ _ _ _ _ _ _ _ _ _ _ _ _ _ _ _ _ _ _ _ _ _ _ _ _ _ c.in_ok-lost.lost c.in_ok-array.array
+    c.in_ok-new_weak_global_ref.field-0 c.in_ok-new_global_ref.field-0 c.in_ok-pop_local_frame.field-0
+    c.in-Err-Busy.inside c.in_ok-collect_in_turn.field-0 c.in_ok-cleared.cleared c.in_ok-kind.kind
+    c.in-Ok.ensures.outside d1 d2 d3 d4 d5 d6 d7 (refused_as c.in-Err-Busy.field-0-is d8) d9 (same_on _ _ 0 _ weak d10)
+    (deleted_on _ _ _ global d11) (typed_on _ _ _ global d12) in
     let handed = c.into_pass-2.ensures.pass ∙ ap holder_over (c.into_pass.ensures.steps d12.outside) in (
-      at_end c.args.room.now.row c.args.pass (holder_over c.new.result) _ c.into_pass-2.result c.requires.opened.row c.new.ensures.pass same handed,
+      at_end c.args.room.now.row c.args.pass (holder_over c.new.result) _ c.into_pass-2.result c.requires.opened.row
+          c.new.ensures.pass same handed,
       busy_some _ c.in-Err-Busy.inside c.in-Err-Busy.field-0-is (c.in-Err-Busy.ensures.busy fits),
-      come holder_over sharing c.new.result _ _ c.args.pass (holder_of c.into_pass-2.result) _ _ (c.in-Err-Busy.inside, c.in_ok-cleared.cleared, c.in_ok-kind.kind) c.in-Ok.ensures.steps calls c.new.ensures.pass handed
-          (c.in-Ok.ensures.frames ∙ ap (λ (h : Holder). fresh_frames (facts_of h).stands.config.locals) c.new.ensures.pass),
+      come holder_over sharing c.new.result _ _ c.args.pass (holder_of c.into_pass-2.result) _
+          _ (c.in-Err-Busy.inside, c.in_ok-cleared.cleared, c.in_ok-kind.kind) c.in-Ok.ensures.steps calls
+          c.new.ensures.pass handed
+          (c.in-Ok.ensures.frames
+          ∙ ap (λ (h : Holder). fresh_frames (facts_of h).stands.config.locals) c.new.ensures.pass),
     )

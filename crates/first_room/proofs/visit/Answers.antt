@@ -16,7 +16,8 @@ use Rattle.first_room.proofs.visit.Goals as goal
 pub returns : goal.returns
 returns g c =
     let own : to_z w32 (of_z w32 c.in_ok-read.read) ≡ c.in_ok-read.read = search rules in
-    let d0 = learns _ _ _ _ c.in_ok-global.field-0.global.0 c.in_ok-global.field-0.note.note c.learn.ensures.step c.learn.ensures.learned (ap (λ (t : Table). t.frames) c.learn.ensures.frames) c.in_ok-global.field-0.prepared in
+    let d0 = learns _ _ _ _ c.in_ok-global.field-0.global.0 c.in_ok-global.field-0.note.note c.learn.ensures.step
+    c.learn.ensures.learned (ap (λ (t : Table). t.frames) c.learn.ensures.frames) c.in_ok-global.field-0.prepared in
     let d1 = c.in_ok-push_local_frame.ensures in
     let d2 = c.in_ok-object.ensures in
     let d3 = c.in_ok-new_object_array.ensures in
@@ -30,11 +31,15 @@ returns g c =
     (same_then (same_before (d3.does d2.outside).stands_is)
     (same_then (same_before (d4.does d3.outside).stands_is)
     (same_before (d5.does d4.outside).stands_is)))))) in
-    let calls = visited _ _ _ _ _ _ _ _ _ _ _ _ _ _ c.in_ok-global.field-0.global.0 c.in_ok-object.object c.in_ok-new_object_array.field-0 c.in_ok-pop_local_frame.field-0 (signed_word w32 c.in_ok-read.read)
+    let calls = visited _ _ _ _ _ _ _ _ _ _ _ _ _ _ c.in_ok-global.field-0.global.0 c.in_ok-object.object
+    c.in_ok-new_object_array.field-0 c.in_ok-pop_local_frame.field-0 (signed_word w32 c.in_ok-read.read)
     d0 outside d1 d2 d3 d4 d5 in
     let handed = c.into_pass-2.ensures.pass ∙ ap holder_over (c.into_pass.ensures.steps d5.outside) in (
-      at_end c.args.room.now.row c.args.pass (holder_over c.new.result) _ c.into_pass-2.result c.requires.opened.row c.new.ensures.pass same handed,
+      at_end c.args.room.now.row c.args.pass (holder_over c.new.result) _ c.into_pass-2.result c.requires.opened.row
+          c.new.ensures.pass same handed,
       subst (HasVisited c.args.pass c.into_pass-2.result) (sym own) (
-          come holder_over visiting c.new.result _ _ c.args.pass (holder_of c.into_pass-2.result) _ _ (signed_word w32 c.in_ok-read.read) c.in-Ok.ensures.steps calls c.new.ensures.pass handed
-          (c.in-Ok.ensures.frames ∙ ap (λ (h : Holder). fresh_frames (facts_of h).stands.config.locals) c.new.ensures.pass)),
+          come holder_over visiting c.new.result _ _ c.args.pass (holder_of c.into_pass-2.result) _ _
+          (signed_word w32 c.in_ok-read.read) c.in-Ok.ensures.steps calls c.new.ensures.pass handed
+          (c.in-Ok.ensures.frames
+          ∙ ap (λ (h : Holder). fresh_frames (facts_of h).stands.config.locals) c.new.ensures.pass)),
     )

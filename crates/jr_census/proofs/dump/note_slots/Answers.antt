@@ -13,7 +13,8 @@ loop-index-preserved g c =
     let l = c.loop-index-test.true in
     let room = c.requires.room in
     let long = p.1 in (
-      kept_next g.met.S.Steps.fits c.loop-index.index c.loop-index.slots _ c.scan_slot.result c.requires.role (omega arith) p.0 c.scan_slot.ensures refl,
+      kept_next g.met.S.Steps.fits c.loop-index.index c.loop-index.slots _ c.scan_slot.result c.requires.role
+          (omega arith) p.0 c.scan_slot.ensures refl,
       length-set c.loop-index.slots c.loop-index.index c.scan_slot.result ∙ p.1,
     )
 

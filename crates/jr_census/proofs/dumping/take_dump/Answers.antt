@@ -8,4 +8,5 @@ returns-clause-ok g c =
     let locals = c.note.new.locals in
     let headers = c.note.new.headers in
     let words = c.note.new.words in
-    takes g.S.Steps.facts noting_steps (λ k last s. IsDumpOf k last s slots locals headers words) (dump_on slots locals headers words) c.requires.outside c.in_ok-shut.ensures.ok.1 c.note.ensures.all
+    takes g.S.Steps.facts noting_steps (λ k last s. IsDumpOf k last s slots locals headers words)
+    (dump_on slots locals headers words) c.requires.outside c.in_ok-shut.ensures.ok.1 c.note.ensures.all

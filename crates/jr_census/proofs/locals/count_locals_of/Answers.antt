@@ -11,12 +11,17 @@ loop-place-preserved g c =
     let p = c.loop-place.invariant in
     let few = local_few c.scan_local.result in
     let is = c.at_place-count.ensures in
-    let l = p.1 in
-    (places_next g.met.S.Steps.fits c.args.thread c.loop-place.place c.loop-place.count (c.loop-place.count + c.at_place-count.result) c.scan_local.result c.requires.role p.0 c.scan_local.ensures (ap (λ n. c.loop-place.count + n) is), omega arith)
+    let l = p.1 in (
+      places_next g.met.S.Steps.fits c.args.thread c.loop-place.place c.loop-place.count
+          (c.loop-place.count + c.at_place-count.result) c.scan_local.result c.requires.role p.0 c.scan_local.ensures
+          (ap (λ n. c.loop-place.count + n) is),
+      omega arith,
+    )
 
 pub returns : goal.returns
 returns g c =
     let a = c.loop-place.auto.place-end in
     let b = c.loop-place-test.false in
     let s = ap (λ (z : Config). z.locals) c.config-places.ensures in
-    places_all g.met.S.Steps.fits c.args.thread c.loop-place.place c.loop-place.count (omega arith) c.loop-place.invariant.0
+    places_all g.met.S.Steps.fits c.args.thread c.loop-place.place c.loop-place.count (omega arith)
+    c.loop-place.invariant.0

@@ -3,4 +3,6 @@ use Rattle.jr_census.proofs.Takes.{census_on, takes}
 use Rattle.jr_census.proofs.taking.take_census.Goals as goal
 
 pub returns-clause-ok : goal.returns-clause-ok
-returns-clause-ok g c = takes g.S.Steps.facts counting_steps (λ k last s. IsCensusOf k last s c.count.result) (λ k last s t same told. census_on k last c.count.result same told) c.requires.outside c.in_ok-shut.ensures.ok.1 c.count.ensures.all
+returns-clause-ok g c =
+    takes g.S.Steps.facts counting_steps (λ k last s. IsCensusOf k last s c.count.result) (λ k last s t same told.
+    census_on k last c.count.result same told) c.requires.outside c.in_ok-shut.ensures.ok.1 c.count.ensures.all

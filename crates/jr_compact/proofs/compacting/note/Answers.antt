@@ -1,4 +1,5 @@
-use Rattle.std.proofs.Common.{◌≤◌, ◌<◌, ◌+◌, ◌++◌, ◌∙◌, ap, sym, subst, subst₂, take, length, arith, rules, append-nil, option_to_list}
+use Rattle.std.proofs.Common.{◌≤◌, ◌<◌, ◌+◌, ◌++◌, ◌∙◌, ap, sym, subst, subst₂, take}
+use Rattle.std.proofs.Common.{length, arith, rules, append-nil, option_to_list}
 use Rattle.std.proofs.lemmas.List.{take_more_set}
 use Rattle.jr_steps.specs.Knowing.{Standing}
 use Rattle.jr_compact.specs.Compacting.{CanCompact}
@@ -11,11 +12,13 @@ pub loop-object-init : goal.loop-object-init
 loop-object-init g c = ((omega arith), noted_none g.met.S.Steps.fits c.args.present.now c.args.steps.now)
 
 pub scan_header-header-requires-clause-role : goal.scan_header-header-requires-clause-role
-scan_header-header-requires-clause-role g c = ap (λ (s : Standing). s.role) (c.loop-object.invariant.1).stands_is ∙ c.requires.role
+scan_header-header-requires-clause-role g c =
+    ap (λ (s : Standing). s.role) (c.loop-object.invariant.1).stands_is ∙ c.requires.role
 
 pub scan_header-header-requires-clause-number : goal.scan_header-header-requires-clause-number
 scan_header-header-requires-clause-number g c =
-    let n = listed_number g.S.Steps.facts g.met.S.Steps.fits c.args.present.now c.args.steps.now c.loop-object.object-index 0 c.loop-object-test.true c.requires.can in
+    let n = listed_number g.S.Steps.facts g.met.S.Steps.fits c.args.present.now c.args.steps.now
+    c.loop-object.object-index 0 c.loop-object-test.true c.requires.can in
     let e = ap (λ (s : Standing). s.config.objects) (c.loop-object.invariant.1).stands_is in
     (n.0, let m = n.1 in omega arith)
 
@@ -48,7 +51,8 @@ overflow_add-count g c =
 pub loop-object-preserved : goal.loop-object-preserved
 loop-object-preserved g c =
     let below = c.loop-object.invariant.0 in
-    let more = noted_more g.met.S.Steps.fits c.args.present.now c.loop-object.invariant.1 0 c.scan_header-header.result c.loop-object-test.true c.requires.role c.scan_header-header.ensures in
+    let more = noted_more g.met.S.Steps.fits c.args.present.now c.loop-object.invariant.1 0 c.scan_header-header.result
+    c.loop-object-test.true c.requires.role c.scan_header-header.ensures in
     elim c.match-of.branch [
       | in-Some w ↦
           let test = c.loop-object-test.true in
@@ -57,16 +61,26 @@ loop-object-preserved g c =
           let count = w.count-is in
           let entry = sym c.of.ensures ∙ w.in-Some.is in (
             (omega arith),
-            subst₂ (λ n es. SawWithin g.S.Steps.facts (λ j. c.loop-object.object-index + 1) c.args.steps.now c.scan_header-header.new.self (CanCompact c.args.present.now) (IsNotedTo c.args.present.now (c.loop-object.object-index + 1) (take n es))) (sym w.count-is) (sym w.noted-is)
-                (subst (λ es. SawWithin g.S.Steps.facts (λ j. c.loop-object.object-index + 1) c.args.steps.now c.scan_header-header.new.self (CanCompact c.args.present.now) (IsNotedTo c.args.present.now (c.loop-object.object-index + 1) es))
-                (ap (λ r. take c.loop-object.count c.loop-object.noted ++ option_to_list r) entry ∙ sym (take_more_set c.loop-object.noted c.loop-object.count w.in-Some.entry (omega arith))) more),
+            subst₂ (λ n es. SawWithin g.S.Steps.facts (λ j. c.loop-object.object-index + 1) c.args.steps.now
+                c.scan_header-header.new.self (CanCompact c.args.present.now) (IsNotedTo c.args.present.now
+                (c.loop-object.object-index + 1) (take n es))) (sym w.count-is) (sym w.noted-is)
+                (subst (λ es. SawWithin g.S.Steps.facts (λ j. c.loop-object.object-index + 1) c.args.steps.now
+                c.scan_header-header.new.self (CanCompact c.args.present.now)
+                (IsNotedTo c.args.present.now (c.loop-object.object-index + 1) es))
+                (ap (λ r. take c.loop-object.count c.loop-object.noted ++ option_to_list r) entry
+                ∙ sym (take_more_set c.loop-object.noted c.loop-object.count w.in-Some.entry (omega arith))) more),
           )
       | in_default w ↦
           let count = w.count-is in (
             (omega arith),
-            subst₂ (λ n es. SawWithin g.S.Steps.facts (λ j. c.loop-object.object-index + 1) c.args.steps.now c.scan_header-header.new.self (CanCompact c.args.present.now) (IsNotedTo c.args.present.now (c.loop-object.object-index + 1) (take n es))) (sym w.count-is) (sym w.noted-is)
-                (subst (λ es. SawWithin g.S.Steps.facts (λ j. c.loop-object.object-index + 1) c.args.steps.now c.scan_header-header.new.self (CanCompact c.args.present.now) (IsNotedTo c.args.present.now (c.loop-object.object-index + 1) es))
-                (ap (λ r. take c.loop-object.count c.loop-object.noted ++ option_to_list r) (sym c.of.ensures ∙ w.in_default.is) ∙ append-nil (take c.loop-object.count c.loop-object.noted)) more),
+            subst₂ (λ n es. SawWithin g.S.Steps.facts (λ j. c.loop-object.object-index + 1) c.args.steps.now
+                c.scan_header-header.new.self (CanCompact c.args.present.now) (IsNotedTo c.args.present.now
+                (c.loop-object.object-index + 1) (take n es))) (sym w.count-is) (sym w.noted-is)
+                (subst (λ es. SawWithin g.S.Steps.facts (λ j. c.loop-object.object-index + 1) c.args.steps.now
+                c.scan_header-header.new.self (CanCompact c.args.present.now)
+                (IsNotedTo c.args.present.now (c.loop-object.object-index + 1) es))
+                (ap (λ r. take c.loop-object.count c.loop-object.noted ++ option_to_list r)
+                (sym c.of.ensures ∙ w.in_default.is) ∙ append-nil (take c.loop-object.count c.loop-object.noted)) more),
           )
     ]
 

@@ -7,19 +7,29 @@ use Rattle.jr_env.proofs.work.go_outside.Goals as goal
 
 pub invariant_of-held : goal.invariant_of-held
 invariant_of-held g c =
-    let ready : StandsReady g.S.Steps.facts Within c.args.held.now.steps c.args.held.now.frames = record { role_is = c.requires.stay.1; spent = c.requires.ready.spent; own = c.args.held.now.own } in
-    record { own = (ready_left g.S.Steps.facts c.args.held.now.steps c.leave.new.steps c.args.held.now.frames ready c.leave.ensures).own }
+    let ready : StandsReady g.S.Steps.facts Within c.args.held.now.steps c.args.held.now.frames =
+    record { role_is = c.requires.stay.1; spent = c.requires.ready.spent; own = c.args.held.now.own } in
+    record {
+      own = (ready_left g.S.Steps.facts c.args.held.now.steps c.leave.new.steps c.args.held.now.frames ready
+          c.leave.ensures).own;
+    }
 
 pub returns-clause-call : goal.returns-clause-call
-returns-clause-call g c = leaves g.S.Steps.facts c.args.held.now.steps c.leave.new.steps c.args.held.now.frames.frames c.leave.ensures
+returns-clause-call g c =
+    leaves g.S.Steps.facts c.args.held.now.steps c.leave.new.steps c.args.held.now.frames.frames c.leave.ensures
 
 pub returns-clause-one : goal.returns-clause-one
 returns-clause-one g c =
-    let ready : StandsReady g.S.Steps.facts Within c.args.held.now.steps c.args.held.now.frames = record { role_is = c.requires.stay.1; spent = c.requires.ready.spent; own = c.args.held.now.own } in
-    let own = (ready_left g.S.Steps.facts c.args.held.now.steps c.leave.new.steps c.args.held.now.frames ready c.leave.ensures).own in
-    ends_as_one c.args.held.now (record { steps = c.leave.new.steps; frames = c.args.held.now.frames; own = own }) refl c.leave.ensures
+    let ready : StandsReady g.S.Steps.facts Within c.args.held.now.steps c.args.held.now.frames =
+    record { role_is = c.requires.stay.1; spent = c.requires.ready.spent; own = c.args.held.now.own } in
+    let own = (ready_left g.S.Steps.facts c.args.held.now.steps c.leave.new.steps c.args.held.now.frames ready
+    c.leave.ensures).own in
+    ends_as_one c.args.held.now (record { steps = c.leave.new.steps; frames = c.args.held.now.frames; own = own }) refl
+    c.leave.ensures
 
 pub returns-clause-next : goal.returns-clause-next
 returns-clause-next g c =
-    let ready : StandsReady g.S.Steps.facts Within c.args.held.now.steps c.args.held.now.frames = record { role_is = c.requires.stay.1; spent = c.requires.ready.spent; own = c.args.held.now.own } in
-    can_call (ready_left g.S.Steps.facts c.args.held.now.steps c.leave.new.steps c.args.held.now.frames ready c.leave.ensures)
+    let ready : StandsReady g.S.Steps.facts Within c.args.held.now.steps c.args.held.now.frames =
+    record { role_is = c.requires.stay.1; spent = c.requires.ready.spent; own = c.args.held.now.own } in
+    can_call
+    (ready_left g.S.Steps.facts c.args.held.now.steps c.leave.new.steps c.args.held.now.frames ready c.leave.ensures)

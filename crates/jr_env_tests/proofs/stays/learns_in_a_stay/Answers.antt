@@ -16,7 +16,14 @@ returns c was =
     let third = stepping_pass c.learn.new.self.cells.seat.me in
     let fourth = stepping_pass c.go_out-2.new.self.cells.seat.me in
     let came : c.go_in.result ≡ true = c.if-not-go_in.false in
-    let entered : HasStayed (view first) (view second) = record { acts = []; did = goes_did (subst (λ b. Goes first (act_of_entry b ∷ []) second) came c.go_in.ensures.seen); stays = tt } in
+    let entered : HasStayed (view first) (view second) = record {
+      acts = [];
+      did = goes_did (subst (λ b. Goes first (act_of_entry b ∷ []) second) came c.go_in.ensures.seen);
+      stays = tt;
+    } in
     let learned = law.goes (view first) (view second) (view third) entered [] (goes_did c.learn.ensures.seen) tt in
-    let within : c.learn.new.self.role ≡ Within = ap (λ (s : Standing). s.role) c.learn.ensures.step.stands_is ∙ (ap (λ (s : Standing). s.role) c.go_in.ensures.step.stands_is ∙ ap (λ b. role_from c.args.steps.now.role (act_of_entry b ∷ [])) came) in
-    law.left (view first) (view third) (view fourth) learned.0 (goes_stepped (subst (λ r. Goes third (act_of_exit r ∷ []) fourth) within c.go_out-2.ensures.seen))
+    let within : c.learn.new.self.role ≡ Within = ap (λ (s : Standing). s.role) c.learn.ensures.step.stands_is
+    ∙ (ap (λ (s : Standing). s.role) c.go_in.ensures.step.stands_is
+    ∙ ap (λ b. role_from c.args.steps.now.role (act_of_entry b ∷ [])) came) in
+    law.left (view first) (view third) (view fourth) learned.0
+    (goes_stepped (subst (λ r. Goes third (act_of_exit r ∷ []) fourth) within c.go_out-2.ensures.seen))

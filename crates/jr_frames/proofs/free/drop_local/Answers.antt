@@ -8,4 +8,5 @@ pub put_local-requires-clause-object : goal.put_local-requires-clause-object
 put_local-requires-clause-object g c = g.met.S.Steps.some_known c.args.steps.now
 
 pub returns-clause-call : goal.returns-clause-call
-returns-clause-call g c = drops_one g.met.S.Steps.fits c.args.handle c.requires.ready.role_is c.put_local.ensures c.delete.ensures.only
+returns-clause-call g c =
+    drops_one g.met.S.Steps.fits c.args.handle c.requires.ready.role_is c.put_local.ensures c.delete.ensures.only

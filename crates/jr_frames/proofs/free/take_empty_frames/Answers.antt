@@ -13,7 +13,8 @@ pub loop-frames-smaller : goal.loop-frames-smaller
 loop-frames-smaller c = freed_shorter c.loop-frames.frames c.pop_empty.new.self c.pop_empty.ensures (search rules)
 
 pub loop-frames-preserved : goal.loop-frames-preserved
-loop-frames-preserved c = freed_fewer c.args.frames.now c.loop-frames.frames c.pop_empty.new.self c.loop-frames.invariant c.pop_empty.ensures (search rules)
+loop-frames-preserved c = freed_fewer c.args.frames.now c.loop-frames.frames c.pop_empty.new.self
+    c.loop-frames.invariant c.pop_empty.ensures (search rules)
 
 pub returns-clause-freed : goal.returns-clause-freed
 returns-clause-freed c = freed_ends c.loop-frames.invariant (eq_true _ 1 (sym c.is_base.ensures ∙ (cc)))

@@ -12,15 +12,18 @@ returns-then-lies_outside-clause-call g c = let s = (g.S.Steps.facts c.args.step
 
 pub returns-then-belongs_elsewhere-clause-call : goal.returns-then-belongs_elsewhere-clause-call
 returns-then-belongs_elsewhere-clause-call g c = let s = (g.S.Steps.facts c.args.steps.now).stands in
-    local_foreign g.met.S.Steps.fits c.args.steps.now c.args.frames.now.frames s.config s.thread c.args.handle (cc) (cc) (cc)
+    local_foreign g.met.S.Steps.fits c.args.steps.now c.args.frames.now.frames s.config s.thread c.args.handle (cc) (cc)
+    (cc)
 
 pub returns-in_default-clause-call : goal.returns-in_default-clause-call
 returns-in_default-clause-call g c = let s = (g.S.Steps.facts c.args.steps.now).stands in
-    local_absent g.met.S.Steps.fits c.args.steps.now c.args.frames.now.frames s.config s.thread c.args.handle (cc) (cc) (cc) (sym c.in_default.is ∙ c.object_of.ensures.object)
+    local_absent g.met.S.Steps.fits c.args.steps.now c.args.frames.now.frames s.config s.thread c.args.handle (cc) (cc)
+    (cc) (sym c.in_default.is ∙ c.object_of.ensures.object)
 
 pub put_local-requires-clause-object : goal.put_local-requires-clause-object
 put_local-requires-clause-object g c = g.met.S.Steps.some_known c.args.steps.now
 
 pub returns-clause-call : goal.returns-clause-call
 returns-clause-call g c = let s = (g.S.Steps.facts c.args.steps.now).stands in
-    removes_local g.met.S.Steps.fits s.config s.thread c.args.handle c.in-Some.field-0 (cc) (cc) (cc) (sym c.in-Some.is ∙ c.object_of.ensures.object) c.put_local.ensures c.delete.ensures.deleted c.delete.ensures.only
+    removes_local g.met.S.Steps.fits s.config s.thread c.args.handle c.in-Some.field-0 (cc) (cc) (cc)
+    (sym c.in-Some.is ∙ c.object_of.ensures.object) c.put_local.ensures c.delete.ensures.deleted c.delete.ensures.only

@@ -7,4 +7,5 @@ pub returns-clause-err : goal.returns-clause-err
 returns-clause-err g c = (refl, withdrawn c.if-go_in.ensures c.go_out.ensures)
 
 pub returns-clause-alone : goal.returns-clause-alone
-returns-clause-alone g c one = let T = g.met.S.Steps in absurd (never_knocks T.fits T.lone (T.some_known c.args.steps.now) one c.if-go_in.ensures)
+returns-clause-alone g c one = let T = g.met.S.Steps in
+    absurd (never_knocks T.fits T.lone (T.some_known c.args.steps.now) one c.if-go_in.ensures)

@@ -6,8 +6,14 @@ use Rattle.jr_heap.proofs.element.read.Goals as goal
 
 pub returns-clause-call : goal.returns-clause-call
 returns-clause-call g c =
-    called_at c.args.object c.header-header.result c.header-header.ensures.call (λ s. read_element s c.args.object c.args.index) c.read_element.ensures.call (λ k m. m) (λ k j s m d l. learnt c.args.object c.header-header.result k j l)
-    (λ k j q l one s. (reread c.args.object c.header-header.result c.read_element.result k j q l s.0, counted_more (element_steps c.read_element.result) k j q one s.1))
+    called_at c.args.object c.header-header.result c.header-header.ensures.call
+    (λ s. read_element s c.args.object c.args.index) c.read_element.ensures.call (λ k m. m) (λ k j s m d l.
+    learnt c.args.object c.header-header.result k j l)
+    (λ k j q l one s. (
+      reread c.args.object c.header-header.result c.read_element.result k j q l s.0,
+      counted_more (element_steps c.read_element.result) k j q one s.1,
+    ))
 
 pub returns-clause-object : goal.returns-clause-object
-returns-clause-object g c = may_present g.S.Steps.facts c.read_element.new.steps c.args.object c.header-header.result c.read_element.ensures.known
+returns-clause-object g c = may_present g.S.Steps.facts c.read_element.new.steps c.args.object c.header-header.result
+    c.read_element.ensures.known

@@ -6,4 +6,5 @@ use Rattle.jr_heap_tests.proofs.heap.published.Goals as goal
 
 pub read_element-requires-clause-known : goal.read_element-requires-clause-known
 read_element-requires-clause-known g c =
-    subst (λ (h : HeaderParts). MayKnow g.S.Steps.facts c.publish.new.steps (HoldsHeader c.in_ok-object.object h)) (sym c.header-header.ensures) c.in_ok-object.ensures.known
+    subst (λ (h : HeaderParts). MayKnow g.S.Steps.facts c.publish.new.steps (HoldsHeader c.in_ok-object.object h))
+    (sym c.header-header.ensures) c.in_ok-object.ensures.known

@@ -1,4 +1,6 @@
-use Rattle.jr_model.proofs.WorkedExamples.{announcing_is_legal, entering_announced_is_illegal, announcing_beside_is_illegal, counting_the_announcer_is_illegal, shutting_announced_over_is_illegal}
+use Rattle.jr_model.proofs.WorkedExamples.{announcing_is_legal, entering_announced_is_illegal}
+use Rattle.jr_model.proofs.WorkedExamples.{announcing_beside_is_illegal, counting_the_announcer_is_illegal}
+use Rattle.jr_model.proofs.WorkedExamples.{shutting_announced_over_is_illegal}
 use Rattle.jr_model.proofs.worked_examples.an_announced_gate_lets_nobody_in.Goals as goal
 
 pub returns-clause-legal : goal.returns-clause-legal

@@ -1,4 +1,5 @@
-use Rattle.jr_model.proofs.AnswerExamples.{length_of_nothing, type_of_nothing, calls_on_cleared, calls_on_null, second_level, copied_elements, array_lacks_space}
+use Rattle.jr_model.proofs.AnswerExamples.{length_of_nothing, type_of_nothing, calls_on_cleared}
+use Rattle.jr_model.proofs.AnswerExamples.{calls_on_null, second_level, copied_elements, array_lacks_space}
 use Rattle.jr_model.proofs.worked_examples.calls_answer_as_their_checks_say.Goals as goal
 
 pub returns-clause-length : goal.returns-clause-length

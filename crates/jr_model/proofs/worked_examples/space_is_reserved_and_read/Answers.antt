@@ -1,4 +1,5 @@
-use Rattle.jr_model.proofs.WorkedExamples.{space_is_legal, refusing_what_fits_is_illegal, reading_another_is_illegal, making_beyond_is_illegal}
+use Rattle.jr_model.proofs.WorkedExamples.{space_is_legal, refusing_what_fits_is_illegal}
+use Rattle.jr_model.proofs.WorkedExamples.{reading_another_is_illegal, making_beyond_is_illegal}
 use Rattle.jr_model.proofs.worked_examples.space_is_reserved_and_read.Goals as goal
 
 pub returns-clause-legal : goal.returns-clause-legal

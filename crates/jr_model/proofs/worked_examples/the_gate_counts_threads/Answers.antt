@@ -1,4 +1,5 @@
-use Rattle.jr_model.proofs.WorkedExamples.{gate_is_legal, wrong_count_is_illegal, shutting_over_is_illegal, entering_beside_is_illegal, knocking_at_open_is_illegal}
+use Rattle.jr_model.proofs.WorkedExamples.{gate_is_legal, wrong_count_is_illegal, shutting_over_is_illegal}
+use Rattle.jr_model.proofs.WorkedExamples.{entering_beside_is_illegal, knocking_at_open_is_illegal}
 use Rattle.jr_model.proofs.worked_examples.the_gate_counts_threads.Goals as goal
 
 pub returns-clause-legal : goal.returns-clause-legal

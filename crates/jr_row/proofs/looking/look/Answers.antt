@@ -6,4 +6,6 @@ use Rattle.jr_row.proofs.looking.look.Goals as goal
 
 pub returns : goal.returns
 returns g c = took_less (λ k k' z. z.1)
-    (subst (λ r. Took g.S.Steps.facts c.args.steps.now c.see_slot-word.new.self (Look c.args.handle r ∷ []) anything (λ j k. ShowsSlot c.args.handle.index c.see_slot-word.result k × keeps j k)) (sym c.found.ensures) c.see_slot-word.ensures)
+    (subst (λ r. Took g.S.Steps.facts c.args.steps.now c.see_slot-word.new.self (Look c.args.handle r ∷ []) anything
+    (λ j k. ShowsSlot c.args.handle.index c.see_slot-word.result k × keeps j k)) (sym c.found.ensures)
+    c.see_slot-word.ensures)

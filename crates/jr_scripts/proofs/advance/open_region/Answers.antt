@@ -8,7 +8,8 @@ use Rattle.jr_scripts.proofs.advance.open_region.Goals as goal
 pub returns-in-Ok-clause-stand : goal.returns-in-Ok-clause-stand
 returns-in-Ok-clause-stand g c = record {
   stand = subst (λ v. StandOver v c.open_levels.new.env.held) (sym c.first.ensures.levels) c.in-Ok.ensures.stand;
-  named = ap length c.first.ensures.names ∙ sym (ap (λ v. length (objects_of v)) c.first.ensures.levels ∙ c.in-Ok.ensures.one);
+  named = ap length c.first.ensures.names
+      ∙ sym (ap (λ v. length (objects_of v)) c.first.ensures.levels ∙ c.in-Ok.ensures.one);
 }
 
 pub returns-in-Err-clause-does : goal.returns-in-Err-clause-does

@@ -8,5 +8,7 @@ loop-part-init g c = subst (AddsPosted [] []) (sym c.new-board.ensures) (adds_no
 
 pub loop-part-preserved : goal.loop-part-preserved
 loop-part-preserved g c =
-    let adds : AddsPosted c.part-item.result.commands c.loop-part.board.numbers.entries c.add.new.self.numbers.entries = search rules in
-    adds_part c.args.parts.now c.loop-part.part-index c.part-item.result [] _ _ c.loop-part-test.true c.part-item.is c.loop-part.invariant adds
+    let adds : AddsPosted c.part-item.result.commands c.loop-part.board.numbers.entries c.add.new.self.numbers.entries =
+    search rules in
+    adds_part c.args.parts.now c.loop-part.part-index c.part-item.result [] _ _ c.loop-part-test.true c.part-item.is
+    c.loop-part.invariant adds

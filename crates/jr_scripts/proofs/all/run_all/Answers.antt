@@ -8,4 +8,10 @@ returns-clause-ok g c =
     let text = c.in_ok-text.text.items in
     let grew : c.extend_from_slice.new.self.items ≡ c.args.out.now.items ++ text = search rules in
     let run : IsRunOfAll c.args.turns 4294967295 c.args.script.now text = c.in_ok-text.ensures.ok in
-    record { text = text; grew = grew; run = run; alone = lone_run c.args.turns 4294967295 c.args.script.now c.args.out.now.items c.extend_from_slice.new.self.items text grew run }
+    record {
+      text = text;
+      grew = grew;
+      run = run;
+      alone = lone_run c.args.turns 4294967295 c.args.script.now c.args.out.now.items c.extend_from_slice.new.self.items
+          text grew run;
+    }

@@ -1,4 +1,5 @@
-use Rattle.std.proofs.Common.{◌≡◌, ◌+◌, ◌<◌, ◌^◌, ℕ, suc, List, [], ◌∷◌, flat_map, length, nat_le, true, refl, ap, ◌∙◌, arith}
+use Rattle.std.proofs.Common.{◌≡◌, ◌+◌, ◌<◌, ◌^◌, ℕ, suc, List, [], ◌∷◌, flat_map}
+use Rattle.std.proofs.Common.{length, nat_le, true, refl, ap, ◌∙◌, arith}
 use Rattle.std.proofs.lemmas.List.{length-map, length-append}
 use Rattle.std.proofs.lemmas.Bool.Decides.{nat_tests}
 use Rattle.jr_syntax.specs.declared.thread.ThreadPart.{ThreadPart}
@@ -9,7 +10,8 @@ use Rattle.jr_scripts.proofs.laws.a_script_that_was_read_can_be_run.Goals as goa
 
 -- a part's lines are its own and its commands'
 part_long : (p : ThreadPart) → length (part_lines p) ≡ 1 + length p.commands
-part_long p = let one : suc (length p.commands) ≡ 1 + length p.commands = omega arith in ap suc (length-map p.commands _) ∙ one
+part_long p = let one : suc (length p.commands) ≡ 1 + length p.commands = omega arith in
+    ap suc (length-map p.commands _) ∙ one
 
 parts_long : (ps : List ThreadPart) → length (flat_map part_lines ps) ≡ lines_of_parts ps
 parts_long [] = refl
@@ -29,7 +31,8 @@ can_be_run s is =
       one_each = is.threads;
       limits = is.config;
       once = is.posts;
-      numbered = few (length (script_lines s.config s.threads)) (lines_of_parts s.threads) (ap suc (parts_long s.threads) ∙ one) is.lines;
+      numbered = few (length (script_lines s.config s.threads)) (lines_of_parts s.threads)
+          (ap suc (parts_long s.threads) ∙ one) is.lines;
     }
 
 pub returns : goal.returns

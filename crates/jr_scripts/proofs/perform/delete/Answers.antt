@@ -5,7 +5,8 @@ pub returns-in-Local : goal.returns-in-Local
 returns-in-Local g c = does_delete _ _ c.in-Parts.parts _ c.in-Parts.ensures.reads c.in-Local.is c.ask-in-Local.ensures
 
 pub returns-in-Global : goal.returns-in-Global
-returns-in-Global g c = does_delete _ _ c.in-Parts.parts _ c.in-Parts.ensures.reads c.in-Global.is c.ask-in-Global.ensures
+returns-in-Global g c =
+    does_delete _ _ c.in-Parts.parts _ c.in-Parts.ensures.reads c.in-Global.is c.ask-in-Global.ensures
 
 pub returns-in-Weak : goal.returns-in-Weak
 returns-in-Weak g c = does_delete _ _ c.in-Parts.parts _ c.in-Parts.ensures.reads c.in-Weak.is c.ask-in-Weak.ensures

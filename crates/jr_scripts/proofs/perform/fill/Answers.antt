@@ -5,4 +5,5 @@ use Rattle.jr_env.proofs.Carrying.{did_decided}
 use Rattle.jr_scripts.proofs.perform.fill.Goals as goal
 
 pub returns : goal.returns
-returns g c = did_decided (λ w. makes_new c.args.turns (new_object_array c.args.length w.0)) (sym c.in_ok-initial.ensures) c.ask.ensures
+returns g c = did_decided (λ w. makes_new c.args.turns (new_object_array c.args.length w.0))
+    (sym c.in_ok-initial.ensures) c.ask.ensures

@@ -8,5 +8,8 @@ use Rattle.jr_scripts.proofs.perform.set_at.Goals as goal
 
 pub returns : goal.returns
 returns g c =
-    did_decided (λ a. decided (wanted (referent c.args.names.now c.args.value.now)) >>= (λ w. tried c.args.turns (set_object_array_element a.0 c.args.index w.0) >> done Done)) (sym c.in_ok-array.ensures)
-    (did_decided (λ w. tried c.args.turns (set_object_array_element c.in_ok-array.array.0 c.args.index w.0) >> done Done) (sym c.in_ok-value.ensures) c.ask.ensures)
+    did_decided (λ a. decided (wanted (referent c.args.names.now c.args.value.now))
+    >>= (λ w. tried c.args.turns (set_object_array_element a.0 c.args.index w.0) >> done Done))
+    (sym c.in_ok-array.ensures)
+    (did_decided (λ w. tried c.args.turns (set_object_array_element c.in_ok-array.array.0 c.args.index w.0)
+    >> done Done) (sym c.in_ok-value.ensures) c.ask.ensures)

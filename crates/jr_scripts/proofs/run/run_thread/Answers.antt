@@ -5,25 +5,39 @@ use Rattle.jr_scripts.proofs.Speaking.{carries_on, keeps_all, still_more}
 use Rattle.jr_scripts.proofs.run.run_thread.Goals as goal
 
 pub loop-i-init : goal.loop-i-init
-loop-i-init g c = (begun _ _ _ _ _ _ _ _ c.requires.outside c.new-names.ensures c.new-words.ensures.items, c.requires.outside, refl, keeps_all, subst (g.B.Board.follows c.args.board.now) (sym c.new-words.ensures.items) c.requires.follows)
+loop-i-init g c = (
+  begun _ _ _ _ _ _ _ _ c.requires.outside c.new-names.ensures c.new-words.ensures.items,
+  c.requires.outside,
+  refl,
+  keeps_all,
+  subst (g.B.Board.follows c.args.board.now) (sym c.new-words.ensures.items) c.requires.follows,
+)
 
 pub loop-i-preserved : goal.loop-i-preserved
 loop-i-preserved g c = (
-  went_on (carries_on g.B.Board.layout g.B.Board.tells g.B.Board.looked c.args.turns _ _ c.advance-left.ensures.kept) _ _ _ c.loop-i.i c.index-commands-i.result _ _ _ _ _ _ c.as_slice.ensures.value _ _ c.record.result (omega arith) (search rules) c.loop-i.invariant.0 c.advance-left.ensures.does c.advance-left.ensures.names c.advance-left.ensures.levels c.advance-left.ensures.objects c.record.ensures c.in-Ok.is,
+  went_on (carries_on g.B.Board.layout g.B.Board.tells g.B.Board.looked c.args.turns _ _ c.advance-left.ensures.kept) _
+      _ _ c.loop-i.i c.index-commands-i.result _ _ _ _ _ _ c.as_slice.ensures.value _ _ c.record.result (omega arith)
+      (search rules) c.loop-i.invariant.0 c.advance-left.ensures.does c.advance-left.ensures.names
+      c.advance-left.ensures.levels c.advance-left.ensures.objects c.record.ensures c.in-Ok.is,
   c.advance-left.ensures.stand,
   c.advance-left.ensures.room ∙ c.loop-i.invariant.2,
   still_more g.B.Board.layout g.B.Board.tells c.loop-i.invariant.3 c.advance-left.ensures.kept,
-  followed c.index-commands-i.result _ _ _ _ _ _ _ _ _ _ c.record.result (g.B.Board.follows c.advance-left.new.board) c.as_slice.ensures.value c.advance-left.ensures.names c.record.ensures c.in-Ok.is c.advance-left.ensures.follows,
+  followed c.index-commands-i.result _ _ _ _ _ _ _ _ _ _ c.record.result (g.B.Board.follows c.advance-left.new.board)
+      c.as_slice.ensures.value c.advance-left.ensures.names c.record.ensures c.in-Ok.is c.advance-left.ensures.follows,
 )
 
 pub advance-left-requires-clause-follows : goal.advance-left-requires-clause-follows
-advance-left-requires-clause-follows g c = subst (g.B.Board.follows c.loop-i.board) (sym c.as_slice.ensures.value) c.loop-i.invariant.4
+advance-left-requires-clause-follows g c =
+    subst (g.B.Board.follows c.loop-i.board) (sym c.as_slice.ensures.value) c.loop-i.invariant.4
 
 pub advance-left-requires-clause-there : goal.advance-left-requires-clause-there
-advance-left-requires-clause-there g c = c.loop-i.invariant.3.serves _ (subst (λ room. (g.B.Board.tells c.args.board.now).serves room) (sym (c.loop-i.invariant.0).stands_is.room) c.requires.there)
+advance-left-requires-clause-there g c =
+    c.loop-i.invariant.3.serves _ (subst (λ room. (g.B.Board.tells c.args.board.now).serves room)
+    (sym (c.loop-i.invariant.0).stands_is.room) c.requires.there)
 
 pub advance-left-requires-clause-room : goal.advance-left-requires-clause-room
-advance-left-requires-clause-room g c = c.loop-i.invariant.2 ∙ (c.requires.room ∙ sym (ap (λ (x : Config). x.objects) (c.loop-i.invariant.0).stands_is.config))
+advance-left-requires-clause-room g c = c.loop-i.invariant.2
+    ∙ (c.requires.room ∙ sym (ap (λ (x : Config). x.objects) (c.loop-i.invariant.0).stands_is.config))
 
 pub returns-in_default-clause-room : goal.returns-in_default-clause-room
 returns-in_default-clause-room g c = c.advance-left.ensures.room ∙ c.loop-i.invariant.2
@@ -32,14 +46,19 @@ pub returns-clause-room : goal.returns-clause-room
 returns-clause-room g c = c.loop-i.invariant.2
 
 pub returns-in_default-clause-kept : goal.returns-in_default-clause-kept
-returns-in_default-clause-kept g c = still_more g.B.Board.layout g.B.Board.tells c.loop-i.invariant.3 c.advance-left.ensures.kept
+returns-in_default-clause-kept g c =
+    still_more g.B.Board.layout g.B.Board.tells c.loop-i.invariant.3 c.advance-left.ensures.kept
 
 pub returns-clause-kept : goal.returns-clause-kept
 returns-clause-kept g c = c.loop-i.invariant.3
 
 pub returns-in_default-clause-explained : goal.returns-in_default-clause-explained
 returns-in_default-clause-explained g c =
-    cut_off (carries_on g.B.Board.layout g.B.Board.tells g.B.Board.looked c.args.turns _ _ c.advance-left.ensures.kept) _ _ _ c.loop-i.i c.index-commands-i.result _ _ _ _ _ _ c.as_slice.ensures.value _ _ c.record.result _ c.requires.outside (omega arith) (search rules) c.loop-i.invariant.0 c.advance-left.ensures.does c.advance-left.ensures.objects c.record.ensures c.in_default.is c.end.ensures.does
+    cut_off (carries_on g.B.Board.layout g.B.Board.tells g.B.Board.looked c.args.turns _ _ c.advance-left.ensures.kept)
+    _ _ _ c.loop-i.i c.index-commands-i.result _ _ _ _ _ _ c.as_slice.ensures.value _ _ c.record.result _
+    c.requires.outside (omega arith) (search rules) c.loop-i.invariant.0 c.advance-left.ensures.does
+    c.advance-left.ensures.objects c.record.ensures c.in_default.is c.end.ensures.does
 
 pub returns-clause-explained : goal.returns-clause-explained
-returns-clause-explained g c = finished c.loop-i.i c.requires.outside (omega arith) c.loop-i.invariant.0 c.end-2.ensures.does
+returns-clause-explained g c =
+    finished c.loop-i.i c.requires.outside (omega arith) c.loop-i.invariant.0 c.end-2.ensures.does

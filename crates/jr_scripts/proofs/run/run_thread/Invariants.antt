@@ -7,7 +7,9 @@ use Rattle.jr_scripts.proofs.run.run_thread.Given as goal
 
 abbrev pub invariant-loop-i : goal.invariant-loop-i
 invariant-loop-i g l =
-    Going g.S.Steps.facts l.fn.env.held.steps l.env.held.steps l.fn.env.held.frames.frames l.env.held.frames.frames (talk_of g.B.Board.tells g.B.Board.looked l.turns l.board) l.turns l.first (take l.i l.commands) l.fn.out.items l.out.items l.names l.words.items l.region
+    Going g.S.Steps.facts l.fn.env.held.steps l.env.held.steps l.fn.env.held.frames.frames l.env.held.frames.frames
+    (talk_of g.B.Board.tells g.B.Board.looked l.turns l.board) l.turns l.first (take l.i l.commands) l.fn.out.items
+    l.out.items l.names l.words.items l.region
     × StandsWith l.region l.env
     × (room_of l.marker ≡ room_of l.fn.marker)
     × Keeps g.B.Board.layout g.B.Board.tells l.fn.board l.board

@@ -5,4 +5,9 @@ use Rattle.jr_scripts.proofs.ToEnd.{not_begun}
 use Rattle.jr_scripts.proofs.to_end.run_with_marker.Goals as goal
 
 pub returns-in_default-clause-explained : goal.returns-in_default-clause-explained
-returns-in_default-clause-explained g c = ([], sym (append-nil c.args.out.now.items), not_begun (talk_of g.B.Board.tells g.B.Board.looked c.args.turns c.args.board.now) c.args.turns c.args.first c.args.commands.now)
+returns-in_default-clause-explained g c = (
+  [],
+  sym (append-nil c.args.out.now.items),
+  not_begun (talk_of g.B.Board.tells g.B.Board.looked c.args.turns c.args.board.now) c.args.turns c.args.first
+      c.args.commands.now,
+)

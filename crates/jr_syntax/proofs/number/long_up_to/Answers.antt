@@ -8,7 +8,12 @@ overflow_mul-n c = omega (arith, c.loop-digit.invariant.small)
 
 pub overflow_add-n : goal.overflow_add-n
 overflow_add-n c =
-    omega (arith, c.loop-digit.invariant.small, digit_at c.args.digits.now c.loop-digit.digit-index (and_parts _ _ (and_parts _ _ c.requires).0).1 c.loop-digit-test.true)
+    omega (
+      arith,
+      c.loop-digit.invariant.small,
+      digit_at c.args.digits.now c.loop-digit.digit-index (and_parts _ _ (and_parts _ _ c.requires).0).1
+          c.loop-digit-test.true,
+    )
 
 pub returns-then-n-limit : goal.returns-then-n-limit
 returns-then-n-limit c =
@@ -19,6 +24,7 @@ returns-then-n-limit c =
 
 pub loop-digit-preserved : goal.loop-digit-preserved
 loop-digit-preserved c = record {
-  total = sym (number_more c.loop-digit.n c.args.digits.now c.loop-digit.digit-index c.loop-digit-test.true) ∙ c.loop-digit.invariant.total;
+  total = sym (number_more c.loop-digit.n c.args.digits.now c.loop-digit.digit-index c.loop-digit-test.true)
+      ∙ c.loop-digit.invariant.total;
   small = omega arith;
 }

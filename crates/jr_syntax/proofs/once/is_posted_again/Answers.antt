@@ -11,11 +11,14 @@ pub returns-then-any_posts : goal.returns-then-any_posts
 returns-then-any_posts c =
     let is : c.args.command.now ≡ commands.OnName Post c.as_slice.result.now = search rules in
     let some : c.any_posts.result ≡ true = search rules in
-    shared_behind c.as_slice.result.now c.as_slice.result.now c.args.command.now c.args.behind.now c.args.later.now c.any_posts.result is refl c.any_posts.ensures some
+    shared_behind c.as_slice.result.now c.as_slice.result.now c.args.command.now c.args.behind.now c.args.later.now
+    c.any_posts.result is refl c.any_posts.ensures some
 
 pub returns-else-any_posts : goal.returns-else-any_posts
 returns-else-any_posts c =
     let is : c.args.command.now ≡ commands.OnName Post c.as_slice.result.now = search rules in
     let none : c.any_posts.result ≡ false = search rules in
     let same : c.as_slice-else-any_posts.result.now ≡ c.as_slice.result.now = search rules in
-    shared_later c.as_slice.result.now c.as_slice.result.now c.args.command.now c.args.behind.now c.args.later.now c.any_posts.result is refl c.any_posts.ensures c.any_part_posts.result none (c.any_part_posts.ensures ∙ ap (λ x. list_any (λ p. list_any (λ d. list_any (bytes_eq x) (posted d)) p.commands) c.args.later.now) same)
+    shared_later c.as_slice.result.now c.as_slice.result.now c.args.command.now c.args.behind.now c.args.later.now
+    c.any_posts.result is refl c.any_posts.ensures c.any_part_posts.result none (c.any_part_posts.ensures
+    ∙ ap (λ x. list_any (λ p. list_any (λ d. list_any (bytes_eq x) (posted d)) p.commands) c.args.later.now) same)

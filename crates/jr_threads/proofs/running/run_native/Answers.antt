@@ -7,11 +7,13 @@ run_in-requires-clause-opened g c κs lives = opened_so c.in_ok-room.ensures.ope
 
 pub run_in-requires-clause-some : goal.run_in-requires-clause-some
 run_in-requires-clause-some g c κs lives =
-    let all = passes_long c.args.config 4294967295 c.in_ok-room.room.row c.in_ok-room.passes.items c.in_ok-room.ensures.opened in
+    let all =
+    passes_long c.args.config 4294967295 c.in_ok-room.room.row c.in_ok-room.passes.items c.in_ok-room.ensures.opened in
     let some = some_thread c.args.config _ c.in_ok-room.ensures.size in
     subst (λ n. 1 ≤ n) (sym all) some
 
 pub returns-clause-answers : goal.returns-clause-answers
 returns-clause-answers g c =
-    let all : length c.in_ok-room.passes.items ≡ c.args.config.threads = passes_long c.args.config 4294967295 c.in_ok-room.room.row c.in_ok-room.passes.items c.in_ok-room.ensures.opened in
+    let all : length c.in_ok-room.passes.items ≡ c.args.config.threads =
+    passes_long c.args.config 4294967295 c.in_ok-room.room.row c.in_ok-room.passes.items c.in_ok-room.ensures.opened in
     search rules

@@ -1,4 +1,4 @@
-use Rattle.std.proofs.Common.{◌≡◌, ◌+◌, ◌<◌, ℕ, List, [], ◌∷◌, ◌++◌, length, refl, sym, ap, subst, ◌∙◌, arith}
+use Rattle.std.proofs.Common.{◌≡◌, ◌+◌, [], ◌∷◌, ◌++◌, length, refl, sym, subst, arith}
 use Rattle.std.proofs.lemmas.List.{length-append}
 use Rattle.jr_steps.specs.Knowing.{IsLone}
 use Rattle.jr_weak.specs.Waiting.{CancelsAfter}
@@ -23,8 +23,10 @@ loop-try-preserved g c =
     let refused = c.loop-try.invariant.1.0 in
     let long = c.loop-try.invariant.1.1 in
     let busy = c.in-Err.ensures.err.1 in
-    let more : length (refused ++ busy.0 ∷ []) ≡ length refused + 1 = length-append refused (busy.0 ∷ []) in
-    (c.in-Err.ensures.err.0, (refused ++ busy.0 ∷ [], omega (arith, long, more), refused_more refused busy.0 c.loop-try.invariant.1.2 busy.3))
+    let more : length (refused ++ busy.0 ∷ []) ≡ length refused + 1 = length-append refused (busy.0 ∷ []) in (
+      c.in-Err.ensures.err.0,
+      (refused ++ busy.0 ∷ [], omega (arith, long, more), refused_more refused busy.0 c.loop-try.invariant.1.2 busy.3),
+    )
 
 pub shut-requires-2 : goal.shut-requires-2
 shut-requires-2 g c = c.loop-try.invariant.0
@@ -47,4 +49,5 @@ returns-in-Err-shut-clause-err g c =
     (cancels_after c.args.tries refused busy.0 busy.2 (omega arith) c.loop-try.invariant.1.2 busy.3 c.cancel.ensures)
 
 pub returns-in-Err-shut-clause-alone : goal.returns-in-Err-shut-clause-alone
-returns-in-Err-shut-clause-alone g c lone = c.in-Err-shut.ensures.alone (subst IsLone (sym c.loop-try.invariant.1.2.went.stands_is) lone)
+returns-in-Err-shut-clause-alone g c lone =
+    c.in-Err-shut.ensures.alone (subst IsLone (sym c.loop-try.invariant.1.2.went.stands_is) lone)

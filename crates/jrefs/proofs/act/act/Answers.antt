@@ -6,7 +6,8 @@ use Rattle.jrefs.proofs.Ending.{IsFaulty, faulty_not_answered, faulty_stopped}
 use Rattle.jrefs.proofs.act.act.Goals as goal
 
 pub returns-in-Ok-clause-taken : goal.returns-in-Ok-clause-taken
-returns-in-Ok-clause-taken g c = λ r asks. (λ e. absurd (omega arith), λ e. answers_request _ _ _ _ r c.in-Ok.ensures.ok asks)
+returns-in-Ok-clause-taken g c =
+    λ r asks. (λ e. absurd (omega arith), λ e. answers_request _ _ _ _ r c.in-Ok.ensures.ok asks)
 
 pub returns-in-Ok-clause-faulty : goal.returns-in-Ok-clause-faulty
 returns-in-Ok-clause-faulty g c = λ r asks of_script. faulty_not_answered _ _ _ _ r asks of_script c.in-Ok.ensures.ok
@@ -17,4 +18,5 @@ returns-in-Err-clause-faulty g c = λ r asks of_script.
     let old = g.W.Write.contents c.args.writer.now in
     let new = g.W.Write.contents c.carried_out.new.writer in
     subst (λ (n : ℕ). IfSome known (λ text. IsSome (first_fault text) → IsFaulty n old new)) (sym c.tell.ensures.status)
-    (faulty_stopped c.in-Err.trouble _ known _ old new r asks of_script (c.in-Err.ensures.taken r asks) c.in-Err.ensures.err)
+    (faulty_stopped c.in-Err.trouble _ known _ old new r asks of_script (c.in-Err.ensures.taken r asks)
+    c.in-Err.ensures.err)

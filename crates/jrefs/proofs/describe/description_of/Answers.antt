@@ -10,15 +10,19 @@ use Rattle.jrefs.proofs.describe.description_of.Goals as goal
 pub returns-then-eq : goal.returns-then-eq
 returns-then-eq c =
     let zero : c.args.word ≡ 0 = search rules in
-    IfOk-weaker c.format.result _ _ (λ text same. subst (Describes c.args.word) (sym same) (null zero)) c.format.ensures.ok
+    IfOk-weaker c.format.result _ _ (λ text same. subst (Describes c.args.word) (sym same) (null zero))
+    c.format.ensures.ok
 
 pub returns-in-Some : goal.returns-in-Some
 returns-in-Some c =
     let sound = c.in-Some.ensures.sound in
-    IfOk-weaker c.line_of.result _ _ (λ text same. subst (Describes c.args.word) (sym same) (handle c.in-Some.parts sound.0 sound.1)) c.line_of.ensures
+    IfOk-weaker c.line_of.result _ _
+    (λ text same. subst (Describes c.args.word) (sym same) (handle c.in-Some.parts sound.0 sound.1)) c.line_of.ensures
 
 pub returns-in-None : goal.returns-in-None
 returns-in-None c =
     let apart : c.args.word ≢ 0 = eqb-false c.args.word 0 (sym c.if-eq.ensures) in
-    let none : (h : HandleParts) → IsHandle h → c.args.word ≢ handle_word h = λ h is same. let e = c.in-None.ensures.complete h is same in cc in
-    IfOk-weaker c.format-in-None.result _ _ (λ text same. subst (Describes c.args.word) (sym same) (invalid apart none)) c.format-in-None.ensures.ok
+    let none : (h : HandleParts) → IsHandle h
+    → c.args.word ≢ handle_word h = λ h is same. let e = c.in-None.ensures.complete h is same in cc in
+    IfOk-weaker c.format-in-None.result _ _ (λ text same. subst (Describes c.args.word) (sym same) (invalid apart none))
+    c.format-in-None.ensures.ok

@@ -4,4 +4,5 @@ use Rattle.std.specs.Io.KnownBytes.{Appends}
 use Rattle.jrefs.proofs.output.write_out.Given as goal
 
 abbrev pub invariant-loop : goal.invariant-loop
-invariant-loop g l = (l.done ≤ length l.bytes) × Appends (g.W.Write.contents l.initial.writer) (g.W.Write.contents l.writer) (take l.done l.bytes)
+invariant-loop g l = (l.done ≤ length l.bytes)
+    × Appends (g.W.Write.contents l.initial.writer) (g.W.Write.contents l.writer) (take l.done l.bytes)

@@ -8,4 +8,5 @@ use Rattle.jrefs.proofs.output.write_trouble.Goals as goal
 pub returns : goal.returns
 returns g c =
     let whole : c.as_slice.result.now ≡ trouble_line c.args.trouble.now = search rules in
-    subst (AppendsBeginning _ _) whole (begins_either_way _ _ _ c.write_out.result c.write_out.ensures.ok c.write_out.ensures.cut_off)
+    subst (AppendsBeginning _ _) whole
+    (begins_either_way _ _ _ c.write_out.result c.write_out.ensures.ok c.write_out.ensures.cut_off)

@@ -9,4 +9,6 @@ returns-clause-call g c =
     let items = c.self.inside.items.items in
     let within : c.args.index < length items = search rules in
     let word = g.E.Elem.word_of in
-    subst (λ xs. AnswersAs (elements_set (map word xs) c.args.index (word c.args.value)) (Ok (map word (slice_set items c.args.index c.args.value)))) c.self.view_is (sets_word word items c.args.index c.args.value within)
+    subst (λ xs. AnswersAs (elements_set (map word xs) c.args.index (word c.args.value))
+    (Ok (map word (slice_set items c.args.index c.args.value)))) c.self.view_is
+    (sets_word word items c.args.index c.args.value within)

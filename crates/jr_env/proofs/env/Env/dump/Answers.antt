@@ -6,13 +6,30 @@ use Rattle.jr_env.proofs.WholeCensuses.{does_tell, ready_told, tells_or}
 use Rattle.jr_env.proofs.env.Env.dump.Goals as goal
 
 pub invariant_of-held : goal.invariant_of-held
-invariant_of-held g c = record { own = (ready_told g.S.Steps.facts noting_steps (λ x k last s. IsDumpOf k last s c.take_dump.new.slots c.take_dump.new.locals c.take_dump.new.headers c.take_dump.new.words) c.take_dump.result c.outside.ensures.ready (tells_or g.S.Steps.facts noting_steps (λ x k last s. IsDumpOf k last s c.take_dump.new.slots c.take_dump.new.locals c.take_dump.new.headers c.take_dump.new.words) c.outside.new.held.steps c.take_dump.new.steps c.take_dump.result c.take_dump.ensures.ok c.take_dump.ensures.err)).own }
+invariant_of-held g c = record {
+  own = (ready_told g.S.Steps.facts noting_steps (λ x k last s. IsDumpOf k last s c.take_dump.new.slots
+      c.take_dump.new.locals c.take_dump.new.headers c.take_dump.new.words) c.take_dump.result c.outside.ensures.ready
+      (tells_or g.S.Steps.facts noting_steps (λ x k last s. IsDumpOf k last s c.take_dump.new.slots
+      c.take_dump.new.locals c.take_dump.new.headers c.take_dump.new.words) c.outside.new.held.steps
+      c.take_dump.new.steps c.take_dump.result c.take_dump.ensures.ok c.take_dump.ensures.err)).own;
+}
 
 pub invariant_of-self : goal.invariant_of-self
-invariant_of-self g c = record { ready = can_call (ready_told g.S.Steps.facts noting_steps (λ x k last s. IsDumpOf k last s c.take_dump.new.slots c.take_dump.new.locals c.take_dump.new.headers c.take_dump.new.words) c.take_dump.result c.outside.ensures.ready (tells_or g.S.Steps.facts noting_steps (λ x k last s. IsDumpOf k last s c.take_dump.new.slots c.take_dump.new.locals c.take_dump.new.headers c.take_dump.new.words) c.outside.new.held.steps c.take_dump.new.steps c.take_dump.result c.take_dump.ensures.ok c.take_dump.ensures.err)) }
+invariant_of-self g c = record {
+  ready = can_call (ready_told g.S.Steps.facts noting_steps (λ x k last s. IsDumpOf k last s c.take_dump.new.slots
+      c.take_dump.new.locals c.take_dump.new.headers c.take_dump.new.words) c.take_dump.result c.outside.ensures.ready
+      (tells_or g.S.Steps.facts noting_steps (λ x k last s. IsDumpOf k last s c.take_dump.new.slots
+      c.take_dump.new.locals c.take_dump.new.headers c.take_dump.new.words) c.outside.new.held.steps
+      c.take_dump.new.steps c.take_dump.result c.take_dump.ensures.ok c.take_dump.ensures.err));
+}
 
 pub returns-clause-call : goal.returns-clause-call
-returns-clause-call g c = does_tell g.S.Steps.facts noting_steps (λ x k last s. IsDumpOf k last s c.take_dump.new.slots c.take_dump.new.locals c.take_dump.new.headers c.take_dump.new.words) c.take_dump.result c.outside.ensures (tells_or g.S.Steps.facts noting_steps (λ x k last s. IsDumpOf k last s c.take_dump.new.slots c.take_dump.new.locals c.take_dump.new.headers c.take_dump.new.words) c.outside.new.held.steps c.take_dump.new.steps c.take_dump.result c.take_dump.ensures.ok c.take_dump.ensures.err)
+returns-clause-call g c = does_tell g.S.Steps.facts noting_steps (λ x k last s.
+    IsDumpOf k last s c.take_dump.new.slots c.take_dump.new.locals c.take_dump.new.headers c.take_dump.new.words)
+    c.take_dump.result c.outside.ensures (tells_or g.S.Steps.facts noting_steps (λ x k last s.
+    IsDumpOf k last s c.take_dump.new.slots c.take_dump.new.locals c.take_dump.new.headers c.take_dump.new.words)
+    c.outside.new.held.steps c.take_dump.new.steps c.take_dump.result c.take_dump.ensures.ok c.take_dump.ensures.err)
 
 pub returns-clause-alone : goal.returns-clause-alone
-returns-clause-alone g c one = c.take_dump.ensures.alone (inr (ap (λ (z : Config). z.threads) c.outside.ensures.config ∙ one))
+returns-clause-alone g c one =
+    c.take_dump.ensures.alone (inr (ap (λ (z : Config). z.threads) c.outside.ensures.config ∙ one))

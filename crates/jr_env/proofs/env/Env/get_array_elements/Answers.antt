@@ -9,5 +9,7 @@ pub returns : goal.returns
 returns g c =
     let s = (g.S.Steps.facts c.args.self.now.held.steps).stands in
     let r = word_of c.of-array.result in
-    does_call_on g.met.S.Steps.fits (λ c. 1) (λ r last t s w. objects.get_array_elements r last t s g.E.Elem.KIND w) c.args.array.0 r c.of-array.ensures.reads
-    (completes_in (map g.E.Elem.word_of) 1 (λ x. objects.elements_copying s.config s.last s.thread x g.E.Elem.KIND r) c.make.result c.make.ensures.call)
+    does_call_on g.met.S.Steps.fits (λ c. 1) (λ r last t s w. objects.get_array_elements r last t s g.E.Elem.KIND w)
+    c.args.array.0 r c.of-array.ensures.reads
+    (completes_in (map g.E.Elem.word_of) 1 (λ x. objects.elements_copying s.config s.last s.thread x g.E.Elem.KIND r)
+    c.make.result c.make.ensures.call)

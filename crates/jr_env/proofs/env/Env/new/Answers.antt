@@ -8,14 +8,22 @@ pub invariant_of-held : goal.invariant_of-held
 invariant_of-held g c =
     let steps = c.args.steps in
     let s = (g.S.Steps.facts c.spend.new.self).stands in
-    let is : c.new-frames.result ≡ record { frames = fresh_frames s.config.locals; thread = s.thread; last = s.last } = cc in
+    let is : c.new-frames.result ≡ record { frames = fresh_frames s.config.locals; thread = s.thread; last = s.last } =
+    cc in
     let fresh = c.fresh.ensures in
-    record { own = (ready_new c.new-frames.result c.spend.ensures is c.requires (λ k m. g.met.S.Steps.unused steps k (search rules) m) (g.met.S.Steps.some_known steps)).own }
+    record {
+      own = (ready_new c.new-frames.result c.spend.ensures is c.requires
+          (λ k m. g.met.S.Steps.unused steps k (search rules) m) (g.met.S.Steps.some_known steps)).own;
+    }
 
 pub invariant_of-result : goal.invariant_of-result
 invariant_of-result g c =
     let steps = c.args.steps in
     let s = (g.S.Steps.facts c.spend.new.self).stands in
-    let is : c.new-frames.result ≡ record { frames = fresh_frames s.config.locals; thread = s.thread; last = s.last } = cc in
+    let is : c.new-frames.result ≡ record { frames = fresh_frames s.config.locals; thread = s.thread; last = s.last } =
+    cc in
     let fresh = c.fresh.ensures in
-    record { ready = can_call (ready_new c.new-frames.result c.spend.ensures is c.requires (λ k m. g.met.S.Steps.unused steps k (search rules) m) (g.met.S.Steps.some_known steps)) }
+    record {
+      ready = can_call (ready_new c.new-frames.result c.spend.ensures is c.requires
+          (λ k m. g.met.S.Steps.unused steps k (search rules) m) (g.met.S.Steps.some_known steps));
+    }

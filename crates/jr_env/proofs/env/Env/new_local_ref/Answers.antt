@@ -6,8 +6,10 @@ use Rattle.jr_env.proofs.env.Env.new_local_ref.Goals as goal
 
 pub returns-in_err-made : goal.returns-in_err-made
 returns-in_err-made g c = does_refuse packed_if c.from_residual.result c.from_residual.ensures.1
-    (does_call_on g.met.S.Steps.fits (λ c. 0) (λ r last t s w. references.new_local_ref r last t w) c.args.handle.0 (word_of c.of-target.result) c.of-target.ensures.reads c.in_err-made.ensures.call)
+    (does_call_on g.met.S.Steps.fits (λ c. 0) (λ r last t s w. references.new_local_ref r last t w) c.args.handle.0
+    (word_of c.of-target.result) c.of-target.ensures.reads c.in_err-made.ensures.call)
 
 pub returns : goal.returns
 returns g c = does_answer packed_if (packed_if_is c.map.result c.in_ok-made.made c.map.ensures.cases)
-    (does_call_on g.met.S.Steps.fits (λ c. 0) (λ r last t s w. references.new_local_ref r last t w) c.args.handle.0 (word_of c.of-target.result) c.of-target.ensures.reads c.in_ok-made.ensures.call)
+    (does_call_on g.met.S.Steps.fits (λ c. 0) (λ r last t s w. references.new_local_ref r last t w) c.args.handle.0
+    (word_of c.of-target.result) c.of-target.ensures.reads c.in_ok-made.ensures.call)

@@ -6,8 +6,10 @@ use Rattle.jr_env.proofs.env.Env.new_string.Goals as goal
 
 pub returns-in_err-made : goal.returns-in_err-made
 returns-in_err-made g c = does_refuse packed c.from_residual.result c.from_residual.ensures.1
-    (does_call_by g.met.S.Steps.fits (making_steps (length c.args.units.now)) (λ r last t s. references.new_string r last t c.args.units.now) c.in_err-made.ensures.call)
+    (does_call_by g.met.S.Steps.fits (making_steps (length c.args.units.now))
+    (λ r last t s. references.new_string r last t c.args.units.now) c.in_err-made.ensures.call)
 
 pub returns : goal.returns
 returns g c = does_answer packed (packed_is c.pack.result c.in_ok-made.made c.pack.ensures)
-    (does_call_by g.met.S.Steps.fits (making_steps (length c.args.units.now)) (λ r last t s. references.new_string r last t c.args.units.now) c.in_ok-made.ensures.call)
+    (does_call_by g.met.S.Steps.fits (making_steps (length c.args.units.now))
+    (λ r last t s. references.new_string r last t c.args.units.now) c.in_ok-made.ensures.call)

@@ -11,15 +11,19 @@ returns-in-Ok-clause-call g c =
     let writes : c.args.mode ≢ Abort = search rules in
     let old = c.args.self.now.held in
     let new = c.make.new.held in
-    subst (λ z. DoesOutside g.S.Steps.facts old.steps new.steps old.frames.frames new.frames.frames (release_array_elements g.E.Elem.KIND c.args.array.0 (words c.args.elements) c.args.mode) z)
+    subst (λ z. DoesOutside g.S.Steps.facts old.steps new.steps old.frames.frames new.frames.frames
+    (release_array_elements g.E.Elem.KIND c.args.array.0 (words c.args.elements) c.args.mode) z)
     (kept_words words c.args.elements c.args.mode ∙ ap (λ k. release_answer words (Ok k)) (sym c.kept.ensures))
-    (releases g.met.S.Steps.fits g.E.Elem.KIND c.args.array.0 (word_of c.of-array.result) c.of-array.ensures.reads (words c.args.elements) c.args.mode writes (Ok _) c.in-Ok.ensures.call)
+    (releases g.met.S.Steps.fits g.E.Elem.KIND c.args.array.0 (word_of c.of-array.result) c.of-array.ensures.reads
+    (words c.args.elements) c.args.mode writes (Ok _) c.in-Ok.ensures.call)
 
 pub returns-in-Err-clause-call : goal.returns-in-Err-clause-call
 returns-in-Err-clause-call g c =
     let writes : c.args.mode ≢ Abort = search rules in
-    releases g.met.S.Steps.fits g.E.Elem.KIND c.args.array.0 (word_of c.of-array.result) c.of-array.ensures.reads (map g.E.Elem.word_of c.args.elements) c.args.mode writes (Err c.in-Err.fault) c.in-Err.ensures.call
+    releases g.met.S.Steps.fits g.E.Elem.KIND c.args.array.0 (word_of c.of-array.result) c.of-array.ensures.reads
+    (map g.E.Elem.word_of c.args.elements) c.args.mode writes (Err c.in-Err.fault) c.in-Err.ensures.call
 
 pub returns-then-not-copies_back-clause-call : goal.returns-then-not-copies_back-clause-call
 returns-then-not-copies_back-clause-call g c =
-    aborts g.E.Elem.KIND c.args.array.0 (map g.E.Elem.word_of c.args.elements) c.outside.ensures c.args.mode (λ writes. let copies = c.copies_back.ensures.1 writes in let not = c.if-not-copies_back.true in cc)
+    aborts g.E.Elem.KIND c.args.array.0 (map g.E.Elem.word_of c.args.elements) c.outside.ensures c.args.mode (λ writes.
+    let copies = c.copies_back.ensures.1 writes in let not = c.if-not-copies_back.true in cc)

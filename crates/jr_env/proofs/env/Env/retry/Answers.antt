@@ -9,7 +9,8 @@ pub returns-then-not-is_for_later : goal.returns-then-not-is_for_later
 returns-then-not-is_for_later g c = c.loop.invariant _ _ _ (again_settled _ c.make-answer.ensures (search rules))
 
 pub loop-preserved : goal.loop-preserved
-loop-preserved g c = λ answer last frames d. c.loop.invariant _ _ _ (again_once_more c.args.patience.more c.loop.counter (omega arith) c.make-answer.ensures (search rules) d)
+loop-preserved g c = λ answer last frames d. c.loop.invariant _ _ _
+    (again_once_more c.args.patience.more c.loop.counter (omega arith) c.make-answer.ensures (search rules) d)
 
 pub returns : goal.returns
 returns g c = c.loop.invariant _ _ _ (again_the_last c.args.patience.more c.loop.counter (omega arith) c.make.ensures)

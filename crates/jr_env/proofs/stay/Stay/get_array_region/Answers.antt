@@ -5,4 +5,7 @@ use Rattle.jr_env.proofs.WithinStays.{inside_on}
 use Rattle.jr_env.proofs.stay.Stay.get_array_region.Goals as goal
 
 pub returns-clause-call : goal.returns-clause-call
-returns-clause-call g c = inside_on g.met.S.Steps.fits c.args.self.now.env.now c.copy_within.new.self (λ r. 1) (λ r last t s w. objects.part_reading r last t s g.E.Elem.KIND w c.args.start (length c.args.elements.now)) c.args.array.0 (word_of c.of-array.result) c.of-array.ensures.reads c.copy_within.ensures.call c.copy_within.ensures.on
+returns-clause-call g c =
+    inside_on g.met.S.Steps.fits c.args.self.now.env.now c.copy_within.new.self (λ r. 1) (λ r last t s w.
+    objects.part_reading r last t s g.E.Elem.KIND w c.args.start (length c.args.elements.now)) c.args.array.0
+    (word_of c.of-array.result) c.of-array.ensures.reads c.copy_within.ensures.call c.copy_within.ensures.on

@@ -8,9 +8,14 @@ use Rattle.jr_env.proofs.stay.Stay.get_object_array_element.Goals as goal
 pub returns-in_err-made-clause-call : goal.returns-in_err-made-clause-call
 returns-in_err-made-clause-call g c =
     refuses_inside c.args.self.now.env.now c.within.new.self packed_if c.from_residual.result c.from_residual.ensures.1
-    (inside_on g.met.S.Steps.fits c.args.self.now.env.now c.within.new.self (λ r. 1) (λ r last t s w. objects.element_reading r last t s w c.args.index) c.args.array.0 (word_of c.of-target.result) c.of-target.ensures.reads c.in_err-made.ensures.call c.in_err-made.ensures.on)
+    (inside_on g.met.S.Steps.fits c.args.self.now.env.now c.within.new.self (λ r. 1)
+    (λ r last t s w. objects.element_reading r last t s w c.args.index) c.args.array.0 (word_of c.of-target.result)
+    c.of-target.ensures.reads c.in_err-made.ensures.call c.in_err-made.ensures.on)
 
 pub returns-clause-call : goal.returns-clause-call
 returns-clause-call g c =
-    answers_inside c.args.self.now.env.now c.within.new.self packed_if (packed_if_is c.map.result c.in_ok-made.made c.map.ensures.cases)
-    (inside_on g.met.S.Steps.fits c.args.self.now.env.now c.within.new.self (λ r. 1) (λ r last t s w. objects.element_reading r last t s w c.args.index) c.args.array.0 (word_of c.of-target.result) c.of-target.ensures.reads c.in_ok-made.ensures.call c.in_ok-made.ensures.on)
+    answers_inside c.args.self.now.env.now c.within.new.self packed_if
+    (packed_if_is c.map.result c.in_ok-made.made c.map.ensures.cases)
+    (inside_on g.met.S.Steps.fits c.args.self.now.env.now c.within.new.self (λ r. 1)
+    (λ r last t s w. objects.element_reading r last t s w c.args.index) c.args.array.0 (word_of c.of-target.result)
+    c.of-target.ensures.reads c.in_ok-made.ensures.call c.in_ok-made.ensures.on)

@@ -6,4 +6,6 @@ use Rattle.jr_env.proofs.WithinStays.{inside_on}
 use Rattle.jr_env.proofs.stay.Stay.get_string_length.Goals as goal
 
 pub returns-clause-call : goal.returns-clause-call
-returns-clause-call g c = inside_on g.met.S.Steps.fits c.args.self.now.env.now c.within.new.self (λ r. 1) (λ r last t s w. objects.length_reading r last t s is_text WrongKind w) c.args.string.0 (word_of c.of-target.result) c.of-target.ensures.reads c.within.ensures.call c.within.ensures.on
+returns-clause-call g c = inside_on g.met.S.Steps.fits c.args.self.now.env.now c.within.new.self (λ r. 1)
+    (λ r last t s w. objects.length_reading r last t s is_text WrongKind w) c.args.string.0 (word_of c.of-target.result)
+    c.of-target.ensures.reads c.within.ensures.call c.within.ensures.on

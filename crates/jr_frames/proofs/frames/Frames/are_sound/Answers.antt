@@ -6,4 +6,5 @@ use Rattle.jr_frames.proofs.Sound.{sound}
 use Rattle.jr_frames.proofs.frames.Frames.are_sound.Goals as goal
 
 pub returns : goal.returns
-returns c = subst (λ (t : Table). AreSound t.frames) c.self.view_is (sound c.self.inside (free_of c.self.inside) (order_of c.self.inside) c.self.invariant)
+returns c = subst (λ (t : Table). AreSound t.frames) c.self.view_is
+    (sound c.self.inside (free_of c.self.inside) (order_of c.self.inside) c.self.invariant)

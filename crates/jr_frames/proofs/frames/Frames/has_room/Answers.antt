@@ -8,6 +8,7 @@ use Rattle.jr_frames.proofs.frames.Frames.has_room.Goals as goal
 pub returns : goal.returns
 returns c =
     let counted : free_places c.args.self.now.last c.args.self.now.frames ≡ c.self.inside.free =
-    sym (ap (λ (t : Table). free_places t.last t.frames) c.self.view_is) ∙ free_counted c.self.inside (free_of c.self.inside) (order_of c.self.inside) c.self.invariant in
+    sym (ap (λ (t : Table). free_places t.last t.frames) c.self.view_is)
+    ∙ free_counted c.self.inside (free_of c.self.inside) (order_of c.self.inside) c.self.invariant in
     let room = c.from.ensures in
     search rules

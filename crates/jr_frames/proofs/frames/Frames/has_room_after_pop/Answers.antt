@@ -1,4 +1,5 @@
-use Rattle.std.proofs.Common.{◌≡◌, ◌≤◌, ◌-◌, ℕ, Bool, true, false, suc, length, IsTrue, ◌↔◌, refl, sym, subst, ◌∙◌, arith}
+use Rattle.std.proofs.Common.{◌≡◌, ◌≤◌, ◌-◌, ℕ, Bool, true, false, suc, length}
+use Rattle.std.proofs.Common.{IsTrue, ◌↔◌, refl, sym, subst, ◌∙◌, arith}
 use Rattle.jr_model.specs.Frames.{free_places, popped}
 use Rattle.jr_frames.specs.declared.frames.Frames.TheInside.{Inside as Fields}
 use Rattle.jr_frames.specs.Table.{Table}
@@ -6,13 +7,16 @@ use Rattle.jr_frames.specs.Arrangements.{table, free_of, order_of, IsTable}
 use Rattle.jr_frames.proofs.PopRoom.{room_already, newest_ring, room_then, room_never}
 use Rattle.jr_frames.proofs.frames.Frames.has_room_after_pop.Goals as goal
 
-at_end : (a : Fields) (len : ℕ) → IsTable a → len ≡ length a.rings.links.items → suc (len - 1) ≡ length a.rings.links.items
+at_end : (a : Fields) (len : ℕ) → IsTable a → len ≡ length a.rings.links.items
+    → suc (len - 1) ≡ length a.rings.links.items
 at_end a len is e = let size = is.size in omega arith
 
-shown : (t : Table) (a : Fields) → table a ≡ t → 1 ≤ free_places a.last (popped (table a).frames) → 1 ≤ free_places t.last (popped t.frames)
+shown : (t : Table) (a : Fields) → table a ≡ t → 1 ≤ free_places a.last (popped (table a).frames)
+    → 1 ≤ free_places t.last (popped t.frames)
 shown t a e l = subst (λ (u : Table). 1 ≤ free_places u.last (popped u.frames)) e l
 
-shown_none : (t : Table) (a : Fields) → table a ≡ t → free_places a.last (popped (table a).frames) ≡ 0 → free_places t.last (popped t.frames) ≡ 0
+shown_none : (t : Table) (a : Fields) → table a ≡ t → free_places a.last (popped (table a).frames) ≡ 0
+    → free_places t.last (popped t.frames) ≡ 0
 shown_none t a e l = subst (λ (u : Table). free_places u.last (popped u.frames) ≡ 0) e l
 
 -- a test that says whether there are any
@@ -22,16 +26,21 @@ decides false n some none = ((λ t. absurd cc), (λ l. absurd (let z = none refl
 
 pub returns-then-self-gt0 : goal.returns-then-self-gt0
 returns-then-self-gt0 c = (
-  (λ t. shown _ c.self.inside c.self.view_is (room_already c.self.inside (free_of c.self.inside) (order_of c.self.inside) c.self.invariant (let some = c.if-self-gt0.true in omega arith))),
+  (λ t. shown _ c.self.inside c.self.view_is (room_already c.self.inside (free_of c.self.inside)
+      (order_of c.self.inside) c.self.invariant (let some = c.if-self-gt0.true in omega arith))),
   (λ l. refl),
 )
 
 pub any_gives_again-requires : goal.any_gives_again-requires
-any_gives_again-requires c = newest_ring c.self.inside (free_of c.self.inside) (order_of c.self.inside) c.self.invariant (c.len.result - 1) (at_end c.self.inside c.len.result c.self.invariant c.len.ensures.value)
+any_gives_again-requires c = newest_ring c.self.inside (free_of c.self.inside) (order_of c.self.inside) c.self.invariant
+    (c.len.result - 1) (at_end c.self.inside c.len.result c.self.invariant c.len.ensures.value)
 
 pub returns : goal.returns
 returns c =
     let end = at_end c.self.inside c.len.result c.self.invariant c.len.ensures.value in
     decides c.any_gives_again.result _
-    (λ e. shown _ c.self.inside c.self.view_is (room_then c.self.inside (free_of c.self.inside) (order_of c.self.inside) c.self.invariant (c.len.result - 1) end (sym c.any_gives_again.ensures ∙ e)))
-    (λ e. shown_none _ c.self.inside c.self.view_is (room_never c.self.inside (free_of c.self.inside) (order_of c.self.inside) c.self.invariant (c.len.result - 1) end (sym c.any_gives_again.ensures ∙ e) (let zero_free = c.if-self-gt0.false in omega arith)))
+    (λ e. shown _ c.self.inside c.self.view_is (room_then c.self.inside (free_of c.self.inside) (order_of c.self.inside)
+    c.self.invariant (c.len.result - 1) end (sym c.any_gives_again.ensures ∙ e)))
+    (λ e. shown_none _ c.self.inside c.self.view_is
+    (room_never c.self.inside (free_of c.self.inside) (order_of c.self.inside) c.self.invariant (c.len.result - 1) end
+    (sym c.any_gives_again.ensures ∙ e) (let zero_free = c.if-self-gt0.false in omega arith)))

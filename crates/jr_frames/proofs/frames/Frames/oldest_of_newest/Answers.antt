@@ -1,4 +1,5 @@
-use Rattle.std.proofs.Common.{◌≡◌, ◌-◌, ◌≤◌, ℕ, suc, [], length, IfSome, IfNone, Option, Some, None, sym, ap, subst, ◌∙◌, arith}
+use Rattle.std.proofs.Common.{◌≡◌, ◌-◌, ◌≤◌, ℕ, suc, [], length, IfSome, IfNone}
+use Rattle.std.proofs.Common.{Option, Some, None, sym, ap, subst, ◌∙◌, arith}
 use Rattle.jr_model.specs.State.{Handle}
 use Rattle.jr_frames.specs.Table.{TakesOldest, oldest_handle}
 use Rattle.jr_frames.proofs.LastFrame.{last_at, takes_last}
@@ -15,10 +16,13 @@ number : (c : goal.After-oldest_of) → suc (c.depth.result - 1) ≡ length c.ar
 number c = number_is c.depth.result _ c.depth.ensures c.are_sound.ensures.some_frame
 
 pub returns-clause-oldest : goal.returns-clause-oldest
-returns-clause-oldest c = c.oldest_of.ensures.oldest ∙ ap oldest_handle (sym (last_at c.args.self.now.frames.frames (c.depth.result - 1) (number c)))
+returns-clause-oldest c = c.oldest_of.ensures.oldest
+    ∙ ap oldest_handle (sym (last_at c.args.self.now.frames.frames (c.depth.result - 1) (number c)))
 
 pub returns-clause-empty : goal.returns-clause-empty
-returns-clause-empty c = subst (λ rs. IfNone c.oldest_of.result (rs ≡ [])) (sym (last_at c.args.self.now.frames.frames (c.depth.result - 1) (number c))) c.oldest_of.ensures.empty
+returns-clause-empty c = subst (λ rs. IfNone c.oldest_of.result (rs ≡ []))
+    (sym (last_at c.args.self.now.frames.frames (c.depth.result - 1) (number c))) c.oldest_of.ensures.empty
 
 pub returns-clause-rest : goal.returns-clause-rest
-returns-clause-rest c = some_more _ (TakesOldest c.args.self.now.frames) (λ h takes. takes_last c.args.self.now.frames (c.depth.result - 1) h (number c) takes) c.oldest_of.result c.oldest_of.ensures.rest
+returns-clause-rest c = some_more _ (TakesOldest c.args.self.now.frames) (λ h takes. takes_last c.args.self.now.frames
+    (c.depth.result - 1) h (number c) takes) c.oldest_of.result c.oldest_of.ensures.rest

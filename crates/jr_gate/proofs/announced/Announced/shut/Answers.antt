@@ -6,16 +6,24 @@ use Rattle.jr_gate.proofs.announced.Announced.shut.Goals as goal
 
 pub returns-in-Ok-clause-ok : goal.returns-in-Ok-clause-ok
 returns-in-Ok-clause-ok g c =
-    let t = c.in-Ok.ensures in
-    ((c.requires.0 ∙ sym (ap (λ (s : Standing). s.thread) t.stands_is), ap (λ (s : Standing). s.role) t.stands_is), shut_shows t)
+    let t = c.in-Ok.ensures in (
+      (c.requires.0 ∙ sym (ap (λ (s : Standing). s.thread) t.stands_is), ap (λ (s : Standing). s.role) t.stands_is),
+      shut_shows t,
+    )
 
 pub returns-in-Ok-clause-closed : goal.returns-in-Ok-clause-closed
 returns-in-Ok-clause-closed g c = shut_closes (g.met.S.Steps.some_known c.args.steps.now) c.in-Ok.ensures
 
 pub returns-in-Err-clause-err : goal.returns-in-Err-clause-err
 returns-in-Err-clause-err g c =
-    let t = c.in-Err.ensures in
-    ((c.requires.0 ∙ sym (ap (λ (s : Standing). s.thread) t.stands_is), ap (λ (s : Standing). s.role) t.stands_is ∙ c.requires.1), (c.in-Err.count, refl, busy_counts (g.met.S.Steps.some_known c.args.steps.now) c.in-Err.count t, t))
+    let t = c.in-Err.ensures in (
+      (
+        c.requires.0 ∙ sym (ap (λ (s : Standing). s.thread) t.stands_is),
+        ap (λ (s : Standing). s.role) t.stands_is ∙ c.requires.1,
+      ),
+      (c.in-Err.count, refl, busy_counts (g.met.S.Steps.some_known c.args.steps.now) c.in-Err.count t, t),
+    )
 
 pub returns-in-Err-clause-alone : goal.returns-in-Err-clause-alone
-returns-in-Err-clause-alone g c one = let T = g.met.S.Steps in absurd (never_busy T.fits T.lone (T.some_known c.args.steps.now) one c.in-Err.count c.in-Err.ensures)
+returns-in-Err-clause-alone g c one = let T = g.met.S.Steps in
+    absurd (never_busy T.fits T.lone (T.some_known c.args.steps.now) one c.in-Err.count c.in-Err.ensures)

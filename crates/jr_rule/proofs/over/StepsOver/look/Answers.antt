@@ -9,20 +9,30 @@ use Rattle.jr_rule.proofs.over.StepsOver.look.Goals as goal
 pub load-found-requires-clause-owed : goal.load-found-requires-clause-owed
 load-found-requires-clause-owed g c =
     let s = c.args.self.now in
-    owed (search rules) (may_any (g.C.Cells.sight s.cells) refl s.stands) (λ k among role m. sees_gate k c.args.name (subst (λ r. GateLoadFits r c.args.name) (sym role) c.requires))
+    owed (search rules) (may_any (g.C.Cells.sight s.cells) refl s.stands) (λ k among role m.
+    sees_gate k c.args.name (subst (λ r. GateLoadFits r c.args.name) (sym role) c.requires))
 
 pub invariant_of-self : goal.invariant_of-self
 invariant_of-self g c =
     let s = c.args.self.now in
-    record { at = c.load-found.ensures.there; stands = standing_next c.load-found.ensures.step (look_leaves c.args.name) refl (g.met.C.Cells.sound c.load-found.new.cells s.place c.load-found.ensures.there) s.stands (may_any (g.C.Cells.sight s.cells) refl s.stands) }
+    record {
+      at = c.load-found.ensures.there;
+      stands = standing_next c.load-found.ensures.step (look_leaves c.args.name) refl
+          (g.met.C.Cells.sound c.load-found.new.cells s.place c.load-found.ensures.there) s.stands
+          (may_any (g.C.Cells.sight s.cells) refl s.stands);
+    }
 
 pub unwrap-requires : goal.unwrap-requires
-unwrap-requires g c = let s = c.args.self.now in word_read c.load-found.ensures.step (may_any (g.C.Cells.sight s.cells) refl s.stands) (λ k k' done t. (t.0, t.1, t.2)) c.parts.result c.parts.ensures.complete
+unwrap-requires g c = let s = c.args.self.now in
+    word_read c.load-found.ensures.step (may_any (g.C.Cells.sight s.cells) refl s.stands)
+    (λ k k' done t. (t.0, t.1, t.2)) c.parts.result c.parts.ensures.complete
 
 pub returns-clause-step : goal.returns-clause-step
 returns-clause-step g c =
     let s = c.args.self.now in
-    took s _ c.load-found.ensures.step refl refl _ (gate_load _ c.parts.ensures.complete _ c.unwrap.ensures c.args.name) (gate_load_role c.args.name c.unwrap.result s.role) (gate_load_fresh c.args.name c.unwrap.result s.fresh)
+    took s _ c.load-found.ensures.step refl refl _ (gate_load _ c.parts.ensures.complete _ c.unwrap.ensures c.args.name)
+    (gate_load_role c.args.name c.unwrap.result s.role) (gate_load_fresh c.args.name c.unwrap.result s.fresh)
 
 pub returns-clause-seen : goal.returns-clause-seen
-returns-clause-seen g c = looked_so c.args.name c.load-found.ensures.step (gate_load _ c.parts.ensures.complete _ c.unwrap.ensures c.args.name)
+returns-clause-seen g c = looked_so c.args.name c.load-found.ensures.step
+    (gate_load _ c.parts.ensures.complete _ c.unwrap.ensures c.args.name)

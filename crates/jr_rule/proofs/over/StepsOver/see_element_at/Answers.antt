@@ -16,15 +16,24 @@ load-requires-clause-owed g c =
     let s = c.args.self.now in
     let z = g.C.Cells.sight s.cells in
     let x = c.args.header.place + c.args.index in
-    let few = known_few (g.met.C.Cells.sound s.cells s.place s.at) (may_in (g.C.Cells.sight s.cells) c.requires.role c.requires.known) c.args.object c.args.header c.args.index (λ k h. h) c.requires.index in
-    owed (element_in z.first.config x c.requires.place few) (may_in (g.C.Cells.sight s.cells) c.requires.role c.requires.known) (λ k among role m.
+    let few = known_few (g.met.C.Cells.sound s.cells s.place s.at) (may_in (g.C.Cells.sight s.cells) c.requires.role
+    c.requires.known) c.args.object c.args.header c.args.index (λ k h. h) c.requires.index in
+    owed (element_in z.first.config x c.requires.place few)
+    (may_in (g.C.Cells.sight s.cells) c.requires.role c.requires.known) (λ k among role m.
     let at : element_at k.config x ≡ c.args.at = ap (λ y. element_at y x) (among.config) ∙ sym c.requires.place in
-    load_at k (SawElement c.args.object c.args.index k) at (sees_element k role c.args.object c.args.header (∥∥₁_elim m (hlevel props) (λ q. q)) c.args.index c.requires.index))
+    load_at k (SawElement c.args.object c.args.index k) at (sees_element k role c.args.object c.args.header
+    (∥∥₁_elim m (hlevel props) (λ q. q)) c.args.index c.requires.index))
 
 pub invariant_of-self : goal.invariant_of-self
 invariant_of-self g c =
     let s = c.args.self.now in
-    record { at = subst (g.C.Cells.are_at c.load.new.cells) c.requires.there c.load.ensures.there; stands = standing_next c.load.ensures.step (leaves (plainly (λ k k' done t. t)) (λ k. refl) (λ k. refl)) c.requires.role (g.met.C.Cells.sound c.load.new.cells c.args.there c.load.ensures.there) s.stands (may_in (g.C.Cells.sight s.cells) c.requires.role c.requires.known) }
+    record {
+      at = subst (g.C.Cells.are_at c.load.new.cells) c.requires.there c.load.ensures.there;
+      stands = standing_next c.load.ensures.step (leaves (plainly (λ k k' done t. t)) (λ k. refl) (λ k. refl))
+          c.requires.role (g.met.C.Cells.sound c.load.new.cells c.args.there c.load.ensures.there) s.stands
+          (may_in (g.C.Cells.sight s.cells) c.requires.role c.requires.known);
+    }
 
 pub returns-clause-step : goal.returns-clause-step
-returns-clause-step g c = let s = c.args.self.now in took s _ c.load.ensures.step refl c.requires.role _ (plainly (λ k k' done t. t)) refl refl
+returns-clause-step g c = let s = c.args.self.now in
+    took s _ c.load.ensures.step refl c.requires.role _ (plainly (λ k k' done t. t)) refl refl

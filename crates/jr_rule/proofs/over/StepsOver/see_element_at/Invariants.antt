@@ -5,4 +5,5 @@ use Rattle.jr_rule.specs.Cells.{InRole}
 use Rattle.jr_rule.proofs.over.StepsOver.see_element_at.Given as goal
 
 abbrev pub ghosts-load : goal.ghosts-load
-ghosts-load g a = record { met = InRole Within (KnowsHeader a._about.0 a._about.1); told = SawElement a._about.0 a._about.2 }
+ghosts-load g a =
+    record { met = InRole Within (KnowsHeader a._about.0 a._about.1); told = SawElement a._about.0 a._about.2 }

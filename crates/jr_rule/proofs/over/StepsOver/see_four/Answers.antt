@@ -10,14 +10,17 @@ pub see_element_at-second-requires-clause-known : goal.see_element_at-second-req
 see_element_at-second-requires-clause-known g c = still_known c.see_element_at-first.ensures.step c.requires.known
 
 pub see_element_at-third-requires-clause-known : goal.see_element_at-third-requires-clause-known
-see_element_at-third-requires-clause-known g c = still_known c.see_element_at-second.ensures.step (still_known c.see_element_at-first.ensures.step c.requires.known)
+see_element_at-third-requires-clause-known g c =
+    still_known c.see_element_at-second.ensures.step (still_known c.see_element_at-first.ensures.step c.requires.known)
 
 pub see_element_at-fourth-requires-clause-known : goal.see_element_at-fourth-requires-clause-known
-see_element_at-fourth-requires-clause-known g c = still_known c.see_element_at-third.ensures.step (still_known c.see_element_at-second.ensures.step (still_known c.see_element_at-first.ensures.step c.requires.known))
+see_element_at-fourth-requires-clause-known g c = still_known c.see_element_at-third.ensures.step (still_known
+    c.see_element_at-second.ensures.step (still_known c.see_element_at-first.ensures.step c.requires.known))
 
 pub returns-clause-known : goal.returns-clause-known
 returns-clause-known g c =
-    still_known c.see_element_at-fourth.ensures.step (still_known c.see_element_at-third.ensures.step (still_known c.see_element_at-second.ensures.step (still_known c.see_element_at-first.ensures.step c.requires.known)))
+    still_known c.see_element_at-fourth.ensures.step (still_known c.see_element_at-third.ensures.step (still_known
+    c.see_element_at-second.ensures.step (still_known c.see_element_at-first.ensures.step c.requires.known)))
 
 pub returns-clause-step : goal.returns-clause-step
 returns-clause-step g c = λ p saw.
@@ -31,11 +34,27 @@ returns-clause-step g c = λ p saw.
     let three : i + 2 + 1 ≡ i + 3 = omega arith in
     let four : i + 3 + 1 ≡ i + 4 = omega arith in
     let n1 : length (slice_set es i a) ≡ length es = length-set es i a in
-    let n2 : length (slice_set (slice_set es i a) (i + 1) b) ≡ length es = length-set (slice_set es i a) (i + 1) b ∙ n1 in
-    let n3 : length (slice_set (slice_set (slice_set es i a) (i + 1) b) (i + 2) d) ≡ length es = length-set (slice_set (slice_set es i a) (i + 1) b) (i + 2) d ∙ n2 in
+    let n2 : length (slice_set (slice_set es i a) (i + 1) b) ≡ length es =
+    length-set (slice_set es i a) (i + 1) b ∙ n1 in
+    let n3 : length (slice_set (slice_set (slice_set es i a) (i + 1) b) (i + 2) d) ≡ length es =
+    length-set (slice_set (slice_set es i a) (i + 1) b) (i + 2) d ∙ n2 in
     let inside = c.requires.index in
-    let s1 = saw_more g.E.Elem.element_of c.args.object c.args.header c.args.start i (c.args.start + i) es a c.see_element_at-first.result (omega arith) refl c.of_word.ensures saw c.see_element_at-first.ensures.step in
-    let s2 = saw_more g.E.Elem.element_of c.args.object c.args.header c.args.start (i + 1) (c.args.start + i + 1) (slice_set es i a) b c.see_element_at-second.result (omega arith) (omega arith) c.of_word-2.ensures s1 c.see_element_at-second.ensures.step in
-    let s3 = saw_more g.E.Elem.element_of c.args.object c.args.header c.args.start (i + 2) (c.args.start + i + 2) (slice_set (slice_set es i a) (i + 1) b) d c.see_element_at-third.result (omega arith) (omega arith) c.of_word-3.ensures (subst (λ n. SawPart facts_over p c.see_element_at-second.new.self c.args.object c.args.header c.args.start g.E.Elem.element_of (take n (slice_set (slice_set es i a) (i + 1) b))) two s2) c.see_element_at-third.ensures.step in
-    let s4 = saw_more g.E.Elem.element_of c.args.object c.args.header c.args.start (i + 3) (c.args.start + i + 3) (slice_set (slice_set (slice_set es i a) (i + 1) b) (i + 2) d) e c.see_element_at-fourth.result (omega arith) (omega arith) c.of_word-4.ensures (subst (λ n. SawPart facts_over p c.see_element_at-third.new.self c.args.object c.args.header c.args.start g.E.Elem.element_of (take n (slice_set (slice_set (slice_set es i a) (i + 1) b) (i + 2) d))) three s3) c.see_element_at-fourth.ensures.step in
-    subst (λ n. SawPart facts_over p c.see_element_at-fourth.new.self c.args.object c.args.header c.args.start g.E.Elem.element_of (take n (slice_set (slice_set (slice_set (slice_set es i a) (i + 1) b) (i + 2) d) (i + 3) e))) four s4
+    let s1 = saw_more g.E.Elem.element_of c.args.object c.args.header c.args.start i (c.args.start + i) es a
+    c.see_element_at-first.result (omega arith) refl c.of_word.ensures saw c.see_element_at-first.ensures.step in
+    let s2 = saw_more g.E.Elem.element_of c.args.object c.args.header c.args.start (i + 1) (c.args.start + i + 1)
+    (slice_set es i a) b c.see_element_at-second.result (omega arith) (omega arith) c.of_word-2.ensures s1
+    c.see_element_at-second.ensures.step in
+    let s3 = saw_more g.E.Elem.element_of c.args.object c.args.header c.args.start (i + 2) (c.args.start + i + 2)
+    (slice_set (slice_set es i a) (i + 1) b) d c.see_element_at-third.result (omega arith) (omega arith)
+    c.of_word-3.ensures (subst (λ n. SawPart facts_over p c.see_element_at-second.new.self c.args.object c.args.header
+    c.args.start g.E.Elem.element_of (take n (slice_set (slice_set es i a) (i + 1) b))) two s2)
+    c.see_element_at-third.ensures.step in
+    let s4 = saw_more g.E.Elem.element_of c.args.object c.args.header c.args.start (i + 3) (c.args.start + i + 3)
+    (slice_set (slice_set (slice_set es i a) (i + 1) b) (i + 2) d) e c.see_element_at-fourth.result (omega arith)
+    (omega arith) c.of_word-4.ensures
+    (subst (λ n. SawPart facts_over p c.see_element_at-third.new.self c.args.object c.args.header c.args.start
+    g.E.Elem.element_of (take n (slice_set (slice_set (slice_set es i a) (i + 1) b) (i + 2) d))) three s3)
+    c.see_element_at-fourth.ensures.step in
+    subst (λ n. SawPart facts_over p c.see_element_at-fourth.new.self c.args.object c.args.header c.args.start
+    g.E.Elem.element_of (take n (slice_set (slice_set (slice_set (slice_set es i a) (i + 1) b) (i + 2) d) (i + 3) e)))
+    four s4

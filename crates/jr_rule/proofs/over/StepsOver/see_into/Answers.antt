@@ -14,4 +14,6 @@ pub returns-clause-role : goal.returns-clause-role
 returns-clause-role g c = ap (λ (s : Standing). s.role) c.see_element_at-word.ensures.step.stands_is ∙ c.requires.role
 
 pub returns-clause-step : goal.returns-clause-step
-returns-clause-step g c = λ p saw. saw_more g.E.Elem.element_of c.args.object c.args.header c.args.start c.args.index (c.args.start + c.args.index) c.args.elements.now c.of_word.result c.see_element_at-word.result c.requires.index refl c.of_word.ensures saw c.see_element_at-word.ensures.step
+returns-clause-step g c = λ p saw. saw_more g.E.Elem.element_of c.args.object c.args.header c.args.start c.args.index
+    (c.args.start + c.args.index) c.args.elements.now c.of_word.result c.see_element_at-word.result c.requires.index
+    refl c.of_word.ensures saw c.see_element_at-word.ensures.step

@@ -6,7 +6,11 @@ pub loop-index-init : goal.loop-index-init
 loop-index-init g c = (refl, c.requires.role, refl, c.requires.known, c.requires.there, λ p s. s)
 
 pub loop-index-preserved : goal.loop-index-preserved
-loop-index-preserved g c = let v = c.loop-index.invariant in let x = c.see_into.ensures in (x.config ∙ v.0, x.role, x.size ∙ v.2, x.known, x.there, λ p s. x.step p (v.5 p s))
+loop-index-preserved g c = let v = c.loop-index.invariant in let x = c.see_into.ensures in
+    (x.config ∙ v.0, x.role, x.size ∙ v.2, x.known, x.there, λ p s. x.step p (v.5 p s))
 
 pub returns-clause-steps : goal.returns-clause-steps
-returns-clause-steps g c = λ p s. saw_all g.E.Elem.element_of c.args.object c.args.header c.args.start c.loop-index.index (length c.args.elements.now) c.loop-index.elements (let a = c.loop-index.auto.index-end in let b = c.loop-index-test.false in let d = c.requires.done in omega arith) c.loop-index.invariant.2 (c.loop-index.invariant.5 p s)
+returns-clause-steps g c = λ p s.
+    saw_all g.E.Elem.element_of c.args.object c.args.header c.args.start c.loop-index.index (length c.args.elements.now)
+    c.loop-index.elements (let a = c.loop-index.auto.index-end in let b = c.loop-index-test.false in
+    let d = c.requires.done in omega arith) c.loop-index.invariant.2 (c.loop-index.invariant.5 p s)

@@ -7,29 +7,48 @@ use Rattle.jr_rule.proofs.StepTaken.{may_any, owed, leaves, standing_next, took,
 use Rattle.jr_rule.proofs.over.StepsOverSteps.bar.Goals as goal
 
 pub exchange-found-requires-clause-owed : goal.exchange-found-requires-clause-owed
-exchange-found-requires-clause-owed g c = let s = c.args.self.now in owed (search rules) (may_any (g.C.Cells.sight s.cells) c.requires s.stands) (λ k among role m. shuts k Open (inl refl) role)
+exchange-found-requires-clause-owed g c = let s = c.args.self.now in owed (search rules)
+    (may_any (g.C.Cells.sight s.cells) c.requires s.stands) (λ k among role m. shuts k Open (inl refl) role)
 
 pub invariant_of-self : goal.invariant_of-self
 invariant_of-self g c =
     let s = c.args.self.now in
-    record { at = c.exchange-found.ensures.there; stands = standing_next c.exchange-found.ensures.step (busy_leaves Open Outside c.if-found-ne0.true) c.requires (g.met.C.Cells.sound c.exchange-found.new.cells s.place c.exchange-found.ensures.there) s.stands (may_any (g.C.Cells.sight s.cells) c.requires s.stands) }
+    record {
+      at = c.exchange-found.ensures.there;
+      stands = standing_next c.exchange-found.ensures.step (busy_leaves Open Outside c.if-found-ne0.true) c.requires
+          (g.met.C.Cells.sound c.exchange-found.new.cells s.place c.exchange-found.ensures.there) s.stands
+          (may_any (g.C.Cells.sight s.cells) c.requires s.stands);
+    }
 
 pub unwrap-requires : goal.unwrap-requires
-unwrap-requires g c = let s = c.args.self.now in word_read c.exchange-found.ensures.step (may_any (g.C.Cells.sight s.cells) c.requires s.stands) (λ k k' done t. let u = t.1 c.if-found-ne0.true in (u.0, u.1, u.2)) c.parts.result c.parts.ensures.complete
+unwrap-requires g c = let s = c.args.self.now in
+    word_read c.exchange-found.ensures.step (may_any (g.C.Cells.sight s.cells) c.requires s.stands)
+    (λ k k' done t. let u = t.1 c.if-found-ne0.true in (u.0, u.1, u.2)) c.parts.result c.parts.ensures.complete
 
 pub returns-then-found-ne0-clause-step : goal.returns-then-found-ne0-clause-step
-returns-then-found-ne0-clause-step g c = let s = c.args.self.now in took s _ c.exchange-found.ensures.step refl c.requires _ (bar_lost _ c.parts.ensures.complete _ c.unwrap.ensures Open Outside c.if-found-ne0.true _ c.all_counted.ensures) refl refl
+returns-then-found-ne0-clause-step g c = let s = c.args.self.now in
+    took s _ c.exchange-found.ensures.step refl c.requires _ (bar_lost _ c.parts.ensures.complete _ c.unwrap.ensures
+    Open Outside c.if-found-ne0.true _ c.all_counted.ensures) refl refl
 
 pub returns-then-found-ne0-clause-seen : goal.returns-then-found-ne0-clause-seen
-returns-then-found-ne0-clause-seen g c = let s = c.args.self.now in c.exchange-found.ensures.seen _ (its_acts (bar_lost _ c.parts.ensures.complete _ c.unwrap.ensures Open Outside c.if-found-ne0.true _ c.all_counted.ensures))
+returns-then-found-ne0-clause-seen g c = let s = c.args.self.now in c.exchange-found.ensures.seen _ (its_acts
+    (bar_lost _ c.parts.ensures.complete _ c.unwrap.ensures Open Outside c.if-found-ne0.true _ c.all_counted.ensures))
 
 pub invariant_of-self-2 : goal.invariant_of-self-2
 invariant_of-self-2 g c =
     let s = c.args.self.now in
-    record { at = c.exchange-found.ensures.there; stands = standing_next c.exchange-found.ensures.step (leaves (barred Open Outside c.if-found-ne0.false) (λ k. refl) (λ k. refl)) c.requires (g.met.C.Cells.sound c.exchange-found.new.cells s.place c.exchange-found.ensures.there) s.stands (may_any (g.C.Cells.sight s.cells) c.requires s.stands) }
+    record {
+      at = c.exchange-found.ensures.there;
+      stands = standing_next c.exchange-found.ensures.step
+          (leaves (barred Open Outside c.if-found-ne0.false) (λ k. refl) (λ k. refl)) c.requires
+          (g.met.C.Cells.sound c.exchange-found.new.cells s.place c.exchange-found.ensures.there) s.stands
+          (may_any (g.C.Cells.sight s.cells) c.requires s.stands);
+    }
 
 pub returns-clause-step : goal.returns-clause-step
-returns-clause-step g c = let s = c.args.self.now in took s _ c.exchange-found.ensures.step refl c.requires _ (barred Open Outside c.if-found-ne0.false) refl refl
+returns-clause-step g c = let s = c.args.self.now in
+    took s _ c.exchange-found.ensures.step refl c.requires _ (barred Open Outside c.if-found-ne0.false) refl refl
 
 pub returns-clause-seen : goal.returns-clause-seen
-returns-clause-seen g c = let s = c.args.self.now in c.exchange-found.ensures.seen _ (its_acts (barred Open Outside c.if-found-ne0.false))
+returns-clause-seen g c = let s = c.args.self.now in
+    c.exchange-found.ensures.seen _ (its_acts (barred Open Outside c.if-found-ne0.false))

@@ -14,10 +14,13 @@ exchange-found-requires-clause-owed g c =
     let h = c.args.header in
     let z = g.C.Cells.sight s.cells in
     let o = c.args.object in
-    let here : c.header_at-at.result ≡ header_at z.first.config o = c.header_at-at.ensures ∙ ap (header_at z.first.config) c.from.ensures in
-    owed (header_in z.first.config o here c.requires.number.0 c.requires.number.1) (may_in (g.C.Cells.sight s.cells) c.requires.role c.requires.filled) (λ k among role m.
+    let here : c.header_at-at.result ≡ header_at z.first.config o =
+    c.header_at-at.ensures ∙ ap (header_at z.first.config) c.from.ensures in
+    owed (header_in z.first.config o here c.requires.number.0 c.requires.number.1)
+    (may_in (g.C.Cells.sight s.cells) c.requires.role c.requires.filled) (λ k among role m.
     let at : header_at k.config o ≡ c.header_at-at.result = ap (λ x. header_at x o) among.config ∙ sym here in
-    exchange_at k (Published o h k) at refl (sym c.pack-new.ensures) (publishes_header k role o h c.requires.number.0 (subst (λ (x : Config). o ≤ x.objects) (sym among.config) c.requires.number.1) c.requires.header m))
+    exchange_at k (Published o h k) at refl (sym c.pack-new.ensures) (publishes_header k role o h c.requires.number.0
+    (subst (λ (x : Config). o ≤ x.objects) (sym among.config) c.requires.number.1) c.requires.header m))
 
 pub invariant_of-self : goal.invariant_of-self
 invariant_of-self g c =
@@ -25,7 +28,13 @@ invariant_of-self g c =
     let o = c.args.object in
     let h = c.args.header in
     let n = c.exchange-found.result in
-    record { at = c.exchange-found.ensures.there; stands = standing_next c.exchange-found.ensures.step (leaves (publishing o h) (λ k. publishing_role o h.kind (words_for h k) (n == 0) s.role) (λ k. publishing_fresh o h.kind (words_for h k) (n == 0) s.fresh)) c.requires.role (g.met.C.Cells.sound c.exchange-found.new.cells s.place c.exchange-found.ensures.there) s.stands (may_in (g.C.Cells.sight s.cells) c.requires.role c.requires.filled) }
+    record {
+      at = c.exchange-found.ensures.there;
+      stands = standing_next c.exchange-found.ensures.step (leaves (publishing o h) (λ k. publishing_role o h.kind
+          (words_for h k) (n == 0) s.role) (λ k. publishing_fresh o h.kind (words_for h k) (n == 0) s.fresh))
+          c.requires.role (g.met.C.Cells.sound c.exchange-found.new.cells s.place c.exchange-found.ensures.there)
+          s.stands (may_in (g.C.Cells.sight s.cells) c.requires.role c.requires.filled);
+    }
 
 pub returns : goal.returns
 returns g c =
@@ -33,4 +42,6 @@ returns g c =
     let o = c.args.object in
     let h = c.args.header in
     let n = c.exchange-found.result in
-    took_with s _ c.exchange-found.ensures.step refl c.requires.role (publishing o h) refl refl (λ k. publishing_role o h.kind (words_for h k) (n == 0) s.role) (λ k. publishing_fresh o h.kind (words_for h k) (n == 0) s.fresh)
+    took_with s _ c.exchange-found.ensures.step refl c.requires.role (publishing o h) refl refl
+    (λ k. publishing_role o h.kind (words_for h k) (n == 0) s.role) (λ k.
+    publishing_fresh o h.kind (words_for h k) (n == 0) s.fresh)

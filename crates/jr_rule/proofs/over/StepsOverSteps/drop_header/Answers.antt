@@ -12,15 +12,24 @@ store-requires-clause-owed g c =
     let s = c.args.self.now in
     let z = g.C.Cells.sight s.cells in
     let o = c.args.object in
-    let here : c.header_at-at.result ≡ header_at z.first.config o = c.header_at-at.ensures ∙ ap (header_at z.first.config) c.from.ensures in
-    owed (header_in z.first.config o here c.requires.number.0 c.requires.number.1) (may_in (g.C.Cells.sight s.cells) c.requires.role c.requires.can) (λ k among role m.
+    let here : c.header_at-at.result ≡ header_at z.first.config o =
+    c.header_at-at.ensures ∙ ap (header_at z.first.config) c.from.ensures in
+    owed (header_in z.first.config o here c.requires.number.0 c.requires.number.1)
+    (may_in (g.C.Cells.sight s.cells) c.requires.role c.requires.can) (λ k among role m.
     let at : header_at k.config o ≡ c.header_at-at.result = ap (λ x. header_at x o) among.config ∙ sym here in
-    store_at k (Dropped o k) at refl (drops_header k role o c.requires.number.0 (subst (λ (x : Config). o ≤ x.objects) (sym among.config) c.requires.number.1) (drop_is k o m)))
+    store_at k (Dropped o k) at refl (drops_header k role o c.requires.number.0
+    (subst (λ (x : Config). o ≤ x.objects) (sym among.config) c.requires.number.1) (drop_is k o m)))
 
 pub invariant_of-self : goal.invariant_of-self
 invariant_of-self g c =
     let s = c.args.self.now in
-    record { at = c.store.ensures.there; stands = standing_next c.store.ensures.step (leaves (plainly (λ k k' done t. t)) (λ k. refl) (λ k. refl)) c.requires.role (g.met.C.Cells.sound c.store.new.cells s.place c.store.ensures.there) s.stands (may_in (g.C.Cells.sight s.cells) c.requires.role c.requires.can) }
+    record {
+      at = c.store.ensures.there;
+      stands = standing_next c.store.ensures.step (leaves (plainly (λ k k' done t. t)) (λ k. refl) (λ k. refl))
+          c.requires.role (g.met.C.Cells.sound c.store.new.cells s.place c.store.ensures.there) s.stands
+          (may_in (g.C.Cells.sight s.cells) c.requires.role c.requires.can);
+    }
 
 pub returns : goal.returns
-returns g c = let s = c.args.self.now in took s _ c.store.ensures.step refl c.requires.role _ (plainly (λ k k' done t. t)) refl refl
+returns g c = let s = c.args.self.now in
+    took s _ c.store.ensures.step refl c.requires.role _ (plainly (λ k k' done t. t)) refl refl

@@ -6,4 +6,5 @@ use Rattle.jr_rule.specs.Cells.{InRole}
 use Rattle.jr_rule.proofs.over.StepsOverSteps.free.Given as goal
 
 abbrev pub ghosts-exchange : goal.ghosts-exchange
-ghosts-exchange g a = record { met = InRole Within (HasLooked a._about.0 (found_of a._about.1)); told = Freed a._about.0 a.old }
+ghosts-exchange g a =
+    record { met = InRole Within (HasLooked a._about.0 (found_of a._about.1)); told = Freed a._about.0 a.old }

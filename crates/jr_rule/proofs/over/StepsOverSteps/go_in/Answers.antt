@@ -8,18 +8,25 @@ use Rattle.jr_rule.proofs.StepTaken.{may_any, owed, leaves, standing_next, took,
 use Rattle.jr_rule.proofs.over.StepsOverSteps.go_in.Goals as goal
 
 pub add-found-requires-clause-owed : goal.add-found-requires-clause-owed
-add-found-requires-clause-owed g c = let s = c.args.self.now in owed (search rules) (may_any (g.C.Cells.sight s.cells) c.requires s.stands) (λ k among role m. enters k role)
+add-found-requires-clause-owed g c = let s = c.args.self.now in
+    owed (search rules) (may_any (g.C.Cells.sight s.cells) c.requires s.stands) (λ k among role m. enters k role)
 
 pub invariant_of-self : goal.invariant_of-self
 invariant_of-self g c =
     let s = c.args.self.now in
-    let left = leaves (entry _ true c.is_closed.ensures c.if-is_closed.true) (λ k. ap (λ r. role_after r (act_of_entry false)) (sym c.requires)) (λ k. entered_fresh false s.fresh) in
-    record { at = c.add-found.ensures.there; stands = standing_next c.add-found.ensures.step left c.requires (g.met.C.Cells.sound c.add-found.new.cells s.place c.add-found.ensures.there) s.stands (may_any (g.C.Cells.sight s.cells) c.requires s.stands) }
+    let left = leaves (entry _ true c.is_closed.ensures c.if-is_closed.true)
+    (λ k. ap (λ r. role_after r (act_of_entry false)) (sym c.requires)) (λ k. entered_fresh false s.fresh) in
+    record {
+      at = c.add-found.ensures.there;
+      stands = standing_next c.add-found.ensures.step left c.requires (g.met.C.Cells.sound c.add-found.new.cells s.place
+          c.add-found.ensures.there) s.stands (may_any (g.C.Cells.sight s.cells) c.requires s.stands);
+    }
 
 pub returns-then-is_closed-clause-step : goal.returns-then-is_closed-clause-step
 returns-then-is_closed-clause-step g c =
     let s = c.args.self.now in
-    took s _ c.add-found.ensures.step refl c.requires _ (entry _ true c.is_closed.ensures c.if-is_closed.true) (ap (λ r. role_after r (act_of_entry false)) (sym c.requires)) (entered_fresh false s.fresh)
+    took s _ c.add-found.ensures.step refl c.requires _ (entry _ true c.is_closed.ensures c.if-is_closed.true)
+    (ap (λ r. role_after r (act_of_entry false)) (sym c.requires)) (entered_fresh false s.fresh)
 
 pub returns-then-is_closed-clause-seen : goal.returns-then-is_closed-clause-seen
 returns-then-is_closed-clause-seen g c =
@@ -29,13 +36,19 @@ returns-then-is_closed-clause-seen g c =
 pub invariant_of-self-else-is_closed : goal.invariant_of-self-else-is_closed
 invariant_of-self-else-is_closed g c =
     let s = c.args.self.now in
-    let left = leaves (entry _ false c.is_closed.ensures c.if-is_closed.false) (λ k. ap (λ r. role_after r (act_of_entry true)) (sym c.requires)) (λ k. entered_fresh true s.fresh) in
-    record { at = c.add-found.ensures.there; stands = standing_next c.add-found.ensures.step left c.requires (g.met.C.Cells.sound c.add-found.new.cells s.place c.add-found.ensures.there) s.stands (may_any (g.C.Cells.sight s.cells) c.requires s.stands) }
+    let left = leaves (entry _ false c.is_closed.ensures c.if-is_closed.false)
+    (λ k. ap (λ r. role_after r (act_of_entry true)) (sym c.requires)) (λ k. entered_fresh true s.fresh) in
+    record {
+      at = c.add-found.ensures.there;
+      stands = standing_next c.add-found.ensures.step left c.requires (g.met.C.Cells.sound c.add-found.new.cells s.place
+          c.add-found.ensures.there) s.stands (may_any (g.C.Cells.sight s.cells) c.requires s.stands);
+    }
 
 pub returns-clause-step : goal.returns-clause-step
 returns-clause-step g c =
     let s = c.args.self.now in
-    took s _ c.add-found.ensures.step refl c.requires _ (entry _ false c.is_closed.ensures c.if-is_closed.false) (ap (λ r. role_after r (act_of_entry true)) (sym c.requires)) (entered_fresh true s.fresh)
+    took s _ c.add-found.ensures.step refl c.requires _ (entry _ false c.is_closed.ensures c.if-is_closed.false)
+    (ap (λ r. role_after r (act_of_entry true)) (sym c.requires)) (entered_fresh true s.fresh)
 
 pub returns-clause-seen : goal.returns-clause-seen
 returns-clause-seen g c =

@@ -10,16 +10,22 @@ use Rattle.jr_rule.proofs.over.StepsOverSteps.go_out.Goals as goal
 pub take-requires-clause-owed : goal.take-requires-clause-owed
 take-requires-clause-owed g c =
     let s = c.args.self.now in
-    owed (search rules) (may_any (g.C.Cells.sight s.cells) refl s.stands) (λ k among role m. leaving k (subst (λ (r : Role). (r ≡ Within) ⊎ (r ≡ Knocking)) (sym role) c.requires))
+    owed (search rules) (may_any (g.C.Cells.sight s.cells) refl s.stands) (λ k among role m.
+    leaving k (subst (λ (r : Role). (r ≡ Within) ⊎ (r ≡ Knocking)) (sym role) c.requires))
 
 pub invariant_of-self : goal.invariant_of-self
 invariant_of-self g c =
     let s = c.args.self.now in
     let left = leaves (exit s.role) (λ k. left_role s.role c.requires) (λ k. left_fresh s.role s.fresh) in
-    record { at = c.take.ensures.there; stands = standing_next c.take.ensures.step left refl (g.met.C.Cells.sound c.take.new.cells s.place c.take.ensures.there) s.stands (may_any (g.C.Cells.sight s.cells) refl s.stands) }
+    record {
+      at = c.take.ensures.there;
+      stands = standing_next c.take.ensures.step left refl (g.met.C.Cells.sound c.take.new.cells s.place
+          c.take.ensures.there) s.stands (may_any (g.C.Cells.sight s.cells) refl s.stands);
+    }
 
 pub returns-clause-step : goal.returns-clause-step
-returns-clause-step g c = let s = c.args.self.now in took s _ c.take.ensures.step refl refl _ (exit s.role) (left_role s.role c.requires) (left_fresh s.role s.fresh)
+returns-clause-step g c = let s = c.args.self.now in
+    took s _ c.take.ensures.step refl refl _ (exit s.role) (left_role s.role c.requires) (left_fresh s.role s.fresh)
 
 pub returns-clause-seen : goal.returns-clause-seen
 returns-clause-seen g c = let s = c.args.self.now in c.take.ensures.seen _ (its_acts {n = c.take.result} (exit s.role))

@@ -10,11 +10,13 @@ use Rattle.jr_rule.proofs.over.StepsOverSteps.move_element.Goals as goal
 pub overflow_add-place : goal.overflow_add-place
 overflow_add-place g c =
     let s = c.args.self.now in
-    let below = move_few facts (λ s k h. h.1) s c.args.object c.args.header c.args.place c.args.index c.args.word c.requires.can in
+    let below =
+    move_few facts (λ s k h. h.1) s c.args.object c.args.header c.args.place c.args.index c.args.word c.requires.can in
     let most = (g.met.C.Cells.sound s.cells s.place s.at).sized.limited.words in omega (arith, below, most)
 
 pub element_at-at-requires-clause-index : goal.element_at-at-requires-clause-index
-element_at-at-requires-clause-index g c = let s = c.args.self.now in move_few facts (λ s k h. h.1) s c.args.object c.args.header c.args.place c.args.index c.args.word c.requires.can
+element_at-at-requires-clause-index g c = let s = c.args.self.now in
+    move_few facts (λ s k h. h.1) s c.args.object c.args.header c.args.place c.args.index c.args.word c.requires.can
 
 pub store-requires-clause-owed : goal.store-requires-clause-owed
 store-requires-clause-owed g c =
@@ -22,14 +24,24 @@ store-requires-clause-owed g c =
     let z = g.C.Cells.sight s.cells in
     let x = c.args.place + c.args.index in
     let here : c.element_at-at.result ≡ element_at z.first.config x = c.element_at-at.ensures in
-    owed (element_in z.first.config x here (move_few facts (λ s k h. h.1) s c.args.object c.args.header c.args.place c.args.index c.args.word c.requires.can)) (may_in (g.C.Cells.sight s.cells) c.requires.role c.requires.can) (λ k among role m.
+    owed (element_in z.first.config x here
+    (move_few facts (λ s k h. h.1) s c.args.object c.args.header c.args.place c.args.index c.args.word c.requires.can))
+    (may_in (g.C.Cells.sight s.cells) c.requires.role c.requires.can) (λ k among role m.
     let at : element_at k.config x ≡ c.element_at-at.result = ap (λ y. element_at y x) (among.config) ∙ sym here in
-    store_at k (Moved c.args.object c.args.place c.args.index k) at refl (moves_element k role c.args.object c.args.header c.args.place c.args.index c.args.word c.requires.index (move_is k c.args.object c.args.header c.args.place c.args.index c.args.word m)))
+    store_at k (Moved c.args.object c.args.place c.args.index k) at refl
+    (moves_element k role c.args.object c.args.header c.args.place c.args.index c.args.word c.requires.index
+    (move_is k c.args.object c.args.header c.args.place c.args.index c.args.word m)))
 
 pub invariant_of-self : goal.invariant_of-self
 invariant_of-self g c =
     let s = c.args.self.now in
-    record { at = c.store.ensures.there; stands = standing_next c.store.ensures.step (leaves (plainly (λ k k' done t. t)) (λ k. refl) (λ k. refl)) c.requires.role (g.met.C.Cells.sound c.store.new.cells s.place c.store.ensures.there) s.stands (may_in (g.C.Cells.sight s.cells) c.requires.role c.requires.can) }
+    record {
+      at = c.store.ensures.there;
+      stands = standing_next c.store.ensures.step (leaves (plainly (λ k k' done t. t)) (λ k. refl) (λ k. refl))
+          c.requires.role (g.met.C.Cells.sound c.store.new.cells s.place c.store.ensures.there) s.stands
+          (may_in (g.C.Cells.sight s.cells) c.requires.role c.requires.can);
+    }
 
 pub returns : goal.returns
-returns g c = let s = c.args.self.now in took s _ c.store.ensures.step refl c.requires.role _ (plainly (λ k k' done t. t)) refl refl
+returns g c = let s = c.args.self.now in
+    took s _ c.store.ensures.step refl c.requires.role _ (plainly (λ k k' done t. t)) refl refl

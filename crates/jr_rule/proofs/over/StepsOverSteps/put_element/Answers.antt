@@ -12,11 +12,14 @@ use Rattle.jr_rule.proofs.over.StepsOverSteps.put_element.Goals as goal
 pub overflow_add-header : goal.overflow_add-header
 overflow_add-header g c =
     let s = c.args.self.now in
-    let below = known_few (g.met.C.Cells.sound s.cells s.place s.at) (may_in (g.C.Cells.sight s.cells) c.requires.role c.requires.known) c.args.object c.args.header c.args.index (λ k h. h.0) c.requires.index in
+    let below = known_few (g.met.C.Cells.sound s.cells s.place s.at) (may_in (g.C.Cells.sight s.cells) c.requires.role
+    c.requires.known) c.args.object c.args.header c.args.index (λ k h. h.0) c.requires.index in
     let most = (g.met.C.Cells.sound s.cells s.place s.at).sized.limited.words in omega (arith, below, most)
 
 pub element_at-at-requires-clause-index : goal.element_at-at-requires-clause-index
-element_at-at-requires-clause-index g c = let s = c.args.self.now in known_few (g.met.C.Cells.sound s.cells s.place s.at) (may_in (g.C.Cells.sight s.cells) c.requires.role c.requires.known) c.args.object c.args.header c.args.index (λ k h. h.0) c.requires.index
+element_at-at-requires-clause-index g c = let s = c.args.self.now in known_few
+    (g.met.C.Cells.sound s.cells s.place s.at) (may_in (g.C.Cells.sight s.cells) c.requires.role c.requires.known)
+    c.args.object c.args.header c.args.index (λ k h. h.0) c.requires.index
 
 pub store-requires-clause-owed : goal.store-requires-clause-owed
 store-requires-clause-owed g c =
@@ -24,14 +27,24 @@ store-requires-clause-owed g c =
     let z = g.C.Cells.sight s.cells in
     let x = c.args.header.place + c.args.index in
     let here : c.element_at-at.result ≡ element_at z.first.config x = c.element_at-at.ensures in
-    owed (element_in z.first.config x here (known_few (g.met.C.Cells.sound s.cells s.place s.at) (may_in (g.C.Cells.sight s.cells) c.requires.role c.requires.known) c.args.object c.args.header c.args.index (λ k h. h.0) c.requires.index)) (may_in (g.C.Cells.sight s.cells) c.requires.role c.requires.known) (λ k among role m.
+    owed (element_in z.first.config x here (known_few (g.met.C.Cells.sound s.cells s.place s.at)
+    (may_in (g.C.Cells.sight s.cells) c.requires.role c.requires.known) c.args.object c.args.header c.args.index (λ k h.
+    h.0) c.requires.index)) (may_in (g.C.Cells.sight s.cells) c.requires.role c.requires.known) (λ k among role m.
     let at : element_at k.config x ≡ c.element_at-at.result = ap (λ y. element_at y x) (among.config) ∙ sym here in
-    store_at k (PutElement c.args.object c.args.index c.args.word k) at refl (puts_element k role c.args.object c.args.header (∥∥₁_elim m (hlevel props) (λ q. q.0)) c.args.index c.requires.index c.args.word c.requires.kind (∥∥₁_map m (λ q. q.1))))
+    store_at k (PutElement c.args.object c.args.index c.args.word k) at refl
+    (puts_element k role c.args.object c.args.header (∥∥₁_elim m (hlevel props) (λ q. q.0)) c.args.index
+    c.requires.index c.args.word c.requires.kind (∥∥₁_map m (λ q. q.1))))
 
 pub invariant_of-self : goal.invariant_of-self
 invariant_of-self g c =
     let s = c.args.self.now in
-    record { at = c.store.ensures.there; stands = standing_next c.store.ensures.step (leaves (plainly (λ k k' done t. t)) (λ k. refl) (λ k. refl)) c.requires.role (g.met.C.Cells.sound c.store.new.cells s.place c.store.ensures.there) s.stands (may_in (g.C.Cells.sight s.cells) c.requires.role c.requires.known) }
+    record {
+      at = c.store.ensures.there;
+      stands = standing_next c.store.ensures.step (leaves (plainly (λ k k' done t. t)) (λ k. refl) (λ k. refl))
+          c.requires.role (g.met.C.Cells.sound c.store.new.cells s.place c.store.ensures.there) s.stands
+          (may_in (g.C.Cells.sight s.cells) c.requires.role c.requires.known);
+    }
 
 pub returns : goal.returns
-returns g c = let s = c.args.self.now in took s _ c.store.ensures.step refl c.requires.role _ (plainly (λ k k' done t. t)) refl refl
+returns g c = let s = c.args.self.now in
+    took s _ c.store.ensures.step refl c.requires.role _ (plainly (λ k k' done t. t)) refl refl

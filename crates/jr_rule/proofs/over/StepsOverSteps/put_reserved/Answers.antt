@@ -11,11 +11,13 @@ use Rattle.jr_rule.proofs.over.StepsOverSteps.put_reserved.Goals as goal
 pub overflow_add-place : goal.overflow_add-place
 overflow_add-place g c =
     let s = c.args.self.now in
-    let below = own_few (g.met.C.Cells.sound s.cells s.place s.at) (may_in (g.C.Cells.sight s.cells) c.requires.role c.requires.own) c.args.place c.args.index (λ k h. h) in
+    let below = own_few (g.met.C.Cells.sound s.cells s.place s.at)
+    (may_in (g.C.Cells.sight s.cells) c.requires.role c.requires.own) c.args.place c.args.index (λ k h. h) in
     let most = (g.met.C.Cells.sound s.cells s.place s.at).sized.limited.words in omega (arith, below, most)
 
 pub element_at-at-requires-clause-index : goal.element_at-at-requires-clause-index
-element_at-at-requires-clause-index g c = let s = c.args.self.now in own_few (g.met.C.Cells.sound s.cells s.place s.at) (may_in (g.C.Cells.sight s.cells) c.requires.role c.requires.own) c.args.place c.args.index (λ k h. h)
+element_at-at-requires-clause-index g c = let s = c.args.self.now in own_few (g.met.C.Cells.sound s.cells s.place s.at)
+    (may_in (g.C.Cells.sight s.cells) c.requires.role c.requires.own) c.args.place c.args.index (λ k h. h)
 
 pub store-requires-clause-owed : goal.store-requires-clause-owed
 store-requires-clause-owed g c =
@@ -23,14 +25,23 @@ store-requires-clause-owed g c =
     let z = g.C.Cells.sight s.cells in
     let x = c.args.place + c.args.index in
     let here : c.element_at-at.result ≡ element_at z.first.config x = c.element_at-at.ensures in
-    owed (element_in z.first.config x here (own_few (g.met.C.Cells.sound s.cells s.place s.at) (may_in (g.C.Cells.sight s.cells) c.requires.role c.requires.own) c.args.place c.args.index (λ k h. h))) (may_in (g.C.Cells.sight s.cells) c.requires.role c.requires.own) (λ k among role m.
+    owed (element_in z.first.config x here (own_few (g.met.C.Cells.sound s.cells s.place s.at)
+    (may_in (g.C.Cells.sight s.cells) c.requires.role c.requires.own) c.args.place c.args.index (λ k h. h)))
+    (may_in (g.C.Cells.sight s.cells) c.requires.role c.requires.own) (λ k among role m.
     let at : element_at k.config x ≡ c.element_at-at.result = ap (λ y. element_at y x) (among.config) ∙ sym here in
-    store_at k (PutOwn c.args.place c.args.index c.args.word k) at refl (puts_own k role c.args.place c.args.index c.args.word (∥∥₁_elim m (hlevel props) (λ q. q))))
+    store_at k (PutOwn c.args.place c.args.index c.args.word k) at refl
+    (puts_own k role c.args.place c.args.index c.args.word (∥∥₁_elim m (hlevel props) (λ q. q))))
 
 pub invariant_of-self : goal.invariant_of-self
 invariant_of-self g c =
     let s = c.args.self.now in
-    record { at = c.store.ensures.there; stands = standing_next c.store.ensures.step (leaves (plainly (λ k k' done t. t)) (λ k. refl) (λ k. refl)) c.requires.role (g.met.C.Cells.sound c.store.new.cells s.place c.store.ensures.there) s.stands (may_in (g.C.Cells.sight s.cells) c.requires.role c.requires.own) }
+    record {
+      at = c.store.ensures.there;
+      stands = standing_next c.store.ensures.step (leaves (plainly (λ k k' done t. t)) (λ k. refl) (λ k. refl))
+          c.requires.role (g.met.C.Cells.sound c.store.new.cells s.place c.store.ensures.there) s.stands
+          (may_in (g.C.Cells.sight s.cells) c.requires.role c.requires.own);
+    }
 
 pub returns : goal.returns
-returns g c = let s = c.args.self.now in took s _ c.store.ensures.step refl c.requires.role _ (plainly (λ k k' done t. t)) refl refl
+returns g c = let s = c.args.self.now in
+    took s _ c.store.ensures.step refl c.requires.role _ (plainly (λ k k' done t. t)) refl refl

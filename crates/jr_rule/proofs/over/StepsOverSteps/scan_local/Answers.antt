@@ -12,18 +12,29 @@ load-found-requires-clause-owed g c =
     let z = g.C.Cells.sight s.cells in
     let t = c.args.thread in
     let i = c.args.place in
-    let here : c.local_at-at.result ≡ local_at z.first.config t i = c.local_at-at.ensures ∙ ap (λ x. local_at x t i) c.config-config.ensures in
-    owed (local_in z.first.config t i here c.requires.thread c.requires.place) (may_any (g.C.Cells.sight s.cells) c.requires.role s.stands) (λ k among role m.
+    let here : c.local_at-at.result ≡ local_at z.first.config t i =
+    c.local_at-at.ensures ∙ ap (λ x. local_at x t i) c.config-config.ensures in
+    owed (local_in z.first.config t i here c.requires.thread c.requires.place)
+    (may_any (g.C.Cells.sight s.cells) c.requires.role s.stands) (λ k among role m.
     let at : local_at k.config t i ≡ c.local_at-at.result = ap (λ x. local_at x t i) (among.config) ∙ sym here in
-    load_at k (ScannedLocal t i k) at (scans_local k role t i (subst (λ (x : Config). t < x.threads) (sym among.config) c.requires.thread) (subst (λ (x : Config). i < x.locals) (sym among.config) c.requires.place)))
+    load_at k (ScannedLocal t i k) at (scans_local k role t i (subst (λ (x : Config). t < x.threads) (sym among.config)
+    c.requires.thread) (subst (λ (x : Config). i < x.locals) (sym among.config) c.requires.place)))
 
 pub invariant_of-self : goal.invariant_of-self
 invariant_of-self g c =
     let s = c.args.self.now in
-    record { at = c.load-found.ensures.there; stands = standing_next c.load-found.ensures.step (local_scan_leaves c.args.thread c.args.place) c.requires.role (g.met.C.Cells.sound c.load-found.new.cells s.place c.load-found.ensures.there) s.stands (may_any (g.C.Cells.sight s.cells) c.requires.role s.stands) }
+    record {
+      at = c.load-found.ensures.there;
+      stands = standing_next c.load-found.ensures.step (local_scan_leaves c.args.thread c.args.place) c.requires.role
+          (g.met.C.Cells.sound c.load-found.new.cells s.place c.load-found.ensures.there) s.stands
+          (may_any (g.C.Cells.sight s.cells) c.requires.role s.stands);
+    }
 
 pub unwrap-requires : goal.unwrap-requires
-unwrap-requires g c = let s = c.args.self.now in word_read c.load-found.ensures.step (may_any (g.C.Cells.sight s.cells) c.requires.role s.stands) (λ k k' done t. (t.0, t.1, t.2)) c.parts.result c.parts.ensures.complete
+unwrap-requires g c = let s = c.args.self.now in
+    word_read c.load-found.ensures.step (may_any (g.C.Cells.sight s.cells) c.requires.role s.stands)
+    (λ k k' done t. (t.0, t.1, t.2)) c.parts.result c.parts.ensures.complete
 
 pub returns : goal.returns
-returns g c = let s = c.args.self.now in took s _ c.load-found.ensures.step refl c.requires.role _ (local_scan c.args.thread c.args.place _ c.parts.ensures.complete _ c.unwrap.ensures) refl refl
+returns g c = let s = c.args.self.now in took s _ c.load-found.ensures.step refl c.requires.role _
+    (local_scan c.args.thread c.args.place _ c.parts.ensures.complete _ c.unwrap.ensures) refl refl

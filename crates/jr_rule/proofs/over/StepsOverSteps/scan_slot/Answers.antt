@@ -10,15 +10,24 @@ pub load-found-requires-clause-owed : goal.load-found-requires-clause-owed
 load-found-requires-clause-owed g c =
     let s = c.args.self.now in
     let i = c.args.index in
-    owed (search rules) (may_any (g.C.Cells.sight s.cells) c.requires.role s.stands) (λ k among role m. load_at k (ScannedSlot i k) (sym c.slot_at-at.ensures) (scans_slot k role i (subst (λ (z : Config). i < z.slots) (sym among.config) c.requires.row)))
+    owed (search rules) (may_any (g.C.Cells.sight s.cells) c.requires.role s.stands) (λ k among role m.
+    load_at k (ScannedSlot i k) (sym c.slot_at-at.ensures)
+    (scans_slot k role i (subst (λ (z : Config). i < z.slots) (sym among.config) c.requires.row)))
 
 pub invariant_of-self : goal.invariant_of-self
 invariant_of-self g c =
     let s = c.args.self.now in
-    record { at = c.load-found.ensures.there; stands = standing_next c.load-found.ensures.step (slot_scan_leaves c.args.index) c.requires.role (g.met.C.Cells.sound c.load-found.new.cells s.place c.load-found.ensures.there) s.stands (may_any (g.C.Cells.sight s.cells) c.requires.role s.stands) }
+    record {
+      at = c.load-found.ensures.there;
+      stands = standing_next c.load-found.ensures.step (slot_scan_leaves c.args.index) c.requires.role
+          (g.met.C.Cells.sound c.load-found.new.cells s.place c.load-found.ensures.there) s.stands
+          (may_any (g.C.Cells.sight s.cells) c.requires.role s.stands);
+    }
 
 pub of_word-requires : goal.of_word-requires
-of_word-requires g c = let s = c.args.self.now in one_slot (found_so c.load-found.ensures.step (may_any (g.C.Cells.sight s.cells) c.requires.role s.stands) (λ k k' done t. (t.0, t.1, t.2)))
+of_word-requires g c = let s = c.args.self.now in one_slot (found_so c.load-found.ensures.step
+    (may_any (g.C.Cells.sight s.cells) c.requires.role s.stands) (λ k k' done t. (t.0, t.1, t.2)))
 
 pub returns : goal.returns
-returns g c = let s = c.args.self.now in took s _ c.load-found.ensures.step refl c.requires.role _ (slot_scan c.args.index c.of_word.result c.of_word.ensures) refl refl
+returns g c = let s = c.args.self.now in took s _ c.load-found.ensures.step refl c.requires.role _
+    (slot_scan c.args.index c.of_word.result c.of_word.ensures) refl refl

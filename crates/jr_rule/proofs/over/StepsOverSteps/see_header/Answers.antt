@@ -12,20 +12,31 @@ load-found-requires-clause-owed g c =
     let s = c.args.self.now in
     let z = g.C.Cells.sight s.cells in
     let o = c.args.object in
-    let here : c.header_at-at.result ≡ header_at z.first.config o = c.header_at-at.ensures ∙ ap (header_at z.first.config) c.from.ensures in
-    owed (header_in z.first.config o here c.requires.number.0 c.requires.number.1) (may_any (g.C.Cells.sight s.cells) c.requires.role s.stands) (λ k among role m.
+    let here : c.header_at-at.result ≡ header_at z.first.config o =
+    c.header_at-at.ensures ∙ ap (header_at z.first.config) c.from.ensures in
+    owed (header_in z.first.config o here c.requires.number.0 c.requires.number.1)
+    (may_any (g.C.Cells.sight s.cells) c.requires.role s.stands) (λ k among role m.
     let at : header_at k.config o ≡ c.header_at-at.result = ap (λ x. header_at x o) among.config ∙ sym here in
-    load_at k (SawHeader o k) at (sees_header k role o c.requires.number.0 (subst (λ (x : Config). o ≤ x.objects) (sym among.config) c.requires.number.1)))
+    load_at k (SawHeader o k) at (sees_header k role o c.requires.number.0
+    (subst (λ (x : Config). o ≤ x.objects) (sym among.config) c.requires.number.1)))
 
 pub invariant_of-self : goal.invariant_of-self
 invariant_of-self g c =
     let s = c.args.self.now in
-    record { at = c.load-found.ensures.there; stands = standing_next c.load-found.ensures.step (header_look_leaves c.args.object) c.requires.role (g.met.C.Cells.sound c.load-found.new.cells s.place c.load-found.ensures.there) s.stands (may_any (g.C.Cells.sight s.cells) c.requires.role s.stands) }
+    record {
+      at = c.load-found.ensures.there;
+      stands = standing_next c.load-found.ensures.step (header_look_leaves c.args.object) c.requires.role
+          (g.met.C.Cells.sound c.load-found.new.cells s.place c.load-found.ensures.there) s.stands
+          (may_any (g.C.Cells.sight s.cells) c.requires.role s.stands);
+    }
 
 pub of_word-requires : goal.of_word-requires
-of_word-requires g c = let s = c.args.self.now in one_header (found_so c.load-found.ensures.step (may_any (g.C.Cells.sight s.cells) c.requires.role s.stands) (λ k k' done t. header_or_zero t.0 c.load-found.result t.1))
+of_word-requires g c = let s = c.args.self.now in
+    one_header (found_so c.load-found.ensures.step (may_any (g.C.Cells.sight s.cells) c.requires.role s.stands)
+    (λ k k' done t. header_or_zero t.0 c.load-found.result t.1))
 
 pub returns : goal.returns
 returns g c =
     let s = c.args.self.now in
-    took s _ c.load-found.ensures.step refl c.requires.role _ (header_load c.args.object c.of_word.result c.of_word.ensures.none c.of_word.ensures.header) refl refl
+    took s _ c.load-found.ensures.step refl c.requires.role _
+    (header_load c.args.object c.of_word.result c.of_word.ensures.none c.of_word.ensures.header) refl refl

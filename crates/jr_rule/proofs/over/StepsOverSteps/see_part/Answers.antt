@@ -5,7 +5,14 @@ use Rattle.jr_rule.specs.Over.{facts_over}
 use Rattle.jr_rule.proofs.over.StepsOverSteps.see_part.Goals as goal
 
 pub loop-eight-init : goal.loop-eight-init
-loop-eight-init g c = (refl, c.requires.role, refl, c.requires.known, refl, saw_nothing g.E.Elem.element_of c.args.object c.args.header c.args.start c.args.self.now)
+loop-eight-init g c = (
+  refl,
+  c.requires.role,
+  refl,
+  c.requires.known,
+  refl,
+  saw_nothing g.E.Elem.element_of c.args.object c.args.header c.args.start c.args.self.now,
+)
 
 pub loop-eight-preserved : goal.loop-eight-preserved
 loop-eight-preserved g c =
@@ -15,12 +22,21 @@ loop-eight-preserved g c =
     let x1 = c.see_four-in-loop-eight.ensures in
     let eight : i + 4 + 4 ≡ (c.loop-eight.eight + 1) * 8 = omega arith in
     let first = c.args.self.now in
-    let s1 = x1.step first (x0.step first v.5) in
-    (x1.config ∙ (x0.config ∙ v.0), x1.role, x1.size ∙ (x0.size ∙ v.2), x1.known, x1.there, subst (λ n. SawPart facts_over first c.see_four-in-loop-eight.new.self c.args.object c.args.header c.args.start g.E.Elem.element_of (take n c.see_four-in-loop-eight.new.elements)) eight s1)
+    let s1 = x1.step first (x0.step first v.5) in (
+      x1.config ∙ (x0.config ∙ v.0),
+      x1.role,
+      x1.size ∙ (x0.size ∙ v.2),
+      x1.known,
+      x1.there,
+      subst (λ n. SawPart facts_over first c.see_four-in-loop-eight.new.self c.args.object c.args.header c.args.start
+          g.E.Elem.element_of (take n c.see_four-in-loop-eight.new.elements)) eight s1,
+    )
 
 pub returns-clause-steps : goal.returns-clause-steps
 returns-clause-steps g c =
     let first = c.args.self.now in
     let v = c.loop-eight.invariant in
-    let ends : c.loop-eight.eight * 8 ≡ length c.loop-eight.elements / 8 * 8 = (let same = c.loop-eight.auto.elements in let a = c.loop-eight.auto.eight-end in let b = c.loop-eight-test.false in omega arith) in
-    c.see_rest.ensures.steps first (subst (λ n. SawPart facts_over first c.loop-eight.self c.args.object c.args.header c.args.start g.E.Elem.element_of (take n c.loop-eight.elements)) ends v.5)
+    let ends : c.loop-eight.eight * 8 ≡ length c.loop-eight.elements / 8 * 8 = (let same = c.loop-eight.auto.elements in
+    let a = c.loop-eight.auto.eight-end in let b = c.loop-eight-test.false in omega arith) in
+    c.see_rest.ensures.steps first (subst (λ n. SawPart facts_over first c.loop-eight.self c.args.object c.args.header
+    c.args.start g.E.Elem.element_of (take n c.loop-eight.elements)) ends v.5)

@@ -12,15 +12,22 @@ load-found-requires-clause-owed g c =
     let s = c.args.self.now in
     let i = c.args.index in
     owed (search rules) (may_any (g.C.Cells.sight s.cells) c.requires.role s.stands) (λ k among role m.
-    load_at k (SawSlot i c.args.name k) (sym c.slot_at-at.ensures) (sees_slot k role i c.args.name (subst (λ (z : Config). i < z.slots) (sym among.config) c.requires.row) c.requires.fits))
+    load_at k (SawSlot i c.args.name k) (sym c.slot_at-at.ensures) (sees_slot k role i c.args.name
+    (subst (λ (z : Config). i < z.slots) (sym among.config) c.requires.row) c.requires.fits))
 
 pub invariant_of-self : goal.invariant_of-self
 invariant_of-self g c =
     let s = c.args.self.now in
-    record { at = c.load-found.ensures.there; stands = standing_next c.load-found.ensures.step (slot_look_leaves c.args.index c.args.name) c.requires.role (g.met.C.Cells.sound c.load-found.new.cells s.place c.load-found.ensures.there) s.stands (may_any (g.C.Cells.sight s.cells) c.requires.role s.stands) }
+    record {
+      at = c.load-found.ensures.there;
+      stands = standing_next c.load-found.ensures.step (slot_look_leaves c.args.index c.args.name) c.requires.role
+          (g.met.C.Cells.sound c.load-found.new.cells s.place c.load-found.ensures.there) s.stands
+          (may_any (g.C.Cells.sight s.cells) c.requires.role s.stands);
+    }
 
 pub of_word-requires : goal.of_word-requires
-of_word-requires g c = let s = c.args.self.now in one_slot (found_so c.load-found.ensures.step (may_any (g.C.Cells.sight s.cells) c.requires.role s.stands) (λ k k' done t. (t.0, t.1, t.2)))
+of_word-requires g c = let s = c.args.self.now in one_slot (found_so c.load-found.ensures.step
+    (may_any (g.C.Cells.sight s.cells) c.requires.role s.stands) (λ k k' done t. (t.0, t.1, t.2)))
 
 pub returns-clause-step : goal.returns-clause-step
 returns-clause-step g c =
@@ -28,7 +35,8 @@ returns-clause-step g c =
     let i = c.args.index in
     let name = c.args.name in
     let q = c.of_word.result in
-    took s _ c.load-found.ensures.step refl c.requires.role _ (slot_load i name q c.of_word.ensures) (slot_load_role i name q s.role) (slot_load_fresh i name q s.fresh)
+    took s _ c.load-found.ensures.step refl c.requires.role _ (slot_load i name q c.of_word.ensures)
+    (slot_load_role i name q s.role) (slot_load_fresh i name q s.fresh)
 
 pub returns-clause-seen : goal.returns-clause-seen
 returns-clause-seen g c =

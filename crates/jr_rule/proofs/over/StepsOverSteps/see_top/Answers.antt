@@ -6,19 +6,28 @@ use Rattle.jr_rule.proofs.StepTaken.{may_any, owed, standing_next, took}
 use Rattle.jr_rule.proofs.over.StepsOverSteps.see_top.Goals as goal
 
 pub load-found-requires-clause-owed : goal.load-found-requires-clause-owed
-load-found-requires-clause-owed g c = let s = c.args.self.now in owed (search rules) (may_any (g.C.Cells.sight s.cells) c.requires s.stands) (λ k among role m. sees_top k role c.args.name)
+load-found-requires-clause-owed g c = let s = c.args.self.now in owed (search rules)
+    (may_any (g.C.Cells.sight s.cells) c.requires s.stands) (λ k among role m. sees_top k role c.args.name)
 
 pub invariant_of-self : goal.invariant_of-self
 invariant_of-self g c =
     let s = c.args.self.now in
-    record { at = c.load-found.ensures.there; stands = standing_next c.load-found.ensures.step (top_look_leaves c.args.name) c.requires (g.met.C.Cells.sound c.load-found.new.cells s.place c.load-found.ensures.there) s.stands (may_any (g.C.Cells.sight s.cells) c.requires s.stands) }
+    record {
+      at = c.load-found.ensures.there;
+      stands = standing_next c.load-found.ensures.step (top_look_leaves c.args.name) c.requires
+          (g.met.C.Cells.sound c.load-found.new.cells s.place c.load-found.ensures.there) s.stands
+          (may_any (g.C.Cells.sight s.cells) c.requires s.stands);
+    }
 
 pub unwrap-requires : goal.unwrap-requires
-unwrap-requires g c = let s = c.args.self.now in top_word_read c.load-found.ensures.step (may_any (g.C.Cells.sight s.cells) c.requires s.stands) (λ k k' done t. (t.0, t.1, t.2)) c.parts.result c.parts.ensures.complete
+unwrap-requires g c = let s = c.args.self.now in
+    top_word_read c.load-found.ensures.step (may_any (g.C.Cells.sight s.cells) c.requires s.stands)
+    (λ k k' done t. (t.0, t.1, t.2)) c.parts.result c.parts.ensures.complete
 
 pub returns : goal.returns
 returns g c =
     let s = c.args.self.now in
     let words = (g.C.Cells.sight s.cells).first.config.words in
     let u = c.unwrap.result.used in
-    took s _ c.load-found.ensures.step refl c.requires _ (top_load _ c.parts.ensures.complete _ c.unwrap.ensures c.args.name) (top_load_role words c.args.name u s.role) (top_load_fresh words c.args.name u s.fresh)
+    took s _ c.load-found.ensures.step refl c.requires _ (top_load _ c.parts.ensures.complete _ c.unwrap.ensures
+    c.args.name) (top_load_role words c.args.name u s.role) (top_load_fresh words c.args.name u s.fresh)

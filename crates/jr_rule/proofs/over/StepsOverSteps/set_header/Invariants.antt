@@ -5,4 +5,7 @@ use Rattle.jr_rule.specs.Cells.{InRole}
 use Rattle.jr_rule.proofs.over.StepsOverSteps.set_header.Given as goal
 
 abbrev pub ghosts-store : goal.ghosts-store
-ghosts-store g a = record { met = InRole Collecting (CanPlace a._about.0 a._about.1 a._about.2); told = Placed a._about.0 a._about.1 a._about.2 }
+ghosts-store g a = record {
+  met = InRole Collecting (CanPlace a._about.0 a._about.1 a._about.2);
+  told = Placed a._about.0 a._about.1 a._about.2;
+}

@@ -10,15 +10,22 @@ use Rattle.jr_rule.proofs.over.StepsOverSteps.unbar.Goals as goal
 pub take-requires-clause-owed : goal.take-requires-clause-owed
 take-requires-clause-owed g c =
     let s = c.args.self.now in
-    owed (search rules) (may_in (g.C.Cells.sight s.cells) c.requires.role c.requires.closed) (λ k among role m. reopens k role (∥∥₁_elim m (hlevel props) (λ q. q.1)) (∥∥₁_map m (λ q. q.0)))
+    owed (search rules) (may_in (g.C.Cells.sight s.cells) c.requires.role c.requires.closed) (λ k among role m.
+    reopens k role (∥∥₁_elim m (hlevel props) (λ q. q.1)) (∥∥₁_map m (λ q. q.0)))
 
 pub invariant_of-self : goal.invariant_of-self
 invariant_of-self g c =
     let s = c.args.self.now in
-    record { at = c.take.ensures.there; stands = standing_next c.take.ensures.step (leaves reopening (λ k. refl) (λ k. refl)) c.requires.role (g.met.C.Cells.sound c.take.new.cells s.place c.take.ensures.there) s.stands (may_in (g.C.Cells.sight s.cells) c.requires.role c.requires.closed) }
+    record {
+      at = c.take.ensures.there;
+      stands = standing_next c.take.ensures.step (leaves reopening (λ k. refl) (λ k. refl)) c.requires.role
+          (g.met.C.Cells.sound c.take.new.cells s.place c.take.ensures.there) s.stands
+          (may_in (g.C.Cells.sight s.cells) c.requires.role c.requires.closed);
+    }
 
 pub returns-clause-step : goal.returns-clause-step
-returns-clause-step g c = let s = c.args.self.now in took s _ c.take.ensures.step refl c.requires.role _ reopening refl refl
+returns-clause-step g c = let s = c.args.self.now in
+    took s _ c.take.ensures.step refl c.requires.role _ reopening refl refl
 
 pub returns-clause-seen : goal.returns-clause-seen
 returns-clause-seen g c = let s = c.args.self.now in c.take.ensures.seen _ (its_acts {n = c.take.result} reopening)

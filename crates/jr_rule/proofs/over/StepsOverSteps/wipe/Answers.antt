@@ -15,16 +15,25 @@ exchange-requires-clause-owed g c =
     let s = c.args.self.now in
     let i = c.args.index in
     owed (search rules) (may_in (g.C.Cells.sight s.cells) c.requires.role c.requires.can) (λ k among role m.
-    exchange_at k (Wiped i c.args.serial k) (sym c.slot_at-at.ensures) (sym c.pack-looked.ensures) (sym c.pack-cleared.ensures)
-    (wipes_slot k role i c.args.serial c.args.object (subst (λ (z : Config). i < z.slots) (sym among.config) c.requires.row) (wipe_is k i c.args.serial c.args.object m)))
+    exchange_at k (Wiped i c.args.serial k) (sym c.slot_at-at.ensures) (sym c.pack-looked.ensures)
+    (sym c.pack-cleared.ensures)
+    (wipes_slot k role i c.args.serial c.args.object (subst (λ (z : Config). i < z.slots) (sym among.config)
+    c.requires.row) (wipe_is k i c.args.serial c.args.object m)))
 
 pub invariant_of-self : goal.invariant_of-self
 invariant_of-self g c =
     let s = c.args.self.now in
-    record { at = c.exchange.ensures.there; stands = standing_next c.exchange.ensures.step (leaves (plainly (λ k k' done t. t)) (λ k. refl) (λ k. refl)) c.requires.role (g.met.C.Cells.sound c.exchange.new.cells s.place c.exchange.ensures.there) s.stands (may_in (g.C.Cells.sight s.cells) c.requires.role c.requires.can) }
+    record {
+      at = c.exchange.ensures.there;
+      stands = standing_next c.exchange.ensures.step (leaves (plainly (λ k k' done t. t)) (λ k. refl) (λ k. refl))
+          c.requires.role (g.met.C.Cells.sound c.exchange.new.cells s.place c.exchange.ensures.there) s.stands
+          (may_in (g.C.Cells.sight s.cells) c.requires.role c.requires.can);
+    }
 
 pub returns-clause-step : goal.returns-clause-step
-returns-clause-step g c = let s = c.args.self.now in took s _ c.exchange.ensures.step refl c.requires.role _ (plainly (λ k k' done t. t)) refl refl
+returns-clause-step g c = let s = c.args.self.now in
+    took s _ c.exchange.ensures.step refl c.requires.role _ (plainly (λ k k' done t. t)) refl refl
 
 pub returns-clause-seen : goal.returns-clause-seen
-returns-clause-seen g c = let s = c.args.self.now in c.exchange.ensures.seen _ (its_acts {told = Wiped c.args.index c.args.serial} {n = c.exchange.result} {shows = keeps} (plainly (λ k k' done t. t)))
+returns-clause-seen g c = let s = c.args.self.now in c.exchange.ensures.seen _ (its_acts
+    {told = Wiped c.args.index c.args.serial} {n = c.exchange.result} {shows = keeps} (plainly (λ k k' done t. t)))

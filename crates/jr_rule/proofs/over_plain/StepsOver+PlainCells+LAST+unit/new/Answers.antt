@@ -14,7 +14,8 @@ invariant_of-result g c =
     let some : 0 < c.args.config.slots = search rules in
     record {
       at = tt;
-      stands = opened_standing c.args.config g.row.LAST words (depicts_unseen c.args.config g.row.LAST words (all_zero words c.row_words.result items) (zeros_wide words c.row_words.result items ∙ c.row_words.ensures))
+      stands = opened_standing c.args.config g.row.LAST words (depicts_unseen c.args.config g.row.LAST words
+          (all_zero words c.row_words.result items) (zeros_wide words c.row_words.result items ∙ c.row_words.ensures))
           (words_sound c.args.config g.row.LAST words limits limited (omega arith)) some;
     }
 
@@ -22,4 +23,5 @@ pub returns-clause-opened : goal.returns-clause-opened
 returns-clause-opened g c =
     let words = c.in-Ok.words.items in
     let items = c.in-Ok.ensures.items_if_clones_equal (λ y e. e) in
-    opened_alone c.args.config g.row.LAST words (depicts_unseen c.args.config g.row.LAST words (all_zero words c.row_words.result items) (zeros_wide words c.row_words.result items ∙ c.row_words.ensures))
+    opened_alone c.args.config g.row.LAST words (depicts_unseen c.args.config g.row.LAST words
+    (all_zero words c.row_words.result items) (zeros_wide words c.row_words.result items ∙ c.row_words.ensures))

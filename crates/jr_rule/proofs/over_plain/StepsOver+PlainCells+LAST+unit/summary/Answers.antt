@@ -12,7 +12,8 @@ pub summary-requires-clause-history : goal.summary-requires-clause-history
 summary-requires-clause-history g c =
     let s = c.args.self.now in
     let z = sight_of_words s.cells.config g.row.LAST s.cells.words.items in
-    some_history s.cells.config g.row.LAST s.cells.words.items s.cells.few (∥∥₁_map s.stands.some (λ k. (k.0, among_of z s.role s.fresh k.0 k.1)))
+    some_history s.cells.config g.row.LAST s.cells.words.items s.cells.few
+    (∥∥₁_map s.stands.some (λ k. (k.0, among_of z s.role s.fresh k.0 k.1)))
 
 pub returns : goal.returns
 returns g c k h =

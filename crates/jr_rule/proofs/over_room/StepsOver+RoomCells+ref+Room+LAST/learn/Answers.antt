@@ -6,10 +6,16 @@ use Rattle.jr_rule.proofs.over_room.StepsOver+RoomCells+ref+Room+LAST.learn.Goal
 pub invariant_of-self : goal.invariant_of-self
 invariant_of-self g c =
     let s = c.args.self.now in
-    record { at = c.learn.ensures.there; stands = look_stands (holder_over s) c.learn.new.self c.learn.ensures.same.1 c.learn.ensures.looked refl refl c.learn.ensures.there s.stands }
+    record {
+      at = c.learn.ensures.there;
+      stands = look_stands (holder_over s) c.learn.new.self c.learn.ensures.same.1 c.learn.ensures.looked refl refl
+          c.learn.ensures.there s.stands;
+    }
 
 pub returns-clause-step : goal.returns-clause-step
-returns-clause-step g c = look_took (holder_over c.args.self.now) c.learn.new.self c.learn.ensures.same.1 c.learn.ensures.looked refl refl
+returns-clause-step g c =
+    look_took (holder_over c.args.self.now) c.learn.new.self c.learn.ensures.same.1 c.learn.ensures.looked refl refl
 
 pub returns-clause-seen : goal.returns-clause-seen
-returns-clause-seen g c = let s = c.args.self.now in look_went (holder_over s) c.learn.new.self c.learn.ensures.same.1 c.learn.ensures.looked refl refl s.stands
+returns-clause-seen g c = let s = c.args.self.now in
+    look_went (holder_over s) c.learn.new.self c.learn.ensures.same.1 c.learn.ensures.looked refl refl s.stands

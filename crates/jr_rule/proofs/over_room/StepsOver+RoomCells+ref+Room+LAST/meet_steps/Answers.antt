@@ -6,7 +6,12 @@ use Rattle.jr_rule.proofs.over_room.StepsOver+RoomCells+ref+Room+LAST.meet_steps
 pub invariant_of-self : goal.invariant_of-self
 invariant_of-self g c =
     let s = c.args.self.now in
-    record { at = c.meet_cells.ensures.there; stands = look_stands (holder_over s) c.meet_cells.new.self c.meet_cells.ensures.same.1 c.meet_cells.ensures.looked refl refl c.meet_cells.ensures.there s.stands }
+    record {
+      at = c.meet_cells.ensures.there;
+      stands = look_stands (holder_over s) c.meet_cells.new.self c.meet_cells.ensures.same.1 c.meet_cells.ensures.looked
+          refl refl c.meet_cells.ensures.there s.stands;
+    }
 
 pub returns-clause-step : goal.returns-clause-step
-returns-clause-step g c = look_took (holder_over c.args.self.now) c.meet_cells.new.self c.meet_cells.ensures.same.1 c.meet_cells.ensures.looked refl refl
+returns-clause-step g c = look_took (holder_over c.args.self.now) c.meet_cells.new.self c.meet_cells.ensures.same.1
+    c.meet_cells.ensures.looked refl refl

@@ -5,4 +5,6 @@ use Rattle.jr_rule.proofs.plain_cells.PlainCellsCellsUnit.take.Goals as goal
 pub returns-clause-step : goal.returns-clause-step
 returns-clause-step g c =
     let s = c.args.self.now in
-    stepped (λ m. m) (record { limits = s.limits; limited = s.limited; serials = s.few }) c.requires.owed (ap (λ m. slice_set s.words.items c.args.at ((m + (2 ^ 64 - c.args.less)) % 2 ^ 64)) c.word-found.ensures) c.word-found.ensures
+    stepped (λ m. m) (record { limits = s.limits; limited = s.limited; serials = s.few }) c.requires.owed
+    (ap (λ m. slice_set s.words.items c.args.at ((m + (2 ^ 64 - c.args.less)) % 2 ^ 64)) c.word-found.ensures)
+    c.word-found.ensures

@@ -26,6 +26,7 @@ returns-clause-ok g c =
     let met = known_of c.look-inside.result.1 in record {
       met = met;
       goes = seen.goes;
-      nobody = ap (λ (d : Config). not_outside d (state_of met)) (sym seen.goes.config) ∙ (sym (seen.is) ∙ c.if-inside-ne0.false);
+      nobody = ap (λ (d : Config). not_outside d (state_of met)) (sym seen.goes.config)
+          ∙ (sym (seen.is) ∙ c.if-inside-ne0.false);
       ends = c.close.ensures;
     }

@@ -10,7 +10,8 @@ use Rattle.jr_rule.specs.Passes.{holder_of, known_of, EndsAll, IsSeenIn}
 use Rattle.jr_rule.specs.Rule.{stepping_pass}
 use Rattle.jr_rule.proofs.Gathered.{exactly}
 use Rattle.jr_rule.proofs.LookTaken.{look_stands, look_took}
-use Rattle.jr_rule.proofs.Parted.{all_at, all_seen, counted_seated, looked_alone, met_goes, nobody_counted, others_are, seat_of, some_not_none}
+use Rattle.jr_rule.proofs.Parted.{all_at, all_seen, counted_seated, looked_alone, met_goes}
+use Rattle.jr_rule.proofs.Parted.{nobody_counted, others_are, seat_of, some_not_none}
 use Rattle.jr_rule.proofs.PassOver.{held_of_standing, standing_of_held, stays_of}
 use Rattle.jr_rule.proofs.SeatStepped.{seat_next}
 use Rattle.jr_rule.proofs.room.Room.close_all.Goals as goal
@@ -36,25 +37,39 @@ returns-in-Ok-clause-ok g c =
       met = stepping_pass m;
       goes = goes;
       nobody = ap (λ d. not_outside d (state_of (stepping_pass m))) (sym goes.config) ∙ sym counts.is;
-      ends = subst (λ ls. EndsAll (stepping_pass m) ls c.end.result) (others_are p.seat.me no_seat m ks 0 counts ∙ append-nil ks) c.end.ensures;
+      ends = subst (λ ls. EndsAll (stepping_pass m) ls c.end.result)
+          (others_are p.seat.me no_seat m ks 0 counts ∙ append-nil ks) c.end.ensures;
     }
 
 pub returns-in-Ok-clause-seen : goal.returns-in-Ok-clause-seen
 returns-in-Ok-clause-seen g c =
     let all = returns-in-Ok-clause-ok g c in
-    let ends = all.ends in record { met = all.met; goes = all.goes; whole = ends.whole; legal = ends.legal; lawful = ends.lawful; each = (ends.first, ends.others); alone = ends.alone }
+    let ends = all.ends in record {
+      met = all.met;
+      goes = all.goes;
+      whole = ends.whole;
+      legal = ends.legal;
+      lawful = ends.lawful;
+      each = (ends.first, ends.others);
+      alone = ends.alone;
+    }
 
 pub returns-in-Ok-clause-exact : goal.returns-in-Ok-clause-exact
-returns-in-Ok-clause-exact g c all = exactly (known_of c.args.pass) (map known_of c.args.others.items) c.end.result (returns-in-Ok-clause-ok g c) all
+returns-in-Ok-clause-exact g c all =
+    exactly (known_of c.args.pass) (map known_of c.args.others.items) c.end.result (returns-in-Ok-clause-ok g c) all
 
 pub invariant_of-pass-in-Err : goal.invariant_of-pass-in-Err
 invariant_of-pass-in-Err g c =
     let p = c.args.pass in
     let h = c.in-Err.ensures.err in
-    let told = looked_alone p.seat.me no_seat h.together (map known_of c.args.others.items) c.in-Err.parted.inside h.counts p.held.alone c.in-Err.parted.first.me h.alone in
+    let told = looked_alone p.seat.me no_seat h.together (map known_of c.args.others.items) c.in-Err.parted.inside
+    h.counts p.held.alone c.in-Err.parted.first.me h.alone in
     let x : RoomCells = record { seat = c.in-Err.parted.first; thread = p.thread } in
     let at = seat_next told h.room (seat_of c.args.self.row p c.requires.pass) in
-    record { held = held_of_standing at (look_stands (holder_of p) x h.room (h.counts.found, told) refl refl at (standing_of_held p.held)) }
+    record {
+      held = held_of_standing at
+          (look_stands (holder_of p) x h.room (h.counts.found, told) refl refl at (standing_of_held p.held));
+    }
 
 pub returns-in-Err-clause-err : goal.returns-in-Err-clause-err
 returns-in-Err-clause-err g c =
@@ -63,7 +78,8 @@ returns-in-Err-clause-err g c =
     let ks = map known_of others in
     let inside = c.in-Err.parted.inside in
     let h = c.in-Err.ensures.err in
-    let told = looked_alone p.seat.me no_seat h.together ks inside h.counts p.held.alone c.in-Err.parted.first.me h.alone in
+    let told =
+    looked_alone p.seat.me no_seat h.together ks inside h.counts p.held.alone c.in-Err.parted.first.me h.alone in
     let x : RoomCells = record { seat = c.in-Err.parted.first; thread = p.thread } in
     let took = look_took (holder_of p) x h.room (h.counts.found, told) refl refl in
     let first : stepping_pass c.in-Err.parted.first.me ≡ stepping_pass h.together = ap stepping_pass h.alone in
@@ -81,5 +97,7 @@ returns-in-Err-clause-err g c =
       same_others = h.same_others;
       of_room = all_at c.args.self.row others c.in-Err.parted.others.items h.same_others c.requires.others;
       seen = subst (λ (k : Known). AllByRecursion (IsSeenIn k.seen) ks) (sym first) seen;
-      somebody = λ each out. some_not_none inside h.some (h.counts.is ∙ (ap (λ d. not_outside d (state_of (stepping_pass h.together))) (goes.config ∙ c.requires.pass.config) ∙ nobody_counted c.args.self.row.config p others (stepping_pass h.together) goes seen each out));
+      somebody = λ each out. some_not_none inside h.some (h.counts.is
+          ∙ (ap (λ d. not_outside d (state_of (stepping_pass h.together))) (goes.config ∙ c.requires.pass.config)
+          ∙ nobody_counted c.args.self.row.config p others (stepping_pass h.together) goes seen each out));
     }

@@ -7,10 +7,15 @@ use Rattle.jr_rule.proofs.Seats.{gathers}
 use Rattle.jr_rule.proofs.row.RoomCells.learn.Goals as goal
 
 pub join_seat-requires : goal.join_seat-requires
-join_seat-requires g c = (search rules, search rules, ap (λ (m : SeatState). m.1) c.requires.note, search rules, gathers _ _ _ _ _ _)
+join_seat-requires g c =
+    (search rules, search rules, ap (λ (m : SeatState). m.1) c.requires.note, search rules, gathers _ _ _ _ _ _)
 
 pub load-requires : goal.load-requires
 load-requires g c =
     let s = c.args.self.now in
-    let m = c.join_seat.new.seat.me in
-    (search rules, search rules, plays _ _ _ _ _ _ _ (with_note s.seat.me c.args.note.me m c.requires.there.alone c.requires.note c.join_seat.ensures.2) _ (λ n. n) (λ n. n) (LookedBy []) (learns _))
+    let m = c.join_seat.new.seat.me in (
+      search rules,
+      search rules,
+      plays _ _ _ _ _ _ _ (with_note s.seat.me c.args.note.me m c.requires.there.alone c.requires.note
+          c.join_seat.ensures.2) _ (λ n. n) (λ n. n) (LookedBy []) (learns _),
+    )

@@ -8,16 +8,21 @@ use Rattle.jr_rule.proofs.Seats.{gathers, parts}
 use Rattle.jr_rule.proofs.row.RoomCells.meet.Goals as goal
 
 pub join_seat-requires : goal.join_seat-requires
-join_seat-requires g c = (search rules, search rules, ap (λ (m : SeatState). m.1) c.requires.alone, search rules, gathers _ _ _ _ _ _)
+join_seat-requires g c =
+    (search rules, search rules, ap (λ (m : SeatState). m.1) c.requires.alone, search rules, gathers _ _ _ _ _ _)
 
 pub load-requires : goal.load-requires
 load-requires g c =
     let s = c.args.self.now in
     let m = c.join_seat.new.seat.me in
-    let seated = seated_both s.seat.me c.args.other.me m c.requires.there.alone c.requires.alone c.join_seat.ensures.2 in
+    let seated =
+    seated_both s.seat.me c.args.other.me m c.requires.there.alone c.requires.alone c.join_seat.ensures.2 in
     (search rules, search rules, plays _ _ _ _ _ _ _ seated _ (λ n. n) (λ n. n) (LookedBy (Meet ∷ [])) (meets _))
 
 pub split_seat-requires : goal.split_seat-requires
 split_seat-requires g c =
-    let t = c.load.ensures.2 in
-    (search rules, search rules, parts _ _ _ _ t.new (others_of c.join_seat.new.seat.me.0.passes) (ap (λ (m : SeatState). m.0) t.is))
+    let t = c.load.ensures.2 in (
+      search rules,
+      search rules,
+      parts _ _ _ _ t.new (others_of c.join_seat.new.seat.me.0.passes) (ap (λ (m : SeatState). m.0) t.is),
+    )

@@ -7,8 +7,12 @@ use Rattle.jr_rule.proofs.row.RoomCellsCellsRefRoom.exchange.Goals as goal
 pub compare_exchange-requires : goal.compare_exchange-requires
 compare_exchange-requires g c =
     let s = c.args.self.now in
-    let at = c.requires.there in
-    (at.table, place_here at c.args.place.now.row.words c.requires.owed, plays _ _ _ _ _ _ _ (seated s.seat.me at.alone) _ (λ n. either (eqb n c.args.old) c.args.new n) (λ n. n) g.T.StepKind.told (owes_here s.seat.me c.requires.owed))
+    let at = c.requires.there in (
+      at.table,
+      place_here at c.args.place.now.row.words c.requires.owed,
+      plays _ _ _ _ _ _ _ (seated s.seat.me at.alone) _ (λ n. either (eqb n c.args.old) c.args.new n) (λ n. n)
+          g.T.StepKind.told (owes_here s.seat.me c.requires.owed),
+    )
 
 pub returns-clause-there : goal.returns-clause-there
 returns-clause-there g c = seat_next c.compare_exchange.ensures.2 c.compare_exchange.ensures.0 c.requires.there

@@ -5,8 +5,12 @@ use Rattle.jr_rule.proofs.row.RoomCellsCellsRefRoom.load.Goals as goal
 pub load-requires : goal.load-requires
 load-requires g c =
     let s = c.args.self.now in
-    let at = c.requires.there in
-    (at.table, place_here at c.args.place.now.row.words c.requires.owed, plays _ _ _ _ _ _ _ (seated s.seat.me at.alone) _ (λ n. n) (λ n. n) g.T.StepKind.told (owes_here s.seat.me c.requires.owed))
+    let at = c.requires.there in (
+      at.table,
+      place_here at c.args.place.now.row.words c.requires.owed,
+      plays _ _ _ _ _ _ _ (seated s.seat.me at.alone) _ (λ n. n) (λ n. n) g.T.StepKind.told
+          (owes_here s.seat.me c.requires.owed),
+    )
 
 pub returns-clause-there : goal.returns-clause-there
 returns-clause-there g c = seat_next c.load.ensures.2 c.load.ensures.0 c.requires.there

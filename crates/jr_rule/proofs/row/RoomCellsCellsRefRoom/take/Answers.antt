@@ -6,8 +6,12 @@ use Rattle.jr_rule.proofs.row.RoomCellsCellsRefRoom.take.Goals as goal
 pub fetch_sub-requires : goal.fetch_sub-requires
 fetch_sub-requires g c =
     let s = c.args.self.now in
-    let at = c.requires.there in
-    (at.table, place_here at c.args.place.now.row.words c.requires.owed, plays _ _ _ _ _ _ _ (seated s.seat.me at.alone) _ (λ n. (n + (2 ^ 64 - c.args.less)) % 2 ^ 64) (λ n. n) g.T.StepKind.told (owes_here s.seat.me c.requires.owed))
+    let at = c.requires.there in (
+      at.table,
+      place_here at c.args.place.now.row.words c.requires.owed,
+      plays _ _ _ _ _ _ _ (seated s.seat.me at.alone) _ (λ n. (n + (2 ^ 64 - c.args.less)) % 2 ^ 64) (λ n. n)
+          g.T.StepKind.told (owes_here s.seat.me c.requires.owed),
+    )
 
 pub returns-clause-there : goal.returns-clause-there
 returns-clause-there g c = seat_next c.fetch_sub.ensures.2 c.fetch_sub.ensures.0 c.requires.there

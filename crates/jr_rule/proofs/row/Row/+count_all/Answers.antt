@@ -6,27 +6,52 @@ use Rattle.jr_rule.proofs.Seats.{deals, gathers, parts}
 use Rattle.jr_rule.proofs.row.Row.+count_all.Goals as goal
 
 pub split_seat-rest-requires : goal.split_seat-rest-requires
-split_seat-rest-requires t c = let k = c.count-inside.ensures.counts in (search rules, search rules, parts _ _ _ _ (k.tells).new _ (ap (λ (m : SeatState). m.0) k.tells.is))
+split_seat-rest-requires t c = let k = c.count-inside.ensures.counts in
+    (search rules, search rules, parts _ _ _ _ (k.tells).new _ (ap (λ (m : SeatState). m.0) k.tells.is))
 
 pub join_seat-requires : goal.join_seat-requires
 join_seat-requires t c =
-    let at = (at_last c.args.self.now c.args.others.items c.pop.new.self.items c.pop.result c.in-Some.pass c.pop.ensures.items c.in-Some.is c.requires.others).1 in
-    (at.row, c.requires.same ∙ c.requires.room, ap (λ (m : SeatState). m.1) c.requires.rest, search rules, gathers _ _ _ _ _ _)
+    let at = (at_last c.args.self.now c.args.others.items c.pop.new.self.items c.pop.result c.in-Some.pass
+    c.pop.ensures.items c.in-Some.is c.requires.others).1 in (
+      at.row,
+      c.requires.same ∙ c.requires.room,
+      ap (λ (m : SeatState). m.1) c.requires.rest,
+      search rules,
+      gathers _ _ _ _ _ _,
+    )
 
 pub count_all-requires : goal.count_all-requires
 count_all-requires t c =
-    let at = at_last c.args.self.now c.args.others.items c.pop.new.self.items c.pop.result c.in-Some.pass c.pop.ensures.items c.in-Some.is c.requires.others in (
+    let at = at_last c.args.self.now c.args.others.items c.pop.new.self.items c.pop.result c.in-Some.pass
+    c.pop.ensures.items c.in-Some.is c.requires.others in (
       search rules,
-      (c.requires.room, (c.join_seat.ensures.0 ∙ (at.1.row ∙ sym c.requires.room), (c.requires.first, (still_crowd c.in-Some.pass c.join_seat.new.seat.me c.args.rest.me c.join_seat.ensures.2 c.requires.rest, at.0)))),
+      (
+        c.requires.room,
+        (
+          c.join_seat.ensures.0 ∙ (at.1.row ∙ sym c.requires.room),
+          (
+            c.requires.first,
+            (
+              still_crowd c.in-Some.pass c.join_seat.new.seat.me c.args.rest.me c.join_seat.ensures.2 c.requires.rest,
+              at.0,
+            ),
+          ),
+        ),
+      ),
     )
 
 pub split_seat-seat-requires : goal.split_seat-seat-requires
 split_seat-seat-requires t c =
     let p = c.in-Some.pass in
     let h = c.in-Err.ensures.err in
-    let at = (at_last c.args.self.now c.args.others.items c.pop.new.self.items c.pop.result p c.pop.ensures.items c.in-Some.is c.requires.others).1 in
-    let e = h.same_rest.1 ∙ crowd_more p c.join_seat.new.seat.me c.args.rest.me c.join_seat.ensures.2 c.requires.rest in
-    (h.same_rest.0 ∙ (c.join_seat.ensures.0 ∙ at.row), search rules, deals _ _ _ _ (known_of p) _ (ap (λ (m : SeatState). m.0) e))
+    let at = (at_last c.args.self.now c.args.others.items c.pop.new.self.items c.pop.result p c.pop.ensures.items
+    c.in-Some.is c.requires.others).1 in
+    let e =
+    h.same_rest.1 ∙ crowd_more p c.join_seat.new.seat.me c.args.rest.me c.join_seat.ensures.2 c.requires.rest in (
+      h.same_rest.0 ∙ (c.join_seat.ensures.0 ∙ at.row),
+      search rules,
+      deals _ _ _ _ (known_of p) _ (ap (λ (m : SeatState). m.0) e),
+    )
 
 pub returns-in-Err-clause-err : goal.returns-in-Err-clause-err
 returns-in-Err-clause-err t c =
@@ -45,11 +70,17 @@ returns-in-Err-clause-err t c =
     let knows = ap stepping_pass split.4 ∙ ap stepping_pass e in record {
       room = h.room;
       together = h.together;
-      counts = subst (λ (z : SeatState). HasCounted z h.together c.in-Err.parted.inside) (same_crowd p s rest joined c.args.first.me xs init is) h.counts;
+      counts = subst (λ (z : SeatState). HasCounted z h.together c.in-Err.parted.inside)
+          (same_crowd p s rest joined c.args.first.me xs init is) h.counts;
       alone = h.alone;
       some = h.some;
-      same_rest = (split.0 ∙ (h.same_rest.0 ∙ (c.join_seat.ensures.0 ∙ (at.row ∙ sym (c.requires.same ∙ c.requires.room)))), split.2 ∙ (ap (λ (m : SeatState). (without_first m.0, m.1)) e ∙ sym c.requires.rest));
-      same_others = ap (map stands_of) c.push_reserved.ensures.items ∙ more_stand xs init c.in-Err.parted.others.items p _ is h.same_others (λ i. record { room = table i; knows = knows i; thread = p.thread; role = p.role; fresh = p.fresh; hint = p.hint });
+      same_rest = (
+        split.0 ∙ (h.same_rest.0 ∙ (c.join_seat.ensures.0 ∙ (at.row ∙ sym (c.requires.same ∙ c.requires.room)))),
+        split.2 ∙ (ap (λ (m : SeatState). (without_first m.0, m.1)) e ∙ sym c.requires.rest),
+      );
+      same_others = ap (map stands_of) c.push_reserved.ensures.items
+          ∙ more_stand xs init c.in-Err.parted.others.items p _ is h.same_others (λ i.
+          record { room = table i; knows = knows i; thread = p.thread; role = p.role; fresh = p.fresh; hint = p.hint });
       len_is = c.push_reserved.ensures.len ∙ (ap (λ n. n + 1) h.len_is ∙ c.in-Some.ensures.cases);
       capacity_is = c.push_reserved.ensures.capacity ∙ (h.capacity_is ∙ c.pop.ensures.capacity);
     }

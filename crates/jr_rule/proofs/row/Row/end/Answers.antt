@@ -8,12 +8,15 @@ pub summary-summary-requires-clause-history : goal.summary-summary-requires-clau
 summary-summary-requires-clause-history c =
     let room = c.args.self in
     let end = c.close_with.ensures.values.2 in
-    kept_shows room.config room.last room.table.shared.key end.0 (slots_items c.close_with.result.words) room.key end.1.0 end.2
+    kept_shows room.config room.last room.table.shared.key end.0 (slots_items c.close_with.result.words) room.key
+    end.1.0 end.2
 
 pub returns : goal.returns
 returns c =
     let room = c.args.self in
     let m = c.args.seat.me in
     let end = c.close_with.ensures.values.2 in
-    ends_all room.config room.last room.table.shared.key end.0 (slots_items c.close_with.result.words) _ m.0 (stepping_pass m) (others_of m.0.passes) c.summary-summary.result
-    room.key end.1.0 end.2 end.1.1 (ap (λ (z : SeatState). z.0) c.requires.seated) c.requires.first.0 c.requires.first.1 c.summary-summary.ensures
+    ends_all room.config room.last room.table.shared.key end.0 (slots_items c.close_with.result.words) _ m.0
+    (stepping_pass m) (others_of m.0.passes) c.summary-summary.result
+    room.key end.1.0 end.2 end.1.1 (ap (λ (z : SeatState). z.0) c.requires.seated) c.requires.first.0 c.requires.first.1
+    c.summary-summary.ensures

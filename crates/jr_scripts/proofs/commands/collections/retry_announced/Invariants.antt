@@ -15,5 +15,7 @@ invariant-loop g l =
     × FitsRoom l.marker l.env
     × (room_of l.marker ≡ room_of l.fn.marker)
     × ((answer : Result Collected Fault) (last : _) (frames : Frames)
-    → DoesDeed g.S.Steps.facts l.env.held.steps last l.env.held.frames.frames frames (tried (l.turns - l.counter) (announced_collection l.tries)) answer
-    → DoesDeed g.S.Steps.facts l.fn.env.held.steps last l.fn.env.held.frames.frames frames (tried l.turns (announced_collection l.tries)) answer)
+    → DoesDeed g.S.Steps.facts l.env.held.steps last l.env.held.frames.frames frames
+    (tried (l.turns - l.counter) (announced_collection l.tries)) answer
+    → DoesDeed g.S.Steps.facts l.fn.env.held.steps last l.fn.env.held.frames.frames frames
+    (tried l.turns (announced_collection l.tries)) answer)

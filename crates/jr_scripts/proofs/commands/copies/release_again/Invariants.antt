@@ -12,6 +12,8 @@ invariant-loop g l = record {
   outside : (g.S.Steps.facts l.env.held.steps).stands.role ≡ Outside;
   same : l.left ≡ l.fn.binding;
   more : (answer : Result _ Fault) (last : _) (frames : Frames)
-      → DoesDeed g.S.Steps.facts l.env.held.steps last l.env.held.frames.frames frames (tried (l.turns - l.counter) (releasing l.array.0 l.mode l.left)) answer
-      → DoesDeed g.S.Steps.facts l.fn.env.held.steps last l.fn.env.held.frames.frames frames (tried l.turns (releasing l.array.0 l.mode l.fn.binding)) answer;
+      → DoesDeed g.S.Steps.facts l.env.held.steps last l.env.held.frames.frames frames
+      (tried (l.turns - l.counter) (releasing l.array.0 l.mode l.left)) answer
+      → DoesDeed g.S.Steps.facts l.fn.env.held.steps last l.fn.env.held.frames.frames frames
+      (tried l.turns (releasing l.array.0 l.mode l.fn.binding)) answer;
 }

@@ -14,5 +14,9 @@ abbrev pub invariant-loop : goal.invariant-loop
 invariant-loop g l =
     ((g.S.Steps.facts l.env.held.steps).stands.role ≡ Outside)
     × ((answer : Result Levels Fault) (last : _) (frames : Frames)
-    → CarriedOut g.S.Steps.facts l.env.held.steps last l.env.held.frames.frames frames (role_opened answer) (Holds l.env.held.frames.frames) (KnowsOpened answer frames) (tried (l.turns - l.counter) (opening_by l.verb l.handle.0)) (object_opened answer)
-    → CarriedOut g.S.Steps.facts l.fn.env.held.steps last l.fn.env.held.frames.frames frames (role_opened answer) (Holds l.fn.env.held.frames.frames) (KnowsOpened answer frames) (tried l.turns (opening_by l.verb l.handle.0)) (object_opened answer))
+    → CarriedOut g.S.Steps.facts l.env.held.steps last l.env.held.frames.frames frames (role_opened answer)
+    (Holds l.env.held.frames.frames) (KnowsOpened answer frames)
+    (tried (l.turns - l.counter) (opening_by l.verb l.handle.0)) (object_opened answer)
+    → CarriedOut g.S.Steps.facts l.fn.env.held.steps last l.fn.env.held.frames.frames frames (role_opened answer)
+    (Holds l.fn.env.held.frames.frames) (KnowsOpened answer frames) (tried l.turns (opening_by l.verb l.handle.0))
+    (object_opened answer))

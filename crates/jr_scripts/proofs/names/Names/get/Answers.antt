@@ -4,7 +4,9 @@ use Rattle.jr_scripts.proofs.NameMaps.{stands_as}
 use Rattle.jr_scripts.proofs.names.Names.get.Goals as goal
 
 pub returns-in-Some : goal.returns-in-Some
-returns-in-Some c = c.get-in-Some.ensures ∙ ap (getting c.args.index) (sym (stands_as c.self.inside.bindings.entries c.args.self.now c.args.name.now c.self.view_is (Some c.in-Some.binding.now) (sym c.in-Some.ensures.value)))
+returns-in-Some c = c.get-in-Some.ensures ∙ ap (getting c.args.index) (sym (stands_as c.self.inside.bindings.entries
+    c.args.self.now c.args.name.now c.self.view_is (Some c.in-Some.binding.now) (sym c.in-Some.ensures.value)))
 
 pub returns-in-None : goal.returns-in-None
-returns-in-None c = ap (getting c.args.index) (sym (stands_as c.self.inside.bindings.entries c.args.self.now c.args.name.now c.self.view_is None (sym c.in-None.ensures.value)))
+returns-in-None c = ap (getting c.args.index) (sym (stands_as c.self.inside.bindings.entries c.args.self.now
+    c.args.name.now c.self.view_is None (sym c.in-None.ensures.value)))

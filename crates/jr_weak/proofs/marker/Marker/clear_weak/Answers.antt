@@ -9,7 +9,8 @@ pub loop-index-init : goal.loop-index-init
 loop-index-init g c = (clears_none g.met.S.Steps.fits (marks_of c.args.self.now) c.args.steps.now, omega arith)
 
 pub clear_slot-requires-clause-marked : goal.clear_slot-requires-clause-marked
-clear_slot-requires-clause-marked g c = clears_may g.met.S.Steps.fits (marks_of c.args.self.now) c.requires.marked c.loop-index.invariant.0
+clear_slot-requires-clause-marked g c =
+    clears_may g.met.S.Steps.fits (marks_of c.args.self.now) c.requires.marked c.loop-index.invariant.0
 
 pub returns : goal.returns
 returns g c =
@@ -25,14 +26,18 @@ loop-index-preserved g c =
     elim c.if-clear_slot.branch [
       | then-clear_slot w ↦
           let e = w.cleared-is in (
-            subst (λ n. ClearsTo g.S.Steps.facts (marks_of c.args.self.now) (c.loop-index.index + 1) c.args.steps.now c.clear_slot.new.steps n) (sym e)
-                (clears_next_one g.met.S.Steps.fits (marks_of c.args.self.now) c.loop-index.index c.clear_slot.result w.if-clear_slot.true p.0 c.clear_slot.ensures),
+            subst (λ n. ClearsTo g.S.Steps.facts (marks_of c.args.self.now) (c.loop-index.index + 1) c.args.steps.now
+                c.clear_slot.new.steps n) (sym e)
+                (clears_next_one g.met.S.Steps.fits (marks_of c.args.self.now) c.loop-index.index c.clear_slot.result
+                w.if-clear_slot.true p.0 c.clear_slot.ensures),
             omega arith,
           )
       | else-clear_slot w ↦
           let e = w.cleared-is in (
-            subst (λ n. ClearsTo g.S.Steps.facts (marks_of c.args.self.now) (c.loop-index.index + 1) c.args.steps.now c.clear_slot.new.steps n) (sym e)
-                (clears_next_not g.met.S.Steps.fits (marks_of c.args.self.now) c.loop-index.index c.clear_slot.result w.if-clear_slot.false p.0 c.clear_slot.ensures),
+            subst (λ n. ClearsTo g.S.Steps.facts (marks_of c.args.self.now) (c.loop-index.index + 1) c.args.steps.now
+                c.clear_slot.new.steps n) (sym e)
+                (clears_next_not g.met.S.Steps.fits (marks_of c.args.self.now) c.loop-index.index c.clear_slot.result
+                w.if-clear_slot.false p.0 c.clear_slot.ensures),
             omega arith,
           )
     ]

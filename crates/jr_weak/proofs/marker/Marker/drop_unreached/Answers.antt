@@ -9,7 +9,8 @@ pub loop-index-init : goal.loop-index-init
 loop-index-init g c = (drops_none g.met.S.Steps.fits (marks_of c.args.self.now) c.args.steps.now, omega arith)
 
 pub drop_number-requires-clause-can : goal.drop_number-requires-clause-can
-drop_number-requires-clause-can g c = drops_may g.met.S.Steps.fits (marks_of c.args.self.now) c.requires.cleared c.loop-index.invariant.0
+drop_number-requires-clause-can g c =
+    drops_may g.met.S.Steps.fits (marks_of c.args.self.now) c.requires.cleared c.loop-index.invariant.0
 
 pub returns : goal.returns
 returns g c =
@@ -25,14 +26,18 @@ loop-index-preserved g c =
     elim c.if-drop_number.branch [
       | then-drop_number w ↦
           let e = w.dropped-is in (
-            subst (λ n. DropsTo g.S.Steps.facts (marks_of c.args.self.now) (c.loop-index.index + 1) c.args.steps.now c.drop_number.new.steps n) (sym e)
-                (drops_next_one g.met.S.Steps.fits (marks_of c.args.self.now) c.loop-index.index (c.loop-index.index + 1) c.drop_number.result w.if-drop_number.true refl p.0 c.drop_number.ensures),
+            subst (λ n. DropsTo g.S.Steps.facts (marks_of c.args.self.now) (c.loop-index.index + 1) c.args.steps.now
+                c.drop_number.new.steps n) (sym e)
+                (drops_next_one g.met.S.Steps.fits (marks_of c.args.self.now) c.loop-index.index
+                (c.loop-index.index + 1) c.drop_number.result w.if-drop_number.true refl p.0 c.drop_number.ensures),
             omega arith,
           )
       | else-drop_number w ↦
           let e = w.dropped-is in (
-            subst (λ n. DropsTo g.S.Steps.facts (marks_of c.args.self.now) (c.loop-index.index + 1) c.args.steps.now c.drop_number.new.steps n) (sym e)
-                (drops_next_not g.met.S.Steps.fits (marks_of c.args.self.now) c.loop-index.index (c.loop-index.index + 1) c.drop_number.result w.if-drop_number.false refl p.0 c.drop_number.ensures),
+            subst (λ n. DropsTo g.S.Steps.facts (marks_of c.args.self.now) (c.loop-index.index + 1) c.args.steps.now
+                c.drop_number.new.steps n) (sym e)
+                (drops_next_not g.met.S.Steps.fits (marks_of c.args.self.now) c.loop-index.index
+                (c.loop-index.index + 1) c.drop_number.result w.if-drop_number.false refl p.0 c.drop_number.ensures),
             omega arith,
           )
     ]

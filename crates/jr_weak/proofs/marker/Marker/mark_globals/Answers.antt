@@ -7,7 +7,11 @@ use Rattle.jr_weak.proofs.RootMarks.{GlobalsBelow, globals_few, globals_next, gl
 use Rattle.jr_weak.proofs.marker.Marker.mark_globals.Goals as goal
 
 pub loop-index-init : goal.loop-index-init
-loop-index-init g c = (marked_none g.met.S.Steps.fits c.args.self.now.marked.items c.args.steps.now {has = GlobalsBelow 0} (λ k h o kind l. absurd (omega arith)), refl)
+loop-index-init g c = (
+  marked_none g.met.S.Steps.fits c.args.self.now.marked.items c.args.steps.now {has = GlobalsBelow 0} (λ k h o kind l.
+      absurd (omega arith)),
+  refl,
+)
 
 pub returns-clause-marks : goal.returns-clause-marks
 returns-clause-marks g c =
@@ -25,7 +29,9 @@ reach_if-requires g c =
     let f = p.1 in
     record {
       number = λ o e.
-          let few = globals_few T.fits c.loop-index.index c.scan_slot-parts.result (T.some_known c.loop-index.steps) (ap (λ (z : Standing). z.role) (p.0).saw.stands_is ∙ c.requires.role) c.scan_slot-parts.ensures o (sym c.global_of.ensures ∙ e) in
+          let few = globals_few T.fits c.loop-index.index c.scan_slot-parts.result (T.some_known c.loop-index.steps)
+          (ap (λ (z : Standing). z.role) (p.0).saw.stands_is ∙ c.requires.role) c.scan_slot-parts.ensures o
+          (sym c.global_of.ensures ∙ e) in
           let l = few.1 in
           (few.0, omega arith);
     }
@@ -38,8 +44,10 @@ loop-index-preserved g c =
     let r = c.requires.room in
     let f = p.1 in
     let wide = c.loop-index.self.queue.wide in (
-      globals_next T.fits c.loop-index.index c.scan_slot-parts.result c.requires.role p.0 c.scan_slot-parts.ensures (c.reach_if.ensures.marked ∙ ap (λ o. with_mark c.loop-index.self.marked.items o) c.global_of.ensures) (λ o e.
-          let few = globals_few T.fits c.loop-index.index c.scan_slot-parts.result (T.some_known c.loop-index.steps) (ap (λ (z : Standing). z.role) (p.0).saw.stands_is ∙ c.requires.role) c.scan_slot-parts.ensures o e in
+      globals_next T.fits c.loop-index.index c.scan_slot-parts.result c.requires.role p.0 c.scan_slot-parts.ensures
+          (c.reach_if.ensures.marked ∙ ap (λ o. with_mark c.loop-index.self.marked.items o) c.global_of.ensures) (λ o e.
+          let few = globals_few T.fits c.loop-index.index c.scan_slot-parts.result (T.some_known c.loop-index.steps)
+          (ap (λ (z : Standing). z.role) (p.0).saw.stands_is ∙ c.requires.role) c.scan_slot-parts.ensures o e in
           let l = few.1 in omega arith),
       c.reach_if.ensures.room ∙ p.1,
     )

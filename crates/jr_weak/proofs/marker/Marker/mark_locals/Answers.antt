@@ -7,7 +7,11 @@ pub loop-thread-init : goal.loop-thread-init
 loop-thread-init g c = (threads_none g.met.S.Steps.fits c.args.self.now.marked.items c.args.steps.now, refl)
 
 pub loop-thread-preserved : goal.loop-thread-preserved
-loop-thread-preserved g c = (threads_next g.met.S.Steps.fits c.loop-thread.thread c.requires.role c.loop-thread.invariant.0 c.mark_locals_of.ensures.marks, c.mark_locals_of.ensures.room ∙ c.loop-thread.invariant.1)
+loop-thread-preserved g c = (
+  threads_next g.met.S.Steps.fits c.loop-thread.thread c.requires.role c.loop-thread.invariant.0
+      c.mark_locals_of.ensures.marks,
+  c.mark_locals_of.ensures.room ∙ c.loop-thread.invariant.1,
+)
 
 pub returns-clause-marks : goal.returns-clause-marks
 returns-clause-marks g c =

@@ -7,7 +7,11 @@ use Rattle.jr_weak.proofs.RootMarks.{PlacesBelow, places_few, places_next, place
 use Rattle.jr_weak.proofs.marker.Marker.mark_locals_of.Goals as goal
 
 pub loop-place-init : goal.loop-place-init
-loop-place-init g c = (marked_none g.met.S.Steps.fits c.args.self.now.marked.items c.args.steps.now {has = PlacesBelow c.args.thread 0} (λ k r o l. absurd (omega arith)), refl)
+loop-place-init g c = (
+  marked_none g.met.S.Steps.fits c.args.self.now.marked.items c.args.steps.now {has = PlacesBelow c.args.thread 0}
+      (λ k r o l. absurd (omega arith)),
+  refl,
+)
 
 pub returns-clause-marks : goal.returns-clause-marks
 returns-clause-marks g c =
@@ -25,7 +29,9 @@ reach_if-requires g c =
     let f = p.1 in
     record {
       number = λ o e.
-          let few = places_few T.fits c.args.thread c.loop-place.place c.scan_local-parts.result (T.some_known c.loop-place.steps) (ap (λ (z : Standing). z.role) (p.0).saw.stands_is ∙ c.requires.role) c.scan_local-parts.ensures o (sym c.local_of.ensures ∙ e) in
+          let few = places_few T.fits c.args.thread c.loop-place.place c.scan_local-parts.result
+          (T.some_known c.loop-place.steps) (ap (λ (z : Standing). z.role) (p.0).saw.stands_is ∙ c.requires.role)
+          c.scan_local-parts.ensures o (sym c.local_of.ensures ∙ e) in
           let l = few.1 in
           (few.0, omega arith);
     }
@@ -38,8 +44,12 @@ loop-place-preserved g c =
     let r = c.requires.room in
     let f = p.1 in
     let wide = c.loop-place.self.queue.wide in (
-      places_next T.fits c.args.thread c.loop-place.place c.scan_local-parts.result c.requires.role p.0 c.scan_local-parts.ensures (c.reach_if.ensures.marked ∙ ap (λ o. with_mark c.loop-place.self.marked.items o) c.local_of.ensures) (λ o e.
-          let few = places_few T.fits c.args.thread c.loop-place.place c.scan_local-parts.result (T.some_known c.loop-place.steps) (ap (λ (z : Standing). z.role) (p.0).saw.stands_is ∙ c.requires.role) c.scan_local-parts.ensures o e in
+      places_next T.fits c.args.thread c.loop-place.place c.scan_local-parts.result c.requires.role p.0
+          c.scan_local-parts.ensures
+          (c.reach_if.ensures.marked ∙ ap (λ o. with_mark c.loop-place.self.marked.items o) c.local_of.ensures) (λ o e.
+          let few =
+          places_few T.fits c.args.thread c.loop-place.place c.scan_local-parts.result (T.some_known c.loop-place.steps)
+          (ap (λ (z : Standing). z.role) (p.0).saw.stands_is ∙ c.requires.role) c.scan_local-parts.ensures o e in
           let l = few.1 in omega arith),
       c.reach_if.ensures.room ∙ p.1,
     )

@@ -8,7 +8,11 @@ invariant_of-result c =
     let long : length c.in_ok-found.found.items ≡ c.args.objects = search rules in
     let room : length c.in_ok-noted.noted.items ≡ c.args.objects = search rules in
     let fits : c.args.objects ≤ 65535 = c.requires in
-    record { queue = queue_empty c.in_ok-marked.marked.items (c.args.objects + 1) c.in_ok-found.found.items is (omega arith); same_room = omega arith; few = omega arith }
+    record {
+      queue = queue_empty c.in_ok-marked.marked.items (c.args.objects + 1) c.in_ok-found.found.items is (omega arith);
+      same_room = omega arith;
+      few = omega arith;
+    }
 
 pub returns-clause-none : goal.returns-clause-none
 returns-clause-none c =

@@ -10,12 +10,17 @@ use Rattle.jr_env.proofs.works.frames.FramePopWork.work.Goals as goal
 
 pub returns-then-is_base-clause-call : goal.returns-then-is_base-clause-call
 returns-then-is_base-clause-call g c = let s = (g.S.Steps.facts c.args.steps.now).stands in
-    pops_no_frame g.met.S.Steps.fits c.args.steps.now c.args.frames.now.frames (resolved s.config s.last s.thread (word_of c.args.self.0) >>= popping s.config s.last s.thread) (eq_true _ 1 (sym c.is_base.ensures ∙ c.if-is_base.true))
+    pops_no_frame g.met.S.Steps.fits c.args.steps.now c.args.frames.now.frames
+    (resolved s.config s.last s.thread (word_of c.args.self.0) >>= popping s.config s.last s.thread)
+    (eq_true _ 1 (sym c.is_base.ensures ∙ c.if-is_base.true))
 
 pub returns-in_err-object-clause-call : goal.returns-in_err-object-clause-call
 returns-in_err-object-clause-call g c = let s = (g.S.Steps.facts c.args.steps.now).stands in
-    let above : 2 ≤ length c.args.frames.now.frames.frames = two_frames _ _ c.are_sound.ensures.some_frame c.is_base.ensures c.if-is_base.false in
-    pops_above (resolved s.config s.last s.thread (word_of c.args.self.0) >>= popping s.config s.last s.thread) above (creates_refused (popping s.config s.last s.thread) c.from_residual.result c.from_residual.ensures.1 c.in_err-object.ensures)
+    let above : 2 ≤ length c.args.frames.now.frames.frames =
+    two_frames _ _ c.are_sound.ensures.some_frame c.is_base.ensures c.if-is_base.false in
+    pops_above (resolved s.config s.last s.thread (word_of c.args.self.0) >>= popping s.config s.last s.thread) above
+    (creates_refused (popping s.config s.last s.thread) c.from_residual.result c.from_residual.ensures.1
+    c.in_err-object.ensures)
 
 pub pop_frame-requires-clause-ready : goal.pop_frame-requires-clause-ready
 pop_frame-requires-clause-ready g c = ready_resolved c.requires.ready c.in_ok-object.ensures
@@ -25,5 +30,7 @@ pop_frame-requires-clause-object g c = may_find_both c.in_ok-object.ensures c.re
 
 pub returns-clause-call : goal.returns-clause-call
 returns-clause-call g c = let s = (g.S.Steps.facts c.args.steps.now).stands in
-    let above : 2 ≤ length c.args.frames.now.frames.frames = two_frames _ _ c.are_sound.ensures.some_frame c.is_base.ensures c.if-is_base.false in
-    pops_above (resolved s.config s.last s.thread (word_of c.args.self.0) >>= popping s.config s.last s.thread) above (creates_by popping c.in_ok-object.ensures c.pop_frame.ensures.call)
+    let above : 2 ≤ length c.args.frames.now.frames.frames =
+    two_frames _ _ c.are_sound.ensures.some_frame c.is_base.ensures c.if-is_base.false in
+    pops_above (resolved s.config s.last s.thread (word_of c.args.self.0) >>= popping s.config s.last s.thread) above
+    (creates_by popping c.in_ok-object.ensures c.pop_frame.ensures.call)

@@ -3,44 +3,66 @@ use mathlib.Core.Logic.{∥∥₁_map}
 use Rattle.jr_word.proofs.Limits.{limited}
 use Rattle.jr_frames.specs.Reading.{word_of}
 use Rattle.jr_env.proofs.ElementChecks.{checks_passed}
-use Rattle.jr_env.proofs.ElementReading.{element_at, element_named, may_both, may_name, reads_element, reads_nothing, ready_found, ready_read, steady_reading, word_low}
+use Rattle.jr_env.proofs.ElementReading.{element_at, element_named, may_both, may_name, reads_element}
+use Rattle.jr_env.proofs.ElementReading.{reads_nothing, ready_found, ready_read, steady_reading, word_low}
 use Rattle.jr_frames.proofs.FoundObject.{finds_refused}
 use Rattle.jr_env.proofs.works.objects.ElementReadingWork.work.Goals as goal
 
 pub returns-in_err-array-clause-call : goal.returns-in_err-array-clause-call
 returns-in_err-array-clause-call g c = let s = (g.S.Steps.facts c.args.steps.now).stands in
-    finds_refused (word_of c.args.self.target) (element_at c.args.self.index (element_named s.config s.last s.thread c.args.self.index)) c.from_residual.result c.from_residual.ensures.1 c.in_err-array.ensures.call
+    finds_refused (word_of c.args.self.target)
+    (element_at c.args.self.index (element_named s.config s.last s.thread c.args.self.index)) c.from_residual.result
+    c.from_residual.ensures.1 c.in_err-array.ensures.call
 
 pub returns-in_err-array-clause-steady : goal.returns-in_err-array-clause-steady
-returns-in_err-array-clause-steady g c = let s = (g.S.Steps.facts c.args.steps.now).stands in steady_reading s.config s.last s.thread (word_of c.args.self.target) c.args.self.index
+returns-in_err-array-clause-steady g c = let s = (g.S.Steps.facts c.args.steps.now).stands in
+    steady_reading s.config s.last s.thread (word_of c.args.self.target) c.args.self.index
 
 pub returns-in_err-has_element-clause-call : goal.returns-in_err-has_element-clause-call
 returns-in_err-has_element-clause-call g c = let s = (g.S.Steps.facts c.args.steps.now).stands in
-    reads_nothing g.met.S.Steps.fits (word_of c.args.self.target) c.args.self.index c.in_ok-array.ensures.call (element_named s.config s.last s.thread c.args.self.index) c.from_residual-in_err-has_element.result c.from_residual-in_err-has_element.ensures.1 c.in_err-has_element.ensures
+    reads_nothing g.met.S.Steps.fits (word_of c.args.self.target) c.args.self.index c.in_ok-array.ensures.call
+    (element_named s.config s.last s.thread c.args.self.index) c.from_residual-in_err-has_element.result
+    c.from_residual-in_err-has_element.ensures.1 c.in_err-has_element.ensures
 
 pub returns-in_err-has_element-clause-steady : goal.returns-in_err-has_element-clause-steady
-returns-in_err-has_element-clause-steady g c = let s = (g.S.Steps.facts c.args.steps.now).stands in steady_reading s.config s.last s.thread (word_of c.args.self.target) c.args.self.index
+returns-in_err-has_element-clause-steady g c = let s = (g.S.Steps.facts c.args.steps.now).stands in
+    steady_reading s.config s.last s.thread (word_of c.args.self.target) c.args.self.index
 
 pub see_element-word-requires-clause-index : goal.see_element-word-requires-clause-index
-see_element-word-requires-clause-index g c = (checks_passed c.in_ok-array.header.kind c.in_ok-array.header.length c.args.self.index c.in_ok-has_element.ensures).1
+see_element-word-requires-clause-index g c = (checks_passed c.in_ok-array.header.kind c.in_ok-array.header.length
+    c.args.self.index c.in_ok-has_element.ensures).1
 
 pub see_element-word-requires-clause-known : goal.see_element-word-requires-clause-known
 see_element-word-requires-clause-known g c = ∥∥₁_map c.in_ok-array.ensures.known (λ k. (k.0, k.1, k.2.known))
 
 pub object_in-object-requires : goal.object_in-object-requires
-object_in-object-requires g c = word_low g.met.S.Steps.fits c.args.self.index c.see_element-word.result c.in_ok-has_element.ensures (c.in_ok-array.ensures.call.stands_is.role ∙ c.requires.ready.role_is) c.see_element-word.ensures c.args.frames.now.frames (limited (g.S.Steps.facts c.see_element-word.new.self).stands.config (g.met.S.Steps.limits c.see_element-word.new.self)).objects.1
-    (may_both (word_of c.args.self.target) c.args.frames.now.frames c.in_ok-array.ensures.call c.requires.ready.own.agrees)
+object_in-object-requires g c =
+    word_low g.met.S.Steps.fits c.args.self.index c.see_element-word.result c.in_ok-has_element.ensures
+    (c.in_ok-array.ensures.call.stands_is.role ∙ c.requires.ready.role_is) c.see_element-word.ensures
+    c.args.frames.now.frames (limited (g.S.Steps.facts c.see_element-word.new.self).stands.config
+    (g.met.S.Steps.limits c.see_element-word.new.self)).objects.1
+    (may_both (word_of c.args.self.target) c.args.frames.now.frames c.in_ok-array.ensures.call
+    c.requires.ready.own.agrees)
 
 pub new_local-requires-clause-ready : goal.new_local-requires-clause-ready
-new_local-requires-clause-ready g c = ready_read g.met.S.Steps.fits c.args.self.index c.see_element-word.result c.in_ok-has_element.ensures (c.in_ok-array.ensures.call.stands_is.role ∙ c.requires.ready.role_is) c.see_element-word.ensures c.args.frames.now
-    (ready_found (word_of c.args.self.target) c.args.frames.now c.requires.ready c.in_ok-array.ensures.call) (may_both (word_of c.args.self.target) c.args.frames.now.frames c.in_ok-array.ensures.call c.requires.ready.own.agrees)
+new_local-requires-clause-ready g c =
+    ready_read g.met.S.Steps.fits c.args.self.index c.see_element-word.result c.in_ok-has_element.ensures
+    (c.in_ok-array.ensures.call.stands_is.role ∙ c.requires.ready.role_is) c.see_element-word.ensures c.args.frames.now
+    (ready_found (word_of c.args.self.target) c.args.frames.now c.requires.ready c.in_ok-array.ensures.call) (may_both
+    (word_of c.args.self.target) c.args.frames.now.frames c.in_ok-array.ensures.call c.requires.ready.own.agrees)
 
 pub new_local-requires-clause-object : goal.new_local-requires-clause-object
-new_local-requires-clause-object g c = may_name g.met.S.Steps.fits c.args.self.index c.see_element-word.result c.in_ok-has_element.ensures (c.in_ok-array.ensures.call.stands_is.role ∙ c.requires.ready.role_is) c.see_element-word.ensures c.args.frames.now.frames c.object_in-object.ensures
-    (may_both (word_of c.args.self.target) c.args.frames.now.frames c.in_ok-array.ensures.call c.requires.ready.own.agrees)
+new_local-requires-clause-object g c = may_name g.met.S.Steps.fits c.args.self.index c.see_element-word.result
+    c.in_ok-has_element.ensures (c.in_ok-array.ensures.call.stands_is.role ∙ c.requires.ready.role_is)
+    c.see_element-word.ensures c.args.frames.now.frames c.object_in-object.ensures
+    (may_both (word_of c.args.self.target) c.args.frames.now.frames c.in_ok-array.ensures.call
+    c.requires.ready.own.agrees)
 
 pub returns-clause-call : goal.returns-clause-call
-returns-clause-call g c = reads_element g.met.S.Steps.fits (word_of c.args.self.target) c.args.self.index c.see_element-word.result c.in_ok-array.ensures.call c.in_ok-has_element.ensures c.requires.ready.role_is c.see_element-word.ensures c.object_in-object.ensures c.new_local.ensures.call
+returns-clause-call g c = reads_element g.met.S.Steps.fits (word_of c.args.self.target) c.args.self.index
+    c.see_element-word.result c.in_ok-array.ensures.call c.in_ok-has_element.ensures c.requires.ready.role_is
+    c.see_element-word.ensures c.object_in-object.ensures c.new_local.ensures.call
 
 pub returns-clause-steady : goal.returns-clause-steady
-returns-clause-steady g c = let s = (g.S.Steps.facts c.args.steps.now).stands in steady_reading s.config s.last s.thread (word_of c.args.self.target) c.args.self.index
+returns-clause-steady g c = let s = (g.S.Steps.facts c.args.steps.now).stands in
+    steady_reading s.config s.last s.thread (word_of c.args.self.target) c.args.self.index

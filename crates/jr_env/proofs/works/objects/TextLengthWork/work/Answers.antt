@@ -8,19 +8,26 @@ use Rattle.jr_env.proofs.ObjectLooks.{length_of, steady_length, tells_length, te
 use Rattle.jr_env.proofs.works.objects.TextLengthWork.work.Goals as goal
 
 pub returns-in_err-header-clause-call : goal.returns-in_err-header-clause-call
-returns-in_err-header-clause-call g c = finds_refused (word_of c.args.self.0) (λ s o. for_object s o (length_of is_text WrongKind)) c.from_residual.result c.from_residual.ensures.1 c.in_err-header.ensures.call
+returns-in_err-header-clause-call g c =
+    finds_refused (word_of c.args.self.0) (λ s o. for_object s o (length_of is_text WrongKind)) c.from_residual.result
+    c.from_residual.ensures.1 c.in_err-header.ensures.call
 
 pub returns-in_err-header-clause-steady : goal.returns-in_err-header-clause-steady
-returns-in_err-header-clause-steady g c = let s = (g.S.Steps.facts c.args.steps.now).stands in steady_length s.config s.last s.thread (word_of c.args.self.0) is_text WrongKind
+returns-in_err-header-clause-steady g c = let s = (g.S.Steps.facts c.args.steps.now).stands in
+    steady_length s.config s.last s.thread (word_of c.args.self.0) is_text WrongKind
 
 pub returns-then-not-is_text-clause-call : goal.returns-then-not-is_text-clause-call
-returns-then-not-is_text-clause-call g c = tells_no_length g.met.S.Steps.fits (word_of c.args.self.0) c.in_ok-header.ensures.call is_text WrongKind (λ p. tt) (sym c.if-not-is_text.ensures)
+returns-then-not-is_text-clause-call g c = tells_no_length g.met.S.Steps.fits (word_of c.args.self.0)
+    c.in_ok-header.ensures.call is_text WrongKind (λ p. tt) (sym c.if-not-is_text.ensures)
 
 pub returns-then-not-is_text-clause-steady : goal.returns-then-not-is_text-clause-steady
-returns-then-not-is_text-clause-steady g c = let s = (g.S.Steps.facts c.args.steps.now).stands in steady_length s.config s.last s.thread (word_of c.args.self.0) is_text WrongKind
+returns-then-not-is_text-clause-steady g c = let s = (g.S.Steps.facts c.args.steps.now).stands in
+    steady_length s.config s.last s.thread (word_of c.args.self.0) is_text WrongKind
 
 pub returns-clause-call : goal.returns-clause-call
-returns-clause-call g c = tells_length g.met.S.Steps.fits (word_of c.args.self.0) c.in_ok-header.ensures.call is_text WrongKind (sym c.is_text.ensures ∙ c.if-not-is_text.false)
+returns-clause-call g c = tells_length g.met.S.Steps.fits (word_of c.args.self.0) c.in_ok-header.ensures.call is_text
+    WrongKind (sym c.is_text.ensures ∙ c.if-not-is_text.false)
 
 pub returns-clause-steady : goal.returns-clause-steady
-returns-clause-steady g c = let s = (g.S.Steps.facts c.args.steps.now).stands in steady_length s.config s.last s.thread (word_of c.args.self.0) is_text WrongKind
+returns-clause-steady g c = let s = (g.S.Steps.facts c.args.steps.now).stands in
+    steady_length s.config s.last s.thread (word_of c.args.self.0) is_text WrongKind

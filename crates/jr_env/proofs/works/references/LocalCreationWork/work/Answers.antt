@@ -4,7 +4,8 @@ use Rattle.jr_frames.proofs.NewLocal.{may_find, ready_resolved, creates_local}
 use Rattle.jr_env.proofs.works.references.LocalCreationWork.work.Goals as goal
 
 pub returns-in_err-object-clause-call : goal.returns-in_err-object-clause-call
-returns-in_err-object-clause-call g c = let s = (g.S.Steps.facts c.args.steps.now).stands in creates_refused (new_local s.config s.last s.thread) c.from_residual.result c.from_residual.ensures.1 c.in_err-object.ensures
+returns-in_err-object-clause-call g c = let s = (g.S.Steps.facts c.args.steps.now).stands in creates_refused
+    (new_local s.config s.last s.thread) c.from_residual.result c.from_residual.ensures.1 c.in_err-object.ensures
 
 pub new_local-requires-clause-ready : goal.new_local-requires-clause-ready
 new_local-requires-clause-ready g c = ready_resolved c.requires.ready c.in_ok-object.ensures
