@@ -1,7 +1,8 @@
 -- What each thread of a room did, in one legal history.
-use Rattle.std.specs.Prelude.{◌≡◌, ◌<◌, ℕ, zero, suc, Bool, true, false, Ok, List, [], ◌∷◌, ◌++◌, length, slice_index_or}
+use Rattle.std.specs.Prelude.{◌≡◌, ◌<◌, ℕ, zero, suc, Bool, true, false, Result, Ok, List, [], ◌∷◌, ◌++◌, length, slice_index_or}
 use mathlib.Core.List.{IsPrefix}
 use Rattle.jr_word.specs.declared.config.Config.{Config}
+use Rattle.jr_word.specs.declared.fault.Fault.{Fault}
 use Rattle.jr_model.specs.declared.event.Act.{Act}
 use Rattle.jr_model.specs.declared.event.Act.TheVariants.{Meet}
 use Rattle.jr_model.specs.declared.summary.Summary.{Summary}
@@ -65,3 +66,7 @@ pub record HasCome {A : Type 0} (deed : Deed A) (old : Pass) (now : Holder) (x :
   pub spends : Spent facts_of (holder_of old) spent
   pub frames : Frames
   pub did : DoesDeed facts_of spent now (fresh_frames (standing_of old).config.locals) frames deed (Ok x)
+
+-- the reply of a deed, a refusal too, as the answer of native code
+abbrev pub replied : {A : Type 0} → Deed A → Deed (Result A Fault)
+replied first old answer new = (reply : Result _ Fault) × (answer ≡ Ok reply) × first old reply new
