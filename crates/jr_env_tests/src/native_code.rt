@@ -1,7 +1,7 @@
 //! Native code that tells what each of its threads does, so that `run_native` says it of all of them.
 ghost use Rattle.std.specs.Prelude.{true, IfOk};
 ghost use Rattle.jr_env.specs.Deeds.{new_plain};
-ghost use Rattle.jr_threads.specs.Parts.{replied, HaveRun};
+ghost use Rattle.jr_threads.specs.Parts.{replied, RanTogether};
 
 use jr::{Config, Env, Fault, Handle, NativeCode, Ran, Steps, run_native};
 use std::alloc::Global;
@@ -42,7 +42,7 @@ fn each_makes<R: Threads + Sync>(
     alloc: Global,
     config: Config,
 ) -> Result<Ran<Result<Handle, Fault>>, Fault>
-    ensures { IfOk result (λ r. HaveRun (λ answer. true) (λ thread. replied new_plain) config 4294967295 r.answers.items r.summary) }
+    ensures { IfOk result (λ r. RanTogether (λ answer. true) (λ thread. replied new_plain) config 4294967295 r.answers.items r.summary) }
 {
     run_native(rt, alloc, config, &Makes)
 }

@@ -7,11 +7,11 @@ use Rattle.jr_env.proofs.Carrying.{did_more}
 use Rattle.jr_rule.specs.declared.pass.Pass.{Pass}
 use Rattle.jr_rule.specs.Passes.{Holder, facts_of, holder_of, standing_of}
 use Rattle.jr_env.specs.Deeds.{Deed, DoesDeed, DoesOutside}
-use Rattle.jr_threads.specs.Parts.{HasCome, replied}
+use Rattle.jr_threads.specs.Parts.{DidWithPass, replied}
 
 -- from the moment that the steps of a pass were made, and the pass was spent
 pub come : {S : Type 0} (holder : S → Holder) {A : Type 0} (deed : Deed A) (made a b : S) (p : Pass) (now : Holder) (f g : Frames) (x : A)
-    → Spent (λ s. facts_of (holder s)) made a → DoesDeed (λ s. facts_of (holder s)) a b f g deed (Ok x) → holder made ≡ holder_of p → now ≡ holder b → f ≡ fresh_frames (standing_of p).config.locals → HasCome deed p now x
+    → Spent (λ s. facts_of (holder s)) made a → DoesDeed (λ s. facts_of (holder s)) a b f g deed (Ok x) → holder made ≡ holder_of p → now ≡ holder b → f ≡ fresh_frames (standing_of p).config.locals → DidWithPass deed p now x
 come holder deed made a b p now f g x spent d old new fresh =
     let here : DoesDeed facts_of (holder a) (holder b) f g deed (Ok x) = record { stands_is = d.stands_is; did = d.did } in
     let spends : Spent facts_of (holder made) (holder a) = record { stands_is = spent.stands_is; hint_is = spent.hint_is; same = spent.same } in

@@ -19,7 +19,7 @@ use Rattle.jr_rule.specs.declared.row.Row.{Row}
 use Rattle.jr_rule.specs.Passes.{known_of, numbers_below, AreOpened, HasEachPass, HasPass, IsAt}
 use Rattle.jr_rule.specs.Sites.{IsPassOf}
 use Rattle.jr_env.specs.Deeds.{Deed}
-use Rattle.jr_threads.specs.Sites.{passes_in, HaveAllRun, IsBack}
+use Rattle.jr_threads.specs.Sites.{passes_in, ThreadsRan, IsBack}
 
 -- a pass that came back from its site is one of the room's own, and outside
 pub is_back : (room : Room 4294967295) (p q : Pass) → IsPassOf (Some room.row.table.shared.table_id) room.row.config 4294967295 (known_of p).thread q → q.role ≡ Outside → IsBack room.row p q
@@ -30,7 +30,7 @@ abbrev pub AreBack : Row → List Pass → List Pass → Type 0
 AreBack r ps qs = AllZip (IsBack r) ps qs
 
 -- where threads have run, their passes came back
-pub backs_of : {A : Type 0} (tells : A → Bool) (deed : ℕ → Deed A) (r : Row) (ps : List Pass) (es : List (Ended A)) → HaveAllRun tells deed r ps es → AreBack r ps (passes_in es)
+pub backs_of : {A : Type 0} (tells : A → Bool) (deed : ℕ → Deed A) (r : Row) (ps : List Pass) (es : List (Ended A)) → ThreadsRan tells deed r ps es → AreBack r ps (passes_in es)
 backs_of tells deed r [] [] ran = tt
 backs_of tells deed r [] (e ∷ es) ran = absurd ran
 backs_of tells deed r (p ∷ ps) [] ran = absurd ran

@@ -11,10 +11,10 @@ use Rattle.jr_rule.specs.Passes.{IsOpened}
 use Rattle.jr_env.specs.Deeds.{Deed}
 use Rattle.jr_threads.specs.declared.native.Ended.{Ended}
 use Rattle.jr_threads.specs.declared.native.Place.{Place}
-use Rattle.jr_threads.specs.Sites.{answers_in, ended_by, ended_in, passes_in, waiting_at, HasEnded, HasRun, HaveAllRun, HaveEnded, IsOver, IsWaiting}
+use Rattle.jr_threads.specs.Sites.{answers_in, ended_by, ended_in, passes_in, waiting_at, PlaceRan, ThreadRan, ThreadsRan, PlacesRan, HasStopped, IsWaiting}
 
 -- where the threads of all places have ended, place by place
-pub all_ended : {A : Type 0} (tells : A → Bool) (deed : ℕ → Deed A) (r : Row) (xs ys : List (Place A)) → length ys ≡ length xs → ((i : ℕ) (d : Place A) → i < length xs → HasEnded tells deed r (get_or xs i d) (get_or ys i d)) → HaveEnded tells deed r xs ys
+pub all_ended : {A : Type 0} (tells : A → Bool) (deed : ℕ → Deed A) (r : Row) (xs ys : List (Place A)) → length ys ≡ length xs → ((i : ℕ) (d : Place A) → i < length xs → PlaceRan tells deed r (get_or xs i d) (get_or ys i d)) → PlacesRan tells deed r xs ys
 all_ended tells deed r [] [] same each = tt
 all_ended tells deed r [] (y ∷ ys) same each = absurd (omega arith)
 all_ended tells deed r (x ∷ xs) [] same each = absurd (omega arith)
@@ -29,21 +29,21 @@ all_wait {A} r ps opened = All-from_recursion (λ (p : Place A). IsWaiting r p) 
 
 module _ {A : Type 0} (tells : A → Bool) (deed : ℕ → Deed A) (r : Row) where
   -- they are over
-  pub all_over : (xs ys : List (Place A)) → HaveEnded tells deed r xs ys → All (λ (p : Place A). IsOver p) ys
-  all_over xs ys ended = All-from_recursion (λ (p : Place A). IsOver p) ys (each xs ys ended) where
-    each : (xs ys : List (Place A)) → HaveEnded tells deed r xs ys → AllByRecursion (λ (p : Place A). IsOver p) ys
+  pub all_over : (xs ys : List (Place A)) → PlacesRan tells deed r xs ys → All (λ (p : Place A). HasStopped p) ys
+  all_over xs ys ended = All-from_recursion (λ (p : Place A). HasStopped p) ys (each xs ys ended) where
+    each : (xs ys : List (Place A)) → PlacesRan tells deed r xs ys → AllByRecursion (λ (p : Place A). HasStopped p) ys
     each [] [] e = tt
     each [] (y ∷ ys) e = absurd e
     each (x ∷ xs) [] e = absurd e
     each (x ∷ xs) (y ∷ ys) e = (record { ended = (e.0).ended; is = (e.0).is }, each xs ys e.1)
 
-  one_ran : (p : Pass) (ps : List Pass) (q : Place A) (es : List (Ended A)) → HasEnded tells deed r (waiting_at p) q → HaveAllRun tells deed r ps es → HaveAllRun tells deed r (p ∷ ps) (ended_by q.ended es)
-  one_ran p ps q es h rest = subst (λ (o : Option (Ended A)). HaveAllRun tells deed r (p ∷ ps) (ended_by o es)) (sym h.is) (subst (λ (z : Pass). HasRun tells deed r z h.ended) (sym same) h.ran, rest) where
+  one_ran : (p : Pass) (ps : List Pass) (q : Place A) (es : List (Ended A)) → PlaceRan tells deed r (waiting_at p) q → ThreadsRan tells deed r ps es → ThreadsRan tells deed r (p ∷ ps) (ended_by q.ended es)
+  one_ran p ps q es h rest = subst (λ (o : Option (Ended A)). ThreadsRan tells deed r (p ∷ ps) (ended_by o es)) (sym h.is) (subst (λ (z : Pass). ThreadRan tells deed r z h.ended) (sym same) h.ran, rest) where
     same : p ≡ h.pass
     same = let w = h.was in cc
 
   -- and have run, each with the pass that waited there
-  pub all_ran : (ps : List Pass) (ys : List (Place A)) → HaveEnded tells deed r (map waiting_at ps) ys → HaveAllRun tells deed r ps (ended_in ys)
+  pub all_ran : (ps : List Pass) (ys : List (Place A)) → PlacesRan tells deed r (map waiting_at ps) ys → ThreadsRan tells deed r ps (ended_in ys)
   all_ran [] [] e = tt
   all_ran [] (y ∷ ys) e = absurd e
   all_ran (p ∷ ps) [] e = absurd e

@@ -18,18 +18,18 @@ use Rattle.jr_rule.specs.Passes.{Holder, facts_of, holder_of, standing_of}
 use Rattle.jr_env.specs.Deeds.{Deed, DoesDeed}
 
 -- a pass of the thread, in a room of these sizes and this last serial, that has seen this
-abbrev pub seen_by : Config → ℕ → ℕ → History → PassView
-seen_by c last t seen = record { config = c; last = last; thread = t; seen = seen }
+abbrev pub pass_that_saw : Config → ℕ → ℕ → History → PassView
+pass_that_saw c last t seen = record { config = c; last = last; thread = t; seen = seen }
 
 -- before the thread's first call: it has seen nothing, no local reference stands, its pass is spent, and its first search for a free slot begins at slot 0
-abbrev pub first_moment : Config → ℕ → ℕ → ThreadState
-first_moment c last t = record { pass = seen_by c last t []; frames = fresh_frames c.locals; held = empty; fresh = false; hint = 0; taken = 0 }
+abbrev pub start_moment : Config → ℕ → ℕ → ThreadState
+start_moment c last t = record { pass = pass_that_saw c last t []; frames = fresh_frames c.locals; held = empty; fresh = false; hint = 0; taken = 0 }
 
 -- THE DEED IS THE THREAD'S: it leads from the thread's first moment, with this answer, to where the thread has seen this
-pub record IsDone {A : Type 0} (c : Config) (last t : ℕ) (deed : Deed A) (x : A) (seen : History) : Type 0 where
+pub record ComesOfDeed {A : Type 0} (c : Config) (last t : ℕ) (deed : Deed A) (x : A) (seen : History) : Type 0 where
   pub left : ThreadState
-  pub does : deed (first_moment c last t) (Ok x) left
-  pub saw : left.pass ≡ seen_by c last t seen
+  pub does : deed (start_moment c last t) (Ok x) left
+  pub saw : left.pass ≡ pass_that_saw c last t seen
 
 -- what the room's close does in the thread of this number: thread 0 looks at the gate, and no other does anything
 abbrev pub closing : ℕ → List Act
@@ -37,11 +37,11 @@ closing zero = Meet ∷ []
 closing (suc t) = []
 
 -- THE THREAD'S PART in the history, with this answer: the history begins with all that it has seen, and has of its events those, the ones of the close, and no others; and where the answer tells of the deed, it has done this and nothing else
-pub record HasPart {A : Type 0} (tells : A → Bool) (deed : ℕ → Deed A) (c : Config) (last : ℕ) (whole : History) (t : ℕ) (x : A) : Type 0 where
+pub record IsThreadPart {A : Type 0} (tells : A → Bool) (deed : ℕ → Deed A) (c : Config) (last : ℕ) (whole : History) (t : ℕ) (x : A) : Type 0 where
   pub seen : History
   pub begins : IsPrefix seen whole
   pub own : mine whole t ≡ mine seen t ++ closing t
-  pub did : tells x ≡ true → IsDone c last t (deed t) x seen
+  pub did : tells x ≡ true → ComesOfDeed c last t (deed t) x seen
 
 -- NOBODY WAS INSIDE, knocking, announcing or collecting, where thread 0 had looked at the gate, as its last act
 pub record IsLookedAt (c : Config) (whole : History) : Type 0 where
@@ -51,17 +51,17 @@ pub record IsLookedAt (c : Config) (whole : History) : Type 0 where
   pub nobody : not_outside c (state seen) ≡ 0
 
 -- THE THREADS HAVE RUN: of one legal history, which keeps the laws, each thread of the room has its part, with the answer at the place of its number; and the summary is of that history's end
-pub record HaveRun {A : Type 0} (tells : A → Bool) (deed : ℕ → Deed A) (c : Config) (last : ℕ) (answers : List A) (s : Summary) : Type 0 where
+pub record RanTogether {A : Type 0} (tells : A → Bool) (deed : ℕ → Deed A) (c : Config) (last : ℕ) (answers : List A) (s : Summary) : Type 0 where
   pub whole : History
   pub legal : IsLegal c last whole
   pub lawful : KeepsTheLaws whole
   pub count : length answers ≡ c.threads
-  pub parts : (t : ℕ) (d : A) → t < c.threads → HasPart tells deed c last whole t (slice_index_or answers t d)
+  pub parts : (t : ℕ) (d : A) → t < c.threads → IsThreadPart tells deed c last whole t (slice_index_or answers t d)
   pub looked : IsLookedAt c whole
   pub is : s ≡ summary c last (state whole)
 
 -- with its pass, which was spent first, a thread did this and nothing else, with this answer, and now has this
-pub record HasCome {A : Type 0} (deed : Deed A) (old : Pass) (now : Holder) (x : A) : Type 0 where
+pub record DidWithPass {A : Type 0} (deed : Deed A) (old : Pass) (now : Holder) (x : A) : Type 0 where
   pub spent : Holder
   pub spends : Spent facts_of (holder_of old) spent
   pub frames : Frames

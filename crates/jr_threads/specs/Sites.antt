@@ -12,7 +12,7 @@ use Rattle.jr_threads.specs.declared.closing.Places.{Places}
 use Rattle.jr_rule.specs.declared.row.Row.{Row}
 use Rattle.jr_rule.specs.Passes.{known_of, holder_of, ClosesAll, HasEachPass, IsAt, IsOpened}
 use Rattle.jr_env.specs.Deeds.{Deed}
-use Rattle.jr_threads.specs.Parts.{HasCome}
+use Rattle.jr_threads.specs.Parts.{DidWithPass}
 
 -- A PASS CAME BACK: it is one of the row's own, of the same thread, and stands outside
 pub record IsBack (r : Row) (p q : Pass) : Type 0 where
@@ -21,9 +21,9 @@ pub record IsBack (r : Row) (p q : Pass) : Type 0 where
   pub outside : q.role ≡ Outside
 
 -- A THREAD HAS RUN with its pass: the pass came back, and where the answer tells of the deed, the thread did this and nothing else
-pub record HasRun {A : Type 0} (tells : A → Bool) (deed : ℕ → Deed A) (r : Row) (p : Pass) (e : Ended A) : Type 0 where
+pub record ThreadRan {A : Type 0} (tells : A → Bool) (deed : ℕ → Deed A) (r : Row) (p : Pass) (e : Ended A) : Type 0 where
   pub back : IsBack r p e.pass
-  pub came : tells e.answer ≡ true → HasCome (deed p.thread) p (holder_of e.pass) e.answer
+  pub came : tells e.answer ≡ true → DidWithPass (deed p.thread) p (holder_of e.pass) e.answer
 
 -- the passes that threads gave back
 abbrev pub passes_in : {A : Type 0} → List (Ended A) → List Pass
@@ -34,8 +34,8 @@ abbrev pub answers_in : {A : Type 0} → List (Ended A) → List A
 answers_in es = map (λ e. e.answer) es
 
 -- the threads have run, each with the pass at its place
-abbrev pub HaveAllRun : {A : Type 0} → (A → Bool) → (ℕ → Deed A) → Row → List Pass → List (Ended A) → Type 0
-HaveAllRun tells deed r ps es = AllZip (HasRun tells deed r) ps es
+abbrev pub ThreadsRan : {A : Type 0} → (A → Bool) → (ℕ → Deed A) → Row → List Pass → List (Ended A) → Type 0
+ThreadsRan tells deed r ps es = AllZip (ThreadRan tells deed r) ps es
 
 -- A ROOM WAS CLOSED with passes of it, one of each of its threads, of these sizes and this last serial: what is told is what stands at the end of one legal history, which begins with all that each of them has seen and has no more of their events
 pub record IsClosedBehind (c : Config) (last : ℕ) (s : Summary) : Type 0 where
@@ -53,21 +53,21 @@ pub record IsWaiting {A : Type 0} (r : Row) (p : Place A) : Type 0 where
   pub opened : IsOpened r pass
 
 -- THE THREAD OF THE PLACE HAS ENDED, with what it gave back
-pub record IsOver {A : Type 0} (p : Place A) : Type 0 where
+pub record HasStopped {A : Type 0} (p : Place A) : Type 0 where
   pub ended : Ended A
   pub is : p.ended ≡ Some ended
 
 -- the thread that waited at the place has run, with its pass
-pub record HasEnded {A : Type 0} (tells : A → Bool) (deed : ℕ → Deed A) (r : Row) (old new : Place A) : Type 0 where
+pub record PlaceRan {A : Type 0} (tells : A → Bool) (deed : ℕ → Deed A) (r : Row) (old new : Place A) : Type 0 where
   pub pass : Pass
   pub was : old.waiting ≡ Some pass
   pub ended : Ended A
   pub is : new.ended ≡ Some ended
-  pub ran : HasRun tells deed r pass ended
+  pub ran : ThreadRan tells deed r pass ended
 
 -- so has each
-abbrev pub HaveEnded : {A : Type 0} → (A → Bool) → (ℕ → Deed A) → Row → List (Place A) → List (Place A) → Type 0
-HaveEnded tells deed r ps qs = AllZip (HasEnded tells deed r) ps qs
+abbrev pub PlacesRan : {A : Type 0} → (A → Bool) → (ℕ → Deed A) → Row → List (Place A) → List (Place A) → Type 0
+PlacesRan tells deed r ps qs = AllZip (PlaceRan tells deed r) ps qs
 
 -- a thread that waits
 abbrev pub waiting_at : {A : Type 0} → Pass → Place A
@@ -84,7 +84,7 @@ ended_in [] = []
 ended_in (p ∷ ps) = ended_by p.ended (ended_in ps)
 
 -- no answer and no pass stands there yet, and as many as there are threads have room
-pub record HasRoom {A : Type 0} (q : Places A) : Type 0 where
+pub record HasReserve {A : Type 0} (q : Places A) : Type 0 where
   pub no_answers : q.answers.items ≡ []
   pub no_passes : q.passes.items ≡ []
   pub for_answers : length q.threads.items ≤ vec_capacity q.answers
@@ -93,4 +93,4 @@ pub record HasRoom {A : Type 0} (q : Places A) : Type 0 where
 -- THE THREADS HAVE PLACES, where they wait with these passes, and what they give back has room
 pub record HasPlace {A : Type 0} (ps : List Pass) (q : Places A) : Type 0 where
   pub threads : q.threads.items ≡ map waiting_at ps
-  pub room : HasRoom q
+  pub room : HasReserve q

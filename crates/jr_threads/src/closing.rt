@@ -4,7 +4,7 @@ ghost use Rattle.std.specs.List.{AllByRecursion};
 ghost use Rattle.jr_model.specs.declared.event.Role.TheVariants.{Outside};
 ghost use Rattle.jr_rule.specs.Passes.{HasEachPass, known_of, ClosesAll};
 ghost use Rattle.jr_rule.specs.Rooms.{IsOfRoom};
-ghost use Rattle.jr_threads.specs.Sites.{answers_in, ended_in, passes_in, HasPlace, HasRoom, IsOver};
+ghost use Rattle.jr_threads.specs.Sites.{answers_in, ended_in, passes_in, HasPlace, HasReserve, HasStopped};
 
 use crate::native::{Ended, LAST, Place};
 use jr_model::Summary;
@@ -43,8 +43,8 @@ impl<A: Drop> Places<A> {
 
     /// Takes apart what the threads gave back.
     pub(crate) fn parted(self) -> (Vec<A>, Vec<Pass>)
-        requires over { All (λ p. IsOver p) self.threads.items }
-        requires room { HasRoom self }
+        requires over { All (λ p. HasStopped p) self.threads.items }
+        requires room { HasReserve self }
         ensures answers { result.0.items ≡ answers_in (ended_in self.threads.items) }
         ensures passes { result.1.items ≡ passes_in (ended_in self.threads.items) }
     {

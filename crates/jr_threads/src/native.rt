@@ -3,8 +3,8 @@ ghost use Rattle.std.specs.Prelude.{◌≡◌, true};
 ghost use Rattle.jr_model.specs.declared.event.Role.TheVariants.{Outside};
 ghost use Rattle.jr_rule.specs.Passes.{holder_of, IsOpened};
 ghost use Rattle.jr_rule.specs.Sites.{IsPassOf, IsSiteOf};
-ghost use Rattle.jr_threads.specs.Parts.{HasCome};
-ghost use Rattle.jr_threads.specs.Sites.{HasRun};
+ghost use Rattle.jr_threads.specs.Parts.{DidWithPass};
+ghost use Rattle.jr_threads.specs.Sites.{ThreadRan};
 
 use jr_env::Env;
 use jr_rule::{Pass, Room, Site, SiteSteps, ThreadNumber};
@@ -60,7 +60,7 @@ fn run_at<Q: Site, T: ThreadNumber, N: NativeCode>(
     requires pass { IsOpened room.now.row pass }
     requires site { IsSiteOf Q.room Q.sizes T.number room.now pass }
     ensures back { IsPassOf Q.room Q.sizes 4294967295 T.number result.pass × (result.pass.role ≡ Outside) }
-    ensures came { N.tells result.answer ≡ true → HasCome (N.deed native.now pass.thread) pass (holder_of result.pass) result.answer }
+    ensures came { N.tells result.answer ≡ true → DidWithPass (N.deed native.now pass.thread) pass (holder_of result.pass) result.answer }
 {
     let steps = SiteSteps::<LAST, Q, T>::new(room, pass);
     let thread = steps.thread();
@@ -79,7 +79,7 @@ pub(crate) fn run_thread<N: NativeCode>(
     pass: Pass,
 ) -> Ended<N::Answer>
     requires { IsOpened room.now.row pass }
-    ensures { HasRun N.tells (N.deed native.now) room.now.row pass result }
+    ensures { ThreadRan N.tells (N.deed native.now) room.now.row pass result }
 {
     run_at::<Brand, Brand, N>(room, native, pass)
 }

@@ -3,8 +3,8 @@ ghost use Rattle.std.specs.Prelude.{◌≡◌, ◌⊎◌, ◌↔◌, ◌≤◌, 
 ghost use Rattle.jr_word.specs.declared.fault.Fault.TheVariants.{Memory, Size};
 ghost use Rattle.jr_word.specs.Config.{in_limits};
 ghost use Rattle.jr_rule.specs.Passes.{AreOpened, IsOpened};
-ghost use Rattle.jr_threads.specs.Parts.{HaveRun};
-ghost use Rattle.jr_threads.specs.Sites.{HasEnded, HaveEnded, IsClosedBehind, IsWaiting};
+ghost use Rattle.jr_threads.specs.Parts.{RanTogether};
+ghost use Rattle.jr_threads.specs.Sites.{PlaceRan, PlacesRan, IsClosedBehind, IsWaiting};
 
 use crate::closing::{Places, close};
 use crate::native::{LAST, NativeCode, Place, run_thread};
@@ -27,7 +27,7 @@ pub struct Ran<A: Drop> {
 /// Runs the native code in the thread whose place this is.
 fn run_at_place<N: NativeCode>(room: &Room<LAST>, native: &N, place: &mut Place<N::Answer>)
     requires { IsWaiting room.now.row place.old }
-    ensures { HasEnded N.tells (N.deed native.now) room.now.row place.old place.new }
+    ensures { PlaceRan N.tells (N.deed native.now) room.now.row place.old place.new }
 {
     let Some(pass) = place.waiting.take() else {
         unreachable!();
@@ -43,12 +43,12 @@ fn run_threads<R: Threads + Sync, N: NativeCode + Sync>(
     places: &mut [Place<N::Answer>],
 )
     requires { All (λ p. IsWaiting room.now.row p) places.old }
-    ensures { HaveEnded N.tells (N.deed native.now) room.now.row places.old places.new }
+    ensures { PlacesRan N.tells (N.deed native.now) room.now.row places.old places.new }
 {
     let count = places.len().max(1);
     let there = |_: usize, place: &mut Place<N::Answer>|
         requires { IsWaiting room.now.row place.now }
-        ensures { HasEnded N.tells (N.deed native.entry.now) room.entry.now.row place.entry.now place.exit.now }
+        ensures { PlaceRan N.tells (N.deed native.entry.now) room.entry.now.row place.entry.now place.exit.now }
     { run_at_place::<N>(room, native, place) };
     thread::for_each_mut(rt, places, count, &there);
 }
@@ -64,7 +64,7 @@ fn run_in<R: Threads + Sync, N: NativeCode + Sync>(
     requires opened { AreOpened room.row.config room.row.last room.row passes.items }
     requires some { 1 ≤ length passes.items }
     ensures memory { IfErr result (λ e. e ≡ Memory) }
-    ensures run { IfOk result (λ r. HaveRun N.tells (N.deed native.now) room.row.config room.row.last r.answers.items r.summary) }
+    ensures run { IfOk result (λ r. RanTogether N.tells (N.deed native.now) room.row.config room.row.last r.answers.items r.summary) }
     ensures summary { IfOk result (λ r. IsClosedBehind room.row.config room.row.last r.summary) }
 {
     let Ok(mut places) = Places::new(alloc, passes) else {
@@ -94,7 +94,7 @@ pub fn run_native<R: Threads + Sync, N: NativeCode + Sync>(
 ) -> Result<Ran<N::Answer>, Fault>
     ensures size { (result ≡ Err Size) ↔ (in_limits config ≡ false) }
     ensures memory { IfErr result (λ e. (e ≡ Size) ⊎ (e ≡ Memory)) }
-    ensures run { IfOk result (λ r. HaveRun N.tells (N.deed native.now) config 4294967295 r.answers.items r.summary) }
+    ensures run { IfOk result (λ r. RanTogether N.tells (N.deed native.now) config 4294967295 r.answers.items r.summary) }
     ensures summary { IfOk result (λ r. IsClosedBehind config 4294967295 r.summary) }
 {
     let (room, passes) = Room::<LAST>::open(alloc, config)?;

@@ -1,6 +1,6 @@
 use Rattle.std.proofs.Common.{◌≡◌, rules, subst, sym, length}
 use Rattle.jr_threads.specs.declared.native.Place.{Place}
-use Rattle.jr_threads.specs.Sites.{HasEnded, IsWaiting}
+use Rattle.jr_threads.specs.Sites.{PlaceRan, IsWaiting}
 use Rattle.jr_threads.proofs.Places.{all_ended}
 use Rattle.jr_threads.proofs.running.run_threads.Goals as goal
 
@@ -11,4 +11,4 @@ pub returns : goal.returns
 returns g c =
     let long : length c.for_each_mut.new.s ≡ length c.args.places.now = search rules in
     all_ended g.N.NativeCode.tells (g.N.NativeCode.deed c.args.native.now) c.args.room.now.row c.args.places.now c.for_each_mut.new.s long
-    (λ i d l. let j = (c.for_each_mut.ensures i d l).1 in subst (λ (z : Place g.row.N-Answer.Denot × Place g.row.N-Answer.Denot). HasEnded g.N.NativeCode.tells (g.N.NativeCode.deed c.args.native.now) c.args.room.now.row z.0 z.1) (λ k. (j.argument_is k, j.left k)) j.call)
+    (λ i d l. let j = (c.for_each_mut.ensures i d l).1 in subst (λ (z : Place g.row.N-Answer.Denot × Place g.row.N-Answer.Denot). PlaceRan g.N.NativeCode.tells (g.N.NativeCode.deed c.args.native.now) c.args.room.now.row z.0 z.1) (λ k. (j.argument_is k, j.left k)) j.call)
