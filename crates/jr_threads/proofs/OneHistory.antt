@@ -1,5 +1,5 @@
 -- What all threads of a room did, in one history.
-use Rattle.std.proofs.Common.{◌≡◌, ◌≤◌, ◌<◌, ◌∙◌, ℕ, zero, suc, Bool, true, false, List, [], ◌∷◌, ◌++◌, length, map, Ok, get_or, ap, subst, sym, refl, arith}
+use Rattle.std.proofs.Common.{◌≡◌, ◌<◌, ◌∙◌, ℕ, zero, suc, Bool, true, false, List, [], ◌∷◌, ◌++◌, length, map, Ok, get_or, ap, subst, sym, refl, arith}
 use Rattle.std.proofs.lemmas.List.{append-nil, get_or_append_left, get_or_push, length-map}
 use Rattle.std.proofs.lemmas.List.Elements.{recursion_from_All}
 use Rattle.std.proofs.lemmas.Slice.Zip.{AllZip-long}
@@ -7,7 +7,6 @@ use Rattle.std.specs.List.{AllByRecursion}
 use mathlib.Core.Logic.{dite}
 use native.Mathlib.Decide.{ℕ_discrete}
 use Rattle.jr_word.specs.declared.config.Config.{Config}
-use Rattle.jr_model.specs.declared.event.Act.{Act}
 use Rattle.jr_model.specs.declared.event.Act.TheVariants.{Meet}
 use Rattle.jr_model.specs.declared.summary.Summary.{Summary}
 use Rattle.jr_model.specs.State.{not_outside, summary}
@@ -25,7 +24,7 @@ use Rattle.jr_rule.specs.Rule.{known, stepping_pass}
 use Rattle.jr_rule.specs.Passes.{Holder, facts_of, holder_of, known_of, numbers_below, standing_of, AreOpened, ClosesAll, EndsAll, IsOpened, IsSeenIn}
 use Rattle.jr_env.specs.Deeds.{Deed, DoesDeed}
 use Rattle.jr_threads.specs.declared.native.Ended.{Ended}
-use Rattle.jr_threads.specs.Parts.{closing, start_moment, pass_that_saw, DidWithPass, IsThreadPart, RanTogether, ComesOfDeed}
+use Rattle.jr_threads.specs.Parts.{closing, start_moment, DidWithPass, IsThreadPart, RanTogether, ComesOfDeed}
 use Rattle.jr_threads.specs.Sites.{answers_in, passes_in, ThreadRan, ThreadsRan, IsBack}
 use Rattle.jr_threads.proofs.Passes.{numbers_long, passes_long}
 

@@ -1,5 +1,5 @@
 -- The passes of a site's room: they are the room's own, and as many as it has threads.
-use Rattle.std.proofs.Common.{◌≡◌, ◌⊎◌, inl, inr, ⊎_elim, ◌≤◌, ◌++◌, ◌∷◌, [], ◌↔◌, ℕ, zero, suc, Some, slice_index_or, Result, Ok, Err, Bool, true, false, List, length, length-append, map, subst, get_or, ◌<◌, sym, ap, ◌∙◌, refl, arith}
+use Rattle.std.proofs.Common.{◌≡◌, ◌⊎◌, inl, inr, ⊎_elim, ◌≤◌, ◌++◌, ◌∷◌, [], ◌↔◌, ℕ, zero, suc, Some, slice_index_or, Result, Ok, Err, Bool, true, false, List, length, length-append, map, subst, ◌<◌, sym, ap, ◌∙◌, refl, arith}
 use Rattle.std.proofs.lemmas.List.{length-map}
 use Rattle.std.proofs.lemmas.List.Elements.{All-from_recursion, All-head, All-tail}
 use Rattle.std.specs.List.{All, AllByRecursion, AllZip, remove}

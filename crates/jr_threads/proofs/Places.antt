@@ -1,6 +1,6 @@
 -- The places of threads, and what stands there once they have ended.
-use Rattle.std.proofs.Common.{◌≡◌, ◌<◌, ◌∙◌, ℕ, zero, suc, Bool, Option, Some, None, List, [], ◌∷◌, ◌++◌, length, length-append, map, get_or, ap, subst, sym, refl, append_assoc, arith}
-use Rattle.std.specs.List.{All, AllZip}
+use Rattle.std.proofs.Common.{◌≡◌, ◌<◌, ◌∙◌, ℕ, suc, Bool, Option, Some, None, List, [], ◌∷◌, ◌++◌, length, length-append, map, get_or, ap, subst, sym, refl, append_assoc, arith}
+use Rattle.std.specs.List.{All}
 use Rattle.std.proofs.lemmas.List.Elements.{All-from_recursion}
 use Rattle.std.proofs.lemmas.List.{append-nil, length-map}
 use mathlib.Core.List.{map-append}

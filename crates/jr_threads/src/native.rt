@@ -15,7 +15,9 @@ use std::marker::Brand;
 /// The last serial: a slot or a local place gives as many handles, and one more.
 pub(crate) const LAST: u32 = LAST_SERIAL;
 
-/// Native code: what each thread of a room runs, over its env. Where it tells what it does (`tells`, `deed`), `run_native` has it in its contract. Native code that tells nothing writes neither.
+/// Native code: what each thread of a room runs, over its env.
+///
+/// Where it wants to, it tells what it does: `tells` picks the answers that tell of a deed, by default none, and `deed` is what a run does in the thread of a number. `run_native` then says so of each thread.
 pub trait NativeCode {
     ghost use Rattle.std.specs.Prelude.{◌≡◌, ℕ, Bool, true, false, Ok};
     ghost use Rattle.jr_model.specs.Frames.{fresh_frames};

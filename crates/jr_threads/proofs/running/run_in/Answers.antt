@@ -1,4 +1,4 @@
-use Rattle.std.proofs.Common.{◌≡◌, ◌≤◌, ◌<◌, ◌∙◌, ◌++◌, ◌∷◌, All, ap, drop, length, map, rules, subst, sym, take, vec_capacity}
+use Rattle.std.proofs.Common.{◌≡◌, ◌≤◌, ◌∙◌, ◌∷◌, All, ap, drop, length, map, rules, subst, sym, vec_capacity}
 use Rattle.std.proofs.lemmas.List.{take_at}
 use Rattle.std.proofs.lemmas.Slice.Zip.{AllZip-long}
 use Rattle.jr_rule.specs.Passes.{known_of}

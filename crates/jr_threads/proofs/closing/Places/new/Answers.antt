@@ -1,4 +1,4 @@
-use Rattle.std.proofs.Common.{◌≡◌, ◌≤◌, ◌<◌, ◌++◌, ◌∷◌, [], ◌∙◌, ap, arith, length, map, vec_capacity, vec_len, rules, sym}
+use Rattle.std.proofs.Common.{◌≡◌, ◌++◌, ◌∷◌, ◌∙◌, ap, arith, length, map, rules, sym}
 use Rattle.std.proofs.lemmas.List.{length_push}
 use Rattle.jr_threads.specs.Sites.{waiting_at}
 use Rattle.jr_threads.proofs.Places.{as_many, none_on, one_on, some_rest, wait_more}

@@ -1,4 +1,4 @@
-use Rattle.std.proofs.Common.{◌≡◌, ◌≤◌, ◌<◌, ◌++◌, ◌∷◌, [], ◌∙◌, ap, arith, length, vec_capacity, vec_len, rules, subst, sym}
+use Rattle.std.proofs.Common.{◌≡◌, ◌≤◌, ◌++◌, ◌∷◌, ◌∙◌, ap, arith, length, rules, subst, sym}
 use Rattle.std.proofs.lemmas.List.{length_push}
 use Rattle.jr_threads.proofs.Places.{answers_more, one_on, passes_more, some_rest}
 use Rattle.jr_threads.proofs.closing.Places.parted.Goals as goal
