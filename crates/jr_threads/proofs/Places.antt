@@ -1,5 +1,5 @@
 -- The places of threads, and what stands there once they have ended.
-use Rattle.std.proofs.Common.{◌≡◌, ◌<◌, ◌∙◌, ℕ, suc, Bool, Option, Some, None, List, [], ◌∷◌, ◌++◌, length, length-append, map, get_or, ap, subst, sym, refl, append_assoc, arith}
+use Rattle.std.proofs.Common.{◌≡◌, ◌≤◌, ◌<◌, ◌∙◌, ℕ, suc, Bool, Option, Some, None, List, [], ◌∷◌, ◌++◌, length, length-append, map, get_or, ap, subst, sym, refl, append_assoc, arith}
 use Rattle.std.specs.List.{All}
 use Rattle.std.proofs.lemmas.List.Elements.{All-from_recursion}
 use Rattle.std.proofs.lemmas.List.{append-nil, length-map}
@@ -84,3 +84,7 @@ as_many ps xs is = ap (λ l. length l) is ∙ length-map ps waiting_at
 pub none_on : {X : Type 0} (all xs rest : List X) → all ≡ xs ++ rest → length rest ≡ 0 → all ≡ xs
 none_on all xs [] is none = is ∙ append-nil xs
 none_on all xs (y ∷ ys) is none = absurd (omega arith)
+
+-- there is as much room still
+pub still_room : (n before after : ℕ) → after ≡ before → n ≤ before → n ≤ after
+still_room n before after same enough = subst (λ m. n ≤ m) (sym same) enough

@@ -1,6 +1,6 @@
-use Rattle.std.proofs.Common.{◌≡◌, ◌≤◌, ◌++◌, ◌∷◌, ◌∙◌, ap, arith, length, rules, subst, sym}
+use Rattle.std.proofs.Common.{◌≡◌, ◌++◌, ◌∷◌, ◌∙◌, ap, arith, length, vec_capacity, rules}
 use Rattle.std.proofs.lemmas.List.{length_push}
-use Rattle.jr_threads.proofs.Places.{answers_more, one_on, passes_more, some_rest}
+use Rattle.jr_threads.proofs.Places.{answers_more, one_on, passes_more, some_rest, still_room}
 use Rattle.jr_threads.proofs.closing.Places.parted.Goals as goal
 
 pub push_reserved-requires : goal.push_reserved-requires
@@ -32,8 +32,8 @@ loop-place-preserved g c =
       passes = passes_more c.loop-place.yielded c.in-Some.place c.in-Some-ended.field-0 c.in-Some-ended.is c.loop-place.passes.items c.push_reserved-in-loop-place.new.self.items i.passes (search rules);
       answered = (let p = c.push_reserved.ensures.len in let r = i.answered in omega arith);
       passed = (let p = c.push_reserved-in-loop-place.ensures.len in let r = i.passed in omega arith);
-      for_answers = subst (λ n. length c.args.self.threads.items ≤ n) (sym c.push_reserved.ensures.capacity) i.for_answers;
-      for_passes = subst (λ n. length c.args.self.threads.items ≤ n) (sym c.push_reserved-in-loop-place.ensures.capacity) i.for_passes;
+      for_answers = still_room (length c.args.self.threads.items) (vec_capacity c.loop-place.answers) (vec_capacity c.push_reserved.new.self) c.push_reserved.ensures.capacity i.for_answers;
+      for_passes = still_room (length c.args.self.threads.items) (vec_capacity c.loop-place.passes) (vec_capacity c.push_reserved-in-loop-place.new.self) c.push_reserved-in-loop-place.ensures.capacity i.for_passes;
     }
 
 pub loop-place-preserved-in-Some-ended : goal.loop-place-preserved-in-Some-ended
@@ -47,6 +47,6 @@ loop-place-preserved-in-Some-ended g c =
       passes = passes_more c.loop-place.yielded c.in-Some.place c.in-Some-ended.field-0 c.in-Some-ended.is c.loop-place.passes.items c.push_reserved-in-loop-place.new.self.items i.passes (search rules);
       answered = (let p = c.push_reserved.ensures.len in let r = i.answered in omega arith);
       passed = (let p = c.push_reserved-in-loop-place.ensures.len in let r = i.passed in omega arith);
-      for_answers = subst (λ n. length c.args.self.threads.items ≤ n) (sym c.push_reserved.ensures.capacity) i.for_answers;
-      for_passes = subst (λ n. length c.args.self.threads.items ≤ n) (sym c.push_reserved-in-loop-place.ensures.capacity) i.for_passes;
+      for_answers = still_room (length c.args.self.threads.items) (vec_capacity c.loop-place.answers) (vec_capacity c.push_reserved.new.self) c.push_reserved.ensures.capacity i.for_answers;
+      for_passes = still_room (length c.args.self.threads.items) (vec_capacity c.loop-place.passes) (vec_capacity c.push_reserved-in-loop-place.new.self) c.push_reserved-in-loop-place.ensures.capacity i.for_passes;
     }
