@@ -18,6 +18,8 @@ mod held;
 #[cfg(test)]
 mod left_inside;
 #[cfg(test)]
+mod native_code;
+#[cfg(test)]
 mod notes;
 #[cfg(test)]
 mod plain;

@@ -1,1 +1,4 @@
-mod Passes
+pub mod Coming
+pub mod OneHistory
+pub mod Passes
+pub mod Places

@@ -1,11 +1,10 @@
 -- The passes of a site's room: they are the room's own, and as many as it has threads.
 use Rattle.std.proofs.Common.{◌≡◌, ◌⊎◌, inl, inr, ⊎_elim, ◌≤◌, ◌++◌, ◌∷◌, [], ◌↔◌, ℕ, zero, suc}
-use Rattle.std.proofs.Common.{Some, slice_index_or, Result, Ok, Err, Bool, true, false, List, length}
-use Rattle.std.proofs.Common.{length-append, map, subst, get_or, ◌<◌, sym, ap, ◌∙◌, refl, arith}
+use Rattle.std.proofs.Common.{Some, slice_index_or, Result, Ok, Err, Bool, true, false, List}
+use Rattle.std.proofs.Common.{length, length-append, map, subst, ◌<◌, sym, ap, ◌∙◌, refl, arith}
 use Rattle.std.proofs.lemmas.List.{length-map}
 use Rattle.std.proofs.lemmas.List.Elements.{All-from_recursion, All-head, All-tail}
-use Rattle.std.specs.List.{All, AllByRecursion, remove}
-use mathlib.Core.List.{map-append}
+use Rattle.std.specs.List.{All, AllByRecursion, AllZip, remove}
 use mathlib.Core.Logic.{dite}
 use native.Mathlib.Decide.{ℕ_discrete}
 use Rattle.jr_model.specs.declared.event.Role.TheVariants.{Outside}
@@ -21,7 +20,8 @@ use Rattle.jr_rule.specs.declared.room.Room.{Room}
 use Rattle.jr_rule.specs.declared.row.Row.{Row}
 use Rattle.jr_rule.specs.Passes.{known_of, numbers_below, AreOpened, HasEachPass, HasPass, IsAt}
 use Rattle.jr_rule.specs.Sites.{IsPassOf}
-use Rattle.jr_threads.specs.Sites.{passes_in, AreBack, IsBack}
+use Rattle.jr_env.specs.Deeds.{Deed}
+use Rattle.jr_threads.specs.Sites.{passes_in, ThreadsRan, IsBack}
 
 -- a pass that came back from its site is one of the room's own, and outside
 pub is_back : (room : Room 4294967295) (p q : Pass)
@@ -33,18 +33,17 @@ is_back room p q h out = record {
   outside = out;
 }
 
--- what threads gave back, one by one
-pub all_back : {A : Type 0} (r : Row) (ps : List Pass) (es : List (Ended A)) → length es ≡ length ps
-    → ((i : ℕ) (d : Ended A) → i < length ps
-    → (p : Pass) × ((e : Pass) → get_or ps i e ≡ p) × IsBack r p (get_or es i d).pass) → AreBack r ps (passes_in es)
-all_back r [] [] same each = tt
-all_back r [] (e ∷ es) same each = absurd (omega arith)
-all_back r (p ∷ ps) [] same each = absurd (omega arith)
-all_back r (p ∷ ps) (e ∷ es) same each =
-    let first = each 0 e (omega arith) in (
-      subst (λ (z : Pass). IsBack r z e.pass) (sym (first.1 p)) first.2,
-      all_back r ps es (omega arith) (λ i d l. each (suc i) d (omega arith)),
-    )
+-- the passes came back, each at its place
+abbrev pub AreBack : Row → List Pass → List Pass → Type 0
+AreBack r ps qs = AllZip (IsBack r) ps qs
+
+-- where threads have run, their passes came back
+pub backs_of : {A : Type 0} (tells : A → Bool) (deed : ℕ → Deed A) (r : Row) (ps : List Pass) (es : List (Ended A))
+    → ThreadsRan tells deed r ps es → AreBack r ps (passes_in es)
+backs_of tells deed r [] [] ran = tt
+backs_of tells deed r [] (e ∷ es) ran = absurd ran
+backs_of tells deed r (p ∷ ps) [] ran = absurd ran
+backs_of tells deed r (p ∷ ps) (e ∷ es) ran = ((ran.0).back, backs_of tells deed r ps es ran.1)
 
 module _ (r : Row) (ps : List Pass) (q : Pass) (others : List Pass) (back : AreBack r ps (q ∷ others)) where
   backs : (ps qs : List Pass) → AreBack r ps qs
@@ -126,7 +125,7 @@ pub some_left : {A : Type 0} (ps : List Pass) (es : List (Ended A)) (ls : List P
 some_left ps es ls is same some = let long = ap (λ (l : List Pass). length l) is ∙ length-map es (λ e. e.pass) in
     omega arith
 
-numbers_long : (n : ℕ) → length (numbers_below n) ≡ n
+pub numbers_long : (n : ℕ) → length (numbers_below n) ≡ n
 numbers_long zero = refl
 numbers_long (suc n) = let e = length-append (numbers_below n) (n ∷ []) in let f = numbers_long n in omega arith
 
@@ -142,13 +141,3 @@ some_thread c a size = go (in_limits c) refl where
   go : (b : Bool) → in_limits c ≡ b → 1 ≤ c.threads
   go true e = (limited c e).threads.0
   go false e = absurd (let z = size.1 e in cc)
-
--- one more of a list
-pub pass_more : {A : Type 0} (es : List (Ended A)) (xs ys : List Pass) (e : Ended A) → xs ≡ passes_in es
-    → ys ≡ xs ++ e.pass ∷ [] → ys ≡ passes_in (es ++ e ∷ [])
-pass_more es xs ys e was is = is ∙ (ap (λ l. l ++ e.pass ∷ []) was ∙ sym (map-append (λ z. z.pass) es (e ∷ [])))
-
-pub one_more : {A B : Type 0} (xs ys : List A) (zs : List B) (x : A) (z : B) → ys ≡ xs ++ x ∷ [] → length xs ≡ length zs
-    → length ys ≡ length (zs ++ z ∷ [])
-one_more xs ys zs x z is same = let d = ap (λ l. length l) is in let e = length-append xs (x ∷ []) in
-    let f = length-append zs (z ∷ []) in omega arith

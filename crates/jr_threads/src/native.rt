@@ -1,9 +1,10 @@
 //! What the threads of a room run, and one of them from its pass to its end.
-ghost use Rattle.std.specs.Prelude.{◌≡◌};
+ghost use Rattle.std.specs.Prelude.{◌≡◌, true};
 ghost use Rattle.jr_model.specs.declared.event.Role.TheVariants.{Outside};
-ghost use Rattle.jr_rule.specs.Passes.{IsOpened};
+ghost use Rattle.jr_rule.specs.Passes.{holder_of, IsOpened};
 ghost use Rattle.jr_rule.specs.Sites.{IsPassOf, IsSiteOf};
-ghost use Rattle.jr_threads.specs.Sites.{IsBack};
+ghost use Rattle.jr_threads.specs.Parts.{DidWithPass};
+ghost use Rattle.jr_threads.specs.Sites.{ThreadRan};
 
 use jr_env::Env;
 use jr_rule::{Pass, Room, Site, SiteSteps, ThreadNumber};
@@ -15,19 +16,27 @@ use std::marker::Brand;
 pub(crate) const LAST: u32 = LAST_SERIAL;
 
 /// Native code: what each thread of a room runs, over its env.
+///
+/// Where it wants to, it tells what it does: `tells` picks the answers that tell of a deed, by default none, and `deed` is what a run does in the thread of a number. `run_native` then says so of each thread.
 pub trait NativeCode {
-    ghost use Rattle.std.specs.Prelude.{◌≡◌};
+    ghost use Rattle.std.specs.Prelude.{◌≡◌, ℕ, Bool, true, false, Ok};
     ghost use Rattle.jr_model.specs.Frames.{fresh_frames};
-    ghost use Rattle.jr_env.specs.Envs.{IsOutside};
+    ghost use Rattle.jr_env.specs.Deeds.{Deed};
+    ghost use Rattle.jr_env.specs.Envs.{Does, IsOutside};
 
     /// What a thread answers at its end.
     type Answer: Send + Drop;
+
+    ghost tells: { Self.Answer → Bool } = { λ answer. false };
+
+    ghost deed: { Self → ℕ → Deed Self.Answer } = { λ native thread old answer new. Unit {0} };
 
     /// Runs in the thread of this number, from 0 upward, with its env, which is that thread's, stands outside and has no local reference. What it leaves in the env's frames stays.
     fn run<S: Steps + Drop>(&self, thread: u8, env: &mut Env<S>) -> Self::Answer
         requires number { (S.facts env.old.held.steps).stands.thread ≡ thread }
         requires outside { IsOutside env.old }
-        requires frames { env.old.held.frames.frames ≡ fresh_frames (S.facts env.old.held.steps).stands.config.locals };
+        requires frames { env.old.held.frames.frames ≡ fresh_frames (S.facts env.old.held.steps).stands.config.locals }
+        ensures deed { tells result ≡ true → Does env.old env.new (deed self.now thread) (Ok result) };
 }
 
 /// What a thread gives back: its answer, and its pass.
@@ -35,6 +44,13 @@ pub trait NativeCode {
 pub(crate) struct Ended<A: Drop> {
     pub(crate) answer: A,
     pub(crate) pass: Pass,
+}
+
+/// The place of a thread: its pass until it starts, and what it gives back once it has ended.
+#[derive(Drop)]
+pub(crate) struct Place<A: Drop> {
+    pub(crate) waiting: Option<Pass>,
+    pub(crate) ended: Option<Ended<A>>,
 }
 
 /// Runs the native code in the site's thread.
@@ -45,7 +61,8 @@ fn run_at<Q: Site, T: ThreadNumber, N: NativeCode>(
 ) -> Ended<N::Answer>
     requires pass { IsOpened room.now.row pass }
     requires site { IsSiteOf Q.room Q.sizes T.number room.now pass }
-    ensures { IsPassOf Q.room Q.sizes 4294967295 T.number result.pass × (result.pass.role ≡ Outside) }
+    ensures back { IsPassOf Q.room Q.sizes 4294967295 T.number result.pass × (result.pass.role ≡ Outside) }
+    ensures came { N.tells result.answer ≡ true → DidWithPass (N.deed native.now pass.thread) pass (holder_of result.pass) result.answer }
 {
     let steps = SiteSteps::<LAST, Q, T>::new(room, pass);
     let thread = steps.thread();
@@ -64,7 +81,7 @@ pub(crate) fn run_thread<N: NativeCode>(
     pass: Pass,
 ) -> Ended<N::Answer>
     requires { IsOpened room.now.row pass }
-    ensures { IsBack room.now.row pass result.pass }
+    ensures { ThreadRan N.tells (N.deed native.now) room.now.row pass result }
 {
     run_at::<Brand, Brand, N>(room, native, pass)
 }

@@ -3,10 +3,11 @@ ghost use Rattle.std.specs.Prelude.{◌≡◌, ◌⊎◌, ◌↔◌, ◌≤◌, 
 ghost use Rattle.jr_word.specs.declared.fault.Fault.TheVariants.{Memory, Size};
 ghost use Rattle.jr_word.specs.Config.{in_limits};
 ghost use Rattle.jr_rule.specs.Passes.{AreOpened, IsOpened};
-ghost use Rattle.jr_threads.specs.Sites.{passes_in, AreBack, IsBack, IsClosedBehind};
+ghost use Rattle.jr_threads.specs.Parts.{RanTogether};
+ghost use Rattle.jr_threads.specs.Sites.{PlaceRan, PlacesRan, IsClosedBehind, IsWaiting};
 
-use crate::closing::{close, parted};
-use crate::native::{Ended, LAST, NativeCode, run_thread};
+use crate::closing::{Places, close};
+use crate::native::{LAST, NativeCode, Place, run_thread};
 use jr_model::Summary;
 use jr_rule::{Pass, Room};
 use jr_word::{Config, Fault};
@@ -23,26 +24,33 @@ pub struct Ran<A: Drop> {
     pub summary: Summary,
 }
 
+/// Runs the native code in the thread whose place this is.
+fn run_at_place<N: NativeCode>(room: &Room<LAST>, native: &N, place: &mut Place<N::Answer>)
+    requires { IsWaiting room.now.row place.old }
+    ensures { PlaceRan N.tells (N.deed native.now) room.now.row place.old place.new }
+{
+    let Some(pass) = place.waiting.take() else {
+        unreachable!();
+    };
+    place.ended = Some(run_thread::<N>(room, native, pass));
+}
+
 /// Runs the native code in each thread of the room.
 fn run_threads<R: Threads + Sync, N: NativeCode + Sync>(
     rt: &R,
     room: &Room<LAST>,
-    passes: Vec<Pass>,
     native: &N,
-) -> Result<Vec<Ended<N::Answer>>, Fault>
-    requires { All (λ p. IsOpened room.now.row p) passes.items }
-    ensures back { IfOk result (λ r. AreBack room.now.row passes.items (passes_in r.items)) }
-    ensures count { IfOk result (λ r. length r.items ≡ length passes.items) }
-    ensures memory { IfErr result (λ e. e ≡ Memory) }
+    places: &mut [Place<N::Answer>],
+)
+    requires { All (λ p. IsWaiting room.now.row p) places.old }
+    ensures { PlacesRan N.tells (N.deed native.now) room.now.row places.old places.new }
 {
-    let there = |pass: Pass| -> Ended<N::Answer>
-        requires { IsOpened room.now.row pass }
-        ensures { IsBack room.entry.now.row pass result.pass }
-    { run_thread::<N>(room, native, pass) };
-    let Ok(ended) = thread::map_vec(rt, passes, &there) else {
-        return Err(Fault::Memory);
-    };
-    Ok(ended)
+    let count = places.len().max(1);
+    let there = |_: usize, place: &mut Place<N::Answer>|
+        requires { IsWaiting room.now.row place.now }
+        ensures { PlaceRan N.tells (N.deed native.entry.now) room.entry.now.row place.entry.now place.exit.now }
+    { run_at_place::<N>(room, native, place) };
+    thread::for_each_mut(rt, places, count, &there);
 }
 
 /// Runs the native code in each thread of a room that was opened, and closes it.
@@ -56,13 +64,14 @@ fn run_in<R: Threads + Sync, N: NativeCode + Sync>(
     requires opened { AreOpened room.row.config room.row.last room.row passes.items }
     requires some { 1 ≤ length passes.items }
     ensures memory { IfErr result (λ e. e ≡ Memory) }
-    ensures answers { IfOk result (λ r. length r.answers.items ≡ length passes.items) }
+    ensures run { IfOk result (λ r. RanTogether N.tells (N.deed native.now) room.row.config room.row.last r.answers.items r.summary) }
     ensures summary { IfOk result (λ r. IsClosedBehind room.row.config room.row.last r.summary) }
 {
-    let ended = run_threads(rt, &room, passes, native)?;
-    let Ok((answers, mut left)) = parted(alloc, ended) else {
+    let Ok(mut places) = Places::new(alloc, passes) else {
         return Err(Fault::Memory);
     };
+    run_threads(rt, &room, native, &mut places.threads);
+    let (answers, mut left) = places.parted();
     let first = left.remove(0);
     Ok(Ran {
         answers,
@@ -76,7 +85,7 @@ fn run_in<R: Threads + Sync, N: NativeCode + Sync>(
 ///
 /// E17 exactly where the sizes are beyond their limits; E16 where memory was refused.
 ///
-/// At E16 the native code of some threads, or of all, may have run; room and passes are gone, and so are the answers.
+/// No native code has run then: all memory is taken before a thread starts.
 pub fn run_native<R: Threads + Sync, N: NativeCode + Sync>(
     rt: &R,
     alloc: Global,
@@ -85,7 +94,7 @@ pub fn run_native<R: Threads + Sync, N: NativeCode + Sync>(
 ) -> Result<Ran<N::Answer>, Fault>
     ensures size { (result ≡ Err Size) ↔ (in_limits config ≡ false) }
     ensures memory { IfErr result (λ e. (e ≡ Size) ⊎ (e ≡ Memory)) }
-    ensures answers { IfOk result (λ r. length r.answers.items ≡ config.threads) }
+    ensures run { IfOk result (λ r. RanTogether N.tells (N.deed native.now) config 4294967295 r.answers.items r.summary) }
     ensures summary { IfOk result (λ r. IsClosedBehind config 4294967295 r.summary) }
 {
     let (room, passes) = Room::<LAST>::open(alloc, config)?;

@@ -1,4 +1,4 @@
-use Rattle.std.proofs.Common.{◌≡◌, ◌≤◌, rules, subst, sym, length}
+use Rattle.std.proofs.Common.{◌≤◌, subst, sym}
 use Rattle.jr_threads.proofs.Passes.{opened_so, passes_long, some_thread}
 use Rattle.jr_threads.proofs.running.run_native.Goals as goal
 
@@ -11,9 +11,3 @@ run_in-requires-clause-some g c κs lives =
     passes_long c.args.config 4294967295 c.in_ok-room.room.row c.in_ok-room.passes.items c.in_ok-room.ensures.opened in
     let some = some_thread c.args.config _ c.in_ok-room.ensures.size in
     subst (λ n. 1 ≤ n) (sym all) some
-
-pub returns-clause-answers : goal.returns-clause-answers
-returns-clause-answers g c =
-    let all : length c.in_ok-room.passes.items ≡ c.args.config.threads =
-    passes_long c.args.config 4294967295 c.in_ok-room.room.row c.in_ok-room.passes.items c.in_ok-room.ensures.opened in
-    search rules

@@ -1,0 +1,205 @@
+-- What all threads of a room did, in one history.
+use Rattle.std.proofs.Common.{◌≡◌, ◌<◌, ◌∙◌, ℕ, zero, suc, Bool, true, false, List, [], ◌∷◌}
+use Rattle.std.proofs.Common.{◌++◌, length, map, Ok, get_or, ap, subst, sym, refl, arith}
+use Rattle.std.proofs.lemmas.List.{append-nil, get_or_append_left, get_or_push, length-map}
+use Rattle.std.proofs.lemmas.List.Elements.{recursion_from_All}
+use Rattle.std.proofs.lemmas.Slice.Zip.{AllZip-long}
+use Rattle.std.specs.List.{AllByRecursion}
+use mathlib.Core.Logic.{dite}
+use native.Mathlib.Decide.{ℕ_discrete}
+use Rattle.jr_word.specs.declared.config.Config.{Config}
+use Rattle.jr_model.specs.declared.event.Act.TheVariants.{Meet}
+use Rattle.jr_model.specs.declared.summary.Summary.{Summary}
+use Rattle.jr_model.specs.State.{not_outside, summary}
+use Rattle.jr_model.specs.History.{History, Did, IsLegal, mine, state}
+use Rattle.jr_model.specs.Frames.{fresh_frames}
+use Rattle.jr_model.proofs.Moments.{prefix_trans}
+use Rattle.jr_steps.specs.declared.known.Known.{Known}
+use Rattle.jr_steps.specs.Holdings.{empty}
+use Rattle.jr_steps.specs.Knowing.{Standing, Holds, view}
+use Rattle.jr_steps.proofs.StepFacts.{goes_did}
+use Rattle.jr_gate.specs.Performing.{ThreadState, thread_state, thread_state_with}
+use Rattle.jr_rule.specs.declared.pass.Pass.{Pass}
+use Rattle.jr_rule.specs.declared.row.Row.{Row}
+use Rattle.jr_rule.specs.Rule.{known, stepping_pass}
+use Rattle.jr_rule.specs.Passes.{Holder, facts_of, holder_of, known_of, numbers_below}
+use Rattle.jr_rule.specs.Passes.{standing_of, AreOpened, ClosesAll, EndsAll, IsOpened, IsSeenIn}
+use Rattle.jr_env.specs.Deeds.{Deed, DoesDeed}
+use Rattle.jr_threads.specs.declared.native.Ended.{Ended}
+use Rattle.jr_threads.specs.Parts.{closing, start_moment, DidWithPass, IsThreadPart, RanTogether, ComesOfDeed}
+use Rattle.jr_threads.specs.Sites.{answers_in, passes_in, ThreadRan, ThreadsRan, IsBack}
+use Rattle.jr_threads.proofs.Passes.{numbers_long, passes_long}
+
+-- a pass that was opened knows what it shows
+opened_knows : (r : Row) (p : Pass) → IsOpened r p → (facts_of (holder_of p)).knows (known_of p)
+opened_knows r p o = (
+  refl,
+  record {
+    config = refl;
+    last = refl;
+    thread = refl;
+    role = p.held.role_is;
+    legal = subst (λ (k : Known). IsLegal k.config k.last k.seen) (sym o.knows) tt;
+  },
+)
+
+-- what a thread did since its pass was opened
+pub since : {A : Type 0} (deed : Deed A) (r : Row) (p : Pass) (now : Holder) (x : A) → IsOpened r p
+    → DidWithPass deed p now x → ComesOfDeed r.config r.last p.thread deed x (stepping_pass now.seat.me).seen
+since deed r p now x o h =
+    let t = p.thread in
+    let known_now = stepping_pass now.seat.me in
+    let k0 : Known = known r.config r.last t [] empty 0 in
+    let knows0 : known_of p ≡ k0 = o.knows in
+    let fresh : fresh_frames (standing_of p).config.locals ≡ fresh_frames r.config.locals =
+    ap (λ (k : Known). fresh_frames k.config.locals) knows0 in
+    let spent : (facts_of h.spent).stands ≡ record (standing_of p) { fresh = false } = (h.spends).stands_is in
+    let did : DoesDeed facts_of h.spent now (fresh_frames r.config.locals) h.frames deed (Ok x) =
+    subst (λ f. DoesDeed facts_of h.spent now f h.frames deed (Ok x)) fresh h.did in
+    let holds0 : Holds (fresh_frames r.config.locals) k0 = λ place. refl in
+    let y = did.did (known_of p) (((h.spends).same (known_of p)).0 (opened_knows r p o))
+    (subst (Holds (fresh_frames r.config.locals)) (sym knows0) holds0) in
+    let is : y.0 ≡ known_now = y.1.0 in
+    let s = did.stands_is in
+    let same_config : known_now.config ≡ r.config =
+    s.config ∙ (ap (λ (z : Standing). z.config) spent ∙ ap (λ (k : Known). k.config) knows0) in
+    let same_last : known_now.last ≡ r.last =
+    s.last ∙ (ap (λ (z : Standing). z.last) spent ∙ ap (λ (k : Known). k.last) knows0) in
+    let is_of : known_now.thread ≡ t = s.thread ∙ (ap (λ (z : Standing). z.thread) spent ∙ p.held.thread_is) in
+    let first_hint : (h.spent).hint ≡ 0 = (h.spends).hint_is ∙ o.hint in
+    let end : Known → ThreadState = λ k. thread_state (facts_of now) k h.frames in
+    let from : deed (start_moment r.config r.last t) (Ok x) (end y.0)
+    = subst (λ i. deed (thread_state_with false i k0 (fresh_frames r.config.locals)) (Ok x) (end y.0)) first_hint
+    (subst (λ b. deed (thread_state_with b (h.spent).hint k0 (fresh_frames r.config.locals)) (Ok x) (end y.0))
+    (ap (λ (z : Standing). z.fresh) spent)
+    (subst (λ (k : Known). deed (thread_state (facts_of h.spent) k (fresh_frames r.config.locals)) (Ok x) (end y.0))
+    knows0 y.3)) in
+    record {
+      left = end known_now;
+      does = subst (λ (k : Known). deed (start_moment r.config r.last t) (Ok x) (end k)) is from;
+      saw = λ i. record { config = same_config i; last = same_last i; thread = is_of i; seen = known_now.seen };
+    }
+
+module _ {A : Type 0} (tells : A → Bool) (deed : ℕ → Deed A) (whole : History) where
+  -- the part of a thread that only made its calls
+  part_of_other : (c : Config) (last t : ℕ) (x : A) (k : Known) → closing t ≡ [] → k.thread ≡ t → IsSeenIn whole k
+      → (tells x ≡ true → ComesOfDeed c last t (deed t) x k.seen) → IsThreadPart tells deed c last whole t x
+  part_of_other c last t x k none is_of s done = record {
+    seen = k.seen;
+    begins = s.begins;
+    own = ap (mine whole) (sym is_of) ∙ (s.own
+        ∙ (ap (mine k.seen) is_of ∙ (sym (append-nil (mine k.seen t)) ∙ ap (λ l. mine k.seen t ++ l) (sym none))));
+    did = done;
+  }
+
+  -- the part of the one that looks at the gate at the end
+  part_of_first : (c : Config) (last : ℕ) (x : A) (k met : Known) → k.thread ≡ 0 → Did (view k) (view met) (Meet ∷ [])
+      → IsSeenIn whole met → (tells x ≡ true → ComesOfDeed c last 0 (deed 0) x k.seen)
+      → IsThreadPart tells deed c last whole 0 x
+  part_of_first c last x k met is_of d s done = record {
+    seen = k.seen;
+    begins = prefix_trans k.seen met.seen whole d.begins s.begins;
+    own = ap (mine whole) (sym (d.thread ∙ is_of))
+        ∙ (s.own ∙ (ap (mine met.seen) d.thread ∙ (d.own ∙ ap (λ l. l ++ Meet ∷ []) (ap (mine k.seen) is_of))));
+    did = done;
+  }
+
+  -- the parts of threads that only made their calls, by their places in a list
+  parts_of_others : (r : Row) (ps : List Pass) (es : List (Ended A)) → ThreadsRan tells deed r ps es
+      → AllByRecursion (IsOpened r) ps → AllByRecursion (IsSeenIn whole) (map known_of (passes_in es))
+      → (i t : ℕ) (d : A) → i < length ps → get_or (map (λ (p : Pass). p.thread) ps) i 0 ≡ t → closing t ≡ []
+      → IsThreadPart tells deed r.config r.last whole t (get_or (answers_in es) i d)
+  parts_of_others r [] es ran o s i t d below is none = absurd (omega arith)
+  parts_of_others r (p ∷ ps) [] ran o s i t d below is none = absurd ran
+  parts_of_others r (p ∷ ps) (e ∷ es) ran o s zero t d below is none =
+      part_of_other r.config r.last t e.answer (known_of e.pass) none (((ran.0).back).thread ∙ (p.held.thread_is ∙ is))
+      s.0
+      (λ told. subst (λ u. ComesOfDeed r.config r.last u (deed u) e.answer (known_of e.pass).seen) is
+      (since (deed p.thread) r p (holder_of e.pass) e.answer o.0 ((ran.0).came told)))
+  parts_of_others r (p ∷ ps) (e ∷ es) ran o s (suc i) t d below is none =
+      parts_of_others r ps es ran.1 o.1 s.1 i t d (omega arith) is none
+
+-- at each place of the numbers stands the place
+number_at : (n i : ℕ) → i < n → get_or (numbers_below n) i 0 ≡ i
+number_at zero i below = absurd (omega arith)
+number_at (suc n) i below = dite (ℕ_discrete n i)
+    (λ e. get_or_push (numbers_below n) n 0 i (numbers_long n ∙ e) ∙ e)
+    (λ ne. let less : i < n = omega arith in get_or_append_left (numbers_below n) (n ∷ []) 0 i
+    (subst (λ z. i < z) (sym (numbers_long n)) less) ∙ number_at n i less)
+
+-- ALL THREADS HAVE RUN
+pub have_run : {A : Type 0} (tells : A → Bool) (deed : ℕ → Deed A) (r : Row) (ps : List Pass) (es : List (Ended A))
+    (first : Pass) (others : List Pass) (s : Summary)
+    → AreOpened r.config r.last r ps → ThreadsRan tells deed r ps es → first ∷ others ≡ passes_in es
+    → ClosesAll (known_of first) (map known_of others) s → RanTogether tells deed r.config r.last (answers_in es) s
+have_run tells deed r [] [] first others s o ran is closes = absurd cc
+have_run tells deed r [] (e ∷ es) first others s o ran is closes = absurd ran
+have_run tells deed r (p ∷ ps) [] first others s o ran is closes = absurd ran
+have_run {A} tells deed r (p ∷ ps) (e ∷ es) first others s o ran is closes = all where
+  front : first ≡ e.pass
+  front = cc
+
+  behind : others ≡ passes_in es
+  behind = cc
+
+  ends : ClosesAll (known_of e.pass) (map known_of (passes_in es)) s
+  ends =
+      subst (λ (z : Pass × List Pass). ClosesAll (known_of z.0) (map known_of z.1) s) (λ i. (front i, behind i)) closes
+
+  opened : AllByRecursion (IsOpened r) (p ∷ ps)
+  opened = recursion_from_All (IsOpened r) (p ∷ ps) o.each
+
+  long : length (p ∷ ps) ≡ r.config.threads
+  long = passes_long r.config r.last r (p ∷ ps) o
+
+  number : (i : ℕ) → i < r.config.threads → get_or (map (λ (q : Pass). q.thread) (p ∷ ps)) i 0 ≡ i
+  number i below = ap (λ l. get_or l i 0) o.threads ∙ number_at r.config.threads i below
+
+  own_number : p.thread ≡ 0
+  own_number = number 0 (let all = long in omega arith)
+
+  d : Did (view (known_of e.pass)) (view ends.met) (Meet ∷ [])
+  d = goes_did ends.goes
+
+  back : IsBack r p e.pass
+  back = (ran.0).back
+
+  is_of : (known_of e.pass).thread ≡ 0
+  is_of = back.thread ∙ (p.held.thread_is ∙ own_number)
+
+  config_is : (ends.met).config ≡ r.config
+  config_is = d.config ∙ (back.at).config
+
+  last_is : (ends.met).last ≡ r.last
+  last_is = d.last ∙ (back.at).last
+
+  end : EndsAll ends.met (map known_of (passes_in es)) s
+  end = ends.ends
+
+  done : tells e.answer ≡ true → ComesOfDeed r.config r.last 0 (deed 0) e.answer (known_of e.pass).seen
+  done told = subst (λ u. ComesOfDeed r.config r.last u (deed u) e.answer (known_of e.pass).seen) own_number
+      (since (deed p.thread) r p (holder_of e.pass) e.answer opened.0 ((ran.0).came told))
+
+  parts : (t : ℕ) (x : A) → t < r.config.threads
+      → IsThreadPart tells deed r.config r.last end.whole t (get_or (answers_in (e ∷ es)) t x)
+  parts zero x below =
+      part_of_first tells deed end.whole r.config r.last e.answer (known_of e.pass) ends.met is_of d end.first done
+  parts (suc i) x below = parts_of_others tells deed end.whole r ps es ran.1 opened.1 end.others i (suc i) x
+      (let all = long in omega arith) (number (suc i) below) refl
+
+  all : RanTogether tells deed r.config r.last (answers_in (e ∷ es)) s
+  all = record {
+    whole = end.whole;
+    legal = subst (λ (z : Config × ℕ). IsLegal z.0 z.1 end.whole) (λ i. (config_is i, last_is i)) end.legal;
+    lawful = end.lawful;
+    count = length-map (e ∷ es) (λ (z : Ended A). z.answer)
+        ∙ (AllZip-long (ThreadRan tells deed r) (p ∷ ps) (e ∷ es) ran ∙ long);
+    parts = parts;
+    looked = record {
+      seen = (ends.met).seen;
+      begins = (end.first).begins;
+      own = subst (λ t. mine end.whole t ≡ mine (ends.met).seen t) (d.thread ∙ is_of) (end.first).own;
+      nobody = subst (λ c. not_outside c (state (ends.met).seen) ≡ 0) (back.at).config ends.nobody;
+    };
+    is = end.is ∙ ap (λ (z : Config × ℕ). summary z.0 z.1 (state end.whole)) (λ i. (config_is i, last_is i));
+  }

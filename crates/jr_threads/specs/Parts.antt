@@ -1,0 +1,87 @@
+-- What each thread of a room did, in one legal history.
+use Rattle.std.specs.Prelude.{◌≡◌, ◌<◌, ℕ, zero, suc, Bool, true, false, Result}
+use Rattle.std.specs.Prelude.{Ok, List, [], ◌∷◌, ◌++◌, length, slice_index_or}
+use mathlib.Core.List.{IsPrefix}
+use Rattle.jr_word.specs.declared.config.Config.{Config}
+use Rattle.jr_word.specs.declared.fault.Fault.{Fault}
+use Rattle.jr_model.specs.declared.event.Act.{Act}
+use Rattle.jr_model.specs.declared.event.Act.TheVariants.{Meet}
+use Rattle.jr_model.specs.declared.summary.Summary.{Summary}
+use Rattle.jr_model.specs.Frames.{Frames, fresh_frames}
+use Rattle.jr_model.specs.History.{History, PassView, IsLegal, mine, state}
+use Rattle.jr_model.specs.Laws.{KeepsTheLaws}
+use Rattle.jr_model.specs.State.{not_outside, summary}
+use Rattle.jr_steps.specs.Holdings.{empty}
+use Rattle.jr_steps.specs.Knowing.{Spent}
+use Rattle.jr_gate.specs.Performing.{ThreadState}
+use Rattle.jr_rule.specs.declared.pass.Pass.{Pass}
+use Rattle.jr_rule.specs.Passes.{Holder, facts_of, holder_of, standing_of}
+use Rattle.jr_env.specs.Deeds.{Deed, DoesDeed}
+
+-- a pass of the thread, in a room of these sizes and this last serial, that has seen this
+abbrev pub pass_that_saw : Config → ℕ → ℕ → History → PassView
+pass_that_saw c last t seen = record { config = c; last = last; thread = t; seen = seen }
+
+-- before the thread's first call: it has seen nothing, no local reference stands,
+-- its pass is spent, and its first search for a free slot begins at slot 0
+abbrev pub start_moment : Config → ℕ → ℕ → ThreadState
+start_moment c last t = record {
+  pass = pass_that_saw c last t [];
+  frames = fresh_frames c.locals;
+  held = empty;
+  fresh = false;
+  hint = 0;
+  taken = 0;
+}
+
+-- THE DEED IS THE THREAD'S:
+-- it leads from the thread's first moment, with this answer, to where the thread has seen this
+pub record ComesOfDeed {A : Type 0} (c : Config) (last t : ℕ) (deed : Deed A) (x : A) (seen : History) : Type 0 where
+  pub left : ThreadState
+  pub does : deed (start_moment c last t) (Ok x) left
+  pub saw : left.pass ≡ pass_that_saw c last t seen
+
+-- what the room's close does in the thread of this number: thread 0 looks at the gate, and no other does anything
+abbrev pub closing : ℕ → List Act
+closing zero = Meet ∷ []
+closing (suc t) = []
+
+-- THE THREAD'S PART in the history, with this answer:
+-- the history begins with all that it has seen, and has of its events those, the ones of the close, and no others;
+-- and where the answer tells of the deed, it has done this and nothing else
+pub record IsThreadPart {A : Type 0} (tells : A → Bool) (deed : ℕ → Deed A) (c : Config) (last : ℕ) (whole : History)
+    (t : ℕ) (x : A) : Type 0 where
+  pub seen : History
+  pub begins : IsPrefix seen whole
+  pub own : mine whole t ≡ mine seen t ++ closing t
+  pub did : tells x ≡ true → ComesOfDeed c last t (deed t) x seen
+
+-- NOBODY WAS INSIDE, knocking, announcing or collecting, where thread 0 had looked at the gate, as its last act
+pub record IsLookedAt (c : Config) (whole : History) : Type 0 where
+  pub seen : History
+  pub begins : IsPrefix seen whole
+  pub own : mine whole 0 ≡ mine seen 0
+  pub nobody : not_outside c (state seen) ≡ 0
+
+-- THE THREADS HAVE RUN: of one legal history, which keeps the laws, each thread of the room has
+-- its part, with the answer at the place of its number; and the summary is of that history's end
+pub record RanTogether {A : Type 0} (tells : A → Bool) (deed : ℕ → Deed A) (c : Config) (last : ℕ) (answers : List A)
+    (s : Summary) : Type 0 where
+  pub whole : History
+  pub legal : IsLegal c last whole
+  pub lawful : KeepsTheLaws whole
+  pub count : length answers ≡ c.threads
+  pub parts : (t : ℕ) (d : A) → t < c.threads → IsThreadPart tells deed c last whole t (slice_index_or answers t d)
+  pub looked : IsLookedAt c whole
+  pub is : s ≡ summary c last (state whole)
+
+-- with its pass, which was spent first, a thread did this and nothing else, with this answer, and now has this
+pub record DidWithPass {A : Type 0} (deed : Deed A) (old : Pass) (now : Holder) (x : A) : Type 0 where
+  pub spent : Holder
+  pub spends : Spent facts_of (holder_of old) spent
+  pub frames : Frames
+  pub did : DoesDeed facts_of spent now (fresh_frames (standing_of old).config.locals) frames deed (Ok x)
+
+-- the reply of a deed, a refusal too, as the answer of native code
+abbrev pub replied : {A : Type 0} → Deed A → Deed (Result A Fault)
+replied first old answer new = (reply : Result _ Fault) × (answer ≡ Ok reply) × first old reply new
