@@ -10,7 +10,9 @@ pub use jr_env::{
 pub use jr_model::{Mode, Summary};
 pub use jr_rule::{AllLeft, Left, Note, Pass, PinnedNote, PlainSteps, Role, Room, RoomSteps};
 pub use jr_steps::Steps;
-pub use jr_threads::{NativeCode, Ran, run_native};
+pub use jr_threads::{
+    NativeCode, OwnedCells, OwnedSteps, Ran, last_owner, owned_steps, run_native,
+};
 pub use jr_weak::{Collected, Marker};
 pub use jr_word::{
     Config, Elem, Fault, Handle, HandleParts, HeaderParts, Kind, LAST_SERIAL, LocalParts, RefKind,
