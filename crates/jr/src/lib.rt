@@ -4,15 +4,15 @@
 pub use jr_census::{Census, KindCounts, Objects, Slots, Words};
 pub use jr_elements::Elements;
 pub use jr_env::{
-    Env, EnvCall, LocalFrames, Patience, Region, Scoped, Stay, calls, is_made_again,
+    Env, EnvCall, LocalFrames, Patient, Region, Scoped, Stay, calls, is_made_again,
     is_short_of_room, with_local_frame, with_patience,
 };
 pub use jr_model::{Mode, Summary};
+pub use jr_owned::{OwnedCells, OwnedSteps, last_owner, owned_steps};
+pub use jr_patience::Patience;
 pub use jr_rule::{AllLeft, Left, Note, Pass, PinnedNote, PlainSteps, Role, Room, RoomSteps};
 pub use jr_steps::Steps;
-pub use jr_threads::{
-    NativeCode, OwnedCells, OwnedSteps, Ran, last_owner, owned_steps, run_native,
-};
+pub use jr_threads::{NativeCode, Ran, run_native};
 pub use jr_weak::{Collected, Marker};
 pub use jr_word::{
     Config, Elem, Fault, Handle, HandleParts, HeaderParts, Kind, LAST_SERIAL, LocalParts, RefKind,

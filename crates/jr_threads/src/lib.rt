@@ -3,9 +3,7 @@
 
 mod closing;
 mod native;
-mod owned;
 mod running;
 
 pub use native::NativeCode;
-pub use owned::{OwnedCells, OwnedSteps, last_owner, owned_steps};
 pub use running::{Ran, run_native};

@@ -2,7 +2,7 @@
 use Rattle.jr_rule.specs.declared.cells.Cells.{Ghosts}
 use Rattle.jr_rule.specs.declared.over.StepsOver.{StepsOver}
 use Rattle.jr_rule.specs.Passes.{Holder}
-use Rattle.jr_threads.specs.declared.owned.OwnedCells.{OwnedCells}
+use Rattle.jr_owned.specs.declared.owned.OwnedCells.{OwnedCells}
 
 -- the steps of a pass are made of what it is made of
 abbrev pub owner_of : {P : Type 0} {G : Ghosts OwnedCells P} → StepsOver OwnedCells P G → Holder

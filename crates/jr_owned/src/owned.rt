@@ -4,9 +4,9 @@ ghost use Rattle.std.specs.Arc.{arc_value};
 ghost use Rattle.jr_rule.specs.Passes.{holder_of, known_of};
 ghost use Rattle.jr_rule.specs.Rooms.{IsOfRoom};
 ghost use Rattle.jr_rule.specs.Rule.{stepping_pass};
-ghost use Rattle.jr_threads.specs.Owners.{owner_of};
+ghost use Rattle.jr_owned.specs.Owners.{owner_of};
 
-use crate::native::LAST;
+use crate::LAST;
 use jr_rule::{Cells, Pass, Room, RoomCells, RoomSteps, StepKind, StepsOver};
 use jr_word::Config;
 use std::sync::Arc;

@@ -1,0 +1,120 @@
+//! Rooms and their threads.
+use crate::behind::{env_of, room_of};
+use crate::handles::{EnvHandle, RoomHandle, env_pointer, room_pointer};
+use crate::held::{closed, open_room};
+use crate::reply::{Reply, of_nothing, of_number};
+use jr_model::Summary;
+use jr_word::{Config, Fault};
+use std::alloc::Global;
+
+/// The sizes of a room.
+#[repr(C)]
+#[derive(Clone, Copy)]
+pub struct Sizes {
+    /// How many threads there are.
+    pub threads: u32,
+    /// How many slots for global and weak references there are.
+    pub slots: u32,
+    /// How many objects there may be.
+    pub objects: u32,
+    /// How many words of elements there may be.
+    pub words: u32,
+    /// How many local references a thread may have.
+    pub locals: u32,
+}
+
+/// Opens a room of these sizes, and writes the pointer to it.
+///
+/// # Errors
+///
+/// E17 where the sizes are beyond their limits; E16 where memory was refused.
+#[unsafe(no_mangle)]
+pub extern "C" fn luthrady_open(alloc: Global, sizes: Sizes, out: &mut *mut u8) -> Reply {
+    let config = Config {
+        threads: sizes.threads,
+        slots: sizes.slots,
+        objects: sizes.objects,
+        words: sizes.words,
+        locals: sizes.locals,
+    };
+    match open_room(alloc, config) {
+        Ok(room) => {
+            *out = room_pointer(room);
+            of_nothing(Ok(()))
+        }
+        Err(fault) => of_nothing(Err(fault)),
+    }
+}
+
+/// Makes the env of the next thread, and writes the pointer to it.
+///
+/// # Errors
+///
+/// E21 where each thread has one, or the room was released; E16 where memory was refused.
+#[unsafe(no_mangle)]
+pub extern "C" fn luthrady_attach(
+    alloc: Global,
+    room: &mut RoomHandle,
+    out: &mut *mut u8,
+) -> Reply {
+    let Some(offer) = &mut room_of(room).offer else {
+        return of_nothing(Err(Fault::NotFresh));
+    };
+    match offer.attach(alloc) {
+        Ok(made) => {
+            *out = env_pointer(made);
+            of_nothing(Ok(()))
+        }
+        Err(fault) => of_nothing(Err(fault)),
+    }
+}
+
+/// Lets go of a room, to which no thread is attached any more.
+#[unsafe(no_mangle)]
+pub extern "C" fn luthrady_release(room: &mut RoomHandle) {
+    room_of(room).offer = None;
+}
+
+/// What stood in a room as it was closed.
+#[repr(C)]
+#[derive(Clone, Copy)]
+pub struct Stood {
+    /// How many global references stood.
+    pub globals: u32,
+    /// How many weak references stood.
+    pub weaks: u32,
+    /// How many objects were present.
+    pub live: u32,
+    /// How many words were used.
+    pub used: u32,
+}
+
+/// What a summary tells.
+fn told_of(summary: Summary) -> Stood {
+    Stood {
+        globals: summary.globals,
+        weaks: summary.weaks,
+        live: summary.live,
+        used: summary.used,
+    }
+}
+
+/// Detaches a thread. The last one of a room that was released closes it: then it answers 1, and writes what stood there; else 0.
+///
+/// # Errors
+///
+/// E21 where the thread was detached; E22 where the room is closed with threads inside.
+#[unsafe(no_mangle)]
+pub extern "C" fn luthrady_detach(env: &mut EnvHandle, out: &mut Stood) -> Reply {
+    let Some(native) = env_of(env).native.take() else {
+        return of_number(Err(Fault::NotFresh));
+    };
+    match closed(native) {
+        None => of_number(Ok(0)),
+        Some(Ok(summary)) => {
+            *out = told_of(summary);
+            of_number(Ok(1))
+        }
+        Some(Err(fault)) => of_number(Err(fault)),
+    }
+}
