@@ -1,3 +1,6 @@
 pub mod Behind
 pub mod Replies
 pub mod Calls
+pub mod Collecting
+pub mod Opening
+pub mod Threads

@@ -1,11 +1,15 @@
 //! What stands behind the pointers.
-ghost use Rattle.std.specs.Prelude.{All, IfSome};
+ghost use Rattle.std.specs.Prelude.{◌≡◌, ◌↔◌, ◌⊎◌, false, All, Err, IfOk, IfErr, IfSome};
 ghost use Rattle.std.specs.Arc.{arc_value};
+ghost use Rattle.jr_word.specs.declared.fault.Fault.TheVariants.{Memory, Size};
+ghost use Rattle.jr_word.specs.Config.{in_limits};
 ghost use Rattle.jr_rule.specs.Passes.{IsOpened};
+ghost use Rattle.luthrady.specs.Threads.{Comes, IsEnvIn, WasClosedBy};
 
 use jr_env::Env;
 use jr_owned::{OwnedSteps, last_owner, owned_steps};
-use jr_rule::{Pass, Room, Summary};
+use jr_model::Summary;
+use jr_rule::{Pass, Room};
 use jr_weak::Marker;
 use jr_word::{Config, Fault, LAST_SERIAL};
 use std::alloc::Global;
@@ -46,7 +50,10 @@ pub struct Attached {
 /// # Errors
 ///
 /// E17 where the sizes are beyond their limits; E16 where memory was refused.
-pub(crate) fn open_room(alloc: Global, config: Config) -> Result<Box<Opened>, Fault> {
+pub(crate) fn open_room(alloc: Global, config: Config) -> Result<Box<Opened>, Fault>
+    ensures size { (result ≡ Err Size) ↔ (in_limits config ≡ false) }
+    ensures memory { IfErr result (λ e. (e ≡ Size) ⊎ (e ≡ Memory)) }
+{
     let (room, passes) = Room::<LAST>::open(alloc, config)?;
     let room = Arc::new(alloc, room).map_err(|_| Fault::Memory)?;
     let offer = offer_of(room, passes);
@@ -66,7 +73,9 @@ impl Offer {
     /// # Errors
     ///
     /// E21 where each thread has one; E16 where memory was refused.
-    pub(crate) fn attach(&mut self, alloc: Global) -> Result<Box<Attached>, Fault> {
+    pub(crate) fn attach(&mut self, alloc: Global) -> Result<Box<Attached>, Fault>
+        ensures { IfOk result (λ a. Comes self.old self.new a.value) }
+    {
         if self.passes.is_empty() {
             return Err(Fault::NotFresh);
         }
@@ -84,6 +93,7 @@ impl Offer {
 /// E16 where memory was refused.
 fn attached_by(alloc: Global, room: Arc<Room<LAST>>, pass: Pass) -> Result<Attached, Fault>
     requires { IsOpened (arc_value room).row pass }
+    ensures { IfOk result (λ a. IfSome a.native (λ n. IsEnvIn (arc_value room) pass n.value)) }
 {
     let Ok(env) = Env::new(owned_steps(room, pass)) else {
         unreachable!();
@@ -100,7 +110,9 @@ fn attached_by(alloc: Global, room: Arc<Room<LAST>>, pass: Pass) -> Result<Attac
 /// # Errors
 ///
 /// E22 where threads are left inside.
-pub(crate) fn closed(native: Box<Native>) -> Option<Result<Summary, Fault>> {
+pub(crate) fn closed(native: Box<Native>) -> Option<Result<Summary, Fault>>
+    ensures { IfSome result (λ r. WasClosedBy native.value r) }
+{
     let Native { env, marker: _ } = Box::into_inner(native);
     let (room, pass) = last_owner(env.into_pass())?;
     Some(room.close(pass).map_err(|left| left.fault))

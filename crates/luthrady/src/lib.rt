@@ -4,8 +4,11 @@
 mod arrays;
 mod behind;
 mod calling;
+mod collecting;
+mod frames;
 mod handles;
 mod held;
 mod references;
+mod regions;
 mod reply;
 mod rooms;

@@ -1,4 +1,8 @@
 //! Rooms and their threads.
+ghost use Rattle.std.specs.Prelude.{◌≡◌, None};
+ghost use Rattle.luthrady.specs.Opening.{OpenReplied};
+ghost use Rattle.luthrady.specs.Threads.{AttachReplied, DetachReplied, told_summary};
+
 use crate::behind::{env_of, room_of};
 use crate::handles::{EnvHandle, RoomHandle, env_pointer, room_pointer};
 use crate::held::{closed, open_room};
@@ -29,7 +33,9 @@ pub struct Sizes {
 ///
 /// E17 where the sizes are beyond their limits; E16 where memory was refused.
 #[unsafe(no_mangle)]
-pub extern "C" fn luthrady_open(alloc: Global, sizes: Sizes, out: &mut *mut u8) -> Reply {
+pub extern "C" fn luthrady_open(alloc: Global, sizes: Sizes, out: &mut *mut u8) -> Reply
+    ensures { OpenReplied sizes result }
+{
     let config = Config {
         threads: sizes.threads,
         slots: sizes.slots,
@@ -56,7 +62,9 @@ pub extern "C" fn luthrady_attach(
     alloc: Global,
     room: &mut RoomHandle,
     out: &mut *mut u8,
-) -> Reply {
+) -> Reply
+    ensures { AttachReplied room.old room.new result }
+{
     let Some(offer) = &mut room_of(room).offer else {
         return of_nothing(Err(Fault::NotFresh));
     };
@@ -71,7 +79,10 @@ pub extern "C" fn luthrady_attach(
 
 /// Lets go of a room, to which no thread is attached any more.
 #[unsafe(no_mangle)]
-pub extern "C" fn luthrady_release(room: &mut RoomHandle) {
+pub extern "C" fn luthrady_release(room: &mut RoomHandle)
+    ensures offer { room.new.value.offer ≡ None }
+    ensures pointer { room.new.at ≡ room.old.at }
+{
     room_of(room).offer = None;
 }
 
@@ -90,7 +101,9 @@ pub struct Stood {
 }
 
 /// What a summary tells.
-fn told_of(summary: Summary) -> Stood {
+fn told_of(summary: Summary) -> Stood
+    ensures { result ≡ told_summary summary }
+{
     Stood {
         globals: summary.globals,
         weaks: summary.weaks,
@@ -105,7 +118,9 @@ fn told_of(summary: Summary) -> Stood {
 ///
 /// E21 where the thread was detached; E22 where the room is closed with threads inside.
 #[unsafe(no_mangle)]
-pub extern "C" fn luthrady_detach(env: &mut EnvHandle, out: &mut Stood) -> Reply {
+pub extern "C" fn luthrady_detach(env: &mut EnvHandle, out: &mut Stood) -> Reply
+    ensures { DetachReplied env.old env.new result out.old out.new }
+{
     let Some(native) = env_of(env).native.take() else {
         return of_number(Err(Fault::NotFresh));
     };
