@@ -4,7 +4,6 @@
 mod owned;
 
 use jr_word::LAST_SERIAL;
-
 pub use owned::{OwnedCells, OwnedSteps, last_owner, owned_steps};
 
 /// The last serial of the rooms.

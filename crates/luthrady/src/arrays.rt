@@ -7,7 +7,10 @@ ghost use Rattle.luthrady.specs.Replies.{nothing_told, the_number, the_word, wor
 use crate::calling::make;
 use crate::handles::EnvHandle;
 use crate::reply::{Reply, of_nothing, of_number, of_optional, of_reference};
-use jr_env::calls::{GetArrayLength, GetObjectArrayElement, GetStringLength, NewArray, NewObjectArray, NewPlain, NewString, SetObjectArrayElement};
+use jr_env::calls::{
+    GetArrayLength, GetObjectArrayElement, GetStringLength, NewArray, NewObjectArray, NewPlain,
+    NewString, SetObjectArrayElement,
+};
 use jr_word::Handle;
 
 /// A plain object, and a local reference to it. The Java Native Interface has no such call.
@@ -112,7 +115,11 @@ pub extern "C" fn luthrady_get_string_length(env: &mut EnvHandle, string: u64) -
 ///
 /// E21 where the thread was detached; else those of the same call of `Env`.
 #[unsafe(no_mangle)]
-pub extern "C" fn luthrady_get_object_array_element(env: &mut EnvHandle, array: u64, index: u32) -> Reply
+pub extern "C" fn luthrady_get_object_array_element(
+    env: &mut EnvHandle,
+    array: u64,
+    index: u32,
+) -> Reply
     ensures { Replied word_or_null env.old env.new (get_object_array_element array index) result }
 {
     of_optional(make(env, &GetObjectArrayElement(Handle(array), index)))
@@ -124,8 +131,16 @@ pub extern "C" fn luthrady_get_object_array_element(env: &mut EnvHandle, array: 
 ///
 /// E21 where the thread was detached; else those of the same call of `Env`.
 #[unsafe(no_mangle)]
-pub extern "C" fn luthrady_set_object_array_element(env: &mut EnvHandle, array: u64, index: u32, value: u64) -> Reply
+pub extern "C" fn luthrady_set_object_array_element(
+    env: &mut EnvHandle,
+    array: u64,
+    index: u32,
+    value: u64,
+) -> Reply
     ensures { Replied nothing_told env.old env.new (set_object_array_element array index value) result }
 {
-    of_nothing(make(env, &SetObjectArrayElement(Handle(array), index, Handle(value))))
+    of_nothing(make(
+        env,
+        &SetObjectArrayElement(Handle(array), index, Handle(value)),
+    ))
 }

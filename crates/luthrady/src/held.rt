@@ -7,8 +7,8 @@ ghost use Rattle.jr_rule.specs.Passes.{IsOpened};
 ghost use Rattle.luthrady.specs.Threads.{Comes, IsEnvIn, WasClosedBy};
 
 use jr_env::Env;
-use jr_owned::{OwnedSteps, last_owner, owned_steps};
 use jr_model::Summary;
+use jr_owned::{OwnedSteps, last_owner, owned_steps};
 use jr_rule::{Pass, Room};
 use jr_weak::Marker;
 use jr_word::{Config, Fault, LAST_SERIAL};

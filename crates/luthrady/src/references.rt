@@ -7,7 +7,10 @@ ghost use Rattle.luthrady.specs.Replies.{nothing_told, the_number, word_or_null,
 use crate::calling::make;
 use crate::handles::EnvHandle;
 use crate::reply::{Reply, of_bool, of_byte, of_nothing, of_optional};
-use jr_env::calls::{DeleteGlobalRef, DeleteLocalRef, DeleteWeakGlobalRef, GetObjectRefType, IsSameObject, NewGlobalRef, NewLocalRef, NewWeakGlobalRef};
+use jr_env::calls::{
+    DeleteGlobalRef, DeleteLocalRef, DeleteWeakGlobalRef, GetObjectRefType, IsSameObject,
+    NewGlobalRef, NewLocalRef, NewWeakGlobalRef,
+};
 use jr_word::Handle;
 
 /// A new global reference to what the word names, NULL to null. (JNI Specification, chapter 4, "NewGlobalRef")

@@ -13,7 +13,7 @@ use crate::calling::make;
 use crate::handles::EnvHandle;
 use crate::held::Native;
 use crate::reply::{Reply, of_nothing};
-use jr_env::calls::{SetArrayRegion};
+use jr_env::calls::SetArrayRegion;
 use jr_word::{Elem, Fault, Handle};
 
 /// Copies bytes into a part of an array, from an index on. (JNI Specification, chapter 4, "Set<PrimitiveType>ArrayRegion Routines")
@@ -22,7 +22,12 @@ use jr_word::{Elem, Fault, Handle};
 ///
 /// E21 where the thread was detached; else those of the same call of `Env`.
 #[unsafe(no_mangle)]
-pub extern "C" fn luthrady_set_byte_array_region(env: &mut EnvHandle, array: u64, start: u32, elements: &[i8]) -> Reply
+pub extern "C" fn luthrady_set_byte_array_region(
+    env: &mut EnvHandle,
+    array: u64,
+    start: u32,
+    elements: &[i8],
+) -> Reply
     ensures { Replied nothing_told env.old env.new (set_array_region Byte array start (map (signed_word w8) elements.now)) result }
 {
     of_nothing(make(env, &SetArrayRegion(Handle(array), start, elements)))
@@ -34,7 +39,12 @@ pub extern "C" fn luthrady_set_byte_array_region(env: &mut EnvHandle, array: u64
 ///
 /// E21 where the thread was detached; else those of the same call of `Env`.
 #[unsafe(no_mangle)]
-pub extern "C" fn luthrady_set_int_array_region(env: &mut EnvHandle, array: u64, start: u32, elements: &[i32]) -> Reply
+pub extern "C" fn luthrady_set_int_array_region(
+    env: &mut EnvHandle,
+    array: u64,
+    start: u32,
+    elements: &[i32],
+) -> Reply
     ensures { Replied nothing_told env.old env.new (set_array_region Int array start (map (signed_word w32) elements.now)) result }
 {
     of_nothing(make(env, &SetArrayRegion(Handle(array), start, elements)))
@@ -46,7 +56,12 @@ pub extern "C" fn luthrady_set_int_array_region(env: &mut EnvHandle, array: u64,
 ///
 /// E21 where the thread was detached; else those of the same call of `Env`.
 #[unsafe(no_mangle)]
-pub extern "C" fn luthrady_set_long_array_region(env: &mut EnvHandle, array: u64, start: u32, elements: &[i64]) -> Reply
+pub extern "C" fn luthrady_set_long_array_region(
+    env: &mut EnvHandle,
+    array: u64,
+    start: u32,
+    elements: &[i64],
+) -> Reply
     ensures { Replied nothing_told env.old env.new (set_array_region Long array start (map (signed_word w64) elements.now)) result }
 {
     of_nothing(make(env, &SetArrayRegion(Handle(array), start, elements)))

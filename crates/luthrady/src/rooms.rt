@@ -58,11 +58,7 @@ pub extern "C" fn luthrady_open(alloc: Global, sizes: Sizes, out: &mut *mut u8) 
 ///
 /// E21 where each thread has one, or the room was released; E16 where memory was refused.
 #[unsafe(no_mangle)]
-pub extern "C" fn luthrady_attach(
-    alloc: Global,
-    room: &mut RoomHandle,
-    out: &mut *mut u8,
-) -> Reply
+pub extern "C" fn luthrady_attach(alloc: Global, room: &mut RoomHandle, out: &mut *mut u8) -> Reply
     ensures { AttachReplied room.old room.new result }
 {
     let Some(offer) = &mut room_of(room).offer else {
