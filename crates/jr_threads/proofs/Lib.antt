@@ -1,2 +1,1 @@
-mod Owners
 mod Passes

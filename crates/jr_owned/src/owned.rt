@@ -6,9 +6,9 @@ ghost use Rattle.jr_word.specs.Config.{in_limits};
 ghost use Rattle.jr_rule.specs.Passes.{holder_of, known_of, Closes};
 ghost use Rattle.jr_rule.specs.Rooms.{IsOfRoom};
 ghost use Rattle.jr_rule.specs.Rule.{stepping_pass};
-ghost use Rattle.jr_threads.specs.Owners.{owner_of, AreOfRoom, AreOwnersOpened, IsLeftByOwner};
+ghost use Rattle.jr_owned.specs.Owners.{owner_of, AreOfRoom, AreOwnersOpened, IsLeftByOwner};
 
-use crate::native::LAST;
+use crate::LAST;
 use jr_model::Summary;
 use jr_rule::{Cells, Left, Pass, Room, RoomCells, RoomSteps, StepKind, StepsOver};
 use jr_word::{Config, Fault};

@@ -1,7 +1,7 @@
--- The owners of a room that was opened: one for each pass, and as it.
+-- The owners of a room that was opened, one for each pass and as it, and the envs over their steps.
 use Rattle.std.proofs.Common.{◌≡◌, ◌++◌, ◌∷◌, [], ℕ, List, map, subst, sym, ap, ◌∙◌, refl}
 use Rattle.std.specs.Arc.{arc_value}
-use Rattle.std.specs.List.{All}
+use Rattle.std.specs.List.{All, AllZip}
 use Rattle.std.proofs.lemmas.List.Elements.{All-append, All-cons, All-nil, All-head, All-tail}
 use mathlib.Core.List.{map-append}
 use Rattle.jr_word.specs.declared.config.Config.{Config}
@@ -12,8 +12,10 @@ use Rattle.jr_rule.specs.declared.room.Room.{Room}
 use Rattle.jr_rule.specs.Passes.{Holder, holder_of, IsOpened, AreOpened}
 use Rattle.jr_rule.specs.Rule.{known, stepping_pass}
 use Rattle.jr_steps.specs.Holdings.{empty}
-use Rattle.jr_threads.specs.declared.owned.OwnedCells.{OwnedCells}
-use Rattle.jr_threads.specs.Owners.{owner_of, AreOfRoom, IsOwnerOpened, AreOwnersOpened}
+use Rattle.jr_steps.specs.declared.steps.Steps.{Ghosts as StepsGhosts}
+use Rattle.jr_env.specs.declared.env.Env.{Env}
+use Rattle.jr_owned.specs.declared.owned.OwnedCells.{OwnedCells}
+use Rattle.jr_owned.specs.Owners.{owner_of, AreOfRoom, IsEnvOver, IsOwnerOpened, AreOwnersOpened}
 
 module _ {P : Type 0} {G : Ghosts OwnedCells P} where
   -- one more owner
@@ -57,3 +59,14 @@ module _ {P : Type 0} {G : Ghosts OwnedCells P} where
   -- the owners are opened as the passes were
   pub owners_opened : (c : Config) (r : Room 4294967295) (ss : List (StepsOver OwnedCells P G)) (ps : List Pass) → AreOpened c 4294967295 r.row ps → AreOfRoom r ss → map owner_of ss ≡ map holder_of ps → AreOwnersOpened c ss
   owners_opened c r ss ps o own is = record { room = r; sizes = o.same_config; threads = threads_of ss ps is ∙ o.threads; each = opened_each r ss ps is own o.each }
+
+-- one more of two lists, place by place
+zip_more : {A B : Type 0} (R : A → B → Type 0) (xs : List A) (ys : List B) (x : A) (y : B) → AllZip R xs ys → R x y → AllZip R (xs ++ x ∷ []) (ys ++ y ∷ [])
+zip_more R [] [] x y was more = (more, tt)
+zip_more R [] (z ∷ zs) x y was more = absurd was
+zip_more R (z ∷ zs) [] x y was more = absurd was
+zip_more R (v ∷ vs) (w ∷ ws) x y was more = (was.0, zip_more R vs ws x y was.1 more)
+
+module _ {P : Type 0} {G : Ghosts OwnedCells P} {H : StepsGhosts (StepsOver OwnedCells P G)} where
+  pub env_more : (ss : List (StepsOver OwnedCells P G)) (es ts : List (Env (StepsOver OwnedCells P G) H)) (s : StepsOver OwnedCells P G) (e : Env (StepsOver OwnedCells P G) H) → ts ≡ es ++ e ∷ [] → AllZip IsEnvOver ss es → IsEnvOver s e → AllZip IsEnvOver (ss ++ s ∷ []) ts
+  env_more ss es ts s e is was more = subst (AllZip IsEnvOver (ss ++ s ∷ [])) (sym is) (zip_more IsEnvOver ss es s e was more)

@@ -19,7 +19,7 @@ use Rattle.jr_rule.specs.Passes.{Holder, facts_of, holder_of, known_of, numbers_
 use Rattle.jr_rule.specs.Rule.{known, stepping_pass}
 use Rattle.jr_env.specs.declared.env.Env.{Env}
 use Rattle.jr_env.specs.Envs.{IsOutside}
-use Rattle.jr_threads.specs.declared.owned.OwnedCells.{OwnedCells}
+use Rattle.jr_owned.specs.declared.owned.OwnedCells.{OwnedCells}
 
 -- the steps of a pass are made of what it is made of
 abbrev pub owner_of : {P : Type 0} {G : Ghosts OwnedCells P} → StepsOver OwnedCells P G → Holder

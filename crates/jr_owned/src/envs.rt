@@ -4,7 +4,7 @@ ghost use Rattle.std.specs.List.{AllZip};
 ghost use Rattle.jr_word.specs.declared.fault.Fault.TheVariants.{Memory, Size};
 ghost use Rattle.jr_word.specs.Config.{in_limits};
 ghost use Rattle.jr_model.specs.declared.event.Role.TheVariants.{Outside};
-ghost use Rattle.jr_threads.specs.Owners.{AreEnvsOpened, IsEnvOver};
+ghost use Rattle.jr_owned.specs.Owners.{AreEnvsOpened, IsEnvOver};
 
 use crate::owned::{OwnedSteps, open_owned};
 use jr_env::Env;

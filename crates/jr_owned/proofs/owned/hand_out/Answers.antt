@@ -1,7 +1,7 @@
 use Rattle.std.proofs.Common.{◌≡◌, ◌++◌, ◌∷◌, [], ◌∙◌, rules}
 use Rattle.std.specs.Arc.{arc_value}
-use Rattle.jr_threads.proofs.Owners.{owner_more, holder_more}
-use Rattle.jr_threads.proofs.owned.hand_out.Goals as goal
+use Rattle.jr_owned.proofs.Owners.{owner_more, holder_more}
+use Rattle.jr_owned.proofs.owned.hand_out.Goals as goal
 
 pub loop-pass-preserved : goal.loop-pass-preserved
 loop-pass-preserved c =
