@@ -20,6 +20,8 @@ mod left_inside;
 #[cfg(test)]
 mod notes;
 #[cfg(test)]
+mod owners;
+#[cfg(test)]
 mod plain;
 #[cfg(test)]
 mod references;

@@ -1,41 +1,29 @@
 //! What stands behind the pointers.
-ghost use Rattle.std.specs.Prelude.{◌≡◌, ◌↔◌, ◌⊎◌, false, All, Err, IfOk, IfErr, IfSome};
-ghost use Rattle.std.specs.Arc.{arc_value};
-ghost use Rattle.jr_word.specs.declared.fault.Fault.TheVariants.{Memory, Size};
+ghost use Rattle.std.specs.Prelude.{◌≡◌, ◌↔◌, ◌⊎◌, ◌∷◌, [], false, Err, IfOk, IfErr, IfSome, IsSome};
+ghost use Rattle.jr_word.specs.declared.fault.Fault.TheVariants.{Memory, NotFresh, Size};
 ghost use Rattle.jr_word.specs.Config.{in_limits};
-ghost use Rattle.jr_rule.specs.Passes.{IsOpened};
-ghost use Rattle.luthrady.specs.Threads.{Comes, IsEnvIn, WasClosedBy};
+ghost use Rattle.jr_rule.specs.Passes.{Closes};
+ghost use Rattle.jr_rule.specs.Rule.{stepping_pass};
+ghost use Rattle.jr_owned.specs.Owners.{AreEnvsOpened};
+ghost use Rattle.jr_env.specs.Envs.{IsOutside};
+ghost use Rattle.jr_env.specs.Collections.{FitsRoom};
 
-use jr_env::Env;
 use jr_model::Summary;
-use jr_owned::{OwnedSteps, last_owner, owned_steps};
-use jr_rule::{Pass, Room};
+use jr_owned::{OwnedEnv, close_owned, open_envs};
 use jr_weak::Marker;
-use jr_word::{Config, Fault, LAST_SERIAL};
+use jr_word::{Config, Fault};
 use std::alloc::Global;
-use std::sync::Arc;
 
-/// The last serial of the rooms.
-pub(crate) const LAST: u32 = LAST_SERIAL;
-
-/// A room, and the passes that no thread has.
-#[derive(Drop)]
-pub struct Offer {
-    pub(crate) room: Arc<Room<LAST>>,
-    pub(crate) passes: Vec<Pass>,
-    ghost own: { All (λ p. IsOpened (arc_value room).row p) passes.items },
-}
-
-/// The place of a room: none once it was let go.
+/// A room, by the envs of those of its threads that are not attached.
 #[derive(Drop)]
 pub struct Opened {
-    pub(crate) offer: Option<Offer>,
+    pub(crate) envs: Vec<OwnedEnv>,
 }
 
 /// A thread's env, and the memory of its collections.
 #[derive(Drop)]
 pub struct Native {
-    pub(crate) env: Env<OwnedSteps>,
+    pub(crate) env: OwnedEnv,
     pub(crate) marker: Marker,
 }
 
@@ -53,56 +41,56 @@ pub struct Attached {
 pub(crate) fn open_room(alloc: Global, config: Config) -> Result<Box<Opened>, Fault>
     ensures size { (result ≡ Err Size) ↔ (in_limits config ≡ false) }
     ensures memory { IfErr result (λ e. (e ≡ Size) ⊎ (e ≡ Memory)) }
+    ensures opened { IfOk result (λ b. AreEnvsOpened config b.value.envs.items) }
 {
-    let (room, passes) = Room::<LAST>::open(alloc, config)?;
-    let room = Arc::new(alloc, room).map_err(|_| Fault::Memory)?;
-    let offer = offer_of(room, passes);
-    Box::new(alloc, Opened { offer: Some(offer) }).map_err(|_| Fault::Memory)
+    let envs = open_envs(alloc, config)?;
+    let Ok(opened) = Box::new(alloc, Opened { envs }) else {
+        return Err(Fault::Memory);
+    };
+    Ok(opened)
 }
 
-/// A room with its passes.
-fn offer_of(room: Arc<Room<LAST>>, passes: Vec<Pass>) -> Offer
-    requires { All (λ p. IsOpened (arc_value room).row p) passes.items }
-{
-    Offer { room, passes }
-}
-
-impl Offer {
-    /// The env of the next thread.
+impl Opened {
+    /// The env of the next thread, in its place.
     ///
     /// # Errors
     ///
-    /// E21 where each thread has one; E16 where memory was refused.
+    /// E21 where each thread has one; E16 where memory was refused, and then the thread's env may be gone.
     pub(crate) fn attach(&mut self, alloc: Global) -> Result<Box<Attached>, Fault>
-        ensures { IfOk result (λ a. Comes self.old self.new a.value) }
+        ensures next { IfOk result (λ a. IfSome a.value.native (λ n. self.old.envs.items ≡ n.value.env ∷ self.new.envs.items)) }
+        ensures fits { IfOk result (λ a. IfSome a.value.native (λ n. FitsRoom n.value.marker n.value.env)) }
+        ensures there { IfOk result (λ a. IsSome a.value.native) }
+        ensures none { self.old.envs.items ≡ [] → (result ≡ Err NotFresh) × (self.new ≡ self.old) }
     {
-        if self.passes.is_empty() {
+        if self.envs.is_empty() {
             return Err(Fault::NotFresh);
         }
-        let room = Arc::try_clone(&self.room).map_err(|_| Fault::Memory)?;
-        let pass = self.passes.remove(0);
-        let made = attached_by(alloc, room, pass)?;
-        Box::new(alloc, made).map_err(|_| Fault::Memory)
+        let env = self.envs.remove(0);
+        let native = native_of(alloc, env)?;
+        let attached = Attached {
+            native: Some(native),
+        };
+        let Ok(made) = Box::new(alloc, attached) else {
+            return Err(Fault::Memory);
+        };
+        Ok(made)
     }
 }
 
-/// The env of a pass.
+/// An env with the memory of its collections.
 ///
 /// # Errors
 ///
 /// E16 where memory was refused.
-fn attached_by(alloc: Global, room: Arc<Room<LAST>>, pass: Pass) -> Result<Attached, Fault>
-    requires { IsOpened (arc_value room).row pass }
-    ensures { IfOk result (λ a. IfSome a.native (λ n. IsEnvIn (arc_value room) pass n.value)) }
+fn native_of(alloc: Global, env: OwnedEnv) -> Result<Box<Native>, Fault>
+    ensures env { IfOk result (λ n. n.value.env ≡ env) }
+    ensures fits { IfOk result (λ n. FitsRoom n.value.marker n.value.env) }
 {
-    let Ok(env) = Env::new(owned_steps(room, pass)) else {
-        unreachable!();
-    };
     let marker = env.marker(alloc)?;
-    let native = Box::new(alloc, Native { env, marker }).map_err(|_| Fault::Memory)?;
-    Ok(Attached {
-        native: Some(native),
-    })
+    let Ok(native) = Box::new(alloc, Native { env, marker }) else {
+        return Err(Fault::Memory);
+    };
+    Ok(native)
 }
 
 /// Lets go of the env. Where nobody else owns the room any more, it is closed, and what stands in it is told.
@@ -110,12 +98,14 @@ fn attached_by(alloc: Global, room: Arc<Room<LAST>>, pass: Pass) -> Result<Attac
 /// # Errors
 ///
 /// E22 where threads are left inside.
-pub(crate) fn closed(native: Box<Native>) -> Option<Result<Summary, Fault>>
-    ensures { IfSome result (λ r. WasClosedBy native.value r) }
+pub(crate) fn closed(native: Box<Native>) -> Result<Option<Summary>, Fault>
+    ensures { IsOutside native.value.env → IfOk result (λ o. IfSome o (λ s. Closes (stepping_pass native.value.env.held.steps.cells.cells.seat.me) s)) }
 {
     let Native { env, marker: _ } = Box::into_inner(native);
-    let (room, pass) = last_owner(env.into_pass())?;
-    Some(room.close(pass).map_err(|left| left.fault))
+    match close_owned(env.into_pass()) {
+        Ok(summary) => Ok(summary),
+        Err(left) => Err(left.fault),
+    }
 }
 
 /// Takes what may go to another thread.

@@ -1,7 +1,8 @@
 //! Rooms and their threads.
-ghost use Rattle.std.specs.Prelude.{◌≡◌, None};
+ghost use Rattle.std.specs.Prelude.{◌≡◌, []};
 ghost use Rattle.luthrady.specs.Opening.{OpenReplied};
-ghost use Rattle.luthrady.specs.Threads.{AttachReplied, DetachReplied, told_summary};
+ghost use Rattle.luthrady.specs.Replies.{reply_of, the_number};
+ghost use Rattle.luthrady.specs.Threads.{AttachReplied, DetachReplied, leaving_answer, stood_of, told_summary};
 
 use crate::behind::{env_of, room_of};
 use crate::handles::{EnvHandle, RoomHandle, env_pointer, room_pointer};
@@ -58,13 +59,14 @@ pub extern "C" fn luthrady_open(alloc: Global, sizes: Sizes, out: &mut *mut u8) 
 ///
 /// E21 where each thread has one, or the room was released; E16 where memory was refused.
 #[unsafe(no_mangle)]
-pub extern "C" fn luthrady_attach(alloc: Global, room: &mut RoomHandle, out: &mut *mut u8) -> Reply
+pub extern "C" fn luthrady_attach(
+    alloc: Global,
+    room: &mut RoomHandle,
+    out: &mut *mut u8,
+) -> Reply
     ensures { AttachReplied room.old room.new result }
 {
-    let Some(offer) = &mut room_of(room).offer else {
-        return of_nothing(Err(Fault::NotFresh));
-    };
-    match offer.attach(alloc) {
+    match room_of(room).attach(alloc) {
         Ok(made) => {
             *out = env_pointer(made);
             of_nothing(Ok(()))
@@ -73,13 +75,13 @@ pub extern "C" fn luthrady_attach(alloc: Global, room: &mut RoomHandle, out: &mu
     }
 }
 
-/// Lets go of a room, to which no thread is attached any more.
+/// Lets go of the envs of threads that were not attached, so that the room is closed by the last that is.
 #[unsafe(no_mangle)]
 pub extern "C" fn luthrady_release(room: &mut RoomHandle)
-    ensures offer { room.new.value.offer ≡ None }
+    ensures none { room.new.value.envs.items ≡ [] }
     ensures pointer { room.new.at ≡ room.old.at }
 {
-    room_of(room).offer = None;
+    room_of(room).envs.clear();
 }
 
 /// What stood in a room as it was closed.
@@ -108,7 +110,7 @@ fn told_of(summary: Summary) -> Stood
     }
 }
 
-/// Detaches a thread. The last one of a room that was released closes it: then it answers 1, and writes what stood there; else 0.
+/// Detaches a thread. The last one of a room closes it: then it answers 1, and writes what stood there; else 0. A room with threads that were not attached is closed once it was released.
 ///
 /// # Errors
 ///
@@ -120,12 +122,20 @@ pub extern "C" fn luthrady_detach(env: &mut EnvHandle, out: &mut Stood) -> Reply
     let Some(native) = env_of(env).native.take() else {
         return of_number(Err(Fault::NotFresh));
     };
-    match closed(native) {
-        None => of_number(Ok(0)),
-        Some(Ok(summary)) => {
+    told(closed(native), out)
+}
+
+/// Tells whether a room was closed, and what stood there.
+fn told(closed: Result<Option<Summary>, Fault>, out: &mut Stood) -> Reply
+    ensures reply { result ≡ reply_of the_number (leaving_answer closed) }
+    ensures stood { out.new ≡ stood_of closed out.old }
+{
+    match closed {
+        Ok(None) => of_number(Ok(0)),
+        Ok(Some(summary)) => {
             *out = told_of(summary);
             of_number(Ok(1))
         }
-        Some(Err(fault)) => of_number(Err(fault)),
+        Err(fault) => of_number(Err(fault)),
     }
 }
