@@ -34,10 +34,10 @@ struct luthrady_reply luthrady_open(struct luthrady_sizes sizes, void **out);
 /* Makes the env of the next thread, and writes the pointer to it. */
 struct luthrady_reply luthrady_attach(struct luthrady_room *room, void **out);
 
-/* Lets go of a room, to which no thread is attached any more. */
+/* Lets go of the envs of threads that were not attached, so that the room is closed by the last that is. */
 void luthrady_release(struct luthrady_room *room);
 
-/* Detaches a thread. The last one of a room that was released closes it: then it answers 1, and writes what stood there; else 0. */
+/* Detaches a thread. The last one of a room closes it: then it answers 1, and writes what stood there; else 0. A room with threads that were not attached is closed once it was released. */
 struct luthrady_reply luthrady_detach(struct luthrady_env *env, struct luthrady_stood *out);
 
 /* A new global reference to what the word names, NULL to null. (JNI Specification, chapter 4, "NewGlobalRef") */

@@ -4,7 +4,7 @@
 pub use jr_census::{Census, KindCounts, Objects, Slots, Words};
 pub use jr_elements::Elements;
 pub use jr_env::{
-    Env, EnvCall, LocalFrames, Patient, Region, Scoped, Stay, calls, is_made_again,
+    Env, EnvCall, LocalFrames, Patience, Region, Scoped, Stay, calls, is_made_again,
     is_short_of_room, with_local_frame, with_patience,
 };
 pub use jr_model::{Mode, Summary};
@@ -12,7 +12,6 @@ pub use jr_owned::{
     OwnedCells, OwnedEnv, OwnedSteps, close_owned, end_owner, last_owner, open_envs, open_owned,
     owned_steps,
 };
-pub use jr_patience::Patience;
 pub use jr_rule::{AllLeft, Left, Note, Pass, PinnedNote, PlainSteps, Role, Room, RoomSteps};
 pub use jr_steps::Steps;
 pub use jr_threads::{NativeCode, Ran, run_native};

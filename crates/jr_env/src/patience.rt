@@ -5,32 +5,79 @@ ghost use Rattle.jr_env.specs.Tries.{is_worth_a_try, CalledAgain};
 
 use crate::retrying::{is_made_again, is_short_of_room};
 use jr_word::Fault;
+use std::thread;
 
-/// How often what is refused is made again, for which refusals, and what is done before each further try. `Patience` is one, and so may be a type of your own.
-pub trait Patient {
-    ghost use Rattle.std.specs.Prelude.{◌≡◌, ℕ, Bool};
-
-    ghost tries: { Self → ℕ };
-
-    ghost waits: { Self → Bool };
-
+/// How often what is refused is made again, and for which refusals.
+#[derive(Clone, Copy, Debug, PartialEq, Eq)]
+pub struct Patience {
     /// How many more tries there may be behind the first.
-    fn more(&self) -> u64
-        ensures { result ≡ tries self.now };
-
+    pub more: u64,
+    /// Whether the thread yields before each of them, so that others may run meanwhile.
+    pub yields: bool,
     /// Whether want of room (E10, E11) is worth another try too, since another thread may collect meanwhile.
-    fn waits_for_room(&self) -> bool
-        ensures { result ≡ waits self.now };
-
-    /// Lets others run before the next try, where that is wanted.
-    fn pause(&self);
+    pub waits_for_room: bool,
 }
 
-/// Whether an answer is worth another try.
-pub(crate) fn is_for_later<P: Patient, A>(patience: &P, answer: &Result<A, Fault>) -> bool
-    ensures { result ≡ is_worth_a_try (P.waits patience.now) answer.now }
-{
-    is_made_again(answer) || patience.waits_for_room() && is_short_of_room(answer)
+impl Patience {
+    ghost use Rattle.std.specs.Prelude.{◌≡◌, true, false};
+    ghost use Rattle.jr_env.specs.Tries.{is_worth_a_try};
+
+    /// The patience for most programs: 4,194,304 more tries, each behind a yield, and none for want of room.
+    pub const LONG: Patience = Patience {
+        more: 4_194_304,
+        yields: true,
+        waits_for_room: false,
+    };
+
+    /// So many more tries, each behind a yield, and none for want of room.
+    pub const fn of(more: u64) -> Patience
+        ensures more { result.more ≡ more }
+        ensures yields { result.yields ≡ true }
+        ensures room { result.waits_for_room ≡ false }
+    {
+        Patience {
+            more,
+            ..Patience::LONG
+        }
+    }
+
+    /// The same patience with no yield between two tries.
+    pub const fn without_yields(self) -> Patience
+        ensures more { result.more ≡ self.more }
+        ensures yields { result.yields ≡ false }
+        ensures room { result.waits_for_room ≡ self.waits_for_room }
+    {
+        Patience {
+            yields: false,
+            ..self
+        }
+    }
+
+    /// The same patience for want of room too.
+    pub const fn waiting_for_room(self) -> Patience
+        ensures more { result.more ≡ self.more }
+        ensures yields { result.yields ≡ self.yields }
+        ensures room { result.waits_for_room ≡ true }
+    {
+        Patience {
+            waits_for_room: true,
+            ..self
+        }
+    }
+
+    /// Whether an answer is worth another try.
+    pub(crate) fn is_for_later<A>(self, answer: &Result<A, Fault>) -> bool
+        ensures { result ≡ is_worth_a_try self.waits_for_room answer.now }
+    {
+        is_made_again(answer) || self.waits_for_room && is_short_of_room(answer)
+    }
+
+    /// Lets others run before the next try, where that is wanted.
+    pub(crate) fn pause(self) {
+        if self.yields {
+            thread::yield_now();
+        }
+    }
 }
 
 /// Calls a closure, and again as long as its answer is worth another try, but no more often than there is patience for. The last answer is the answer. It is for what is more than one call of an env, and for calls that open a region or a stay or copy elements.
@@ -46,17 +93,17 @@ pub(crate) fn is_for_later<P: Patient, A>(patience: &P, answer: &Result<A, Fault
 /// # Operations
 ///
 /// Those of each call of the closure.
-pub fn with_patience<E, T: Drop, P: Patient + Copy, F: FnMut(&mut E) -> Result<T, Fault>>(
+pub fn with_patience<E, T: Drop, F: FnMut(&mut E) -> Result<T, Fault>>(
     env: &mut E,
-    patience: P,
+    patience: Patience,
     mut body: F,
 ) -> Result<T, Fault>
     requires { F.IsAlwaysCallable body }
-    ensures { (left : F) × CalledAgain F.FnMut (P.waits patience) (P.tries patience) (body, env.old) result (left, env.new) }
+    ensures { (left : F) × CalledAgain F.FnMut patience.waits_for_room patience.more (body, env.old) result (left, env.new) }
 {
-    for _ in 0..patience.more() {
+    for _ in 0..patience.more {
         let answer = body(env);
-        if !is_for_later(&patience, &answer) {
+        if !patience.is_for_later(&answer) {
             return answer;
         }
         patience.pause();

@@ -5,7 +5,7 @@ ghost use Rattle.jr_env.specs.Tries.{is_tried_again, lacks_room};
 
 use crate::env::Env;
 use crate::env_call::EnvCall;
-use crate::patience::{Patient, is_for_later};
+use crate::patience::Patience;
 use jr_steps::Steps;
 use jr_weak::Marker;
 use jr_word::Fault;
@@ -46,16 +46,12 @@ impl<S: Steps> Env<S> {
     /// # Operations
     ///
     /// Those of each try.
-    pub fn retry<C: EnvCall<S>, P: Patient + Copy>(
-        &mut self,
-        call: &C,
-        patience: P,
-    ) -> Result<C::Answer, Fault>
-        ensures { Does self.old self.new (made_again (P.waits patience) (P.tries patience) (C.deed call.now)) result }
+    pub fn retry<C: EnvCall<S>>(&mut self, call: &C, patience: Patience) -> Result<C::Answer, Fault>
+        ensures { Does self.old self.new (made_again patience.waits_for_room patience.more (C.deed call.now)) result }
     {
-        for _ in 0..patience.more() {
+        for _ in 0..patience.more {
             let answer = call.make(self);
-            if !is_for_later(&patience, &answer) {
+            if !patience.is_for_later(&answer) {
                 return answer;
             }
             patience.pause();
@@ -74,13 +70,13 @@ impl<S: Steps> Env<S> {
     /// # Operations
     ///
     /// Those of each try, and of the collection.
-    pub fn retry_collecting<C: EnvCall<S>, P: Patient + Copy>(
+    pub fn retry_collecting<C: EnvCall<S>>(
         &mut self,
         marker: &mut Marker,
         call: &C,
-        patience: P,
+        patience: Patience,
     ) -> Result<C::Answer, Fault>
-        ensures call { FitsRoom marker.old self.old → Does self.old self.new (made_collecting (P.waits patience) (P.tries patience) (C.deed call.now)) result }
+        ensures call { FitsRoom marker.old self.old → Does self.old self.new (made_collecting patience.waits_for_room patience.more (C.deed call.now)) result }
         ensures size { ¬ (FitsRoom marker.old self.old) → (result ≡ Err Size) × (self.new ≡ self.old) × (marker.new ≡ marker.old) }
         ensures room { room_of marker.new ≡ room_of marker.old }
     {
@@ -95,14 +91,14 @@ impl<S: Steps> Env<S> {
     /// # Errors
     ///
     /// E14, and those of the call.
-    fn retry_collecting_by<C: EnvCall<S>, P: Patient + Copy>(
+    fn retry_collecting_by<C: EnvCall<S>>(
         &mut self,
         marker: &mut Marker,
         call: &C,
-        patience: P,
+        patience: Patience,
     ) -> Result<C::Answer, Fault>
         requires { FitsRoom marker.old self.old }
-        ensures call { Does self.old self.new (made_collecting (P.waits patience) (P.tries patience) (C.deed call.now)) result }
+        ensures call { Does self.old self.new (made_collecting patience.waits_for_room patience.more (C.deed call.now)) result }
         ensures room { room_of marker.new ≡ room_of marker.old }
     {
         let answer = self.retry(call, patience);

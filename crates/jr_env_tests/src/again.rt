@@ -3,8 +3,7 @@
 use crate::envs::is_refused;
 use crate::plain::{Case, try_plain};
 use jr_env::calls::{DeleteLocalRef, NewArray, SetArrayRegion};
-use jr_env::{Env, with_patience};
-use jr_patience::Patience;
+use jr_env::{Env, Patience, with_patience};
 use jr_steps::Steps;
 use jr_weak::Marker;
 use jr_word::{Config, Fault, Handle};

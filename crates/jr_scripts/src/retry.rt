@@ -3,8 +3,7 @@
 ghost use Rattle.jr_env.specs.Envs.{WasDone, IsOutside};
 ghost use Rattle.jr_scripts.specs.Commands.{tried};
 
-use jr_env::{Env, EnvCall, is_made_again};
-use jr_patience::Patience;
+use jr_env::{Env, EnvCall, Patience, is_made_again};
 use jr_steps::Steps;
 use jr_word::Fault;
 

@@ -1,7 +1,6 @@
 use crate::envs::{is_refused, plain_env};
-use jr_env::Env;
 use jr_env::calls::NewPlain;
-use jr_patience::Patience;
+use jr_env::{Env, Patience};
 use jr_steps::Steps;
 use jr_weak::Marker;
 use jr_word::{Config, Fault, Handle};

@@ -4,9 +4,8 @@ ghost use Rattle.jr_rule.specs.Passes.{IsOpened};
 
 use crate::envs::{LAST, NoPass, collected, leaves, next_env, next_pass};
 use jr_env::calls::{DeleteGlobalRef, DeleteLocalRef, GetObjectRefType, SetArrayRegion};
-use jr_env::{Env, with_patience};
+use jr_env::{Env, Patience, with_patience};
 use jr_model::Summary;
-use jr_patience::Patience;
 use jr_rule::{Pass, Room};
 use jr_steps::Steps;
 use jr_weak::{Collected, Marker};

@@ -4,13 +4,13 @@ use Rattle.jr_env.proofs.MadeAgain.{tries_from_first, tries_once_more, tries_the
 use Rattle.jr_env.proofs.patience.with_patience.Goals as goal
 
 pub loop-init : goal.loop-init
-loop-init g c = (search of_calls, λ answer last t. tries_from_first (g.P.Patient.tries c.args.patience) t)
+loop-init g c = (search of_calls, λ answer last t. tries_from_first c.args.patience.more t)
 
 pub returns-then-not-is_for_later : goal.returns-then-not-is_for_later
 returns-then-not-is_for_later g c = (c.body-answer.new.self, c.loop.invariant.1 _ _ (settled (search of_calls) (search rules)))
 
 pub loop-preserved : goal.loop-preserved
-loop-preserved g c = (search of_calls, λ answer last t. c.loop.invariant.1 _ _ (tries_once_more c.body-answer.result (g.P.Patient.tries c.args.patience) c.loop.counter (omega arith) (search of_calls) (search rules) t))
+loop-preserved g c = (search of_calls, λ answer last t. c.loop.invariant.1 _ _ (tries_once_more c.body-answer.result c.args.patience.more c.loop.counter (omega arith) (search of_calls) (search rules) t))
 
 pub returns : goal.returns
-returns g c = (c.body.new.self, c.loop.invariant.1 _ _ (tries_the_last (g.P.Patient.tries c.args.patience) c.loop.counter (omega arith) (search of_calls)))
+returns g c = (c.body.new.self, c.loop.invariant.1 _ _ (tries_the_last c.args.patience.more c.loop.counter (omega arith) (search of_calls)))

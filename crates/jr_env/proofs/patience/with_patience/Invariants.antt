@@ -7,5 +7,5 @@ abbrev pub invariant-loop : goal.invariant-loop
 invariant-loop g l =
     goal.F-IsAlwaysCallable g l.body
     × ((answer : Result _ Fault) (last : _ × _)
-    → CalledAgain g.F.FnMut (g.P.Patient.waits l.patience) (g.P.Patient.tries l.patience - l.counter) (l.body, l.env) answer last
-    → CalledAgain g.F.FnMut (g.P.Patient.waits l.patience) (g.P.Patient.tries l.patience) (l.fn.body, l.fn.env) answer last)
+    → CalledAgain g.F.FnMut l.patience.waits_for_room (l.patience.more - l.counter) (l.body, l.env) answer last
+    → CalledAgain g.F.FnMut l.patience.waits_for_room l.patience.more (l.fn.body, l.fn.env) answer last)

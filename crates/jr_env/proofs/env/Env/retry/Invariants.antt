@@ -8,5 +8,5 @@ use Rattle.jr_env.proofs.env.Env.retry.Given as goal
 abbrev pub invariant-loop : goal.invariant-loop
 invariant-loop g l =
     (answer : Result _ Fault) (last : _) (frames : Frames)
-    → DoesOutside g.S.Steps.facts l.self.held.steps last l.self.held.frames.frames frames (made_again (g.P.Patient.waits l.patience) (g.P.Patient.tries l.patience - l.counter) (g.C.EnvCall.deed l.call)) answer
-    → DoesOutside g.S.Steps.facts l.fn.self.held.steps last l.fn.self.held.frames.frames frames (made_again (g.P.Patient.waits l.patience) (g.P.Patient.tries l.patience) (g.C.EnvCall.deed l.call)) answer
+    → DoesOutside g.S.Steps.facts l.self.held.steps last l.self.held.frames.frames frames (made_again l.patience.waits_for_room (l.patience.more - l.counter) (g.C.EnvCall.deed l.call)) answer
+    → DoesOutside g.S.Steps.facts l.fn.self.held.steps last l.fn.self.held.frames.frames frames (made_again l.patience.waits_for_room l.patience.more (g.C.EnvCall.deed l.call)) answer

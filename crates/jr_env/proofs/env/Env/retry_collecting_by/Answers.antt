@@ -5,10 +5,10 @@ use Rattle.jr_env.proofs.MadeAgain.{was_served, was_collected, was_kept_out}
 use Rattle.jr_env.proofs.env.Env.retry_collecting_by.Goals as goal
 
 pub returns-then-not-is_short_of_room-clause-call : goal.returns-then-not-is_short_of_room-clause-call
-returns-then-not-is_short_of_room-clause-call g c = was_served (g.P.Patient.tries c.args.patience) c.retry-answer.ensures (search rules)
+returns-then-not-is_short_of_room-clause-call g c = was_served c.args.patience.more c.retry-answer.ensures (search rules)
 
 pub returns-in-Ok-clause-call : goal.returns-in-Ok-clause-call
-returns-in-Ok-clause-call g c = was_collected (g.P.Patient.tries c.args.patience) _ c.retry-answer.ensures (search rules) (c.in-Ok.ensures.call (c.requires ∙ sym (ap (λ (z : Config). z.objects) (same_room c.retry-answer.ensures)))) c.retry.ensures
+returns-in-Ok-clause-call g c = was_collected c.args.patience.more _ c.retry-answer.ensures (search rules) (c.in-Ok.ensures.call (c.requires ∙ sym (ap (λ (z : Config). z.objects) (same_room c.retry-answer.ensures)))) c.retry.ensures
 
 pub returns-clause-call : goal.returns-clause-call
-returns-clause-call g c = was_kept_out (g.P.Patient.tries c.args.patience) _ c.retry-answer.ensures (search rules) (c.in-Err.ensures.call (c.requires ∙ sym (ap (λ (z : Config). z.objects) (same_room c.retry-answer.ensures))))
+returns-clause-call g c = was_kept_out c.args.patience.more _ c.retry-answer.ensures (search rules) (c.in-Err.ensures.call (c.requires ∙ sym (ap (λ (z : Config). z.objects) (same_room c.retry-answer.ensures))))
