@@ -78,13 +78,54 @@ unsafe extern "C" {
     fn luthrady_get_array_length(env: *mut Handle, array: u64) -> Reply;
     fn luthrady_get_string_length(env: *mut Handle, string: u64) -> Reply;
     fn luthrady_get_object_array_element(env: *mut Handle, array: u64, index: u32) -> Reply;
-    fn luthrady_set_object_array_element(env: *mut Handle, array: u64, index: u32, value: u64) -> Reply;
-    fn luthrady_set_byte_array_region(env: *mut Handle, array: u64, start: u32, elements: *const i8, count: usize) -> Reply;
-    fn luthrady_set_int_array_region(env: *mut Handle, array: u64, start: u32, elements: *const i32, count: usize) -> Reply;
-    fn luthrady_set_long_array_region(env: *mut Handle, array: u64, start: u32, elements: *const i64, count: usize) -> Reply;
-    fn luthrady_get_byte_array_region(env: *mut Handle, array: u64, start: u32, elements: *mut i8, count: usize) -> Reply;
-    fn luthrady_get_int_array_region(env: *mut Handle, array: u64, start: u32, elements: *mut i32, count: usize) -> Reply;
-    fn luthrady_get_long_array_region(env: *mut Handle, array: u64, start: u32, elements: *mut i64, count: usize) -> Reply;
+    fn luthrady_set_object_array_element(
+        env: *mut Handle,
+        array: u64,
+        index: u32,
+        value: u64,
+    ) -> Reply;
+    fn luthrady_set_byte_array_region(
+        env: *mut Handle,
+        array: u64,
+        start: u32,
+        elements: *const i8,
+        count: usize,
+    ) -> Reply;
+    fn luthrady_set_int_array_region(
+        env: *mut Handle,
+        array: u64,
+        start: u32,
+        elements: *const i32,
+        count: usize,
+    ) -> Reply;
+    fn luthrady_set_long_array_region(
+        env: *mut Handle,
+        array: u64,
+        start: u32,
+        elements: *const i64,
+        count: usize,
+    ) -> Reply;
+    fn luthrady_get_byte_array_region(
+        env: *mut Handle,
+        array: u64,
+        start: u32,
+        elements: *mut i8,
+        count: usize,
+    ) -> Reply;
+    fn luthrady_get_int_array_region(
+        env: *mut Handle,
+        array: u64,
+        start: u32,
+        elements: *mut i32,
+        count: usize,
+    ) -> Reply;
+    fn luthrady_get_long_array_region(
+        env: *mut Handle,
+        array: u64,
+        start: u32,
+        elements: *mut i64,
+        count: usize,
+    ) -> Reply;
     fn luthrady_collect(env: *mut Handle, out: *mut Counts) -> Reply;
     fn luthrady_collect_announced(env: *mut Handle, tries: u32, out: *mut Counts) -> Reply;
 }

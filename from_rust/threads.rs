@@ -136,7 +136,10 @@ impl Native {
 }
 
 fn run(number: u32, env: Env, to: &Mail, from: &Mail, rounds: i32) -> Tally {
-    let mut native = Native { env, tally: Tally::default() };
+    let mut native = Native {
+        env,
+        tally: Tally::default(),
+    };
     for round in 0..rounds {
         native.round(number as i32 * 1_000_000 + round, round, to, from);
     }
@@ -146,8 +149,21 @@ fn run(number: u32, env: Env, to: &Mail, from: &Mail, rounds: i32) -> Tally {
 }
 
 fn opened() -> Vec<Env> {
-    let sizes = Sizes { threads: THREADS, slots: 64, objects: 256, words: 2_048, locals: 16 };
-    assert_eq!(Room::open(Sizes { threads: 65, ..sizes }).err(), Some(Fault(17, 0)));
+    let sizes = Sizes {
+        threads: THREADS,
+        slots: 64,
+        objects: 256,
+        words: 2_048,
+        locals: 16,
+    };
+    assert_eq!(
+        Room::open(Sizes {
+            threads: 65,
+            ..sizes
+        })
+        .err(),
+        Some(Fault(17, 0))
+    );
     let mut room = Room::open(sizes).unwrap();
     let envs = (0..THREADS).map(|_| room.attach().unwrap()).collect();
     assert_eq!(room.attach().err(), Some(Fault(21, 0)));
@@ -155,7 +171,9 @@ fn opened() -> Vec<Env> {
 }
 
 fn main() {
-    let rounds: i32 = std::env::args().nth(1).map_or(1_000, |it| it.parse().unwrap());
+    let rounds: i32 = std::env::args()
+        .nth(1)
+        .map_or(1_000, |it| it.parse().unwrap());
     let mail: Arc<Vec<Mail>> = Arc::new((0..THREADS).map(|_| Mail::default()).collect());
     let starts = opened().into_iter().enumerate().map(|(number, env)| {
         let mail = Arc::clone(&mail);
@@ -173,9 +191,13 @@ fn main() {
     assert_eq!((closed[0].globals, closed[0].weaks), (0, 0));
     // Each array was dropped by a collection, or stood at the close.
     let dropped: u64 = tallies.iter().map(|it| it.dropped).sum();
-    assert_eq!(dropped + u64::from(closed[0].live), (OWN + 1) * u64::from(THREADS) * rounds as u64);
+    assert_eq!(
+        dropped + u64::from(closed[0].live),
+        (OWN + 1) * u64::from(THREADS) * rounds as u64
+    );
     let (rounds, threads) = (i64::from(rounds), i64::from(THREADS));
-    let wanted = 1_000_000 * rounds * threads * (threads - 1) / 2 + threads * rounds * (rounds - 1) / 2;
+    let wanted =
+        1_000_000 * rounds * threads * (threads - 1) / 2 + threads * rounds * (rounds - 1) / 2;
     assert_eq!(tallies.iter().map(|it| it.sum).sum::<i64>(), wanted);
     println!("sum {wanted}, as it must be");
 }

@@ -2,5 +2,5 @@ pub mod Behind
 pub mod Replies
 pub mod Calls
 pub mod Collecting
-pub mod Opening
 pub mod Threads
+pub mod Opening

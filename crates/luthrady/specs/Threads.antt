@@ -1,5 +1,5 @@
 -- How threads come to a room, and leave it.
-use Rattle.std.specs.Prelude.{◌≡◌, ℕ, [], ◌∷◌, Option, Some, None, Result, Ok, Err, IfOk, IfSome}
+use Rattle.std.specs.Prelude.{◌≡◌, ℕ, [], ◌∷◌, Option, Some, None, Result, Ok, Err, IfOk, IfSome, IsSome}
 use Rattle.std.specs.Global.{Box}
 use Rattle.jr_word.specs.declared.fault.Fault.{Fault}
 use Rattle.jr_word.specs.declared.fault.Fault.TheVariants.{NotFresh}
@@ -7,21 +7,35 @@ use Rattle.jr_model.specs.declared.summary.Summary.{Summary}
 use Rattle.jr_rule.specs.Passes.{Closes}
 use Rattle.jr_rule.specs.Rule.{stepping_pass}
 use Rattle.jr_env.specs.Envs.{IsOutside}
+use Rattle.jr_env.specs.Collections.{FitsRoom}
 use Rattle.luthrady.specs.declared.handles.EnvHandle.{EnvHandle}
 use Rattle.luthrady.specs.declared.handles.RoomHandle.{RoomHandle}
+use Rattle.luthrady.specs.declared.held.Attached.{Attached}
 use Rattle.luthrady.specs.declared.held.Native.{Native}
 use Rattle.luthrady.specs.declared.held.Opened.{Opened}
 use Rattle.luthrady.specs.declared.reply.Reply.{Reply}
 use Rattle.luthrady.specs.declared.rooms.Stood.{Stood}
-use Rattle.luthrady.specs.Replies.{reply_of, nothing_told, the_number}
+use Rattle.luthrady.specs.Replies.{reply_of, the_number}
 
--- the next thread's env was taken, and the others stay, in their order
-abbrev pub TakesNext : Opened → Opened → Type 0
-TakesNext old new = (env : _) × (old.envs.items ≡ env ∷ new.envs.items)
+-- what was attached has an env, whose marker fits the room
+abbrev pub HasEnv : Result (Box Attached) Fault → Type 0
+HasEnv answer = IfOk answer (λ a. IsSome a.value.native) × IfOk answer (λ a. IfSome a.value.native (λ n. FitsRoom n.value.marker n.value.env))
 
--- A THREAD WAS ATTACHED, or was refused, as the reply tells: with E21 where each thread has its env
+-- it is that of the next thread, and the others stay, in their order
+abbrev pub TakesNext : Opened → Opened → Result (Box Attached) Fault → Type 0
+TakesNext old new answer = IfOk answer (λ a. IfSome a.value.native (λ n. old.envs.items ≡ n.value.env ∷ new.envs.items))
+
+-- where each thread has its env, it is refused with E21, and nothing has changed
+abbrev pub IsRefusedAtNone : Opened → Opened → Result (Box Attached) Fault → Type 0
+IsRefusedAtNone old new answer = old.envs.items ≡ [] → (answer ≡ Err NotFresh) × (new ≡ old)
+
+-- the number of what stands behind a pointer, which is written elsewhere
+abbrev pub elsewhere : {T : Type 0} → T → ℕ
+elsewhere x = 0
+
+-- A THREAD WAS ATTACHED, or was refused, as the reply tells
 abbrev pub AttachReplied : RoomHandle → RoomHandle → Reply → Type 0
-AttachReplied old new reply = (answer : Result (Unit {0}) Fault) × (reply ≡ reply_of nothing_told answer) × (new.at ≡ old.at) × IfOk answer (λ _. TakesNext old.value new.value) × (old.value.envs.items ≡ [] → (answer ≡ Err NotFresh) × (new.value ≡ old.value))
+AttachReplied old new reply = (answer : Result (Box Attached) Fault) × (reply ≡ reply_of elsewhere answer) × (new.at ≡ old.at) × HasEnv answer × TakesNext old.value new.value answer × IsRefusedAtNone old.value new.value answer
 
 -- 1 where the room was closed, 0 where others still own it, or the refusal
 abbrev pub leaving_answer : Result (Option Summary) Fault → Result ℕ Fault

@@ -107,12 +107,3 @@ pub(crate) fn closed(native: Box<Native>) -> Result<Option<Summary>, Fault>
         Err(left) => Err(left.fault),
     }
 }
-
-/// Takes what may go to another thread.
-fn crosses<T: Send + Drop>(_value: T) {}
-
-/// A room's place and an env's may go to another thread, whole.
-pub(crate) fn handles_cross(opened: Opened, attached: Attached) {
-    crosses(opened);
-    crosses(attached);
-}

@@ -2,11 +2,11 @@
 ghost use Rattle.std.specs.Prelude.{◌≡◌, []};
 ghost use Rattle.luthrady.specs.Opening.{OpenReplied};
 ghost use Rattle.luthrady.specs.Replies.{reply_of, the_number};
-ghost use Rattle.luthrady.specs.Threads.{AttachReplied, DetachReplied, leaving_answer, stood_of, told_summary};
+ghost use Rattle.luthrady.specs.Threads.{AttachReplied, DetachReplied, elsewhere, leaving_answer, stood_of, told_summary};
 
 use crate::behind::{env_of, room_of};
 use crate::handles::{EnvHandle, RoomHandle, env_pointer, room_pointer};
-use crate::held::{closed, open_room};
+use crate::held::{Attached, Opened, closed, open_room};
 use crate::reply::{Reply, of_nothing, of_number};
 use jr_model::Summary;
 use jr_word::{Config, Fault};
@@ -44,7 +44,14 @@ pub extern "C" fn luthrady_open(alloc: Global, sizes: Sizes, out: &mut *mut u8) 
         words: sizes.words,
         locals: sizes.locals,
     };
-    match open_room(alloc, config) {
+    opened(open_room(alloc, config), out)
+}
+
+/// Tells whether a room was opened, and writes the pointer to it.
+fn opened(answer: Result<Box<Opened>, Fault>, out: &mut *mut u8) -> Reply
+    ensures { result ≡ reply_of elsewhere answer }
+{
+    match answer {
         Ok(room) => {
             *out = room_pointer(room);
             of_nothing(Ok(()))
@@ -59,14 +66,17 @@ pub extern "C" fn luthrady_open(alloc: Global, sizes: Sizes, out: &mut *mut u8) 
 ///
 /// E21 where each thread has one, or the room was released; E16 where memory was refused.
 #[unsafe(no_mangle)]
-pub extern "C" fn luthrady_attach(
-    alloc: Global,
-    room: &mut RoomHandle,
-    out: &mut *mut u8,
-) -> Reply
+pub extern "C" fn luthrady_attach(alloc: Global, room: &mut RoomHandle, out: &mut *mut u8) -> Reply
     ensures { AttachReplied room.old room.new result }
 {
-    match room_of(room).attach(alloc) {
+    attached(room_of(room).attach(alloc), out)
+}
+
+/// Tells whether a thread was attached, and writes the pointer to its env.
+fn attached(answer: Result<Box<Attached>, Fault>, out: &mut *mut u8) -> Reply
+    ensures { result ≡ reply_of elsewhere answer }
+{
+    match answer {
         Ok(made) => {
             *out = env_pointer(made);
             of_nothing(Ok(()))
