@@ -34,7 +34,7 @@ struct luthrady_reply luthrady_open(struct luthrady_sizes sizes, void **out);
 /* Makes the env of the next thread, and writes the pointer to it. */
 struct luthrady_reply luthrady_attach(struct luthrady_room *room, void **out);
 
-/* Lets go of the envs of threads that were not attached, so that the room is closed by the last that is. */
+/* Lets go of the envs of threads that were not attached, and of the place that the envs had. No further thread is attached then. */
 void luthrady_release(struct luthrady_room *room);
 
 /* Detaches a thread. The last one of a room closes it: then it answers 1, and writes what stood there; else 0. A room with threads that were not attached is closed once it was released. */

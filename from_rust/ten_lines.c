@@ -9,6 +9,7 @@ int main(void) {
     struct luthrady_stood stood;
     struct luthrady_sizes sizes = {1, 16, 16, 64, 16};
     if (luthrady_open(sizes, &room.at).fault || luthrady_attach(&room, &env.at).fault) return 1;
+    luthrady_release(&room);
     uint64_t array = luthrady_new_int_array(&env, 2).value;
     luthrady_set_int_array_region(&env, array, 0, (int32_t[]){3, 4}, 2);
     uint64_t weak = luthrady_new_weak_global_ref(&env, array).value;

@@ -167,6 +167,7 @@ fn opened() -> Vec<Env> {
     let mut room = Room::open(sizes).unwrap();
     let envs = (0..THREADS).map(|_| room.attach().unwrap()).collect();
     assert_eq!(room.attach().err(), Some(Fault(21, 0)));
+    room.release();
     envs
 }
 

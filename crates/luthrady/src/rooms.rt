@@ -85,13 +85,13 @@ fn attached(answer: Result<Box<Attached>, Fault>, out: &mut *mut u8) -> Reply
     }
 }
 
-/// Lets go of the envs of threads that were not attached, so that the room is closed by the last that is.
+/// Lets go of the envs of threads that were not attached, and of the place that the envs had. No further thread is attached then.
 #[unsafe(no_mangle)]
-pub extern "C" fn luthrady_release(room: &mut RoomHandle)
+pub extern "C" fn luthrady_release(alloc: Global, room: &mut RoomHandle)
     ensures none { room.new.value.envs.items ≡ [] }
     ensures pointer { room.new.at ≡ room.old.at }
 {
-    room_of(room).envs.clear();
+    room_of(room).envs = Vec::new(alloc);
 }
 
 /// What stood in a room as it was closed.
