@@ -8,6 +8,10 @@ pub use jr_env::{
     is_short_of_room, with_local_frame, with_patience,
 };
 pub use jr_model::{Mode, Summary};
+pub use jr_owned::{
+    OwnedCells, OwnedEnv, OwnedSteps, close_owned, end_owner, last_owner, open_envs, open_owned,
+    owned_steps,
+};
 pub use jr_rule::{
     AllLeft, Left, Note, NoteOf, Pass, PinnedNote, PinnedNoteOf, PlainSteps, Role, Room, RoomSteps,
     Site, SiteSteps, StepsIn, ThreadNumber,

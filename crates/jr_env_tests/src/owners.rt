@@ -1,0 +1,74 @@
+//! A room that its threads own: threads that were spawned hand references on by a queue, and whoever is the last closes the room.
+
+use jr::{Config, Fault, Handle, OwnedEnv, Summary, close_owned, open_envs};
+use std::sync::{Arc, Mutex, Wait};
+use std::test::Fail;
+use std::thread;
+
+/// A room of three threads.
+const THREE: Config = Config {
+    threads: 3,
+    slots: 8,
+    objects: 4,
+    words: 16,
+    locals: 16,
+};
+
+/// What stands at the end: each thread made an array of three elements, and a weak reference of some thread's.
+const AT_THE_END: Summary = Summary {
+    globals: 0,
+    weaks: 3,
+    live: 3,
+    used: 9,
+};
+
+/// The references that threads hand on.
+type Queue = Mutex<Vec<Handle>>;
+
+/// Shares an array, and takes over one that some thread has shared: a weak reference to it is left. The length of what it took over.
+fn takes_over<R: Wait>(rt: &R, env: &mut OwnedEnv, queue: &Queue) -> Result<u32, Fault> {
+    let array = env.new_array::<i32>(3)?;
+    let shared = Handle::or_null(env.new_global_ref(array)?);
+    let Ok(()) = queue.lock(rt).push(shared) else {
+        return Err(Fault::Memory);
+    };
+    let taken = Handle::or_null(queue.lock(rt).pop());
+    let length = env.get_array_length(taken)?;
+    env.new_weak_global_ref(taken)?;
+    env.delete_global_ref(taken)?;
+    Ok(length)
+}
+
+/// Runs in a thread of its own, to the end of what it owns of the room: the length, and the summary where it was the last.
+fn runs<R: Wait>(
+    rt: &R,
+    mut env: OwnedEnv,
+    queue: &Queue,
+) -> Result<(u32, Option<Summary>), Fault> {
+    let length = takes_over(rt, &mut env, queue)?;
+    let summary = close_owned(env.into_pass()).map_err(|left| left.fault)?;
+    Ok((length, summary))
+}
+
+/// Three threads own a room, and nobody joins them in their room's scope: the last one closes it, and no other.
+#[test]
+fn the_last_of_three_owners_closes_the_room(rt: HostRuntime) -> Result<(), Fail> {
+    let alloc = rt.alloc();
+    let queue = Arc::new(alloc, Mutex::new(Vec::new(alloc)))?;
+    let mut threads = Vec::with_capacity(alloc, 3)?;
+    for env in open_envs(alloc, THREE)? {
+        let queue = Arc::try_clone(&queue)?;
+        threads.push(thread::spawn(&rt, move || runs(&rt, env, &queue))?)?;
+    }
+    let mut closed = None;
+    for thread in threads {
+        let (length, summary) = thread.join(&rt)?;
+        assert_eq!(rt; length, 3);
+        if summary.is_some() {
+            assert_eq!(rt; closed, None);
+            closed = summary;
+        }
+    }
+    assert_eq!(rt; closed, Some(AT_THE_END));
+    Ok(())
+}

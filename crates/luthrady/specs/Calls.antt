@@ -1,0 +1,32 @@
+-- What a call through a pointer did.
+use Rattle.std.specs.Prelude.{◌≡◌, ℕ, Option, Some, None, Result, Ok, Err, List}
+use Rattle.std.specs.Global.{Box}
+use Rattle.jr_word.specs.declared.fault.Fault.{Fault}
+use Rattle.jr_word.specs.declared.fault.Fault.TheVariants.{NotFresh}
+use Rattle.jr_env.specs.Envs.{Does}
+use Rattle.jr_env.specs.Deeds.{Deed, read_answer}
+use Rattle.luthrady.specs.declared.handles.EnvHandle.{EnvHandle}
+use Rattle.luthrady.specs.declared.held.Native.{Native}
+use Rattle.luthrady.specs.declared.reply.Reply.{Reply}
+use Rattle.luthrady.specs.Replies.{reply_of, nothing_told}
+
+-- the env of an attached thread did the deed, and the thread stays attached, with the marker as it was;
+-- a thread that was detached is refused with E21
+abbrev pub ByThread : {A : Type 0} → Option (Box Native) → Option (Box Native) → Deed A → Result A Fault → Type 0
+ByThread None after deed answer = (answer ≡ Err NotFresh) × (after ≡ None)
+ByThread (Some n) after deed answer =
+    (m : Box Native) × (after ≡ Some m) × Does n.value.env m.value.env deed answer × (m.value.marker ≡ n.value.marker)
+
+-- THE CALL WAS MADE by the env behind the handle, with this answer; the handle points where it did
+abbrev pub WasMade : {A : Type 0} → EnvHandle → EnvHandle → Deed A → Result A Fault → Type 0
+WasMade old new deed answer = (new.at ≡ old.at) × ByThread old.value.native new.value.native deed answer
+
+-- THE CALL WAS MADE, with an answer that the reply tells, in numbers
+abbrev pub Replied : {A : Type 0} → (A → ℕ) → EnvHandle → EnvHandle → Deed A → Reply → Type 0
+Replied {A} word old new deed reply =
+    (answer : Result A Fault) × (reply ≡ reply_of word answer) × WasMade old new deed answer
+
+-- THE WORDS WERE READ, with an answer that the reply tells; those read stand in the slice
+abbrev pub ReadReplied : EnvHandle → EnvHandle → Deed (List ℕ) → Reply → List ℕ → Type 0
+ReadReplied old new deed reply ws = (answer : Result (Unit {0}) Fault) × (reply ≡ reply_of nothing_told answer)
+    × WasMade old new deed (read_answer answer ws)

@@ -1,0 +1,42 @@
+-- What a collection through a pointer did.
+use Rattle.std.specs.Prelude.{◌≡◌, ◌==◌, if◌then◌else◌, ℕ, Option, Some, None, Result, Ok, Err}
+use Rattle.std.specs.Global.{Box}
+use Rattle.jr_word.specs.declared.fault.Fault.{Fault}
+use Rattle.jr_word.specs.declared.fault.Fault.TheVariants.{NotFresh}
+use Rattle.jr_weak.specs.declared.collecting.Collected.{Collected}
+use Rattle.jr_weak.specs.Markers.{room_of}
+use Rattle.jr_env.specs.Collections.{FitsRoom}
+use Rattle.jr_env.specs.Deeds.{Deed}
+use Rattle.jr_env.specs.Envs.{Does}
+use Rattle.luthrady.specs.declared.collecting.Counts.{Counts}
+use Rattle.luthrady.specs.declared.handles.EnvHandle.{EnvHandle}
+use Rattle.luthrady.specs.declared.held.Native.{Native}
+use Rattle.luthrady.specs.declared.reply.Reply.{Reply}
+use Rattle.luthrady.specs.Replies.{reply_of}
+
+-- the number of tries: at least one
+abbrev pub at_least_one : ℕ → ℕ
+at_least_one n = if n == 0 then 1 else n
+
+-- the env of an attached thread made the collection, where its marker fits the room, as it does from the attaching on;
+-- the marker stays one of a room of so many objects; a thread that was detached is refused with E21
+abbrev pub ByCollector : Option (Box Native) → Option (Box Native) → Deed Collected → Result Collected Fault → Type 0
+ByCollector None after deed answer = (answer ≡ Err NotFresh) × (after ≡ None)
+ByCollector (Some n) after deed answer = (m : Box Native) × (after ≡ Some m)
+    × (FitsRoom n.value.marker n.value.env → Does n.value.env m.value.env deed answer)
+    × (room_of m.value.marker ≡ room_of n.value.marker)
+
+-- THE COLLECTION WAS MADE by the env behind the handle, with this answer; the handle points where it did
+abbrev pub WasCollected : EnvHandle → EnvHandle → Deed Collected → Result Collected Fault → Type 0
+WasCollected old new deed answer = (new.at ≡ old.at) × ByCollector old.value.native new.value.native deed answer
+
+-- what is told of an answer: what the collection did; of a refusal, nothing
+abbrev pub counts_of : Result Collected Fault → Counts → Counts
+counts_of (Ok c) before = record { cleared = c.cleared; dropped = c.dropped; used = c.used }
+counts_of (Err e) before = before
+
+-- THE COLLECTION WAS MADE, with an answer that the reply and the counts tell
+abbrev pub CountsReplied : EnvHandle → EnvHandle → Deed Collected → Reply → Counts → Counts → Type 0
+CountsReplied old new deed reply before after =
+    (answer : Result Collected Fault) × (reply ≡ reply_of (λ (c : Collected). 0) answer)
+    × (after ≡ counts_of answer before) × WasCollected old new deed answer

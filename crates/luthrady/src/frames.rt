@@ -1,0 +1,58 @@
+//! Frames of local references.
+ghost use Rattle.jr_env.specs.Deeds.{ensure_local_capacity, free_locals, pop_local_frame, push_local_frame};
+ghost use Rattle.luthrady.specs.Calls.{Replied};
+ghost use Rattle.luthrady.specs.Replies.{nothing_told, word_or_null};
+
+use crate::calling::make;
+use crate::handles::EnvHandle;
+use crate::reply::{Reply, of_nothing, of_optional};
+use jr_env::calls::{EnsureLocalCapacity, FreeLocals, PopLocalFrame, PushLocalFrame};
+use jr_word::Handle;
+
+/// Ensures that so many local references can be made in the current frame. (JNI Specification, chapter 4, "EnsureLocalCapacity")
+///
+/// # Errors
+///
+/// E21 where the thread was detached; else those of the same call of `Env`.
+#[unsafe(no_mangle)]
+pub extern "C" fn luthrady_ensure_local_capacity(env: &mut EnvHandle, capacity: u32) -> Reply
+    ensures { Replied nothing_told env.old env.new (ensure_local_capacity capacity) result }
+{
+    of_nothing(make(env, &EnsureLocalCapacity(capacity)))
+}
+
+/// Opens a frame for so many local references. (JNI Specification, chapter 4, "PushLocalFrame")
+///
+/// # Errors
+///
+/// E21 where the thread was detached; else those of the same call of `Env`.
+#[unsafe(no_mangle)]
+pub extern "C" fn luthrady_push_local_frame(env: &mut EnvHandle, capacity: u32) -> Reply
+    ensures { Replied nothing_told env.old env.new (push_local_frame capacity) result }
+{
+    of_nothing(make(env, &PushLocalFrame(capacity)))
+}
+
+/// Closes the current frame, and makes a reference in the one before to what the word names. (JNI Specification, chapter 4, "PopLocalFrame")
+///
+/// # Errors
+///
+/// E21 where the thread was detached; else those of the same call of `Env`.
+#[unsafe(no_mangle)]
+pub extern "C" fn luthrady_pop_local_frame(env: &mut EnvHandle, kept: u64) -> Reply
+    ensures { Replied word_or_null env.old env.new (pop_local_frame kept) result }
+{
+    of_optional(make(env, &PopLocalFrame(Handle(kept))))
+}
+
+/// Frees all local references, as at the end of a native method. The Java Native Interface has no such call.
+///
+/// # Errors
+///
+/// E21 where the thread was detached; else those of the same call of `Env`.
+#[unsafe(no_mangle)]
+pub extern "C" fn luthrady_free_locals(env: &mut EnvHandle) -> Reply
+    ensures { Replied nothing_told env.old env.new (free_locals) result }
+{
+    of_nothing(make(env, &FreeLocals))
+}

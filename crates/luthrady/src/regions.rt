@@ -1,0 +1,159 @@
+//! Parts of arrays.
+ghost use Rattle.std.specs.Prelude.{◌≡◌, Result, map, length, IfErr};
+ghost use Rattle.std.specs.Int.{w8, w32, w64};
+ghost use Rattle.jr_word.specs.declared.kind.Kind.TheVariants.{Byte, Int, Long};
+ghost use Rattle.jr_word.specs.Elem.{signed_word};
+ghost use Rattle.jr_env.specs.Deeds.{get_array_region, read_answer, set_array_region};
+ghost use Rattle.jr_env.specs.Envs.{Does};
+ghost use Rattle.luthrady.specs.Calls.{Replied, ReadReplied, WasMade};
+ghost use Rattle.luthrady.specs.Replies.{nothing_told};
+
+use crate::behind::env_of;
+use crate::calling::make;
+use crate::handles::EnvHandle;
+use crate::held::Native;
+use crate::reply::{Reply, of_nothing};
+use jr_env::calls::SetArrayRegion;
+use jr_word::{Elem, Fault, Handle};
+
+/// Copies bytes into a part of an array, from an index on. (JNI Specification, chapter 4, "Set<PrimitiveType>ArrayRegion Routines")
+///
+/// # Errors
+///
+/// E21 where the thread was detached; else those of the same call of `Env`.
+#[unsafe(no_mangle)]
+pub extern "C" fn luthrady_set_byte_array_region(
+    env: &mut EnvHandle,
+    array: u64,
+    start: u32,
+    elements: &[i8],
+) -> Reply
+    ensures { Replied nothing_told env.old env.new (set_array_region Byte array start (map (signed_word w8) elements.now)) result }
+{
+    of_nothing(make(env, &SetArrayRegion(Handle(array), start, elements)))
+}
+
+/// Copies ints into a part of an array, from an index on. (JNI Specification, chapter 4, "Set<PrimitiveType>ArrayRegion Routines")
+///
+/// # Errors
+///
+/// E21 where the thread was detached; else those of the same call of `Env`.
+#[unsafe(no_mangle)]
+pub extern "C" fn luthrady_set_int_array_region(
+    env: &mut EnvHandle,
+    array: u64,
+    start: u32,
+    elements: &[i32],
+) -> Reply
+    ensures { Replied nothing_told env.old env.new (set_array_region Int array start (map (signed_word w32) elements.now)) result }
+{
+    of_nothing(make(env, &SetArrayRegion(Handle(array), start, elements)))
+}
+
+/// Copies longs into a part of an array, from an index on. (JNI Specification, chapter 4, "Set<PrimitiveType>ArrayRegion Routines")
+///
+/// # Errors
+///
+/// E21 where the thread was detached; else those of the same call of `Env`.
+#[unsafe(no_mangle)]
+pub extern "C" fn luthrady_set_long_array_region(
+    env: &mut EnvHandle,
+    array: u64,
+    start: u32,
+    elements: &[i64],
+) -> Reply
+    ensures { Replied nothing_told env.old env.new (set_array_region Long array start (map (signed_word w64) elements.now)) result }
+{
+    of_nothing(make(env, &SetArrayRegion(Handle(array), start, elements)))
+}
+
+/// Copies a part of an array of bytes out, from an index on: as many elements as the slice has room for. (JNI Specification, chapter 4, "Get<PrimitiveType>ArrayRegion Routines")
+///
+/// # Errors
+///
+/// E21 where the thread was detached; else those of the same call of `Env`. The slice is as it was then.
+#[unsafe(no_mangle)]
+pub extern "C" fn luthrady_get_byte_array_region(
+    env: &mut EnvHandle,
+    array: u64,
+    start: u32,
+    elements: &mut [i8],
+) -> Reply
+    ensures { ReadReplied env.old env.new (get_array_region Byte array start (length elements.old)) result (map (signed_word w8) elements.new) }
+{
+    of_nothing(read(env, Handle(array), start, elements))
+}
+
+/// Copies a part of an array of ints out, from an index on: as many elements as the slice has room for. (JNI Specification, chapter 4, "Get<PrimitiveType>ArrayRegion Routines")
+///
+/// # Errors
+///
+/// E21 where the thread was detached; else those of the same call of `Env`. The slice is as it was then.
+#[unsafe(no_mangle)]
+pub extern "C" fn luthrady_get_int_array_region(
+    env: &mut EnvHandle,
+    array: u64,
+    start: u32,
+    elements: &mut [i32],
+) -> Reply
+    ensures { ReadReplied env.old env.new (get_array_region Int array start (length elements.old)) result (map (signed_word w32) elements.new) }
+{
+    of_nothing(read(env, Handle(array), start, elements))
+}
+
+/// Copies a part of an array of longs out, from an index on: as many elements as the slice has room for. (JNI Specification, chapter 4, "Get<PrimitiveType>ArrayRegion Routines")
+///
+/// # Errors
+///
+/// E21 where the thread was detached; else those of the same call of `Env`. The slice is as it was then.
+#[unsafe(no_mangle)]
+pub extern "C" fn luthrady_get_long_array_region(
+    env: &mut EnvHandle,
+    array: u64,
+    start: u32,
+    elements: &mut [i64],
+) -> Reply
+    ensures { ReadReplied env.old env.new (get_array_region Long array start (length elements.old)) result (map (signed_word w64) elements.new) }
+{
+    of_nothing(read(env, Handle(array), start, elements))
+}
+
+/// Copies a part of an array out, by the env behind a pointer.
+///
+/// # Errors
+///
+/// E21 where the thread was detached; else those of `Env::get_array_region`.
+fn read<E: Elem>(
+    handle: &mut EnvHandle,
+    array: Handle,
+    start: u32,
+    elements: &mut [E],
+) -> Result<(), Fault>
+    ensures call { WasMade handle.old handle.new (get_array_region E.KIND array.0 start (length elements.old)) (read_answer result (map E.word_of elements.new)) }
+    ensures size { length elements.new ≡ length elements.old }
+    ensures err { IfErr result (λ _. elements.new ≡ elements.old) }
+{
+    let Some(native) = &mut env_of(handle).native else {
+        return Err(Fault::NotFresh);
+    };
+    read_by(&mut *native, array, start, elements)
+}
+
+/// Copies a part of an array out, by a thread's env.
+///
+/// # Errors
+///
+/// Those of `Env::get_array_region`.
+fn read_by<E: Elem>(
+    native: &mut Native,
+    array: Handle,
+    start: u32,
+    elements: &mut [E],
+) -> Result<(), Fault>
+    ensures call { Does native.old.env native.new.env (get_array_region E.KIND array.0 start (length elements.old)) (read_answer result (map E.word_of elements.new)) }
+    ensures marker { native.new.marker ≡ native.old.marker }
+    ensures size { length elements.new ≡ length elements.old }
+    ensures err { IfErr result (λ _. elements.new ≡ elements.old) }
+{
+    native.env.get_array_region::<E>(array, start, elements)
+}

@@ -1,0 +1,115 @@
+//! What a call answers, as C and Rust see it.
+ghost use Rattle.std.specs.Prelude.{◌≡◌, Ok, Err};
+ghost use Rattle.luthrady.specs.Replies.{told_beside, reply_of, the_number, the_word, word_or_null, zero_or_one, nothing_told};
+
+use jr_word::{Fault, Handle};
+
+/// A call's answer.
+#[repr(C)]
+#[derive(Clone, Copy)]
+pub struct Reply {
+    /// What it answers, 0 where it is refused.
+    pub value: u64,
+    /// The number of the refusal, 0 where there is none.
+    pub fault: u32,
+    /// What the refusal tells beside its number.
+    pub told: u32,
+}
+
+/// What a refusal tells beside its number.
+fn told(fault: Fault) -> u32
+    ensures { result ≡ told_beside fault }
+{
+    match fault {
+        Fault::SpaceFull(told) => told,
+        Fault::Raced(told, _) => told,
+        Fault::Busy(told) => told,
+        Fault::LeftInside(told) => told,
+        Fault::Moved(told, _) => told,
+        _ => 0,
+    }
+}
+
+/// The answer of a call that was made.
+fn answered(value: u64) -> Reply
+    ensures { result ≡ reply_of the_number (Ok value) }
+{
+    Reply {
+        value,
+        fault: 0,
+        told: 0,
+    }
+}
+
+/// The answer of a call that was refused.
+fn refused(fault: Fault) -> Reply
+    ensures { result ≡ reply_of the_number (Err fault) }
+{
+    Reply {
+        value: 0,
+        fault: u32::from(fault.number()),
+        told: told(fault),
+    }
+}
+
+/// The answer of a call that gives a number.
+pub(crate) fn of_number(answer: Result<u32, Fault>) -> Reply
+    ensures { result ≡ reply_of the_number answer }
+{
+    match answer {
+        Ok(number) => answered(u64::from(number)),
+        Err(fault) => refused(fault),
+    }
+}
+
+/// The answer of a call that gives a kind's number.
+pub(crate) fn of_byte(answer: Result<u8, Fault>) -> Reply
+    ensures { result ≡ reply_of the_number answer }
+{
+    match answer {
+        Ok(number) => answered(u64::from(number)),
+        Err(fault) => refused(fault),
+    }
+}
+
+/// The answer of a call that gives a reference.
+pub(crate) fn of_reference(answer: Result<Handle, Fault>) -> Reply
+    ensures { result ≡ reply_of the_word answer }
+{
+    match answer {
+        Ok(handle) => answered(handle.0),
+        Err(fault) => refused(fault),
+    }
+}
+
+/// The answer of a call that gives a reference, or NULL.
+pub(crate) fn of_optional(answer: Result<Option<Handle>, Fault>) -> Reply
+    ensures { result ≡ reply_of word_or_null answer }
+{
+    match answer {
+        Ok(Some(handle)) => answered(handle.0),
+        Ok(None) => answered(0),
+        Err(fault) => refused(fault),
+    }
+}
+
+/// The answer of a call that gives a yes or a no.
+pub(crate) fn of_bool(answer: Result<bool, Fault>) -> Reply
+    ensures { result ≡ reply_of zero_or_one answer }
+{
+    match answer {
+        Ok(true) => answered(1),
+        Ok(false) => answered(0),
+        Err(fault) => refused(fault),
+    }
+}
+
+/// The answer of a call that gives nothing.
+pub(crate) fn of_nothing(answer: Result<(), Fault>) -> Reply
+    ensures { result ≡ reply_of nothing_told answer }
+{
+    match answer {
+        Ok(()) => answered(0),
+        Err(fault) => refused(fault),
+    }
+}
