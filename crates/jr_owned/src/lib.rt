@@ -4,9 +4,8 @@
 mod envs;
 mod owned;
 
-use jr_word::LAST_SERIAL;
-
 pub use envs::{OwnedEnv, open_envs};
+use jr_word::LAST_SERIAL;
 pub use owned::{
     OwnedCells, OwnedSteps, close_owned, end_owner, last_owner, open_owned, owned_steps,
 };
