@@ -5,10 +5,9 @@ mod envs;
 mod owned;
 
 pub use envs::{OwnedEnv, open_envs};
-use jr_word::LAST_SERIAL;
 pub use owned::{
     OwnedCells, OwnedSteps, close_owned, end_owner, last_owner, open_owned, owned_steps,
 };
 
 /// The last serial of the rooms.
-pub(crate) const LAST: u32 = LAST_SERIAL;
+pub(crate) const LAST: u32 = jr_word::LAST_SERIAL;
