@@ -274,13 +274,15 @@ class Shown:
         """Reads the root of a crate."""
         root = f"crates/{crate}/src/lib.rt"
         text = text_of(root) if os.path.exists(root) else ""
+        self.crate = crate
         self.modules = set(re.findall(r"^pub mod (\w+);", text, re.M))
         self.words = {(module, it) for module, words in re.findall(r"^pub use (\w+)::\{?([^;}]*)\}?;", text, re.M) for it in re.findall(r"\w+", words)}
 
     def has(self, item):
         """Tells whether others can name an item that stands in no other."""
-        # (a module within a module that is shown hands its public items on to that)
-        return item.is_public and (item.module.partition(".")[0] in self.modules or (item.module, item.name) in self.words)
+        # (a module within a module that is shown hands its public items on to that; C knows a function by its name, which begins with its library's)
+        is_shown = item.module.partition(".")[0] in self.modules or (item.module, item.name) in self.words
+        return item.is_public and (is_shown or item.kind == "fn" and item.name.startswith(f"{self.crate}_"))
 
 
 def public_items(crate, items):

@@ -1,5 +1,4 @@
--- For the crate's own functions:
--- what was done at a part of an array, over any steps and frames, for whatever was known.
+-- For the crate's own functions: what was done at a part of an array, over any steps and frames, for what was known.
 use Rattle.std.specs.Prelude.{◌≡◌, ◌≤◌, ◌+◌, ℕ, true, Result, Ok, Err, List}
 use Rattle.jr_word.specs.declared.fault.Fault.{Fault}
 use Rattle.jr_word.specs.declared.header.HeaderParts.{HeaderParts}

@@ -1,6 +1,6 @@
-pub mod Behind
 pub mod Replies
 pub mod Calls
 pub mod Collecting
 pub mod Threads
 pub mod Opening
+pub mod Behind
