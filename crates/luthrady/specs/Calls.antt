@@ -1,5 +1,5 @@
 -- What a call through a pointer did.
-use Rattle.std.specs.Prelude.{◌≡◌, ℕ, Option, Some, None, Result, Ok, Err, List}
+use Rattle.std.specs.Prelude.{◌≡◌, ℕ, Option, Some, None, Result, Err, List}
 use Rattle.std.specs.Global.{Box}
 use Rattle.jr_word.specs.declared.fault.Fault.{Fault}
 use Rattle.jr_word.specs.declared.fault.Fault.TheVariants.{NotFresh}
