@@ -1,36 +1,34 @@
 //! What one thread hands to the other, and how each waits for the other.
-ghost use Rattle.std.specs.Prelude.{Option, None};
-ghost use Rattle.atomic_table.specs.Seated.{TableId};
 ghost use Rattle.jr_rule.specs.Rooms.{seen_by_note};
 ghost use Rattle.first_room.specs.Calls.{HasPrepared};
-ghost use Rattle.first_room.specs.Sites.{IsNoteOf};
 
 use crate::TURNS;
-use jr_rule::Note;
+use jr_rule::{NoteOf, Site, ThreadNumber};
 use jr_word::{Fault, Handle};
-use std::marker::{Brand, PhantomData};
 use std::sync::Mutex;
 use std::sync::atomic::{AtomicU64, Ordering};
 use std::thread;
 
-/// The room: a type stands for it, so that what one thread hands to the other can say that it is of that room.
-pub(crate) trait Site: Send + Sync {
-    ghost room: { Option TableId };
+/// The thread that shares.
+pub(crate) struct First;
+
+impl ThreadNumber for First {
+    ghost number = { 0 };
 }
 
-/// Which room it is, the call says that begins the threads.
-impl Site for Brand {
-    ghost room = { None };
+/// The thread that visits.
+pub(crate) struct Second;
+
+impl ThreadNumber for Second {
+    ghost number = { 1 };
 }
 
 /// The first thread's global reference, with a note of all that it had seen once it had made it.
 #[derive(Drop)]
 pub(crate) struct Handed<Q: Site> {
     pub(crate) global: Handle,
-    pub(crate) note: Note,
-    pub(crate) site: PhantomData<Q>,
-    ghost room: { IsNoteOf Q.room note },
-    ghost prepared: { ∥ HasPrepared global.0 (seen_by_note note) ∥₁ },
+    pub(crate) note: NoteOf<Q>,
+    ghost prepared: { ∥ HasPrepared global.0 (seen_by_note note.note) ∥₁ },
 }
 
 /// Puts a value where the other thread looks for one: E20 where that one is there at each turn.

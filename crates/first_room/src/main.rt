@@ -18,14 +18,14 @@ ghost use Rattle.first_room.specs.Sites.{IsPassOfThread, IsRoomOf};
 
 mod handing;
 
-use crate::handing::{Handed, Site, put, take, wait};
+use crate::handing::{First, Handed, Second, put, take, wait};
 use jr_env::Env;
-use jr_rule::{Pass, Room, RoomSteps, Steps, Summary};
+use jr_rule::{Pass, Room, Site, SiteSteps, Steps, Summary};
 use jr_weak::{Collected, Marker};
 use jr_word::{Config, Fault, Handle, LAST_SERIAL};
 use std::alloc::Global;
 use std::io::Write;
-use std::marker::{Brand, PhantomData};
+use std::marker::Brand;
 use std::sync::Mutex;
 use std::sync::atomic::{AtomicU64, Ordering};
 use std::thread::Threads;
@@ -80,14 +80,14 @@ pub(crate) fn run<T: Threads, W: Write + Drop>(
 }
 
 /// Gives each of two threads its pass, and closes the room once both have ended: what they found, and what stood as it was closed.
-fn run_in<Q: Site, T: Threads>(
+fn run_in<Q: Site + Send + Sync, T: Threads>(
     rt: &T,
     alloc: Global,
     room: Room<LAST>,
     mut passes: Vec<Pass>,
 ) -> Result<(i32, u32, bool, u8, Summary), Fault>
     requires passes { AreOpened SIZES LAST room.row passes.items }
-    requires site { IsRoomOf Q.room room }
+    requires site { IsRoomOf Q.room Q.sizes room }
     ensures { IfOk result (λ r. IsTrueReport (record { read = r.0; inside = r.1; cleared = r.2; kind = r.3; left = r.4 })) }
 {
     let (first, second) = (passes.remove(0), passes.remove(0));
@@ -96,10 +96,10 @@ fn run_in<Q: Site, T: Threads>(
     let (shared, visited) = thread::join(
         rt,
         || -> Result<(Pass, u32, bool, u8), Fault>
-            requires { IsPassOfThread Q.room room 0 first }
+            requires { IsPassOfThread Q.room Q.sizes room 0 first }
         { share::<Q>(alloc, &room, first, &handed, &baton) },
         || -> Result<(Pass, i32), Fault>
-            requires { IsPassOfThread Q.room room 1 second }
+            requires { IsPassOfThread Q.room Q.sizes room 1 second }
         { visit::<Q>(&room, second, &handed, &baton) },
     );
     let (first, inside, cleared, kind) = shared?;
@@ -134,17 +134,17 @@ fn write_report<W: Write + Drop>(
 }
 
 /// The first thread shares an array, and collects: in vain while the other has a critical region, and then in its turn, as soon as the other has none.
-fn share<Q: Site>(
+fn share<Q: Site + Send + Sync>(
     alloc: Global,
     room: &Room<LAST>,
     pass: Pass,
     handed: &Mutex<Option<Handed<Q>>>,
     baton: &AtomicU64,
 ) -> Result<(Pass, u32, bool, u8), Fault>
-    requires { IsPassOfThread Q.room room.now 0 pass }
+    requires { IsPassOfThread Q.room Q.sizes room.now 0 pass }
     ensures { IfOk result (λ r. IsOfRoom room.now r.0 × (1 ≤ r.1) × HasShared pass r.0 r.1 r.2 r.3) }
 {
-    let Ok(mut env) = Env::new(RoomSteps::new(room, pass)) else {
+    let Ok(mut env) = Env::new(SiteSteps::<LAST, Q, First>::new(room, pass)) else {
         unreachable!();
     };
     env.push_local_frame(4)?;
@@ -154,8 +154,8 @@ fn share<Q: Site>(
     env.set_array_region(array, 0, &[10, 20, 30])?;
     let global = env.new_global_ref(array)?.unwrap_or(Handle::NULL);
     env.pop_local_frame(Handle::NULL)?;
-    let (note, site) = (env.note(), PhantomData);
-    put(handed, Handed { global, note, site })?;
+    let note = env.note();
+    put(handed, Handed { global, note })?;
     wait(baton, 0)?;
     let mut marker = Marker::new(alloc, env.held.steps.config())?;
     let Err(Fault::Busy(inside)) = env.collect(&mut marker) else {
@@ -170,23 +170,19 @@ fn share<Q: Site>(
 }
 
 /// The second thread has objects of its own, and reads in the first one's array, in a critical region.
-fn visit<Q: Site>(
+fn visit<Q: Site + Send + Sync>(
     room: &Room<LAST>,
     pass: Pass,
     handed: &Mutex<Option<Handed<Q>>>,
     baton: &AtomicU64,
 ) -> Result<(Pass, i32), Fault>
-    requires { IsPassOfThread Q.room room.now 1 pass }
+    requires { IsPassOfThread Q.room Q.sizes room.now 1 pass }
     ensures { IfOk result (λ r. IsOfRoom room.now r.0 × HasVisited pass r.0 r.1) }
 {
-    let Ok(mut env) = Env::new(RoomSteps::new(room, pass)) else {
+    let Ok(mut env) = Env::new(SiteSteps::<LAST, Q, Second>::new(room, pass)) else {
         unreachable!();
     };
-    let Handed {
-        global,
-        note,
-        site: _,
-    } = take(handed)?;
+    let Handed { global, note } = take(handed)?;
     env.learn(note);
     env.push_local_frame(4)?;
     let object = env.new_plain()?;

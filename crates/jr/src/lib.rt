@@ -12,7 +12,10 @@ pub use jr_owned::{
     OwnedCells, OwnedEnv, OwnedSteps, close_owned, end_owner, last_owner, open_envs, open_owned,
     owned_steps,
 };
-pub use jr_rule::{AllLeft, Left, Note, Pass, PinnedNote, PlainSteps, Role, Room, RoomSteps};
+pub use jr_rule::{
+    AllLeft, Left, Note, NoteOf, Pass, PinnedNote, PinnedNoteOf, PlainSteps, Role, Room, RoomSteps,
+    Site, SiteSteps, StepsIn, ThreadNumber,
+};
 pub use jr_steps::Steps;
 pub use jr_threads::{NativeCode, Ran, run_native};
 pub use jr_weak::{Collected, Marker};

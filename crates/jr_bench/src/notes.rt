@@ -3,7 +3,7 @@
 use crate::measure::{print_times, times_of};
 use crate::round::{Done, Job, Signs, Work, all_came};
 use jr_env::Env;
-use jr_rule::RoomSteps;
+use jr_rule::{Site, StepsIn};
 use std::alloc::Global;
 use std::io;
 use std::rt::Clock;
@@ -13,9 +13,9 @@ use std::thread::Threads;
 pub(crate) const NOTES: &str = "note,learn";
 
 /// A thread waits for the others, and then notes what it has seen and learns that, again and again.
-pub(crate) fn note_all<R: Clock, const LAST: u32>(
+pub(crate) fn note_all<Q: Site, R: Clock, S: StepsIn<Q>>(
     rt: &R,
-    env: &mut Env<RoomSteps<'_, LAST>>,
+    env: &mut Env<S>,
     work: Work,
     signs: &Signs,
 ) -> Option<Done> {
@@ -24,7 +24,7 @@ pub(crate) fn note_all<R: Clock, const LAST: u32>(
     }
     let began = signs.now(rt)?;
     for _ in 0..work.calls {
-        let note = env.note();
+        let note = env.note::<Q>();
         env.learn(note);
     }
     let mut done = Done::from_to(began, signs.now(rt)?);

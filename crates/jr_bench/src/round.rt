@@ -1,16 +1,18 @@
 //! A round: threads of a room that start together, and each do their part of a job.
 
 ghost use Rattle.jr_rule.specs.Passes.{IsOpened};
+ghost use Rattle.jr_rule.specs.Sites.{IsSiteOf};
 
 use crate::beside::Task;
 use crate::case::{Case, Env, FrameCase};
 use crate::collections::{Collections, Way};
 use crate::notes::note_all;
-use jr_rule::{Pass, Room, RoomSteps};
+use jr_rule::{Pass, Room, Site, SiteSteps, StepsIn, ThreadNumber};
 use jr_steps::Steps;
 use jr_word::{Config, LAST_SERIAL};
 use std::alloc::Global;
 use std::hint::spin_loop;
+use std::marker::Brand;
 use std::rt::Clock;
 use std::sync::atomic::{AtomicBool, AtomicU64, Ordering};
 use std::thread;
@@ -180,23 +182,40 @@ impl Job {
     }
 
     /// A thread does its part.
-    fn act<R: Clock, const LAST: u32>(
+    fn act<Q: Site, R: Clock, S: StepsIn<Q>>(
         self,
         rt: &R,
         alloc: Global,
-        env: &mut Env<RoomSteps<'_, LAST>>,
+        env: &mut Env<S>,
         signs: &Signs,
     ) -> Option<Done> {
         match self {
             Job::Calls(case, work) => call_all(rt, alloc, env, case, work, signs),
-            Job::Notes(work) => note_all(rt, env, work, signs),
+            Job::Notes(work) => note_all::<Q, R, S>(rt, env, work, signs),
             Job::Beside(task) => task.act(rt, alloc, env, signs),
             Job::Collects(work, way) => work.time_in(rt, alloc, env, way, signs),
         }
     }
 }
 
-/// What one thread does: its part, in an env of its own.
+/// What the site's thread does: its part, in an env of its own.
+fn work_at<Q: Site, T: ThreadNumber, R: Clock>(
+    rt: &R,
+    alloc: Global,
+    room: &Room<LAST_SERIAL>,
+    pass: Pass,
+    job: Job,
+    signs: &Signs,
+) -> Option<Done>
+    requires pass { IsOpened room.now.row pass }
+    requires site { IsSiteOf Q.room Q.sizes T.number room.now pass }
+{
+    let steps = SiteSteps::<LAST_SERIAL, Q, T>::new(room, pass);
+    let mut env = Env::new(steps).ok()?;
+    job.act::<Q, R, _>(rt, alloc, &mut env, signs)
+}
+
+/// What one thread does.
 fn work_one<R: Clock>(
     rt: &R,
     alloc: Global,
@@ -207,8 +226,7 @@ fn work_one<R: Clock>(
 ) -> Option<Done>
     requires { IsOpened room.now.row pass }
 {
-    let mut env = Env::new(RoomSteps::new(room, pass)).ok()?;
-    job.act(rt, alloc, &mut env, signs)
+    work_at::<Brand, Brand, R>(rt, alloc, room, pass, job, signs)
 }
 
 /// A round in a room of its own: what each thread did.

@@ -8,6 +8,7 @@ mod critical_regions;
 mod frames;
 mod making;
 mod meeting;
+mod notes;
 mod objects;
 mod references;
 mod staying;

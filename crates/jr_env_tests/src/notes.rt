@@ -5,15 +5,19 @@ ghost use Rattle.jr_model.specs.declared.event.Found.TheVariants.{Object};
 ghost use Rattle.jr_model.specs.History.{History, state};
 ghost use Rattle.jr_model.specs.Laws.{IsFoundAs};
 ghost use Rattle.jr_model.specs.StandingReferences.{NoneDeletes};
-ghost use Rattle.jr_rule.specs.Rooms.{AreInOneRoom, IsNoteThere, IsPinnedThere, seen_by_note};
-ghost use Rattle.jr_rule.specs.Rule.{stepping_pass};
+ghost use Rattle.jr_rule.specs.Passes.{IsOpened};
+ghost use Rattle.jr_rule.specs.Rooms.{IsPinnedThere, seen_by_note};
+ghost use Rattle.jr_rule.specs.Sites.{IsSiteOf};
+ghost use Rattle.jr_steps.specs.declared.known.Known.{Known};
 
 use crate::envs::{LAST, has_type, next_pass, opened_env};
-use crate::references::shared_in;
+use crate::references::{opened, shared_in};
 use jr_env::Env;
 use jr_model::references_stand_until_deleted;
-use jr_rule::{Note, PinnedNote, Room, RoomSteps};
+use jr_rule::{NoteOf, Pass, PinnedNote, Room, RoomSteps, Site, SiteSteps, StepsIn, ThreadNumber};
 use jr_word::Config;
+use std::marker::Brand;
+use std::process::Abort;
 use std::sync::Wait;
 use std::test::Fail;
 use std::thread;
@@ -62,30 +66,39 @@ fn both_learn<R: Threads + Wait + Sync>(
 }
 
 /// An env learns a note. So each reference that stood where the note was made, and that nobody has deleted since, stands here: a global one with its object, a weak one with it, or cleared.
-pub(crate) fn learns(env: &mut Env<RoomSteps<'_, LAST>>, note: Note)
-    requires { IsNoteThere env.old.held.steps note }
-    ensures room { AreInOneRoom env.new.held.steps env.old.held.steps }
-    ensures stands { (h : HandleParts) (o : ℕ) → (state (seen_by_note note)).refs h ≡ Object o → (since : History) × (seen_by_note note ++ since ≡ (stepping_pass env.new.held.steps.cells.seat.me).seen) × (NoneDeletes h since → IsFoundAs h o ((state (stepping_pass env.new.held.steps.cells.seat.me).seen).refs h)) }
+pub(crate) fn learns<Q: Site, S: StepsIn<Q>>(env: &mut Env<S>, note: NoteOf<Q>)
+    ensures { (k : Known) → (S.facts env.new.held.steps).knows k → (h : HandleParts) (o : ℕ) → (state (seen_by_note note.note)).refs h ≡ Object o → (since : History) × (seen_by_note note.note ++ since ≡ k.seen) × (NoneDeletes h since → IsFoundAs h o ((state k.seen).refs h)) }
 {
     references_stand_until_deleted();
     env.learn(note);
 }
 
-/// A note that a thread pinned is learned in turn, and again: whoever has learned it finds the reference.
+/// A note that a thread of the site's room pinned is learned in turn, and again: whoever has learned it finds the reference.
+fn learn_again<Q: Site, T: ThreadNumber, U: ThreadNumber>(
+    rt: &impl Abort,
+    room: &Room<LAST>,
+    first: Pass,
+    second: Pass,
+) -> Result<(), Fail>
+    requires opened { IsOpened room.now.row first × IsOpened room.now.row second }
+    requires first { IsSiteOf Q.room Q.sizes T.number room.now first }
+    requires second { IsSiteOf Q.room Q.sizes U.number room.now second }
+{
+    let mut first = opened_env(SiteSteps::<LAST, Q, T>::new(room, first));
+    let mut second = opened_env(SiteSteps::<LAST, Q, U>::new(room, second));
+    let shared = shared_in(&mut second)?;
+    let pinned = second.pin::<Q>();
+    assert!(rt; first.learn_pinned(&pinned));
+    assert!(rt; first.learn_pinned(&pinned));
+    let again = first.pin::<Q>();
+    assert!(rt; second.learn_pinned(&again));
+    has_type(rt, &mut first, shared, 2)
+}
+
 #[test]
 fn a_pinned_note_is_learned_again(rt: HostRuntime) -> Result<(), Fail> {
-    let (room, mut passes) = Room::<LAST>::open(rt.alloc(), FOUR)?;
-    let third = next_pass(&room, &mut passes)?;
-    let second = next_pass(&room, &mut passes)?;
-    let mut steps = RoomSteps::new(&room, second);
-    let mut env = opened_env(RoomSteps::new(&room, third));
-    let shared = shared_in(&mut env)?;
-    let pinned = env.note().pin();
-    assert!(rt; steps.learn_pinned(&pinned));
-    assert!(rt; steps.learn_pinned(&pinned));
-    let again = steps.pin();
-    assert!(rt; steps.learn_pinned(&again));
-    has_type(&rt, &mut env, shared, 2)
+    let (room, first, second) = opened(rt.alloc())?;
+    learn_again::<Brand, Brand, Brand>(&rt, &room, first, second)
 }
 
 /// Two threads learn one note side by side, in many turns each. No copy is lost: a third learns it afterwards.

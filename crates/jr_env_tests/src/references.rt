@@ -3,15 +3,17 @@
 ghost use Rattle.std.specs.Prelude.{◌≡◌, IfOk};
 ghost use Rattle.jr_model.specs.declared.event.Role.TheVariants.{Outside};
 ghost use Rattle.jr_rule.specs.Passes.{IsAt, IsOpened};
+ghost use Rattle.jr_rule.specs.Sites.{IsSiteOf};
 
 use crate::envs::{LAST, has_type, has_words, is_refused, made, next_pass, opened_env};
 use crate::notes::learns;
 use crate::plain::{Case, try_plain};
 use jr_env::Env;
-use jr_rule::{Pass, PlainSteps, Room, RoomSteps};
+use jr_rule::{Pass, PlainSteps, Room, RoomSteps, Site, SiteSteps, ThreadNumber};
 use jr_steps::Steps;
 use jr_word::{Config, Fault, Handle};
 use std::alloc::Global;
+use std::marker::Brand;
 use std::process::Abort;
 use std::test::Fail;
 
@@ -193,7 +195,7 @@ fn an_env_is_made_of_a_fresh_pass_alone(rt: HostRuntime) -> Result<(), Fail> {
 }
 
 /// A room, and the passes of its two threads.
-fn opened(alloc: Global) -> Result<(Room<LAST>, Pass, Pass), Fail>
+pub(crate) fn opened(alloc: Global) -> Result<(Room<LAST>, Pass, Pass), Fail>
     ensures { IfOk result (λ r. IsOpened r.0.row r.1 × IsOpened r.0.row r.2) }
 {
     let (room, mut passes) = Room::<LAST>::open(alloc, TWO)?;
@@ -285,18 +287,31 @@ fn who_meets_another_env_finds_its_reference(rt: HostRuntime) -> Result<(), Fail
 }
 
 /// The same by a note, which the second makes once it has made the reference, and the first learns. One that nobody learns, and one that says less, change nothing.
+fn find_by_note<Q: Site, T: ThreadNumber, U: ThreadNumber>(
+    rt: &impl Abort,
+    room: &Room<LAST>,
+    first: Pass,
+    second: Pass,
+) -> Result<(), Fail>
+    requires opened { IsOpened room.now.row first × IsOpened room.now.row second }
+    requires first { IsSiteOf Q.room Q.sizes T.number room.now first }
+    requires second { IsSiteOf Q.room Q.sizes U.number room.now second }
+{
+    let mut first = opened_env(SiteSteps::<LAST, Q, T>::new(room, first));
+    let mut second = opened_env(SiteSteps::<LAST, Q, U>::new(room, second));
+    let early = second.note::<Q>();
+    let shared = shared_in(&mut second)?;
+    let _ = second.note::<Q>();
+    let note = second.note::<Q>();
+    learns(&mut first, note);
+    first.learn(early);
+    find(rt, &mut first, &mut second, shared)
+}
+
 #[test]
 fn who_learns_a_note_finds_its_reference(rt: HostRuntime) -> Result<(), Fail> {
     let (room, first, second) = opened(rt.alloc())?;
-    let mut first = opened_env(RoomSteps::new(&room, first));
-    let mut second = opened_env(RoomSteps::new(&room, second));
-    let early = second.note();
-    let shared = shared_in(&mut second)?;
-    let _ = second.note();
-    let note = second.note();
-    learns(&mut first, note);
-    first.learn(early);
-    find(&rt, &mut first, &mut second, shared)
+    find_by_note::<Brand, Brand, Brand>(&rt, &room, first, second)
 }
 
 /// Makes a global reference, which has the word.

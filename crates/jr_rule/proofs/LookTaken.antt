@@ -1,16 +1,18 @@
 -- A look at the gate beside another's pass, or beside a note, is a step of the pass that looks.
-use Rattle.std.proofs.Common.{◌≡◌, ℕ, List, refl}
+use Rattle.std.proofs.Common.{◌≡◌, ℕ, Option, Some, List, refl, sym, ap, ◌∙◌}
 use Rattle.atomic_table.specs.Seated.{TableId}
 use Rattle.jr_word.specs.declared.config.Config.{Config}
 use Rattle.jr_model.specs.declared.event.Act.{Act}
 use Rattle.jr_model.specs.History.{role_from}
 use Rattle.jr_steps.specs.Knowing.{Goes, Took, anything, fresh_from, keeps}
+use Rattle.jr_rule.specs.declared.room.Room.{Room}
 use Rattle.jr_rule.specs.declared.row.RoomCells.{RoomCells}
 use Rattle.jr_rule.specs.Cells.{HasStepped, InRole, IsStanding, Sight}
 use Rattle.jr_rule.specs.CellLaws.{seat_sound}
 use Rattle.jr_rule.specs.Passes.{Holder, facts_of}
 use Rattle.jr_rule.specs.Rule.{LookedBy, LooksBy, stepping_pass}
 use Rattle.jr_rule.specs.Sights.{sight_of_seat, IsSeatOf}
+use Rattle.jr_rule.specs.Sites.{IsAtThread, IsSeatedIn}
 use Rattle.jr_rule.proofs.SeatStepped.{seat_stepped, seat_went}
 use Rattle.jr_rule.proofs.StepTaken.{Leaves, Reads, may_any, leads_next, leaves, standing_next, its_acts}
 use Rattle.jr_rule.proofs.Told.{plainly}
@@ -48,3 +50,12 @@ module _ {acts : List Act} (h : Holder) (x : RoomCells) (table : x.seat.table_id
   -- and what the pass has seen is what this made of what it had
   pub look_went : IsStanding before h.role h.fresh h.hint → Goes (stepping_pass h.seat.me) acts (stepping_pass x.seat.me)
   look_went s = seat_went looked.1 (may_any before refl s) acts (its_acts reads)
+
+-- cells at their site are there still, as long as they are of the same thread and room
+pub thread_next : {LAST : ℕ} {site : Option TableId} {sizes : Config} {thread : ℕ} {s x : RoomCells} {room : Room LAST} → IsAtThread site sizes thread s room → IsSeatedIn x room → (x.thread ≡ s.thread) × (x.seat.table_id ≡ s.seat.table_id) → IsAtThread site sizes thread x room
+thread_next at there same = record {
+  there = there;
+  room_is = ap Some same.1 ∙ at.room_is;
+  sizes_are = there.config ∙ (sym at.there.config ∙ at.sizes_are);
+  own = there.thread_is ∙ (same.0 ∙ (sym at.there.thread_is ∙ at.own));
+}

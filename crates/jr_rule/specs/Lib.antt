@@ -7,6 +7,7 @@ pub mod CellLaws
 pub mod Sights
 pub mod Sites
 pub mod SiteLaws
+pub mod Notes
 pub mod Over
 pub mod Slots
 pub mod RowHistories

@@ -2,6 +2,7 @@
 use Rattle.std.specs.Prelude.{◌≡◌, ℕ, Option, Some}
 use Rattle.atomic_table.specs.Seated.{TableId}
 use Rattle.jr_word.specs.declared.config.Config.{Config}
+use Rattle.jr_rule.specs.declared.note.Note.{Note}
 use Rattle.jr_rule.specs.declared.pass.Pass.{Pass}
 use Rattle.jr_rule.specs.declared.pinned_note.PinnedNote.{PinnedNote}
 use Rattle.jr_rule.specs.declared.room.Room.{Room}
@@ -13,6 +14,10 @@ use Rattle.jr_rule.specs.Sights.{IsSeatOf}
 -- no sizes
 abbrev pub no_sizes : Config
 no_sizes = record { threads = 0; slots = 0; objects = 0; words = 0; locals = 0 }
+
+-- the note is of the site's room
+abbrev pub IsNoteOf : Option TableId → Note → Type 0
+IsNoteOf site n = Some n.seat.table_id ≡ site
 
 -- the pinned note is of the site's room
 abbrev pub IsPinnedOf : Option TableId → PinnedNote → Type 0

@@ -17,6 +17,7 @@ mod room;
 mod row;
 mod rule;
 mod site;
+mod steps_in;
 mod summing;
 mod words;
 
@@ -38,4 +39,5 @@ pub use plain_cells::PlainCells;
 pub use room::Room;
 pub use row::RoomCells;
 pub use rule::View;
-pub use site::{PinnedNoteOf, Site, ThreadNumber};
+pub use site::{NoteOf, PinnedNoteOf, Site, ThreadNumber};
+pub use steps_in::StepsIn;

@@ -4,9 +4,10 @@ ghost use Rattle.atomic_table.specs.Seated.{TableId};
 ghost use Rattle.jr_word.specs.declared.config.Config.{Config as SizesOfRoom};
 ghost use Rattle.jr_steps.specs.Knowing.{Took, anything, keeps};
 ghost use Rattle.jr_rule.specs.Passes.{facts_of};
-ghost use Rattle.jr_rule.specs.Rooms.{AreAsBefore, LearnedPinned, WasPinned, holder_over};
-ghost use Rattle.jr_rule.specs.Sites.{no_sizes, IsPinnedOf};
+ghost use Rattle.jr_rule.specs.Rooms.{AreAsBefore, IsPinned, LearnedPinned, WasPinned, holder_over};
+ghost use Rattle.jr_rule.specs.Sites.{no_sizes, IsNoteOf, IsPinnedOf};
 
+use crate::note::Note;
 use crate::over_room::RoomSteps;
 use crate::pinned_note::PinnedNote;
 use std::marker::{Brand, PhantomData};
@@ -33,6 +34,29 @@ pub trait ThreadNumber: Send + Sync {
 /// The thread that starts.
 impl ThreadNumber for Brand {
     ghost number = { 0 };
+}
+
+/// A note of all that a thread of the site's room had seen, which any thread of that room can learn (`StepsIn`). It is no pass: no collection and no close waits for it, and it may be let go.
+#[derive(Drop)]
+pub struct NoteOf<Q: Site> {
+    pub(crate) note: Note,
+    pub(crate) site: PhantomData<Q>,
+    ghost there: { IsNoteOf Q.room note },
+}
+
+impl<Q: Site> NoteOf<Q> {
+    /// The note, pinned, so that several threads can learn it, each as often as it likes.
+    ///
+    /// # Operations
+    ///
+    /// Those of `Note::pin`.
+    pub fn pin(self) -> PinnedNoteOf<Q>
+        ensures { IsPinned self.note result.pinned }
+    {
+        let NoteOf { note, site } = self;
+        let pinned = note.pin();
+        PinnedNoteOf { pinned, site }
+    }
 }
 
 /// A pinned note of all that a thread of the site's room had seen.

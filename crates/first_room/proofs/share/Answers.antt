@@ -8,7 +8,7 @@ use Rattle.jr_rule.specs.Rule.{stepping_pass}
 use Rattle.jr_frames.specs.Table.{Table}
 use Rattle.jr_model.specs.Frames.{fresh_frames}
 use Rattle.first_room.specs.Calls.{HasPrepared, preparing, sharing, word_made}
-use Rattle.first_room.proofs.Noted.{behind_note, is_prepared, same_room, stands_same}
+use Rattle.first_room.proofs.Noted.{behind_note, is_prepared}
 use Rattle.first_room.proofs.Played.{come, prepared, shared, refused_as, same_on, deleted_on, typed_on, word_or_null}
 use Rattle.first_room.proofs.Passes.{IsOfSame, at_end, busy_some, same_before, same_spent, same_stands, same_then}
 use Rattle.first_room.proofs.share.Goals as goal
@@ -29,16 +29,6 @@ invariant_of-put g c =
     let d6 = c.in_ok-new_global_ref.ensures in
     let d7 = c.in_ok-pop_local_frame.ensures in
     let n = c.note-note.ensures in
-    let same : IsOfSame (facts_of (holder_over c.new.result)).stands (facts_of (holder_over c.note-note.new.self.held.steps)).stands
-    = same_then (same_spent _ (c.in-Ok.ensures.steps).stands_is)
-    (same_then (same_before (d1.does c.in-Ok.ensures.outside).stands_is)
-    (same_then (same_before (d2.does d1.outside).stands_is)
-    (same_then (same_before (d3.does d2.outside).stands_is)
-    (same_then (same_before (d4.does d3.outside).stands_is)
-    (same_then (same_before (d5.does d4.outside).stands_is)
-    (same_then (same_before (d6.does d5.outside).stands_is)
-    (same_then (same_before (d7.does d6.outside).stands_is)
-    (same_stands _ (stands_same _ _ n.same.0))))))))) in
     let is = c.requires.opened in
     let weak = word_made c.in_ok-new_weak_global_ref.field-0 in
     let global = word_made c.in_ok-new_global_ref.field-0 in
@@ -46,10 +36,9 @@ invariant_of-put g c =
     let now : Holder = holder_over c.pop_local_frame.new.self.held.steps in
     let came = come holder_over preparing c.new.result _ _ c.args.pass now _ _ (weak, global) c.in-Ok.ensures.steps calls c.new.ensures.pass refl
     (c.in-Ok.ensures.frames ∙ ap (λ (h : Holder). fresh_frames (facts_of h).stands.config.locals) c.new.ensures.pass) in
-    let made = is_prepared c.args.room.now.row c.args.pass now weak global c.note-note.result c.requires.same_config c.requires.same_last is c.requires.thread came n.note in
+    let made = is_prepared c.args.room.now.row c.args.pass now weak global c.note-note.result.note c.requires.same_config c.requires.same_last is c.requires.thread came c.pop_local_frame.new.self.held.steps.stands.some n.note in
     let named = word_or_null c.in_ok-new_global_ref.field-0 c.unwrap_or-global.result c.unwrap_or-global.ensures in
-    let there = same_room c.args.room.now.row c.args.pass (facts_of (holder_over c.note-note.new.self.held.steps)).stands is.row c.new.ensures.pass (same.room) n.room in
-    record { room = c.requires.site_is ∙ there; prepared = subst (λ w. ∥ HasPrepared w (seen_by_note c.note-note.result) ∥₁) (sym named) made }
+    record { prepared = subst (λ w. ∥ HasPrepared w (seen_by_note c.note-note.result.note) ∥₁) (sym named) made }
 
 pub returns : goal.returns
 returns g c =

@@ -9,20 +9,15 @@ use Rattle.jr_rule.specs.Passes.{Holder, facts_of, holder_of}
 use Rattle.jr_rule.specs.Rooms.{holder_over}
 use Rattle.first_room.specs.Calls.{visiting}
 use Rattle.first_room.specs.Parts.{HasVisited}
-use Rattle.first_room.proofs.Noted.{is_there, learns}
+use Rattle.first_room.proofs.Noted.{learns}
 use Rattle.first_room.proofs.Played.{come, visited}
 use Rattle.first_room.proofs.Passes.{same_then, same_before, same_spent, at_end}
 use Rattle.first_room.proofs.visit.Goals as goal
 
-pub learn-requires : goal.learn-requires
-learn-requires g c =
-    let spent = (c.in-Ok.ensures.steps).stands_is in
-    (search rules, is_there c.args.room.now.row c.args.pass (facts_of (holder_over c.in-Ok.env.held.steps)).stands c.requires.opened.row c.new.ensures.pass (ap (λ (z : Standing). z.room) spent) c.requires.site_is c.in_ok-global.field-0.room)
-
 pub returns : goal.returns
 returns g c =
     let own : to_z w32 (of_z w32 c.in_ok-read.read) ≡ c.in_ok-read.read = search rules in
-    let d0 = learns _ _ _ _ c.in_ok-global.field-0.global.0 c.in_ok-global.field-0.note c.learn.ensures.step c.learn.ensures.learned (ap (λ (t : Table). t.frames) c.learn.ensures.frames) c.in_ok-global.field-0.prepared in
+    let d0 = learns _ _ _ _ c.in_ok-global.field-0.global.0 c.in_ok-global.field-0.note.note c.learn.ensures.step c.learn.ensures.learned (ap (λ (t : Table). t.frames) c.learn.ensures.frames) c.in_ok-global.field-0.prepared in
     let d1 = c.in_ok-push_local_frame.ensures in
     let d2 = c.in_ok-object.ensures in
     let d3 = c.in_ok-new_object_array.ensures in

@@ -1,0 +1,14 @@
+use Rattle.std.proofs.Common.{refl}
+use Rattle.jr_rule.specs.Rooms.{holder_over}
+use Rattle.jr_rule.proofs.LookTaken.{look_stands, look_took, thread_next}
+use Rattle.jr_rule.proofs.steps_in.StepsOverRoomCellsInRoomStepsIn.learn.Goals as goal
+
+pub invariant_of-self : goal.invariant_of-self
+invariant_of-self g c =
+    let s = c.args.self.now in
+    record { at = thread_next s.at c.learn.ensures.there c.learn.ensures.same; stands = look_stands (holder_over s) c.learn.new.self c.learn.ensures.same.1 c.learn.ensures.looked refl refl c.learn.ensures.there s.stands }
+
+pub returns-clause-step : goal.returns-clause-step
+returns-clause-step g c =
+    let took = look_took (holder_over c.args.self.now) c.learn.new.self c.learn.ensures.same.1 c.learn.ensures.looked refl refl in
+    record { stands_is = took.stands_is; hint_is = took.hint_is; goes = took.goes }
