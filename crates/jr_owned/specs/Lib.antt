@@ -1,1 +1,3 @@
+pub mod OwnersSites
+pub mod OwnerLaws
 pub mod Owners

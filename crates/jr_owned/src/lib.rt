@@ -3,6 +3,7 @@
 
 mod envs;
 mod owned;
+mod site;
 
 use jr_word::LAST_SERIAL;
 
@@ -10,6 +11,7 @@ pub use envs::{OwnedEnv, open_envs};
 pub use owned::{
     OwnedCells, OwnedSteps, close_owned, end_owner, last_owner, open_owned, owned_steps,
 };
+pub use site::{OfSite, OwnedStepsOf, of_any_site, of_site};
 
 /// The last serial of the rooms.
 pub(crate) const LAST: u32 = LAST_SERIAL;

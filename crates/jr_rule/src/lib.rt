@@ -6,6 +6,7 @@ mod closing;
 mod closing_all;
 mod in_room;
 mod note;
+mod noting;
 mod over;
 mod over_plain;
 mod over_room;
