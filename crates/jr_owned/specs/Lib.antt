@@ -1,3 +1,1 @@
-pub mod OwnersSites
-pub mod OwnerLaws
 pub mod Owners

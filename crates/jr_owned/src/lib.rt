@@ -11,7 +11,8 @@ pub use envs::{OwnedEnv, open_envs};
 pub use owned::{
     OwnedCells, OwnedSteps, close_owned, end_owner, last_owner, open_owned, owned_steps,
 };
-pub use site::{OfSite, OwnedStepsOf, of_any_site, of_site};
+pub use jr_rule::OfSite;
+pub use site::{OwnedStepsOf, of_any_site, of_site};
 
 /// The last serial of the rooms.
 pub(crate) const LAST: u32 = LAST_SERIAL;
