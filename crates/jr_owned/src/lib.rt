@@ -5,8 +5,6 @@ mod envs;
 mod owned;
 mod site;
 
-use jr_word::LAST_SERIAL;
-
 pub use envs::{OwnedEnv, open_envs};
 pub use owned::{
     OwnedCells, OwnedSteps, close_owned, end_owner, last_owner, open_owned, owned_steps,
@@ -15,4 +13,4 @@ pub use jr_rule::OfSite;
 pub use site::{OwnedStepsOf, of_any_site, of_site};
 
 /// The last serial of the rooms.
-pub(crate) const LAST: u32 = LAST_SERIAL;
+pub(crate) const LAST: u32 = jr_word::LAST_SERIAL;

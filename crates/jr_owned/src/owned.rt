@@ -57,7 +57,8 @@ fn hand_out(
     let room = Arc::new(alloc, room)?;
     let mut owners = Vec::with_capacity(alloc, passes.len())?;
     for pass in passes {
-        owners.push(owned_steps(Arc::try_clone(&room)?, pass))?;
+        let steps = owned_steps(Arc::try_clone(&room)?, pass);
+        owners.push(steps)?;
     }
     Ok(owners)
 }
