@@ -9,6 +9,7 @@ mod note;
 mod noting;
 mod of_site;
 mod over;
+mod over_owned;
 mod over_plain;
 mod over_room;
 mod owned_cells;
