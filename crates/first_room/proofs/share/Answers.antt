@@ -10,7 +10,7 @@ use Rattle.jr_model.specs.Frames.{fresh_frames}
 use Rattle.first_room.specs.Calls.{HasPrepared, preparing, sharing, word_made}
 use Rattle.first_room.proofs.Noted.{behind_note, is_prepared}
 use Rattle.first_room.proofs.Played.{come, prepared, shared, refused_as, same_on, deleted_on, typed_on, word_or_null}
-use Rattle.first_room.proofs.Passes.{IsOfSame, at_end, busy_some, same_before, same_spent, same_stands, same_then}
+use Rattle.first_room.proofs.Passes.{at_end, busy_some, same_before, same_spent, same_then}
 use Rattle.first_room.proofs.share.Goals as goal
 
 pub collect_in_turn-requires-clause-room : goal.collect_in_turn-requires-clause-room

@@ -4,7 +4,6 @@ use Rattle.std.specs.Int.{w32}
 use Rattle.jr_word.specs.Elem.{signed_word}
 use Rattle.jr_frames.specs.Table.{Table}
 use Rattle.jr_model.specs.Frames.{fresh_frames}
-use Rattle.jr_steps.specs.Knowing.{Standing}
 use Rattle.jr_rule.specs.Passes.{Holder, facts_of, holder_of}
 use Rattle.jr_rule.specs.Rooms.{holder_over}
 use Rattle.first_room.specs.Calls.{visiting}

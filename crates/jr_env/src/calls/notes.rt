@@ -40,7 +40,7 @@ impl<S: Steps> Env<S> {
         ensures numbers { self.new.numbers ≡ self.old.numbers }
     {
         let held = &mut self.held;
-        held.steps.learn(note);
+        note.learned_in(&mut held.steps);
     }
     /// A pinned note of all that the env's thread has seen until now, from which several threads can learn it, each as often as it likes. The env stays as it was. An env in a room alone has this call.
     ///
@@ -72,6 +72,6 @@ impl<S: Steps> Env<S> {
         ensures numbers { self.new.numbers ≡ self.old.numbers }
     {
         let held = &mut self.held;
-        held.steps.learn_pinned(pinned)
+        pinned.learned_in(&mut held.steps)
     }
 }

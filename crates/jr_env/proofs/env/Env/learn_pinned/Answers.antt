@@ -5,10 +5,10 @@ use Rattle.jr_env.proofs.env.Env.learn_pinned.Goals as goal
 
 pub invariant_of-held : goal.invariant_of-held
 invariant_of-held g c =
-    let learned = c.learn_pinned.ensures in
-    record { own = own_either {facts = g.S.Steps.facts} c.learn_pinned.result learned.step learned.busy c.args.self.now.held.own }
+    let learned = c.learned_in.ensures in
+    record { own = own_either {facts = g.S.Steps.facts} c.learned_in.result learned.step learned.busy c.args.self.now.held.own }
 
 pub invariant_of-self : goal.invariant_of-self
 invariant_of-self g c =
-    let learned = c.learn_pinned.ensures in
-    record { ready = subst CanCall (sym (stands_either {facts = g.S.Steps.facts} c.learn_pinned.result learned.step learned.busy)) c.args.self.now.ready }
+    let learned = c.learned_in.ensures in
+    record { ready = subst CanCall (sym (stands_either {facts = g.S.Steps.facts} c.learned_in.result learned.step learned.busy)) c.args.self.now.ready }
