@@ -6,7 +6,6 @@ mod closing;
 mod closing_all;
 mod in_room;
 mod note;
-mod noting;
 mod of_site;
 mod over;
 mod over_owned;

@@ -4,11 +4,14 @@ ghost use Rattle.jr_steps.specs.Knowing.{Took, anything, keeps};
 ghost use Rattle.jr_rule.specs.Notes.{HasSeen, HasSeenJust, IsUnchanged};
 ghost use Rattle.jr_rule.specs.Over.{facts_over};
 ghost use Rattle.jr_rule.specs.Rooms.{seen_by_note, seen_by_pinned};
+ghost use Rattle.jr_rule.specs.Sites.{IsNoteOf, IsPinnedOf};
 
 use crate::cells::{Cells, StepKind};
+use crate::note::Note;
 use crate::over::StepsOver;
 use crate::owned_cells::OwnedCells;
-use crate::site::{NoteOf, PinnedNoteOf, Site};
+use crate::pinned_note::PinnedNote;
+use crate::site::{NoteOf, Site};
 use crate::steps_in::StepsIn;
 use jr_word::Config;
 use std::alloc::AllocError;
@@ -103,25 +106,32 @@ impl<const LAST: u32, Q: Site> StepsIn<Q> for StepsOver<OwnedCells<LAST>, OfSite
         ensures same { IsUnchanged facts_over self.old self.new }
         ensures note { HasSeenJust facts_over self.old (seen_by_note result.note) }
     {
-        self.cells.cells.note_in(&*self.cells.room)
+        let seat = self.cells.cells.note(&*self.cells.room);
+        NoteOf {
+            note: Note { seat },
+            site: PhantomData,
+        }
     }
 
-    fn learn(&mut self, note: NoteOf<Q>)
+    fn learn(&mut self, note: Note)
+        requires { IsNoteOf Q.room note }
         ensures step { Took facts_over self.old self.new [] anything keeps }
-        ensures learned { HasSeen facts_over self.new (seen_by_note note.note) }
+        ensures learned { HasSeen facts_over self.new (seen_by_note note) }
     {
-        self.cells.cells.learn_in(&*self.cells.room, note);
+        let Note { seat } = note;
+        self.cells.cells.learn(&*self.cells.room, seat);
     }
 
-    fn learn_pinned(&mut self, pinned: &PinnedNoteOf<Q>) -> bool
+    fn learn_pinned(&mut self, pinned: &PinnedNote) -> bool
+        requires { IsPinnedOf Q.room pinned.now }
         ensures step { result ≡ true → Took facts_over self.old self.new [] anything keeps }
-        ensures learned { result ≡ true → HasSeen facts_over self.new (seen_by_pinned pinned.now.pinned) }
+        ensures learned { result ≡ true → HasSeen facts_over self.new (seen_by_pinned pinned.now) }
         ensures busy { result ≡ false → IsUnchanged facts_over self.old self.new }
     {
         let Some(note) = pinned.copy(&*self.cells.room) else {
             return false;
         };
-        self.learn(note);
+        StepsIn::<Q>::learn(self, note);
         true
     }
 }
