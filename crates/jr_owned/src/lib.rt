@@ -9,7 +9,6 @@ pub use envs::{OwnedEnv, open_envs};
 pub use owned::{
     OwnedCells, OwnedSteps, close_owned, end_owner, last_owner, open_owned, owned_steps,
 };
-pub use jr_rule::OfSite;
 pub use site::{OwnedStepsOf, of_any_site, of_site};
 
 /// The last serial of the rooms.

@@ -16,6 +16,7 @@ pub fn of_site<Q: Site>(steps: OwnedSteps) -> OwnedStepsOf<Q>
     ensures room { arc_value result.cells.room ≡ arc_value steps.cells.room }
     ensures pass { owner_of result ≡ owner_of steps }
 {
+    let place = OfSite { site: PhantomData };
     let StepsOver {
         cells,
         role,
@@ -28,7 +29,7 @@ pub fn of_site<Q: Site>(steps: OwnedSteps) -> OwnedStepsOf<Q>
         role,
         fresh,
         hint,
-        place: OfSite { site: PhantomData },
+        place,
     }
 }
 

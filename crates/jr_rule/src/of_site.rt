@@ -88,13 +88,7 @@ impl<const LAST: u32, Q: Site> Cells<OfSite<Q>> for OwnedCells<LAST> {
         Cells::<()>::take::<T>(self, (), at, less)
     }
 
-    fn exchange<T: StepKind>(
-        &mut self,
-        _place: OfSite<Q>,
-        at: usize,
-        old: u64,
-        new: u64,
-    ) -> u64 {
+    fn exchange<T: StepKind>(&mut self, _place: OfSite<Q>, at: usize, old: u64, new: u64) -> u64 {
         Cells::<()>::exchange::<T>(self, (), at, old, new)
     }
 
