@@ -35,6 +35,7 @@ pub use jr_steps::{
 pub use note::Note;
 pub use of_site::OfSite;
 pub use over::StepsOver;
+pub use over_owned::OwnedSteps;
 pub use over_plain::PlainSteps;
 pub use over_room::RoomSteps;
 pub use owned_cells::OwnedCells;

@@ -3,6 +3,9 @@ use crate::over::StepsOver;
 use crate::owned_cells::OwnedCells;
 use crate::pass::Pass;
 
+/// The steps that a thread takes in a room that it owns together with others.
+pub type OwnedSteps<const LAST: u32> = StepsOver<OwnedCells<LAST>, ()>;
+
 impl<const LAST: u32> StepsOver<OwnedCells<LAST>, ()> {
     ghost use Rattle.std.specs.Prelude.{◌≡◌, [], ◌∷◌};
     ghost use Rattle.std.specs.Arc.{arc_value};
@@ -49,7 +52,7 @@ impl<const LAST: u32> StepsOver<OwnedCells<LAST>, ()> {
     /// # Operations
     ///
     /// Those of `RoomSteps::meet_steps`.
-    pub fn meet_steps(&mut self, other: &mut StepsOver<OwnedCells<LAST>, ()>)
+    pub fn meet_steps(&mut self, other: &mut OwnedSteps<LAST>)
         requires { (facts_over self.old).stands.room ≡ (facts_over other.old).stands.room }
         ensures room { arc_value self.new.cells.room ≡ arc_value self.old.cells.room }
         ensures step { Took facts_over self.old self.new (Meet ∷ []) anything keeps }
