@@ -14,25 +14,26 @@ use Rattle.jr_rule.specs.Rule.{known, stepping_pass}
 use Rattle.jr_steps.specs.Holdings.{empty}
 use Rattle.jr_steps.specs.declared.steps.Steps.{Ghosts as StepsGhosts}
 use Rattle.jr_env.specs.declared.env.Env.{Env}
-use Rattle.jr_owned.specs.declared.owned.OwnedCells.{OwnedCells}
+use Rattle.jr_rule.specs.declared.owned_cells.OwnedCells.{OwnedCells}
 use Rattle.jr_owned.specs.Owners.{owner_of, AreOfRoom, IsEnvOver, IsOwnerOpened, AreOwnersOpened}
 
-module _ {P : Type 0} {G : Ghosts OwnedCells P} where
+module _ {P : Type 0} {G : Ghosts (OwnedCells 4294967295) P} where
   -- one more owner
-  pub owner_more : (r : Room 4294967295) (ss ts : List (StepsOver OwnedCells P G)) (s : StepsOver OwnedCells P G)
-      → ts ≡ ss ++ s ∷ [] → AreOfRoom r ss → arc_value s.cells.room ≡ r → AreOfRoom r ts
+  pub owner_more : (r : Room 4294967295) (ss ts : List (StepsOver (OwnedCells 4294967295) P G))
+      (s : StepsOver (OwnedCells 4294967295) P G) → ts ≡ ss ++ s ∷ [] → AreOfRoom r ss → arc_value s.cells.room ≡ r
+      → AreOfRoom r ts
   owner_more r ss ts s is were more =
-      let own = λ (z : StepsOver OwnedCells P G). arc_value z.cells.room ≡ r in
+      let own = λ (z : StepsOver (OwnedCells 4294967295) P G). arc_value z.cells.room ≡ r in
       subst (AreOfRoom r) (sym is) (All-append own ss (s ∷ []) were (All-cons own s [] more (All-nil own)))
 
-  pub holder_more : (ss ts : List (StepsOver OwnedCells P G)) (s : StepsOver OwnedCells P G) (ps : List Pass) (p : Pass)
-      → ts ≡ ss ++ s ∷ [] → map owner_of ss ≡ map holder_of ps → owner_of s ≡ holder_of p
+  pub holder_more : (ss ts : List (StepsOver (OwnedCells 4294967295) P G)) (s : StepsOver (OwnedCells 4294967295) P G)
+      (ps : List Pass) (p : Pass) → ts ≡ ss ++ s ∷ [] → map owner_of ss ≡ map holder_of ps → owner_of s ≡ holder_of p
       → map owner_of ts ≡ map holder_of (ps ++ p ∷ [])
   holder_more ss ts s ps p is were more = ap (map owner_of) is
       ∙ (map-append owner_of ss (s ∷ []) ∙ ((λ i. were i ++ more i ∷ []) ∙ sym (map-append holder_of ps (p ∷ []))))
 
   -- an owner is as its pass was opened
-  opened_owner : (r : Room 4294967295) (s : StepsOver OwnedCells P G) (p : Pass) → owner_of s ≡ holder_of p
+  opened_owner : (r : Room 4294967295) (s : StepsOver (OwnedCells 4294967295) P G) (p : Pass) → owner_of s ≡ holder_of p
       → arc_value s.cells.room ≡ r → IsOpened r.row p → IsOwnerOpened r s
   opened_owner r s p is own o = record {
     room = own;
@@ -43,20 +44,20 @@ module _ {P : Type 0} {G : Ghosts OwnedCells P} where
     hint = ap (λ (h : Holder). h.hint) is ∙ o.hint;
   }
 
-  opened_each : (r : Room 4294967295) (ss : List (StepsOver OwnedCells P G)) (ps : List Pass)
+  opened_each : (r : Room 4294967295) (ss : List (StepsOver (OwnedCells 4294967295) P G)) (ps : List Pass)
       → map owner_of ss ≡ map holder_of ps → AreOfRoom r ss → All (λ p. IsOpened r.row p) ps → All (IsOwnerOpened r) ss
   opened_each r [] ps is own o = All-nil (IsOwnerOpened r)
   opened_each r (s ∷ ss) [] is own o = absurd cc
   opened_each r (s ∷ ss) (p ∷ ps) is own o =
       let first : owner_of s ≡ holder_of p = cc in
       let rest : map owner_of ss ≡ map holder_of ps = cc in
-      let owns = λ (z : StepsOver OwnedCells P G). arc_value z.cells.room ≡ r in
+      let owns = λ (z : StepsOver (OwnedCells 4294967295) P G). arc_value z.cells.room ≡ r in
       let opens = λ (z : Pass). IsOpened r.row z in
       All-cons (IsOwnerOpened r) s ss (opened_owner r s p first (All-head owns s ss own) (All-head opens p ps o))
       (opened_each r ss ps rest (All-tail owns s ss own) (All-tail opens p ps o))
 
-  threads_of : (ss : List (StepsOver OwnedCells P G)) (ps : List Pass) → map owner_of ss ≡ map holder_of ps
-      → map (λ (s : StepsOver OwnedCells P G). s.cells.cells.thread) ss ≡ map (λ (p : Pass). p.thread) ps
+  threads_of : (ss : List (StepsOver (OwnedCells 4294967295) P G)) (ps : List Pass) → map owner_of ss ≡ map holder_of ps
+      → map (λ (s : StepsOver (OwnedCells 4294967295) P G). s.cells.cells.thread) ss ≡ map (λ (p : Pass). p.thread) ps
   threads_of [] [] is = refl
   threads_of [] (p ∷ ps) is = absurd cc
   threads_of (s ∷ ss) [] is = absurd cc
@@ -66,8 +67,9 @@ module _ {P : Type 0} {G : Ghosts OwnedCells P} where
       λ i. (first i).thread ∷ threads_of ss ps rest i
 
   -- the owners are opened as the passes were
-  pub owners_opened : (c : Config) (r : Room 4294967295) (ss : List (StepsOver OwnedCells P G)) (ps : List Pass)
-      → AreOpened c 4294967295 r.row ps → AreOfRoom r ss → map owner_of ss ≡ map holder_of ps → AreOwnersOpened c ss
+  pub owners_opened : (c : Config) (r : Room 4294967295) (ss : List (StepsOver (OwnedCells 4294967295) P G))
+      (ps : List Pass) → AreOpened c 4294967295 r.row ps → AreOfRoom r ss → map owner_of ss ≡ map holder_of ps
+      → AreOwnersOpened c ss
   owners_opened c r ss ps o own is = record {
     room = r;
     sizes = o.same_config;
@@ -83,9 +85,11 @@ zip_more R [] (z ∷ zs) x y was more = absurd was
 zip_more R (z ∷ zs) [] x y was more = absurd was
 zip_more R (v ∷ vs) (w ∷ ws) x y was more = (was.0, zip_more R vs ws x y was.1 more)
 
-module _ {P : Type 0} {G : Ghosts OwnedCells P} {H : StepsGhosts (StepsOver OwnedCells P G)} where
-  pub env_more : (ss : List (StepsOver OwnedCells P G)) (es ts : List (Env (StepsOver OwnedCells P G) H))
-      (s : StepsOver OwnedCells P G) (e : Env (StepsOver OwnedCells P G) H) → ts ≡ es ++ e ∷ [] → AllZip IsEnvOver ss es
-      → IsEnvOver s e → AllZip IsEnvOver (ss ++ s ∷ []) ts
+module _ {P : Type 0} {G : Ghosts (OwnedCells 4294967295) P}
+    {H : StepsGhosts (StepsOver (OwnedCells 4294967295) P G)} where
+  pub env_more : (ss : List (StepsOver (OwnedCells 4294967295) P G))
+      (es ts : List (Env (StepsOver (OwnedCells 4294967295) P G) H)) (s : StepsOver (OwnedCells 4294967295) P G)
+      (e : Env (StepsOver (OwnedCells 4294967295) P G) H) → ts ≡ es ++ e ∷ [] → AllZip IsEnvOver ss es → IsEnvOver s e
+      → AllZip IsEnvOver (ss ++ s ∷ []) ts
   env_more ss es ts s e is was more =
       subst (AllZip IsEnvOver (ss ++ s ∷ [])) (sym is) (zip_more IsEnvOver ss es s e was more)

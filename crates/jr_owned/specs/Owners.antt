@@ -19,21 +19,22 @@ use Rattle.jr_rule.specs.Passes.{Holder, facts_of, holder_of, known_of, numbers_
 use Rattle.jr_rule.specs.Rule.{known, stepping_pass}
 use Rattle.jr_env.specs.declared.env.Env.{Env}
 use Rattle.jr_env.specs.Envs.{IsOutside}
-use Rattle.jr_owned.specs.declared.owned.OwnedCells.{OwnedCells}
+use Rattle.jr_rule.specs.declared.owned_cells.OwnedCells.{OwnedCells}
 
 -- the steps of a pass are made of what it is made of
-abbrev pub owner_of : {P : Type 0} {G : Ghosts OwnedCells P} → StepsOver OwnedCells P G → Holder
+abbrev pub owner_of : {P : Type 0} {G : Ghosts (OwnedCells 4294967295) P} → StepsOver (OwnedCells 4294967295) P G
+    → Holder
 owner_of s =
     record { seat = s.cells.cells.seat; thread = s.cells.cells.thread; role = s.role; fresh = s.fresh; hint = s.hint }
 
 -- all of these own the one room
-abbrev pub AreOfRoom : {P : Type 0} {G : Ghosts OwnedCells P} → Room 4294967295 → List (StepsOver OwnedCells P G)
-    → Type 0
+abbrev pub AreOfRoom : {P : Type 0} {G : Ghosts (OwnedCells 4294967295) P} → Room 4294967295
+    → List (StepsOver (OwnedCells 4294967295) P G) → Type 0
 AreOfRoom r ss = All (λ s. arc_value s.cells.room ≡ r) ss
 
 -- THE STEPS OF AN OWNER AS THEY WERE OPENED: of the room, outside, fresh, and the thread has seen nothing yet
-pub record IsOwnerOpened {P : Type 0} {G : Ghosts OwnedCells P} (r : Room 4294967295)
-    (s : StepsOver OwnedCells P G) : Type 0 where
+pub record IsOwnerOpened {P : Type 0} {G : Ghosts (OwnedCells 4294967295) P} (r : Room 4294967295)
+    (s : StepsOver (OwnedCells 4294967295) P G) : Type 0 where
   pub room : arc_value s.cells.room ≡ r
   pub knows : stepping_pass s.cells.cells.seat.me ≡ known r.row.config r.row.last s.cells.cells.thread [] empty 0
   pub role : s.role ≡ Outside
@@ -42,24 +43,26 @@ pub record IsOwnerOpened {P : Type 0} {G : Ghosts OwnedCells P} (r : Room 429496
 
 -- A ROOM WAS OPENED, of these sizes, for owners:
 -- all own that one room, and there is one for each thread, from thread 0 upward
-pub record AreOwnersOpened {P : Type 0} {G : Ghosts OwnedCells P} (c : Config)
-    (ss : List (StepsOver OwnedCells P G)) : Type 0 where
+pub record AreOwnersOpened {P : Type 0} {G : Ghosts (OwnedCells 4294967295) P} (c : Config)
+    (ss : List (StepsOver (OwnedCells 4294967295) P G)) : Type 0 where
   pub room : Room 4294967295
   pub sizes : room.row.config ≡ c
   pub threads : map (λ s. s.cells.cells.thread) ss ≡ numbers_below c.threads
   pub each : All (IsOwnerOpened room) ss
 
 -- THE ENV OVER STEPS: outside, in one base frame, and with what the thread knew; the steps are spent
-pub record IsEnvOver {P : Type 0} {G : Ghosts OwnedCells P} {H : StepsGhosts (StepsOver OwnedCells P G)}
-    (s : StepsOver OwnedCells P G) (env : Env (StepsOver OwnedCells P G) H) : Type 0 where
+pub record IsEnvOver {P : Type 0} {G : Ghosts (OwnedCells 4294967295) P}
+    {H : StepsGhosts (StepsOver (OwnedCells 4294967295) P G)} (s : StepsOver (OwnedCells 4294967295) P G)
+    (env : Env (StepsOver (OwnedCells 4294967295) P G) H) : Type 0 where
   pub spent : Spent H.facts s env.held.steps
   pub outside : IsOutside env
   pub frames : env.held.frames.frames ≡ fresh_frames (H.facts s).stands.config.locals
 
 -- A ROOM WAS OPENED, of these sizes, for envs: one over the steps of each owner
-pub record AreEnvsOpened {P : Type 0} {G : Ghosts OwnedCells P} {H : StepsGhosts (StepsOver OwnedCells P G)}
-    (c : Config) (envs : List (Env (StepsOver OwnedCells P G) H)) : Type 0 where
-  pub owners : List (StepsOver OwnedCells P G)
+pub record AreEnvsOpened {P : Type 0} {G : Ghosts (OwnedCells 4294967295) P}
+    {H : StepsGhosts (StepsOver (OwnedCells 4294967295) P G)} (c : Config)
+    (envs : List (Env (StepsOver (OwnedCells 4294967295) P G) H)) : Type 0 where
+  pub owners : List (StepsOver (OwnedCells 4294967295) P G)
   pub opened : AreOwnersOpened c owners
   pub each : AllZip IsEnvOver owners envs
 

@@ -3,11 +3,13 @@
 
 mod envs;
 mod owned;
+mod site;
 
 pub use envs::{OwnedEnv, open_envs};
 pub use owned::{
     OwnedCells, OwnedSteps, close_owned, end_owner, last_owner, open_owned, owned_steps,
 };
+pub use site::{OwnedStepsOf, of_any_site, of_site};
 
 /// The last serial of the rooms.
 pub(crate) const LAST: u32 = jr_word::LAST_SERIAL;

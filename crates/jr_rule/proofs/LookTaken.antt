@@ -1,4 +1,5 @@
 -- A look at the gate beside another's pass, or beside a note, is a step of the pass that looks.
+use Rattle.std.specs.Arc.{arc_value}
 use Rattle.std.proofs.Common.{◌≡◌, ℕ, Option, Some, List, refl, sym, ap, ◌∙◌}
 use Rattle.atomic_table.specs.Seated.{TableId}
 use Rattle.jr_word.specs.declared.config.Config.{Config}
@@ -6,12 +7,14 @@ use Rattle.jr_model.specs.declared.event.Act.{Act}
 use Rattle.jr_model.specs.History.{role_from}
 use Rattle.jr_steps.specs.Knowing.{Goes, Took, anything, fresh_from, keeps}
 use Rattle.jr_rule.specs.declared.room.Room.{Room}
+use Rattle.jr_rule.specs.declared.owned_cells.OwnedCells.{OwnedCells}
 use Rattle.jr_rule.specs.declared.row.RoomCells.{RoomCells}
 use Rattle.jr_rule.specs.Cells.{HasStepped, InRole, IsStanding, Sight}
 use Rattle.jr_rule.specs.CellLaws.{seat_sound}
 use Rattle.jr_rule.specs.Passes.{Holder, facts_of}
 use Rattle.jr_rule.specs.Rule.{LookedBy, LooksBy, stepping_pass}
 use Rattle.jr_rule.specs.Sights.{sight_of_seat, IsSeatOf}
+use Rattle.jr_rule.specs.OwnedSites.{IsOwnedIn}
 use Rattle.jr_rule.specs.Sites.{IsAtThread, IsSeatedIn}
 use Rattle.jr_rule.proofs.SeatStepped.{seat_stepped, seat_went}
 use Rattle.jr_rule.proofs.StepTaken.{Leaves, Reads, may_any, leads_next, leaves, standing_next, its_acts}
@@ -64,3 +67,9 @@ thread_next at there same = record {
   sizes_are = there.config ∙ (sym at.there.config ∙ at.sizes_are);
   own = there.thread_is ∙ (same.0 ∙ (sym at.there.thread_is ∙ at.own));
 }
+
+-- an owner's cells at their site are there still, as long as the seat is one of the same room
+pub owned_next : {LAST : ℕ} {site : Option TableId} {s : OwnedCells LAST} {x : RoomCells} → IsOwnedIn site s
+    → IsSeatedIn x (arc_value s.room) → x.seat.table_id ≡ s.cells.seat.table_id
+    → IsOwnedIn site (record { cells = x; room = s.room })
+owned_next at there same = record { there = there; room_is = ap Some same ∙ at.room_is }

@@ -7,6 +7,8 @@ pub mod CellLaws
 pub mod Sights
 pub mod Sites
 pub mod SiteLaws
+pub mod OwnedSites
+pub mod OwnedLaws
 pub mod Notes
 pub mod Over
 pub mod Slots

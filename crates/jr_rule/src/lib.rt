@@ -6,9 +6,12 @@ mod closing;
 mod closing_all;
 mod in_room;
 mod note;
+mod of_site;
 mod over;
+mod over_owned;
 mod over_plain;
 mod over_room;
+mod owned_cells;
 mod pass;
 mod pinned_note;
 mod pinning;
@@ -30,9 +33,12 @@ pub use jr_steps::{
     GateLoad, Holdings, Known, KnownHeader, Move, OwnRange, SlotLoad, Steps, TopLoad,
 };
 pub use note::Note;
+pub use of_site::OfSite;
 pub use over::StepsOver;
+pub use over_owned::OwnedSteps;
 pub use over_plain::PlainSteps;
 pub use over_room::RoomSteps;
+pub use owned_cells::OwnedCells;
 pub use pass::Pass;
 pub use pinned_note::PinnedNote;
 pub use plain_cells::PlainCells;
