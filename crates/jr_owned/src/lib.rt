@@ -4,12 +4,10 @@
 mod envs;
 mod owned;
 
-use jr_word::LAST_SERIAL;
-
 pub use envs::{OwnedEnv, open_envs};
 pub use owned::{
     OwnedCells, OwnedSteps, close_owned, end_owner, last_owner, open_owned, owned_steps,
 };
 
 /// The last serial of the rooms.
-pub(crate) const LAST: u32 = LAST_SERIAL;
+pub(crate) const LAST: u32 = jr_word::LAST_SERIAL;

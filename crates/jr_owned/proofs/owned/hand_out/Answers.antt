@@ -1,4 +1,4 @@
-use Rattle.std.proofs.Common.{◌≡◌, ◌++◌, ◌∷◌, [], ◌∙◌, rules}
+use Rattle.std.proofs.Common.{◌≡◌, ◌++◌, ◌∷◌, [], rules}
 use Rattle.std.specs.Arc.{arc_value}
 use Rattle.jr_owned.proofs.Owners.{owner_more, holder_more}
 use Rattle.jr_owned.proofs.owned.hand_out.Goals as goal
