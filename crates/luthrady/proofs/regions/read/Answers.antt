@@ -1,4 +1,4 @@
-use Rattle.std.proofs.Common.{rules, refl, sym, ap, ◌∙◌}
+use Rattle.std.proofs.Common.{refl, sym, ap, ◌∙◌}
 use Rattle.luthrady.specs.declared.held.Attached.{Attached}
 use Rattle.luthrady.proofs.ThroughPointers.{by_thread}
 use Rattle.luthrady.proofs.regions.read.Goals as goal
