@@ -48,9 +48,11 @@ pub(crate) fn spell_texts<S: Steps>(
     let array = env.new_array::<u16>(1)?;
     refuses(rt, env.string_of(alloc, array), Fault::WrongKind);
     let long = "a text that does not fit beside the others";
-    let full = env.new_string_of(alloc, long).err();
-    assert!(rt; matches!(full, Some(Fault::SpaceFull(_))));
-    Ok(())
+    match env.new_string_of(alloc, long) {
+        Ok(_) => Err("a long text fits")?,
+        Err(Fault::SpaceFull(_)) => Ok(()),
+        Err(fault) => Err(fault)?,
+    }
 }
 
 #[test]
