@@ -25,13 +25,11 @@ def kit():
     return os.path.dirname(os.path.dirname(os.path.realpath(shutil.which("rt"))))
 
 
-def compiled(folder, name, source, words=("-shared", "-fPIC", "-nostdlib"), ending="so"):
-    """Compiles a library of C, or what these words make of it, by the kit's clang, and returns its path."""
-    path = f"{folder}/{name}"
-    with open(f"{path}.c", "w", encoding="utf-8") as file:
-        file.write(source)
-    subprocess.run([f"{kit()}/toolchain/bin/clang", "-O1", *words, "-o", f"{path}.{ending}", f"{path}.c"], check=True)
-    return f"{path}.{ending}"
+def compiled(folder, name, words=("-shared", "-fPIC", "-nostdlib"), ending="so"):
+    """Compiles a library of .ci/c, or what these words make of it, by the kit's clang, and returns its path."""
+    path = f"{folder}/{name}.{ending}"
+    subprocess.run([f"{kit()}/toolchain/bin/clang", "-O1", *words, "-o", path, f"{TOP}/.ci/c/{name}.c"], check=True)
+    return path
 
 
 def linked(path, objects):
@@ -56,12 +54,6 @@ def ended(words, given, library=None, number=0):
     os.close(kept)
     with open(taken, "rb") as file:
         return Ended((ran.returncode, ran.stdout, ran.stderr), file.read(), numbers)
-
-
-def source_of(name):
-    """Returns the text of a library of .ci/c."""
-    with open(f"{TOP}/.ci/c/{name}.c", encoding="utf-8") as file:
-        return file.read()
 
 
 def tests_of(crate):

@@ -8,47 +8,6 @@ import subprocess
 
 from preloaded import compiled, kit, linked
 
-# STRAYS says from which number it is drawn when a thread yields.
-YIELDING = r"""
-typedef unsigned long word;
-char *getenv(const char *name);
-int atoi(const char *text);
-int sched_yield(void);
-static word threads;
-static __thread word by_chance;
-static void stray(void) {
-    const char *first = getenv("STRAYS");
-    if (!by_chance) by_chance = (1000 * (first ? atoi(first) : 0) + __atomic_add_fetch(&threads, 1, 5)) * 0x9E3779B97F4A7C15ul;
-    by_chance ^= by_chance << 13, by_chance ^= by_chance >> 7, by_chance ^= by_chance << 17;
-    if (by_chance % 4 == 0) sched_yield();
-}
-void __tsan_init(void) {}
-word __tsan_atomic64_load(word *at, int order) {
-    stray();
-    return __atomic_load_n(at, 5);
-}
-void __tsan_atomic64_store(word *at, word new, int order) {
-    stray();
-    __atomic_store_n(at, new, 5);
-}
-word __tsan_atomic64_exchange(word *at, word new, int order) {
-    stray();
-    return __atomic_exchange_n(at, new, 5);
-}
-word __tsan_atomic64_fetch_add(word *at, word more, int order) {
-    stray();
-    return __atomic_fetch_add(at, more, 5);
-}
-word __tsan_atomic64_fetch_sub(word *at, word less, int order) {
-    stray();
-    return __atomic_fetch_sub(at, less, 5);
-}
-word __tsan_atomic64_compare_exchange_val(word *at, word old, word new, int order, int other) {
-    stray();
-    __atomic_compare_exchange_n(at, &old, new, 0, 5, 5);
-    return old;
-}
-"""
 # A compiler that keeps the program that it is handed, and goes no further.
 KEEPING = """#!/bin/sh
 if [ -f module.bc ] && [ "$(wc -c < module.bc)" -gt 1000000 ]; then
@@ -92,7 +51,7 @@ class Yielding:
         words += ["-mllvm", "-tsan-instrument-memory-accesses=0", "-mllvm", "-tsan-instrument-func-entry-exit=0"]
         made = f"{folder}/jrefs.o"
         subprocess.run([f"{kit()}/toolchain/bin/clang", *words, "-o", made, f"{folder}/module.bc"], check=True)
-        self.program = linked(f"{folder}/jrefs.that-yields", [made, compiled(folder, "yielding", YIELDING, ("-c", "-fPIE", "-w"), "o")])
+        self.program = linked(f"{folder}/jrefs.that-yields", [made, compiled(folder, "yielding", ("-c", "-fPIE", "-w"), "o")])
 
     def variables(self, number):
         """Returns what the environment has to say so that it is drawn from a number when a thread yields."""
