@@ -30,7 +30,7 @@ mod tests {
     }
 }
 """
-FILES = {"crates.txt": "jr_word:\n", "README.md": PAGE, "crates/jr_word/src/place.rt": SOURCE, "crates/jr_word/src/owner.rt": "fn own(it: Vec<u8>) {}\n"}
+FILES = {"crates.txt": "jr_word:\njr_env: jr_word\n", "README.md": PAGE, "crates/jr_word/src/place.rt": SOURCE, "crates/jr_word/src/owner.rt": "fn own(it: Vec<u8>) {}\n"}
 
 
 # A repository in which much is wrong.
