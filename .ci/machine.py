@@ -29,6 +29,7 @@ class Object:
     """An object: its kind, and its elements or units, where it has any."""
 
     def __init__(self, kind, elements=()):
+        """Makes an object of a kind, with its elements."""
         self.kind, self.elements = kind, list(elements)
 
 
@@ -36,6 +37,7 @@ class Reference:
     """A reference that was made. What it names is NULL once it was cleared."""
 
     def __init__(self, kind, named, owner=None):
+        """Makes a reference that stands, to what it names."""
         self.kind, self.named, self.owner, self.stands = kind, named, owner, True
 
 
@@ -43,6 +45,7 @@ class Buffer:
     """Elements that were copied."""
 
     def __init__(self, copied):
+        """Copies what an array has."""
         self.kind, self.elements = copied.kind, list(copied.elements)
 
 
@@ -50,6 +53,7 @@ class Room:
     """What the threads of a script share."""
 
     def __init__(self, sizes):
+        """Begins with nothing made."""
         self.sizes, self.used, self.posted = sizes, 0, {}
         # How many objects were made, and how many words they took, whatever became of them.
         self.made = self.words = 0
@@ -101,6 +105,7 @@ class Thread:
     """A thread of a script: what its names stand for, its local references by frames, the levels of its region, and what it printed."""
 
     def __init__(self, room, part):
+        """Begins before the first command."""
         self.room, self.name, self.left = room, part.name, list(part.commands)
         self.names, self.frames, self.levels, self.printed = {}, [[]], [], []
 
@@ -117,6 +122,7 @@ class Thread:
         return self.names[name]
 
     def buffer(self, name):
+        """Returns the buffer that a word of a command says."""
         if name not in self.names:
             raise Refused(2)
         if not isinstance(self.names[name], Buffer):
@@ -131,6 +137,7 @@ class Thread:
             raise Refused(3)
 
     def is_foreign(self, it):
+        """Returns whether a reference is another thread's local one."""
         return it is not NULL and it.kind == "local" and it.owner is not self
 
     def named(self, reference):
@@ -146,6 +153,7 @@ class Thread:
         return found
 
     def string(self, name):
+        """Returns the string that a word names."""
         found = self.object(name)
         if found.kind != "string":
             raise Refused(4)
@@ -159,9 +167,11 @@ class Thread:
         return found
 
     def free_places(self):
+        """Returns how many local places are free."""
         return self.room.sizes["locals"] - sum(map(len, self.frames))
 
     def need_place(self):
+        """Refuses where no local place is free."""
         if self.free_places() == 0:
             raise Refused(9)
 
@@ -174,6 +184,7 @@ class Thread:
         return found
 
     def end_locals(self, references):
+        """Ends local references."""
         for it in references:
             it.stands = False
             self.room.locals.remove(it)
@@ -186,6 +197,7 @@ class Thread:
     # ---- commands
 
     def makes(self, name, kind, elements=()):
+        """Makes an object, and a local reference to it for which a name then stands."""
         self.need_place()
         self.names[name] = self.refer(self.room.make(kind, elements))
 
@@ -219,6 +231,7 @@ class Thread:
         return int(index)
 
     def array_of_objects(self, found):
+        """Refuses what is no array of objects."""
         if found.kind != "objs":
             raise Refused(6 if found.kind in BOUNDS else 5)
         return found
@@ -272,6 +285,7 @@ class Thread:
             del self.names[name]
 
     def opens(self, name, found):
+        """Opens a level of a region, by its name."""
         if len(self.levels) == MOST_LEVELS:
             raise Refused(17)
         self.levels.append((name, found))
@@ -406,6 +420,7 @@ class Thread:
         return len(self.left) < before
 
     def ends(self):
+        """Ends the thread's region and its local references."""
         self.levels = []
         for frame in self.frames:
             self.end_locals(frame)

@@ -14,6 +14,7 @@ class Handed:
     """A program that runs many scripts in one process, which is started at the first."""
 
     def __init__(self, program, library):
+        """Begins with no process."""
         self.program, self.library, self.process = program, library, None
 
     def part(self, length):
@@ -27,6 +28,7 @@ class Handed:
         return found
 
     def number(self):
+        """Returns a number that the process writes."""
         (found,) = struct.unpack("i", self.part(4))
         return found
 

@@ -10,6 +10,7 @@ class Straying:
     said = ", interrupted"
 
     def __init__(self, folder):
+        """Compiles the library in a folder."""
         self.path = compiled(folder, "interrupting")
 
     def variables(self, number):

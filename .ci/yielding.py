@@ -43,6 +43,7 @@ class Yielding:
     said = ""
 
     def __init__(self, folder):
+        """Builds the program in a folder."""
         words = [linked_kit(folder), "try", "--steps", "1", "--", "run"]
         said = subprocess.run(words, cwd="crates/jrefs", stdin=subprocess.DEVNULL, capture_output=True, check=False)
         if not os.path.isfile(f"{folder}/module.bc"):
