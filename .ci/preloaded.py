@@ -1,11 +1,11 @@
 """Libraries that the built program is started with before the C library, for the scripts beside this file that refuse it something."""
 
 import os
-import shutil
 import struct
 import subprocess
 from typing import NamedTuple
 
+from rattle import kit
 
 TOP = os.path.dirname(os.path.dirname(os.path.abspath(__file__)))
 PROGRAM = f"{TOP}/crates/jrefs/out/jrefs"
@@ -18,11 +18,6 @@ class Ended(NamedTuple):
     came: tuple
     told: bytes
     kept: tuple
-
-
-def kit():
-    """Returns the folder of the kit."""
-    return os.path.dirname(os.path.dirname(os.path.realpath(shutil.which("rt"))))
 
 
 def compiled(folder, name, words=("-shared", "-fPIC", "-nostdlib"), ending="so"):

@@ -1,9 +1,10 @@
-"""Reads Rattle, for the scripts beside this file: the crates of crates.txt, the items of a file of src/ with their clauses and bodies, and the functions of a crate by the names that the prover has for them."""
+"""Reads Rattle, for the scripts beside this file: where the kit is and how a check begins, the crates of crates.txt, the items of a file of src/ with their clauses and bodies, and the functions of a crate by the names that the prover has for them."""
 
 import glob
 import json
 import os
 import re
+import shutil
 from dataclasses import dataclass, field
 
 BLANKED = re.compile(r"//[^\n]*|/\*.*?\*/|\"(?:\\.|[^\"\\])*\"|'(?:\\.|[^\\'\n])'", re.S)
@@ -37,6 +38,17 @@ def text_of(path):
     """Returns the text of a file."""
     with open(path, encoding="utf-8", errors="replace") as file:
         return file.read()
+
+
+def kit():
+    """Returns the folder of the kit."""
+    return os.path.dirname(os.path.dirname(os.path.realpath(shutil.which("rt"))))
+
+
+def checking(crate, root):
+    """Returns the words by which a check of a crate with this root begins, over the libraries of the kit, as rt itself does it."""
+    logic = ["--antt-project", f"{kit()}/rattle/logic/antt-project.json", "--logic-built", f"{kit()}/logic_built"]
+    return [f"{kit()}/bin/rattle", "check", "--crate-name", crate, root, "-L", f"dependency={kit()}/rlibs", *logic]
 
 
 def libraries():

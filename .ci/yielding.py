@@ -6,7 +6,8 @@ import os
 import shutil
 import subprocess
 
-from preloaded import compiled, kit, linked
+from preloaded import compiled, linked
+from rattle import kit
 
 # A compiler that keeps the program that it is handed, and goes no further.
 KEEPING = """#!/bin/sh
