@@ -200,6 +200,12 @@ class Pages(unittest.TestCase):
         self.assertEqual((head, left_out), ("# Reference\n(refusals)\n", {("jr_word", "Kind", "of"), ("jr_word", "", "part")}))
         self.assertEqual((chapter.heading, chapter.about, chapter.is_by_name, chapter.laws, chapter.places), ("Calls", "about", True, ["one", "two"], ["jr_word: kind_of"]))
 
+    def test_a_line_of_the_plan_names_types_and_calls(self):
+        places_of = script("reference").places_of
+        self.assertEqual(places_of("type jr_word Kind Part: of *"), ["type jr_word Kind", "type jr_word Part", "jr_word Part: of *"])
+        self.assertEqual(places_of("type jr_word Kind"), ["type jr_word Kind"])
+        self.assertEqual(places_of("jr_word Kind: of"), ["jr_word Kind: of"])
+
     def test_what_one_must_believe(self):
         with repository(FILES):
             trusted, repo = script("trusted"), Repository()
