@@ -113,7 +113,9 @@ pub fn with_local_frame<E: LocalFrames, T: Drop, F: FnOnce(&mut E) -> T>(
     ensures done { IfOk result (λ x. (kept : Option Handle) × RanInFrame E.opens (E.closes patience) F.FnOnce body env.old env.new capacity x 0 (Ok kept)) }
     ensures refused { IfErr result (IfUnscoped (λ e. E.opens env.old env.new capacity (Err e)) (λ x e. RanInFrame E.opens (E.closes patience) F.FnOnce body env.old env.new capacity x 0 (Err e))) }
 {
-    env.open_frame(capacity).map_err(Unscoped::NotOpened)?;
+    if let Err(fault) = env.open_frame(capacity) {
+        return Err(Unscoped::NotOpened(fault));
+    }
     let answer = body(env);
     match env.close_frame(Handle::NULL, patience) {
         Ok(_) => Ok(answer),
@@ -160,7 +162,9 @@ pub fn with_local_frame_returning<E: LocalFrames, F: FnOnce(&mut E) -> Result<Ha
     ensures done { IfOk result (λ r. (x : Result Handle Fault) × (below : Option Handle) × (r ≡ handed_on x below) × RanReturning E.opens (E.closes patience) F.FnOnce body env.old env.new capacity x (Ok below)) }
     ensures refused { IfErr result (IfUnscoped (λ e. E.opens env.old env.new capacity (Err e)) (λ x e. RanReturning E.opens (E.closes patience) F.FnOnce body env.old env.new capacity x (Err e))) }
 {
-    env.open_frame(capacity).map_err(Unscoped::NotOpened)?;
+    if let Err(fault) = env.open_frame(capacity) {
+        return Err(Unscoped::NotOpened(fault));
+    }
     let answer = body(env);
     match env.close_frame(kept(&answer), patience) {
         Ok(below) => Ok(handed_on(answer, below)),

@@ -9,13 +9,6 @@ returns-in-Ok-clause-done g c = (
   (
     c.kept.result,
     search of_calls,
-    (c.open_frame.new.self, c.body-answer.new.arg2, search of_calls, search of_calls, search of_calls),
+    (c.open_frame.new.self, c.body-answer.new.arg2, c.in_default.ensures, search of_calls, search of_calls),
   ),
-)
-
-pub returns-in-Err-clause-refused : goal.returns-in-Err-clause-refused
-returns-in-Err-clause-refused g c = (
-  c.kept.result,
-  search of_calls,
-  (c.open_frame.new.self, c.body-answer.new.arg2, search of_calls, search of_calls, search of_calls),
 )
