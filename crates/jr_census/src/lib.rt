@@ -6,6 +6,7 @@ mod dumping;
 mod laws;
 mod locals;
 mod objects;
+mod printing;
 mod slots;
 mod taking;
 mod words;

@@ -6,6 +6,7 @@ pub mod Criticals
 pub mod Collections
 pub mod Censuses
 pub mod Tries
+pub mod Scopes
 pub mod Texts
 pub mod Works
 pub mod StayDeeds

@@ -19,5 +19,5 @@ pub use env::Env;
 pub use env_call::EnvCall;
 pub use patience::{Patience, with_patience};
 pub use retrying::{is_made_again, is_short_of_room};
-pub use scope::{LocalFrames, Scoped, with_local_frame};
+pub use scope::{LocalFrames, Unscoped, with_local_frame, with_local_frame_returning};
 pub use stay::Stay;

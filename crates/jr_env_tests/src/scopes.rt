@@ -2,9 +2,9 @@
 
 use crate::envs::{has_type, made};
 use crate::plain::{Case, try_plain};
-use jr_env::{Env, Scoped, with_local_frame};
+use jr_env::{Env, Patience, with_local_frame, with_local_frame_returning};
 use jr_steps::Steps;
-use jr_word::{Config, Handle};
+use jr_word::{Config, Fault, Handle};
 use std::process::Abort;
 use std::test::Fail;
 
@@ -19,9 +19,22 @@ const SIZES: Config = Config {
 
 /// What was made in a frame has no reference behind it.
 fn leaves_its_frame<S: Steps>(rt: &impl Abort, env: &mut Env<S>) -> Result<(), Fail> {
-    let Scoped { answer, popped } = with_local_frame(env, 4, |env| env.new_array::<i32>(2))?;
-    assert_eq!(rt; popped, Ok(None));
-    has_type(rt, env, answer?, 0)
+    let array = with_local_frame(env, 4, Patience::LONG, |env| env.new_array::<i32>(2))?;
+    has_type(rt, env, array?, 0)
+}
+
+/// What was made in a frame is handed on to the frame below, by a reference of its own; where nothing was made, so is the refusal.
+fn hands_on_from_its_frame<S: Steps>(rt: &impl Abort, env: &mut Env<S>) -> Result<(), Fail> {
+    let string = with_local_frame_returning(env, 4, Patience::LONG, |env| env.new_string(&[104]))?;
+    assert_eq!(rt; env.get_string_length(Handle::or_null(string?)), Ok(1));
+    let refused = with_local_frame_returning(
+        env,
+        4,
+        Patience::LONG,
+        |env| env.new_array::<i32>(17),
+    )?;
+    assert_eq!(rt; refused, Err(Fault::SpaceFull(3)));
+    Ok(())
 }
 
 /// A region over an array of two elements ends with both its levels.
@@ -52,6 +65,7 @@ fn becomes_strong<S: Steps>(rt: &impl Abort, env: &mut Env<S>, array: Handle) ->
 /// Tries these calls.
 pub(crate) fn are_made<S: Steps>(rt: &impl Abort, env: &mut Env<S>) -> Result<(), Fail> {
     leaves_its_frame(rt, env)?;
+    hands_on_from_its_frame(rt, env)?;
     let array = env.new_array::<i32>(2)?;
     becomes_strong(rt, env, array)
 }

@@ -3,8 +3,8 @@
 use crate::board::Board;
 use crate::{PATIENCE, SYMBOLS};
 use jr::calls::{
-    FreeLocals, GetStringLength, NewArray, NewGlobalRef, NewObjectArray, NewString, PopLocalFrame,
-    SetArrayRegion, SetObjectArrayElement,
+    FreeLocals, GetStringLength, NewArray, NewGlobalRef, NewObjectArray, NewString, SetArrayRegion,
+    SetObjectArrayElement,
 };
 use jr::{Env, Fault, Handle, Steps, with_local_frame};
 
@@ -21,11 +21,8 @@ pub(crate) fn run<S: Steps>(env: &mut Env<S>, board: &Board) -> Result<u32, Faul
 fn load_all<S: Steps>(env: &mut Env<S>, board: &Board) -> Result<u32, Fault> {
     let mut units = 0u32;
     for symbol in 0..SYMBOLS {
-        let scoped = with_local_frame(env, 8, |env| load(env, board, symbol))?;
-        if scoped.popped.is_err() {
-            env.retry(&PopLocalFrame(Handle::NULL), PATIENCE)?;
-        }
-        units = units.wrapping_add(scoped.answer?);
+        let loaded = with_local_frame(env, 8, PATIENCE, |env| load(env, board, symbol))?;
+        units = units.wrapping_add(loaded?);
     }
     Ok(units)
 }

@@ -2,9 +2,7 @@
 
 use crate::board::Board;
 use crate::{PATIENCE, SYMBOLS};
-use jr::calls::{
-    DeleteGlobalRef, FreeLocals, GetObjectArrayElement, NewWeakGlobalRef, PopLocalFrame,
-};
+use jr::calls::{DeleteGlobalRef, FreeLocals, GetObjectArrayElement, NewWeakGlobalRef};
 use jr::{Env, EnvCall, Fault, Handle, Steps, with_local_frame, with_patience};
 use std::alloc::Global;
 
@@ -35,11 +33,10 @@ fn work_all<S: Steps>(alloc: Global, env: &mut Env<S>, board: &Board) -> Result<
     let mut found = Found { units: 0, sum: 0 };
     for symbol in 0..SYMBOLS {
         let shared = board.wait(symbol)?;
-        let scoped = with_local_frame(env, 8, |env| work(alloc, env, board, symbol, shared))?;
-        if scoped.popped.is_err() {
-            env.retry(&PopLocalFrame(Handle::NULL), PATIENCE)?;
-        }
-        let one = scoped.answer?;
+        let worked = with_local_frame(env, 8, PATIENCE, |env| {
+            work(alloc, env, board, symbol, shared)
+        })?;
+        let one = worked?;
         found.units = found.units.wrapping_add(one.units);
         found.sum = found.sum.wrapping_add(one.sum);
         env.retry(&DeleteGlobalRef(shared), PATIENCE)?;

@@ -1,0 +1,44 @@
+-- A closure that runs in a frame of local references of its own.
+use Rattle.std.specs.Prelude.{◌≡◌, ℕ, Option, Result, Ok, Err}
+use Rattle.std.specs.Fn.{FnOnceReturnsAtMut, Once}
+use denote.Ref.{MutBor}
+use Rattle.jr_word.specs.declared.fault.Fault.{Fault}
+use Rattle.jr_word.specs.declared.handle.Handle.{Handle}
+use Rattle.jr_env.specs.declared.scope.Unscoped.{Unscoped}
+use Rattle.jr_env.specs.declared.scope.Unscoped.TheVariants.{NotOpened, NotPopped}
+
+-- the one holds of a frame that was not opened, the other of what was answered in a frame that was not popped
+abbrev pub IfUnscoped : {T : Type 0} → (Fault → Type 0) → (T → Fault → Type 0) → Unscoped T → Type 0
+IfUnscoped opening popping (NotOpened e) = opening e
+IfUnscoped opening popping (NotPopped x e) = popping x e
+
+-- the refusal in it
+abbrev pub refusal_in : {T : Type 0} → Unscoped T → Fault
+refusal_in (NotOpened e) = e
+refusal_in (NotPopped x e) = e
+
+-- A CLOSURE RAN IN A FRAME OF ITS OWN, with this answer:
+-- the frame was opened, the closure called once, and the frame popped, for this word, with this outcome
+abbrev pub RanInFrame : {E F T : Type 0} → (E → E → ℕ → Result (Unit {0}) Fault → Type 0)
+    → (E → E → ℕ → Result (Option Handle) Fault → Type 0) → Once F (MutBor E × Unit {0}) (T × (MutBor E × Unit {0}))
+    → F → E → E → ℕ → T → ℕ → Result (Option Handle) Fault → Type 0
+RanInFrame {E} opens closes g body old new capacity x kept popped = (begun : E) × (left : E)
+    × opens old begun capacity (Ok tt) × FnOnceReturnsAtMut g body begun x left × closes left new kept popped
+
+-- the word that a frame is popped for: that of the answer, and of NULL where the closure gave up
+abbrev pub kept_word : Result Handle Fault → ℕ
+kept_word (Ok h) = h.0
+kept_word (Err e) = 0
+
+-- A CLOSURE RAN IN A FRAME OF ITS OWN, which was popped for the reference that it answered
+abbrev pub RanReturning : {E F : Type 0} → (E → E → ℕ → Result (Unit {0}) Fault → Type 0)
+    → (E → E → ℕ → Result (Option Handle) Fault → Type 0)
+    → Once F (MutBor E × Unit {0}) (Result Handle Fault × (MutBor E × Unit {0}))
+    → F → E → E → ℕ → Result Handle Fault → Result (Option Handle) Fault → Type 0
+RanReturning opens closes g body old new capacity x popped = (kept : Handle) × (kept.0 ≡ kept_word x)
+    × RanInFrame opens closes g body old new capacity x kept.0 popped
+
+-- what is handed on: the reference in the frame below, and where the closure gave up, its refusal
+abbrev pub handed_on : Result Handle Fault → Option Handle → Result (Option Handle) Fault
+handed_on (Ok h) below = Ok below
+handed_on (Err e) below = Err e
