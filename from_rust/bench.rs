@@ -6,12 +6,25 @@
 mod floor;
 mod luthrady;
 
-use luthrady::{Answer, Env, Room, Sizes};
+use luthrady::{Answer, Call, Env, Operation, Room, Sizes};
 use std::time::Instant;
 
 const CALLS: u32 = 1_000;
-/// The last case of `floor` that the static library has, too.
+/// The last case of `floor` with calls of their own that the static library has, too.
 const LAST: usize = 22;
+/// The first of its cases in stays of sixteen calls, and what is made in a batch for each: the case, and the call.
+const STAYS: usize = 31;
+const OF_STAYS: [(usize, Operation); 8] = [
+    (0, Operation::GetObjectRefType),
+    (2, Operation::NewGlobalRef),
+    (3, Operation::DeleteGlobalRef),
+    (6, Operation::NewLocalRef),
+    (7, Operation::DeleteLocalRef),
+    (8, Operation::IsSameObject),
+    (9, Operation::GetObjectRefType),
+    (13, Operation::GetArrayLength),
+];
+const CALLS_OF_STAY: usize = 16;
 const LONG: u32 = 4_096;
 /// As many as the floor's room has.
 const SIZES: Sizes = Sizes {
@@ -98,10 +111,27 @@ fn make_each(env: &mut Env, handed: &[u64], call: impl Fn(&mut Env, u64, u64) ->
         .count()
 }
 
+/// Makes a call with each of the handles, in batches.
+fn batch_each(env: &mut Env, handed: &[u64], operation: Operation) -> usize {
+    let mut right = 0;
+    for part in handed.chunks(CALLS_OF_STAY) {
+        let mut calls = [Call::new(operation, 0, 0, 0); CALLS_OF_STAY];
+        for (call, handle) in calls.iter_mut().zip(part) {
+            *call = Call::new(operation, *handle, handed[0], 0);
+        }
+        let calls = &mut calls[..part.len()];
+        if env.batch(calls).is_ok() {
+            right += calls.iter().filter(|it| it.answer().is_ok()).count();
+        }
+    }
+    right
+}
+
 /// Makes the call with each of the handles: how often it answered as it should.
 #[inline(never)]
 fn make_all(case: usize, env: &mut Env, handed: &[u64]) -> usize {
     match case {
+        STAYS.. => batch_each(env, handed, OF_STAYS[case - STAYS].1),
         0 => make_each(env, handed, type_of_null),
         1 => make_each(env, handed, new_plain),
         2 => make_each(env, handed, new_global),
@@ -130,6 +160,11 @@ fn make_all(case: usize, env: &mut Env, handed: &[u64]) -> usize {
 
 /// What each of so many calls is handed, in order.
 fn handed(case: usize, env: &mut Env, calls: u32) -> Answer<Vec<u64>> {
+    let case = if case < STAYS {
+        case
+    } else {
+        OF_STAYS[case - STAYS].0
+    };
     let local = env.new_plain()?;
     let array = match case {
         13..=19 => env.new_array::<i32>(LONG)?,
@@ -187,7 +222,8 @@ fn main() {
         .nth(1)
         .map_or(101, |it| it.parse().unwrap());
     println!("| call | floor, ns | from Rust, ns | ratio |\n|---|---|---|---|");
-    for (case, name) in floor::CASES.iter().enumerate().take(LAST + 1) {
+    let cases = floor::CASES.iter().enumerate();
+    for (case, name) in cases.filter(|(it, _)| *it <= LAST || *it >= STAYS) {
         let (mut floor, mut ours) = (vec![], vec![]);
         for _ in 0..rounds {
             floor.push(time_of_floor(case));

@@ -6,12 +6,27 @@
 mod luthrady;
 mod model;
 
-use luthrady::{Answer, Element, Env, Fault, Room, Sizes};
+use luthrady::{Answer, Call, Element, Env, Fault, Operation, Room, Sizes};
 use model::{Kind, Model, Sort};
 use std::fmt::Debug;
 
 /// How many words the bytes can name.
 const REMEMBERED: usize = 48;
+
+const OPERATIONS: [Operation; 12] = [
+    Operation::NewGlobalRef,
+    Operation::NewWeakGlobalRef,
+    Operation::NewLocalRef,
+    Operation::DeleteGlobalRef,
+    Operation::DeleteWeakGlobalRef,
+    Operation::DeleteLocalRef,
+    Operation::IsSameObject,
+    Operation::GetObjectRefType,
+    Operation::GetArrayLength,
+    Operation::GetStringLength,
+    Operation::GetObjectArrayElement,
+    Operation::SetObjectArrayElement,
+];
 
 /// The bytes that are left. Behind their end all are 0.
 struct Input<'a>(&'a [u8]);
@@ -69,6 +84,37 @@ macro_rules! drawn {
 drawn!(i8, Sort::Bytes);
 drawn!(i32, Sort::Ints);
 drawn!(i64, Sort::Longs);
+
+/// A call of a batch.
+struct Asked {
+    operation: Operation,
+    first: u64,
+    second: u64,
+    index: u32,
+}
+
+impl Asked {
+    fn call(&self) -> Call {
+        Call::new(self.operation, self.first, self.second, self.index)
+    }
+
+    /// What the model says of a call that makes no reference.
+    fn told(&self, env: usize, model: &mut Model) -> Answer<u64> {
+        let (first, second) = (self.first, self.second);
+        match self.operation {
+            Operation::DeleteGlobalRef => model.delete(env, Kind::Global, first).map(|()| 0),
+            Operation::DeleteWeakGlobalRef => model.delete(env, Kind::Weak, first).map(|()| 0),
+            Operation::DeleteLocalRef => model.delete(env, Kind::Local, first).map(|()| 0),
+            Operation::IsSameObject => model.same(env, first, second).map(u64::from),
+            Operation::GetObjectRefType => Ok(model.ref_type(env, first)),
+            Operation::GetArrayLength => model.length(env, first).map(u64::from),
+            Operation::GetStringLength => model.string_length(env, first).map(u64::from),
+            _ => model
+                .set_element(env, first, self.index, second)
+                .map(|()| 0),
+        }
+    }
+}
 
 /// A room, its attached threads, the model of it, and the words that were given last.
 struct Case<'a> {
@@ -310,6 +356,49 @@ impl Case<'_> {
         self.same(env, wanted, found);
     }
 
+    /// Makes up to seven calls in one stay. Each answer is compared as that of its own function.
+    fn batch(&mut self, env: usize) {
+        let asked: Vec<Asked> = (0..self.input.byte() % 8).map(|_| self.asked()).collect();
+        let before: Vec<Call> = asked.iter().map(Asked::call).collect();
+        let mut calls = before.clone();
+        let found = self.envs[env].batch(&mut calls);
+        self.same(env, Ok(()), found);
+        if found.is_err() {
+            assert_eq!(calls, before, "a refusal wrote");
+            return;
+        }
+        for (asked, call) in asked.into_iter().zip(calls) {
+            self.answered(env, asked, call.answer());
+        }
+    }
+
+    fn asked(&mut self) -> Asked {
+        Asked {
+            operation: OPERATIONS[usize::from(self.input.byte()) % OPERATIONS.len()],
+            first: self.word(),
+            second: self.word(),
+            index: self.input.number(),
+        }
+    }
+
+    /// Compares what a call of a batch answered.
+    fn answered(&mut self, env: usize, asked: Asked, found: Answer<u64>) {
+        let (first, model) = (asked.first, &mut self.model);
+        let (kind, wanted) = match asked.operation {
+            Operation::NewGlobalRef => (Kind::Global, model.new_ref(env, Kind::Global, first)),
+            Operation::NewWeakGlobalRef => (Kind::Weak, model.new_ref(env, Kind::Weak, first)),
+            Operation::NewLocalRef => (Kind::Local, model.new_ref(env, Kind::Local, first)),
+            Operation::GetObjectArrayElement => {
+                (Kind::Local, model.element(env, first, asked.index))
+            }
+            _ => {
+                let wanted = asked.told(env, model);
+                return self.same(env, wanted, found);
+            }
+        };
+        self.made(env, kind, wanted, found);
+    }
+
     fn collect(&mut self, env: usize) {
         let tries = self.input.number();
         let wanted = self.by(env, |model| Ok(model.collect()));
@@ -366,7 +455,8 @@ impl Case<'_> {
             17..20 => self.frames(env),
             20 | 21 => self.length(env),
             22..25 => self.element(env),
-            25..28 => self.region(env),
+            25..27 => self.region(env),
+            27 => self.batch(env),
             28 | 29 => self.collect(env),
             30 => self.attach(),
             _ => match self.input.byte() {

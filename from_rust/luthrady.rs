@@ -40,11 +40,57 @@ pub struct Counts {
 }
 
 #[repr(C)]
-#[derive(Clone, Copy, Debug)]
+#[derive(Clone, Copy, Debug, Default, PartialEq, Eq)]
 struct Reply {
     value: u64,
     fault: u32,
     told: u32,
+}
+
+/// Which call a call of a batch is.
+#[derive(Clone, Copy, Debug, PartialEq, Eq)]
+pub enum Operation {
+    NewGlobalRef = 1,
+    NewWeakGlobalRef,
+    NewLocalRef,
+    DeleteGlobalRef,
+    DeleteWeakGlobalRef,
+    DeleteLocalRef,
+    IsSameObject,
+    GetObjectRefType,
+    GetArrayLength,
+    GetStringLength,
+    GetObjectArrayElement,
+    SetObjectArrayElement,
+}
+
+/// A call of a batch, and its answer.
+#[repr(C)]
+#[derive(Clone, Copy, Debug, PartialEq, Eq)]
+pub struct Call {
+    operation: u32,
+    index: u32,
+    first: u64,
+    second: u64,
+    reply: Reply,
+}
+
+impl Call {
+    /// A call that is handed these references, and an index.
+    pub fn new(operation: Operation, first: u64, second: u64, index: u32) -> Call {
+        Call {
+            operation: operation as u32,
+            index,
+            first,
+            second,
+            reply: Reply::default(),
+        }
+    }
+
+    /// What it answered in the batch that it was last in.
+    pub fn answer(&self) -> Answer<u64> {
+        self.reply.value()
+    }
 }
 
 #[repr(C)]
@@ -128,6 +174,7 @@ unsafe extern "C" {
     ) -> Reply;
     fn luthrady_collect(env: *mut Handle, out: *mut Counts) -> Reply;
     fn luthrady_collect_announced(env: *mut Handle, tries: u32, out: *mut Counts) -> Reply;
+    fn luthrady_batch(env: *mut Handle, calls: *mut Call, count: usize) -> Reply;
 }
 
 /// A refusal: its number, and what it tells beside it.
@@ -328,6 +375,11 @@ impl Env {
 
     pub fn set<E: Element>(&mut self, array: u64, start: u32, from: &[E]) -> Answer<()> {
         E::set(self, array, start, from)
+    }
+
+    /// Makes calls between one entry at the gate and one exit, and writes each answer to its call.
+    pub fn batch(&mut self, calls: &mut [Call]) -> Answer<()> {
+        unsafe { luthrady_batch(&mut self.0, calls.as_mut_ptr(), calls.len()) }.nothing()
     }
 
     pub fn collect(&mut self) -> Answer<Counts> {
