@@ -45,7 +45,7 @@ const RACED: u64 = ERROR + 12;
 const BARRED: u64 = ERROR + 13;
 
 /// A room: the gate, the top, slots, local words thread by thread, headers, and elements. Its sizes, and where headers and elements begin.
-struct Room {
+pub struct Room {
     row: Vec<AtomicU64>,
     threads: u64,
     slots: usize,
@@ -57,7 +57,7 @@ struct Room {
 }
 
 impl Room {
-    fn new(threads: u64) -> Room {
+    pub fn new(threads: u64) -> Room {
         // (or the compiler would leave out the checks of an index against them)
         let (slots, places, objects, words) = black_box((SLOTS, PLACES, OBJECTS, WORDS));
         let headers = 2 + slots + threads as usize * places;
@@ -112,7 +112,7 @@ struct Levels {
 }
 
 /// A thread's calls, with its local references in rings: of the free places, and of each frame.
-struct Env<'a> {
+pub struct Env<'a> {
     room: &'a Room,
     thread: u64,
     hint: usize,
@@ -130,7 +130,7 @@ const FRAMES: u16 = 256;
 const CAPACITY: u32 = 16;
 
 impl Env<'_> {
-    fn new(room: &Room, thread: u64) -> Env<'_> {
+    pub fn new(room: &Room, thread: u64) -> Env<'_> {
         let places = vec![Place::default(); room.places];
         let (free_end, base) = (room.places as u16, room.places as u16 + 1);
         let mut links = vec![Link::default(); room.places + 1 + FRAMES as usize];
@@ -694,7 +694,7 @@ impl Env<'_> {
 }
 
 /// The calls, as `jr_bench` names them.
-const CASES: [&str; 39] = [
+pub const CASES: [&str; 39] = [
     "get_object_ref_type(NULL)",
     "new_plain",
     "new_global_ref(local)",
@@ -907,7 +907,7 @@ fn make_all_in_stays(of_stays: usize, env: &mut Env, handed: &[u64]) -> usize {
 
 /// Makes the call with each of the handles: how often it answered as it should. (no part of its caller, so that its instructions can be counted)
 #[inline(never)]
-fn make_all(case: usize, env: &mut Env, handed: &[u64]) -> usize {
+pub fn make_all(case: usize, env: &mut Env, handed: &[u64]) -> usize {
     match case {
         STAYS.. => make_all_in_stays(case - STAYS, env, handed),
         0 => make_each(env, handed, type_of_null),
@@ -942,7 +942,7 @@ fn make_all(case: usize, env: &mut Env, handed: &[u64]) -> usize {
 }
 
 /// What each of so many calls is handed, in order.
-fn handed(case: usize, env: &mut Env, calls: u32) -> Vec<u64> {
+pub fn handed(case: usize, env: &mut Env, calls: u32) -> Vec<u64> {
     let case = if case < STAYS { case } else { OF_STAYS[case - STAYS] };
     let local = env.new_plain();
     let array = match case {

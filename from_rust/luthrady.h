@@ -28,6 +28,26 @@ struct luthrady_counts { uint32_t cleared, dropped, used; };
 struct luthrady_room { void *at; };
 struct luthrady_env { void *at; };
 
+/* Which call a call of a batch is. */
+enum luthrady_operation {
+    LUTHRADY_NEW_GLOBAL_REF = 1,
+    LUTHRADY_NEW_WEAK_GLOBAL_REF,
+    LUTHRADY_NEW_LOCAL_REF,
+    LUTHRADY_DELETE_GLOBAL_REF,
+    LUTHRADY_DELETE_WEAK_GLOBAL_REF,
+    LUTHRADY_DELETE_LOCAL_REF,
+    LUTHRADY_IS_SAME_OBJECT,
+    LUTHRADY_GET_OBJECT_REF_TYPE,
+    LUTHRADY_GET_ARRAY_LENGTH,
+    LUTHRADY_GET_STRING_LENGTH,
+    LUTHRADY_GET_OBJECT_ARRAY_ELEMENT,
+    LUTHRADY_SET_OBJECT_ARRAY_ELEMENT,
+};
+
+/* A call of a batch: which one it is, the index of an element and the references that it is handed, where it
+   has any, and its answer, which the batch writes. */
+struct luthrady_call { uint32_t operation, index; uint64_t first, second; struct luthrady_reply reply; };
+
 /* Opens a room of these sizes, and writes the pointer to it. */
 struct luthrady_reply luthrady_open(struct luthrady_sizes sizes, void **out);
 
@@ -138,5 +158,8 @@ struct luthrady_reply luthrady_collect(struct luthrady_env *env, struct luthrady
 /* Collects as `luthrady_collect` does, but announces it first, and tries so many times to shut the gate, at least once. */
 struct luthrady_reply luthrady_collect_announced(
     struct luthrady_env *env, uint32_t tries, struct luthrady_counts *out);
+
+/* Makes calls in one stay: each as by its own function, but between one entry at the gate and one exit. Each call's answer is written to it. A call whose number is none is E7. */
+struct luthrady_reply luthrady_batch(struct luthrady_env *env, struct luthrady_call *calls, size_t count);
 
 #endif

@@ -4,7 +4,7 @@
 //! - each declaration fits its function;
 //! - a handle is what `luthrady_open` or `luthrady_attach` wrote;
 //! - each handle is in one call at a time (`&mut self`);
-//! - none is used after its end.
+//! - a handle's memory stays, so that a call after a detach is E21.
 #![allow(dead_code)]
 
 use std::ptr;
@@ -40,11 +40,57 @@ pub struct Counts {
 }
 
 #[repr(C)]
-#[derive(Clone, Copy, Debug)]
+#[derive(Clone, Copy, Debug, Default, PartialEq, Eq)]
 struct Reply {
     value: u64,
     fault: u32,
     told: u32,
+}
+
+/// Which call a call of a batch is.
+#[derive(Clone, Copy, Debug, PartialEq, Eq)]
+pub enum Operation {
+    NewGlobalRef = 1,
+    NewWeakGlobalRef,
+    NewLocalRef,
+    DeleteGlobalRef,
+    DeleteWeakGlobalRef,
+    DeleteLocalRef,
+    IsSameObject,
+    GetObjectRefType,
+    GetArrayLength,
+    GetStringLength,
+    GetObjectArrayElement,
+    SetObjectArrayElement,
+}
+
+/// A call of a batch, and its answer.
+#[repr(C)]
+#[derive(Clone, Copy, Debug, PartialEq, Eq)]
+pub struct Call {
+    operation: u32,
+    index: u32,
+    first: u64,
+    second: u64,
+    reply: Reply,
+}
+
+impl Call {
+    /// A call that is handed these references, and an index.
+    pub fn new(operation: Operation, first: u64, second: u64, index: u32) -> Call {
+        Call {
+            operation: operation as u32,
+            index,
+            first,
+            second,
+            reply: Reply::default(),
+        }
+    }
+
+    /// What it answered in the batch that it was last in.
+    pub fn answer(&self) -> Answer<u64> {
+        self.reply.value()
+    }
 }
 
 #[repr(C)]
@@ -128,6 +174,7 @@ unsafe extern "C" {
     ) -> Reply;
     fn luthrady_collect(env: *mut Handle, out: *mut Counts) -> Reply;
     fn luthrady_collect_announced(env: *mut Handle, tries: u32, out: *mut Counts) -> Reply;
+    fn luthrady_batch(env: *mut Handle, calls: *mut Call, count: usize) -> Reply;
 }
 
 /// A refusal: its number, and what it tells beside it.
@@ -175,41 +222,67 @@ impl Room {
         Ok(Env(Handle { at }))
     }
 
-    /// Lets go of the room, to which no thread is attached any more.
-    pub fn release(mut self) {
+    /// Lets go of the envs of threads that were not attached: each later attach is E21.
+    pub fn release(&mut self) {
         unsafe { luthrady_release(&mut self.0) }
     }
 }
 
+/// What the elements of an array of numbers are.
+pub trait Element: Copy {
+    /// Makes an array.
+    fn new_array(env: &mut Env, length: u32) -> Answer<u64>;
+    /// Copies a part of an array out.
+    fn get(env: &mut Env, array: u64, start: u32, to: &mut [Self]) -> Answer<()>;
+    /// Copies elements into a part of an array.
+    fn set(env: &mut Env, array: u64, start: u32, from: &[Self]) -> Answer<()>;
+}
+
+macro_rules! element {
+    ($element:ty, $new:ident, $get:ident, $set:ident) => {
+        impl Element for $element {
+            fn new_array(env: &mut Env, length: u32) -> Answer<u64> {
+                unsafe { $new(&mut env.0, length) }.value()
+            }
+
+            fn get(env: &mut Env, array: u64, start: u32, to: &mut [Self]) -> Answer<()> {
+                let (at, count) = (to.as_mut_ptr(), to.len());
+                unsafe { $get(&mut env.0, array, start, at, count) }.nothing()
+            }
+
+            fn set(env: &mut Env, array: u64, start: u32, from: &[Self]) -> Answer<()> {
+                let (at, count) = (from.as_ptr(), from.len());
+                unsafe { $set(&mut env.0, array, start, at, count) }.nothing()
+            }
+        }
+    };
+}
+
+element!(
+    i8,
+    luthrady_new_byte_array,
+    luthrady_get_byte_array_region,
+    luthrady_set_byte_array_region
+);
+element!(
+    i32,
+    luthrady_new_int_array,
+    luthrady_get_int_array_region,
+    luthrady_set_int_array_region
+);
+element!(
+    i64,
+    luthrady_new_long_array,
+    luthrady_get_long_array_region,
+    luthrady_set_long_array_region
+);
+
 impl Env {
-    /// Detaches the thread. The last one of a room that was released closes it, and tells what stood there.
-    pub fn detach(mut self) -> Answer<Option<Stood>> {
+    /// Detaches the thread: each later call is E21. The last one of a room that was released closes it, and tells what stood there.
+    pub fn detach(&mut self) -> Answer<Option<Stood>> {
         let mut stood = Stood::default();
         let closed = unsafe { luthrady_detach(&mut self.0, &mut stood) }.value()?;
         Ok((closed == 1).then_some(stood))
-    }
-
-    pub fn new_int_array(&mut self, length: u32) -> Answer<u64> {
-        unsafe { luthrady_new_int_array(&mut self.0, length) }.value()
-    }
-
-    pub fn new_string(&mut self, units: &[u16]) -> Answer<u64> {
-        unsafe { luthrady_new_string(&mut self.0, units.as_ptr(), units.len()) }.value()
-    }
-
-    pub fn length(&mut self, array: u64) -> Answer<u32> {
-        let length = unsafe { luthrady_get_array_length(&mut self.0, array) }.value()?;
-        Ok(length as u32)
-    }
-
-    pub fn get(&mut self, array: u64, start: u32, to: &mut [i32]) -> Answer<()> {
-        let (at, count) = (to.as_mut_ptr(), to.len());
-        unsafe { luthrady_get_int_array_region(&mut self.0, array, start, at, count) }.nothing()
-    }
-
-    pub fn set(&mut self, array: u64, start: u32, from: &[i32]) -> Answer<()> {
-        let (at, count) = (from.as_ptr(), from.len());
-        unsafe { luthrady_set_int_array_region(&mut self.0, array, start, at, count) }.nothing()
     }
 
     pub fn global(&mut self, object: u64) -> Answer<u64> {
@@ -246,12 +319,67 @@ impl Env {
         Ok(same == 1)
     }
 
+    pub fn ensure(&mut self, capacity: u32) -> Answer<()> {
+        unsafe { luthrady_ensure_local_capacity(&mut self.0, capacity) }.nothing()
+    }
+
     pub fn push_frame(&mut self, capacity: u32) -> Answer<()> {
         unsafe { luthrady_push_local_frame(&mut self.0, capacity) }.nothing()
     }
 
     pub fn pop_frame(&mut self, kept: u64) -> Answer<u64> {
         unsafe { luthrady_pop_local_frame(&mut self.0, kept) }.value()
+    }
+
+    pub fn free_locals(&mut self) -> Answer<()> {
+        unsafe { luthrady_free_locals(&mut self.0) }.nothing()
+    }
+
+    pub fn new_plain(&mut self) -> Answer<u64> {
+        unsafe { luthrady_new_plain(&mut self.0) }.value()
+    }
+
+    pub fn new_array<E: Element>(&mut self, length: u32) -> Answer<u64> {
+        E::new_array(self, length)
+    }
+
+    pub fn new_objects(&mut self, length: u32, initial: u64) -> Answer<u64> {
+        unsafe { luthrady_new_object_array(&mut self.0, length, initial) }.value()
+    }
+
+    pub fn new_string(&mut self, units: &[u16]) -> Answer<u64> {
+        unsafe { luthrady_new_string(&mut self.0, units.as_ptr(), units.len()) }.value()
+    }
+
+    pub fn length(&mut self, array: u64) -> Answer<u32> {
+        let length = unsafe { luthrady_get_array_length(&mut self.0, array) }.value()?;
+        Ok(length as u32)
+    }
+
+    pub fn string_length(&mut self, string: u64) -> Answer<u32> {
+        let length = unsafe { luthrady_get_string_length(&mut self.0, string) }.value()?;
+        Ok(length as u32)
+    }
+
+    pub fn element(&mut self, array: u64, index: u32) -> Answer<u64> {
+        unsafe { luthrady_get_object_array_element(&mut self.0, array, index) }.value()
+    }
+
+    pub fn set_element(&mut self, array: u64, index: u32, value: u64) -> Answer<()> {
+        unsafe { luthrady_set_object_array_element(&mut self.0, array, index, value) }.nothing()
+    }
+
+    pub fn get<E: Element>(&mut self, array: u64, start: u32, to: &mut [E]) -> Answer<()> {
+        E::get(self, array, start, to)
+    }
+
+    pub fn set<E: Element>(&mut self, array: u64, start: u32, from: &[E]) -> Answer<()> {
+        E::set(self, array, start, from)
+    }
+
+    /// Makes calls between one entry at the gate and one exit, and writes each answer to its call.
+    pub fn batch(&mut self, calls: &mut [Call]) -> Answer<()> {
+        unsafe { luthrady_batch(&mut self.0, calls.as_mut_ptr(), calls.len()) }.nothing()
     }
 
     pub fn collect(&mut self) -> Answer<Counts> {

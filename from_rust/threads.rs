@@ -88,7 +88,7 @@ impl Native {
 
     /// An array of these elements, as a local reference.
     fn array(&mut self, elements: &[i32]) -> u64 {
-        let array = self.again(|env| env.new_int_array(elements.len() as u32));
+        let array = self.again(|env| env.new_array::<i32>(elements.len() as u32));
         self.again(|env| env.set(array, 0, elements));
         array
     }
@@ -143,7 +143,7 @@ fn run(number: u32, env: Env, to: &Mail, from: &Mail, rounds: i32) -> Tally {
     for round in 0..rounds {
         native.round(number as i32 * 1_000_000 + round, round, to, from);
     }
-    let Native { env, mut tally } = native;
+    let Native { mut env, mut tally } = native;
     tally.closed = env.detach().unwrap();
     tally
 }

@@ -3,4 +3,5 @@ pub mod Calls
 pub mod Collecting
 pub mod Threads
 pub mod Opening
+pub mod Batches
 pub mod Behind

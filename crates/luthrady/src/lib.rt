@@ -2,6 +2,7 @@
 #![tactic(auto)]
 
 mod arrays;
+mod batches;
 mod behind;
 mod calling;
 mod collecting;

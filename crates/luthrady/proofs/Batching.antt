@@ -1,0 +1,76 @@
+-- Calls of a batch that are made one after the other.
+use Rattle.std.proofs.Common.{◌≡◌, ◌<◌, ◌+◌, ◌++◌, ◌∙◌, ℕ, List, [], ◌∷◌, Option, Some, Result}
+use Rattle.std.proofs.Common.{ap, refl, subst, sym, drop, get_or, length, length-set, set, take}
+use Rattle.std.proofs.lemmas.List.{append_assoc, append-nil, drop_more, drop-set, take_more_set}
+use Rattle.std.proofs.Math.Seq.{drop-length, take-length}
+use Rattle.std.specs.Global.{Box}
+use Rattle.jr_word.specs.declared.fault.Fault.{Fault}
+use Rattle.jr_steps.specs.declared.steps.Steps.{Ghosts}
+use Rattle.jr_env.specs.declared.stay.Stay.{Stay}
+use Rattle.luthrady.specs.declared.batches.Call.{Call}
+use Rattle.luthrady.specs.declared.held.Native.{Native}
+use Rattle.luthrady.specs.declared.reply.Reply.{Reply}
+use Rattle.luthrady.specs.Batches.{AreMade, ByThreadInStay, WasMadeInStay, WasStayed}
+
+-- the call with this answer
+abbrev pub told : Call → Reply → Call
+told c r = record c { reply = r }
+
+module _ {S : Type 0} {G : Ghosts S} where
+  -- those before an index were made: with what is done of the rest, all are
+  pub record AreMadeTo (first now : Stay S G) (calls after : List Call) (i : ℕ) : Type 0 where
+    pub size : length after ≡ length calls
+    pub left : drop i after ≡ drop i calls
+    pub made : (last : Stay S G) (rest : List Call) → AreMade now last (drop i calls) rest
+        → AreMade first last calls (take i after ++ rest)
+
+  -- none was made yet
+  pub none_made : (first : Stay S G) (calls : List Call) → AreMadeTo first first calls calls 0
+  none_made first calls = record { size = refl; left = refl; made = λ last rest m. m }
+
+  -- one more was made
+  pub one_made : (first now next : Stay S G) (calls after : List Call) (i : ℕ) (r : Reply) (d : Call)
+      → i < length after → AreMadeTo first now calls after i → WasMadeInStay now next (get_or after i d) r
+      → AreMadeTo first next calls (set after i (told (get_or after i d) r)) (i + 1)
+  one_made first now next calls after i r d less to is =
+      let c = told (get_or after i d) r in
+      let there = subst (λ n. i < n) to.size less in
+      let both = sym (drop_more after i d less) ∙ to.left ∙ drop_more calls i d there in
+      let tails : drop (i + 1) after ≡ drop (i + 1) calls = ap (drop 1) both in
+      let begins : drop i calls ≡ get_or after i d ∷ drop (i + 1) calls =
+      sym to.left ∙ drop_more after i d less ∙ ap (λ l. get_or after i d ∷ l) tails in
+      let still = subst (λ n. i < n) (sym (length-set after i c)) less in
+      let behind : drop (i + 1) (set after i c) ≡ drop (i + 1) after =
+      ap (drop 1) (sym (drop_more (set after i c) i d still) ∙ drop-set after i c less) in
+      record {
+        size = length-set after i c ∙ to.size;
+        left = behind ∙ tails;
+        made = λ last rest m.
+            let all = to.made last (c ∷ rest)
+            (subst (λ l. AreMade now last l (c ∷ rest)) (sym begins) (next, r, rest, refl, is, m)) in
+            let seam : take i after ++ (c ∷ rest) ≡ take (i + 1) (set after i c) ++ rest =
+            sym (append_assoc (take i after) (c ∷ []) rest)
+            ∙ ap (λ l. l ++ rest) (sym (take_more_set after i c less)) in
+            subst (λ l. AreMade first last calls l) seam all;
+      }
+
+  -- all were made
+  pub all_made : (first last : Stay S G) (calls after : List Call) (i : ℕ) → i ≡ length calls
+      → AreMadeTo first last calls after i → AreMade first last calls after
+  all_made first last calls after i end to =
+      let none : drop i calls ≡ [] = subst (λ n. drop n calls ≡ []) (sym end) (drop-length calls) in
+      let all = to.made last [] (subst (λ l. AreMade last last l []) (sym none) (refl, refl)) in
+      let whole : take i after ≡ after =
+      subst (λ n. take n after ≡ after) (sym (end ∙ sym to.size)) (take-length after) in
+      subst (λ l. AreMade first last calls l) (append-nil (take i after) ∙ whole) all
+
+-- what the env did in one stay that stood behind the pointer is the thread's
+pub by_thread_in_stay : (cs after : List Call) (answer : Result (Unit {0}) Fault) (o : Option (Box Native))
+    (n m : Box Native) (k : Native)
+    → o ≡ Some n → k ≡ n.value → WasStayed k.env m.value.env cs after answer → m.value.marker ≡ k.marker
+    → ByThreadInStay o (Some m) cs after answer
+by_thread_in_stay cs after answer o n m k is same stayed marker =
+    let there = subst (λ (x : Native). WasStayed x.env m.value.env cs after answer × (m.value.marker ≡ x.marker)) same
+    (stayed, marker) in
+    subst (λ (x : Option (Box Native)). ByThreadInStay x (Some m) cs after answer) (sym is)
+    (m, refl, there.0, there.1)

@@ -1,0 +1,177 @@
+//! Several calls in one stay.
+ghost use Rattle.std.specs.Prelude.{◌≡◌, IfSome, None};
+ghost use Rattle.jr_env.specs.LentStays.{env_in};
+ghost use Rattle.luthrady.specs.Batches.{operation_number, AreMade, BatchReplied, WasMadeInStay, WasBatched, WasStayed};
+
+use crate::behind::env_of;
+use crate::handles::EnvHandle;
+use crate::held::Native;
+use crate::reply::{Reply, of_bool, of_byte, of_nothing, of_number, of_optional};
+use jr_env::{Env, Stay};
+use jr_steps::Steps;
+use jr_word::{Fault, Handle};
+
+/// Which call it is.
+#[derive(Clone, Copy)]
+pub enum Operation {
+    /// 1
+    NewGlobalRef,
+    /// 2
+    NewWeakGlobalRef,
+    /// 3
+    NewLocalRef,
+    /// 4
+    DeleteGlobalRef,
+    /// 5
+    DeleteWeakGlobalRef,
+    /// 6
+    DeleteLocalRef,
+    /// 7
+    IsSameObject,
+    /// 8
+    GetObjectRefType,
+    /// 9
+    GetArrayLength,
+    /// 10
+    GetStringLength,
+    /// 11
+    GetObjectArrayElement,
+    /// 12
+    SetObjectArrayElement,
+}
+
+/// A call of a batch, and its answer.
+#[repr(C)]
+#[derive(Clone, Copy)]
+pub struct Call {
+    /// Which call it is, by its number.
+    pub operation: u32,
+    /// The index of an element, where the call has one.
+    pub index: u32,
+    /// The reference that it is handed.
+    pub first: u64,
+    /// The second reference, where the call has one.
+    pub second: u64,
+    /// What it answered.
+    pub reply: Reply,
+}
+
+impl Operation {
+    /// The call with a number, if one has it.
+    fn of(number: u32) -> Option<Self>
+        ensures sound { IfSome result (λ operation. number ≡ operation_number operation) }
+        ensures complete { (operation : _) → number ≡ operation_number operation → result ≡ Some operation }
+    {
+        match number {
+            1 => Some(Operation::NewGlobalRef),
+            2 => Some(Operation::NewWeakGlobalRef),
+            3 => Some(Operation::NewLocalRef),
+            4 => Some(Operation::DeleteGlobalRef),
+            5 => Some(Operation::DeleteWeakGlobalRef),
+            6 => Some(Operation::DeleteLocalRef),
+            7 => Some(Operation::IsSameObject),
+            8 => Some(Operation::GetObjectRefType),
+            9 => Some(Operation::GetArrayLength),
+            10 => Some(Operation::GetStringLength),
+            11 => Some(Operation::GetObjectArrayElement),
+            12 => Some(Operation::SetObjectArrayElement),
+            _ => None,
+        }
+    }
+}
+
+/// Makes calls in one stay: each as by its own function, but between one entry at the gate and one exit. Each call's answer is written to it. A call whose number is none is E7.
+///
+/// # Errors
+///
+/// E21 where the thread was detached; E13 where a thread is collecting at the entry, or has announced it. No call is made then.
+#[unsafe(no_mangle)]
+pub extern "C" fn luthrady_batch(env: &mut EnvHandle, calls: &mut [Call]) -> Reply
+    ensures { BatchReplied env.old env.new calls.old calls.new result }
+{
+    of_nothing(batch(env, calls))
+}
+
+/// Makes calls in one stay of the env behind a pointer.
+///
+/// # Errors
+///
+/// E21 where the thread was detached; E13 where no stay was entered.
+fn batch(handle: &mut EnvHandle, calls: &mut [Call]) -> Result<(), Fault>
+    ensures { WasBatched handle.old handle.new calls.old calls.new result }
+{
+    let Some(native) = &mut env_of(handle).native else {
+        return Err(Fault::NotFresh);
+    };
+    batch_by(&mut *native, calls)
+}
+
+/// Makes calls in one stay of a thread's env.
+///
+/// # Errors
+///
+/// E13 where no stay was entered.
+fn batch_by(native: &mut Native, calls: &mut [Call]) -> Result<(), Fault>
+    ensures call { WasStayed native.old.env native.new.env calls.old calls.new result }
+    ensures marker { native.new.marker ≡ native.old.marker }
+{
+    in_one_stay(&mut native.env, calls)
+}
+
+/// Makes calls in one stay.
+///
+/// # Errors
+///
+/// E13 where no stay was entered.
+fn in_one_stay<S: Steps>(env: &mut Env<S>, calls: &mut [Call]) -> Result<(), Fault>
+    ensures { WasStayed env.old env.new calls.old calls.new result }
+{
+    match env.stay() {
+        Ok(mut stay) => {
+            make_all(&mut stay, calls);
+            stay.end();
+            Ok(())
+        }
+        Err(fault) => Err(fault),
+    }
+}
+
+/// Makes calls in a stay, one after the other.
+fn make_all<S: Steps>(stay: &mut Stay<'_, S>, calls: &mut [Call])
+    ensures same_reference { (env_in stay.new).ghost_name ≡ (env_in stay.old).ghost_name }
+    ensures made { AreMade stay.old stay.new calls.old calls.new }
+{
+    for index in 0..calls.len() {
+        calls[index].reply = make_one(stay, calls[index]);
+    }
+}
+
+/// Makes a call in a stay.
+fn make_one<S: Steps>(stay: &mut Stay<'_, S>, call: Call) -> Reply
+    ensures same_reference { (env_in stay.new).ghost_name ≡ (env_in stay.old).ghost_name }
+    ensures made { WasMadeInStay stay.old stay.new call result }
+{
+    let first = Handle(call.first);
+    let second = Handle(call.second);
+    let Some(operation) = Operation::of(call.operation) else {
+        return of_nothing(Err(Fault::Range));
+    };
+    match operation {
+        Operation::NewGlobalRef => of_optional(stay.new_global_ref(first)),
+        Operation::NewWeakGlobalRef => of_optional(stay.new_weak_global_ref(first)),
+        Operation::NewLocalRef => of_optional(stay.new_local_ref(first)),
+        Operation::DeleteGlobalRef => of_nothing(stay.delete_global_ref(first)),
+        Operation::DeleteWeakGlobalRef => of_nothing(stay.delete_weak_global_ref(first)),
+        Operation::DeleteLocalRef => of_nothing(stay.delete_local_ref(first)),
+        Operation::IsSameObject => of_bool(stay.is_same_object(first, second)),
+        Operation::GetObjectRefType => of_byte(stay.get_object_ref_type(first)),
+        Operation::GetArrayLength => of_number(stay.get_array_length(first)),
+        Operation::GetStringLength => of_number(stay.get_string_length(first)),
+        Operation::GetObjectArrayElement => {
+            of_optional(stay.get_object_array_element(first, call.index))
+        }
+        Operation::SetObjectArrayElement => {
+            of_nothing(stay.set_object_array_element(first, call.index, second))
+        }
+    }
+}
