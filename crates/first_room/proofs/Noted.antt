@@ -1,6 +1,7 @@
 -- What is handed on with a note, and what is learned by it.
 use Rattle.std.proofs.Common.{◌≡◌, ◌∙◌, ℕ, [], Result, Ok, ap, sym, subst, refl}
 use mathlib.Core.Logic.{∥∥₁_map}
+use Rattle.jr_word.specs.declared.config.Config.{Config}
 use Rattle.jr_word.specs.declared.fault.Fault.{Fault}
 use Rattle.jr_model.specs.Frames.{Frames}
 use Rattle.jr_model.proofs.Agreement.{agree_spared}
@@ -17,23 +18,25 @@ use Rattle.jr_rule.specs.Rule.{stepping_pass}
 use Rattle.jr_env.specs.Deeds.{Deed, DoesDeed, DoesOutside}
 use Rattle.first_room.specs.declared.TheConstants.{LAST, SIZES}
 use Rattle.first_room.specs.Calls.{HasPrepared, is_handed, preparing}
-use Rattle.first_room.specs.Moments.{seen_by}
-use Rattle.first_room.specs.Parts.{HasCome}
-use Rattle.first_room.proofs.OneHistory.{Since, since}
+use Rattle.jr_threads.specs.Parts.{ComesOfDeed, DidWithPass}
+use Rattle.jr_threads.proofs.OneHistory.{since}
 use Rattle.first_room.proofs.Played.{does_from}
 
 -- the note says what the first thread had seen as it had prepared
 pub is_prepared : (r : Row) (p : Pass) (now : Holder) (weak global : ℕ) (n : Note) → r.config ≡ SIZES → r.last ≡ LAST
     → IsOpened r p → p.thread ≡ 0
-    → HasCome preparing p now (weak, global)
+    → DidWithPass preparing p now (weak, global)
     → ∥ ((k : Known) × (facts_of now).knows k) ∥₁ → HasSeenJust facts_of now (seen_by_note n)
     → ∥ HasPrepared global (seen_by_note n) ∥₁
 is_prepared r p now weak global n config_is last_is o first come some just =
     let x : ℕ × ℕ = (weak, global) in
-    let s = subst (λ t. Since preparing t x (stepping_pass now.seat.me)) first
-    (since preparing r p now x config_is last_is o come) in
-    ∥∥₁_map some (λ k.
-    (weak, s.left, s.plays, s.saw ∙ ap (seen_by 0) (sym (just k.0 k.1 ∙ ap (λ (z : Known). z.seen) k.1.0))))
+    let there = subst (λ (z : Config × ℕ × ℕ). ComesOfDeed z.0 z.1 z.2 preparing x (stepping_pass now.seat.me).seen)
+    (λ i. (config_is i, last_is i, first i)) (since preparing r p now x o come) in
+    ∥∥₁_map some (λ k. (
+      weak,
+      subst (ComesOfDeed SIZES LAST 0 preparing x)
+          (sym (just k.0 k.1 ∙ ap (λ (z : Known). z.seen) k.1.0)) there,
+    ))
 
 module _ {S : Type 0} {facts : S → Facts} where
   -- a call behind the making of a note is one before it

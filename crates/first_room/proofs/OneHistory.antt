@@ -1,179 +1,110 @@
 -- What both threads did, in one history.
-use Rattle.std.proofs.Common.{◌≡◌, ◌≤◌, ◌∙◌, ℕ, ℤ, FitsSigned, Bool, false, List}
-use Rattle.std.proofs.Common.{[], ◌∷◌, ◌++◌, map, Ok, ap, subst, sym, refl}
-use Rattle.std.proofs.lemmas.List.{append-nil}
-use Rattle.std.specs.Prelude.{slice_index_or, remove}
+use Rattle.std.specs.Prelude.{Result, Ok, Err, MatchResult, IfOk, slice_index_or, remove}
+use Rattle.std.proofs.Common.{◌≡◌, ◌≤◌, ◌∙◌, ℕ, zero, suc, ℤ, FitsSigned, Bool, true, Option, List, [], ◌∷◌, map}
+use Rattle.std.proofs.Common.{ap, subst, sym, arith}
 use Rattle.std.specs.Int.{w32}
-use Rattle.std.specs.List.{AllByRecursion}
-use Rattle.std.proofs.lemmas.List.Elements.{recursion_from_All}
+use Rattle.std.specs.List.{All}
+use Rattle.atomic_table.specs.Seated.{TableId}
 use Rattle.first_room.specs.declared.TheConstants.{LAST, SIZES}
 use Rattle.jr_word.specs.declared.config.Config.{Config}
 use Rattle.jr_word.specs.Elem.{signed_of, signed_word}
 use Rattle.jr_word.specs.ElementLaws.{i32_laws}
-use Rattle.jr_model.specs.declared.event.Act.TheVariants.{Meet}
 use Rattle.jr_model.specs.declared.summary.Summary.{Summary}
-use Rattle.jr_model.specs.State.{summary}
-use Rattle.jr_model.specs.History.{History, Did, IsLegal, mine, state}
-use Rattle.jr_model.specs.Frames.{fresh_frames}
-use Rattle.jr_model.proofs.Moments.{prefix_trans}
-use Rattle.jr_steps.specs.declared.known.Known.{Known}
-use Rattle.jr_steps.specs.Holdings.{empty}
-use Rattle.jr_steps.specs.Knowing.{Standing, Holds, view}
-use Rattle.jr_steps.proofs.StepFacts.{goes_did}
-use Rattle.jr_gate.specs.Performing.{ThreadState, thread_state, thread_state_with}
 use Rattle.jr_rule.specs.declared.pass.Pass.{Pass}
+use Rattle.jr_rule.specs.declared.room.Room.{Room}
 use Rattle.jr_rule.specs.declared.row.Row.{Row}
-use Rattle.jr_rule.specs.Rule.{known, stepping_pass}
-use Rattle.jr_rule.specs.Passes.{Holder, facts_of, holder_of, known_of, standing_of}
-use Rattle.jr_rule.specs.Passes.{AreOpened, ClosesAll, IsOpened, IsSeenIn}
-use Rattle.jr_env.specs.Deeds.{Deed, DoesDeed}
-use Rattle.first_room.specs.Calls.{sharing, visiting}
+use Rattle.jr_rule.specs.Passes.{AreOpened, ClosesAll, holder_of, known_of}
+use Rattle.jr_rule.specs.Sites.{IsPassOf}
+use Rattle.jr_threads.specs.Parts.{DidWithPass, RanTogether}
+use Rattle.jr_threads.specs.Sites.{IsBack}
+use Rattle.jr_threads.proofs.OneHistory.{have_run}
+use Rattle.jr_threads.proofs.Passes.{is_back, opened_so}
+use Rattle.first_room.specs.Calls.{Found, Shared, Visited, story}
 use Rattle.first_room.specs.Hour.{IsTrueReport}
+use Rattle.first_room.specs.Sites.{HasCome, IsRoomOf}
 use Rattle.first_room.proofs.ReadIsWritten.{read_is_written}
-use Rattle.first_room.specs.Moments.{first_moment, seen_by}
-use Rattle.first_room.specs.Parts.{HasCome, HasShared, HasVisited, PlaysPart}
 
--- a pass that was opened knows what it shows
-opened_knows : (r : Row) (p : Pass) → IsOpened r p → (facts_of (holder_of p)).knows (known_of p)
-opened_knows r p o = (
-  refl,
-  record {
-    config = refl;
-    last = refl;
-    thread = refl;
-    role = p.held.role_is;
-    legal = subst (λ (k : Known). IsLegal k.config k.last k.seen) (sym o.knows) tt;
-  },
-)
-
--- what a thread did since its pass was opened
-pub record Since {A : Type 0} (story : Deed A) (t : ℕ) (x : A) (k : Known) : Type 0 where
-  pub same_config : k.config ≡ SIZES
-  pub same_last : k.last ≡ LAST
-  pub is_of : k.thread ≡ t
-  pub left : ThreadState
-  pub plays : story (first_moment t) (Ok x) left
-  pub saw : left.pass ≡ seen_by t k.seen
-
-pub since : {A : Type 0} (story : Deed A) (r : Row) (p : Pass) (now : Holder) (x : A) → r.config ≡ SIZES → r.last ≡ LAST
-    → IsOpened r p → HasCome story p now x → Since story p.thread x (stepping_pass now.seat.me)
-since story r p now x config_is last_is o h =
-    let t = p.thread in
-    let known_now = stepping_pass now.seat.me in
-    let k0 : Known = known SIZES LAST t [] empty 0 in
-    let knows0 : known_of p ≡ k0 = o.knows ∙ (λ i. known (config_is i) (last_is i) t [] empty 0) in
-    let fresh : fresh_frames (standing_of p).config.locals ≡ fresh_frames SIZES.locals =
-    ap (λ (k : Known). fresh_frames k.config.locals) knows0 in
-    let spent : (facts_of h.spent).stands ≡ record (standing_of p) { fresh = false } = (h.spends).stands_is in
-    let did : DoesDeed facts_of h.spent now (fresh_frames SIZES.locals) h.frames story (Ok x) =
-    subst (λ f. DoesDeed facts_of h.spent now f h.frames story (Ok x)) fresh h.did in
-    let holds0 : Holds (fresh_frames SIZES.locals) k0 = λ place. refl in
-    let y = did.did (known_of p) (((h.spends).same (known_of p)).0 (opened_knows r p o))
-    (subst (Holds (fresh_frames SIZES.locals)) (sym knows0) holds0) in
-    let is : y.0 ≡ known_now = y.1.0 in
-    let s = did.stands_is in
-    let same_config : known_now.config ≡ SIZES =
-    s.config ∙ (ap (λ (z : Standing). z.config) spent ∙ ap (λ (k : Known). k.config) knows0) in
-    let same_last : known_now.last ≡ LAST =
-    s.last ∙ (ap (λ (z : Standing). z.last) spent ∙ ap (λ (k : Known). k.last) knows0) in
-    let is_of : known_now.thread ≡ t = s.thread ∙ (ap (λ (z : Standing). z.thread) spent ∙ p.held.thread_is) in
-    let first_hint : (h.spent).hint ≡ 0 = (h.spends).hint_is ∙ o.hint in
-    let end : Known → ThreadState = λ k. thread_state (facts_of now) k h.frames in
-    let from : story (first_moment t) (Ok x) (end y.0)
-    = subst (λ i. story (thread_state_with false i k0 (fresh_frames SIZES.locals)) (Ok x) (end y.0)) first_hint
-    (subst (λ b. story (thread_state_with b (h.spent).hint k0 (fresh_frames SIZES.locals)) (Ok x) (end y.0))
-    (ap (λ (z : Standing). z.fresh) spent)
-    (subst (λ (k : Known). story (thread_state (facts_of h.spent) k (fresh_frames SIZES.locals)) (Ok x) (end y.0))
-    knows0 y.3)) in
-    record {
-      same_config = same_config;
-      same_last = same_last;
-      is_of = is_of;
-      left = end known_now;
-      plays = subst (λ (k : Known). story (first_moment t) (Ok x) (end k)) is from;
-      saw = λ i. record { config = same_config i; last = same_last i; thread = is_of i; seen = known_now.seen };
-    }
-
--- the part of a thread that only made its calls
-part_of_second : {A : Type 0} (story : Deed A) (whole : History) (t : ℕ) (x : A) (k : Known) → Since story t x k
-    → IsSeenIn whole k → PlaysPart whole t story x []
-part_of_second story whole t x k p s = record {
-  seen = k.seen;
-  left = p.left;
-  plays = p.plays;
-  saw = p.saw;
-  begins = s.begins;
-  own = ap (mine whole) (sym p.is_of) ∙ (s.own ∙ (ap (mine k.seen) p.is_of ∙ sym (append-nil (mine k.seen t))));
-}
-
--- the part of the one that looks at the gate at the end
-part_of_first : {A : Type 0} (story : Deed A) (whole : History) (t : ℕ) (x : A) (k met : Known) → Since story t x k
-    → Did (view k) (view met) (Meet ∷ []) → IsSeenIn whole met → PlaysPart whole t story x (Meet ∷ [])
-part_of_first story whole t x k met p d s = record {
-  seen = k.seen;
-  left = p.left;
-  plays = p.plays;
-  saw = p.saw;
-  begins = prefix_trans k.seen met.seen whole d.begins s.begins;
-  own = ap (mine whole) (sym (d.thread ∙ p.is_of))
-      ∙ (s.own ∙ (ap (mine met.seen) d.thread ∙ (d.own ∙ ap (λ l. l ++ Meet ∷ []) (ap (mine k.seen) p.is_of))));
-}
-
--- the two passes of a room, the first first
-pub record AreFirst (r : Row) (p q : Pass) : Type 0 where
+-- the two passes of the room, the first first: no other is left once both are removed
+pub record AreBoth (ps rs : List Pass) (p q : Pass) : Type 0 where
+  pub all : ps ≡ p ∷ q ∷ []
   pub first : p.thread ≡ 0
   pub second : q.thread ≡ 1
-  pub opened : IsOpened r p
-  pub also : IsOpened r q
+  pub none : rs ≡ []
 
-pub two_passes : (r : Row) (ps qs : List Pass) (p q : Pass) → AreOpened SIZES LAST r ps → p ≡ slice_index_or ps 0 p
-    → qs ≡ remove ps 0 → q ≡ slice_index_or qs 0 q → AreFirst r p q
-two_passes r ps qs p q o first rest second = both ps o.threads (recursion_from_All (IsOpened r) ps o.each) first (second
-    ∙ ap (λ l. slice_index_or l 0 q) rest) where
-      both : (xs : List Pass) → map (λ (z : Pass). z.thread) xs ≡ 0 ∷ 1 ∷ [] → AllByRecursion (IsOpened r) xs
-          → p ≡ slice_index_or xs 0 p → q ≡ slice_index_or (remove xs 0) 0 q → AreFirst r p q
-      both [] e a f s = absurd cc
-      both (x ∷ []) e a f s = absurd cc
-      both (x ∷ y ∷ []) e a f s = record {
-        first = ap (λ (z : Pass). z.thread) f ∙ ap (λ l. slice_index_or l 0 0) e;
-        second = ap (λ (z : Pass). z.thread) s ∙ ap (λ l. slice_index_or l 1 0) e;
-        opened = subst (IsOpened r) (sym f) a.0;
-        also = subst (IsOpened r) (sym s) a.1.0;
-      }
-      both (x ∷ y ∷ z ∷ zs) e a f s = absurd cc
+pub both_passes : (r : Row) (ps qs rs : List Pass) (p q : Pass) → AreOpened SIZES LAST r ps
+    → p ≡ slice_index_or ps 0 p → qs ≡ remove ps 0 → q ≡ slice_index_or qs 0 q → rs ≡ remove qs 0 → AreBoth ps rs p q
+both_passes r ps qs rs p q o first rest second none =
+    go ps o.threads first (second ∙ ap (λ l. slice_index_or l 0 q) rest) (none ∙ ap (λ l. remove l 0) rest)
+  where
+    go : (xs : List Pass) → map (λ (z : Pass). z.thread) xs ≡ 0 ∷ 1 ∷ [] → p ≡ slice_index_or xs 0 p
+        → q ≡ slice_index_or (remove xs 0) 0 q → rs ≡ remove (remove xs 0) 0 → AreBoth xs rs p q
+    go [] e f s n = absurd cc
+    go (x ∷ []) e f s n = absurd cc
+    go (x ∷ y ∷ []) e f s n = record {
+      all = λ i. sym f i ∷ sym s i ∷ [];
+      first = ap (λ (z : Pass). z.thread) f ∙ ap (λ l. slice_index_or l 0 0) e;
+      second = ap (λ (z : Pass). z.thread) s ∙ ap (λ l. slice_index_or l 1 0) e;
+      none = n;
+    }
+    go (x ∷ y ∷ z ∷ zs) e f s n = absurd cc
+
+-- a pass that came back to the room
+pub came_back : (site : Option TableId) (sizes : Config) (room : Room LAST) (t : ℕ) (p q : Pass) (x : Found)
+    → IsRoomOf site sizes room → p.thread ≡ t → HasCome site sizes t p q x → IsBack room.row p q
+came_back site sizes room t p q x is own h = is_back room p q
+    (subst (λ (z : Option TableId × Config × ℕ). IsPassOf z.0 z.1 LAST z.2 q)
+    (λ i. (sym is.room_is i, sym is.sizes_are i, (sym own ∙ sym p.held.thread_is) i)) h.back) h.outside
+
+-- the second pass is all that is closed with the first
+pub only_other : (P : Pass → Type 0) (others : List Pass) (q : Pass) → others ≡ q ∷ [] → P q → All P others
+only_other P others q is at = subst (All P) (sym is) only where
+  only : All P (q ∷ [])
+  only zero d below = at
+  only (suc k) d below = absurd (omega arith)
 
 -- ALL IS TRUE
-pub all_true : (r : Row) (ps qs others : List Pass) (p q p' q' : Pass) (inside : ℕ) (cleared : Bool) (kind : ℕ)
+pub all_true : (r : Row) (ps rs others : List Pass) (p q p' q' : Pass) (inside : ℕ) (cleared : Bool) (kind : ℕ)
     (read : ℤ) (s : Summary)
-    → AreOpened SIZES LAST r ps → p ≡ slice_index_or ps 0 p → qs ≡ remove ps 0 → q ≡ slice_index_or qs 0 q
-    → HasShared p p' inside cleared kind → HasVisited q q' read
+    → AreOpened SIZES LAST r ps → AreBoth ps rs p q → IsBack r p p' → IsBack r q q'
+    → DidWithPass (story 0) p (holder_of p') (Shared inside cleared kind)
+    → DidWithPass (story 1) q (holder_of q') (Visited (signed_word w32 read))
     → others ≡ q' ∷ [] → ClosesAll (known_of p') (map known_of others) s → 1 ≤ inside → FitsSigned w32 read
     → IsTrueReport (record { read = read; inside = inside; cleared = cleared; kind = kind; left = s })
-all_true r ps qs others p q p' q' inside cleared kind read s o first rest second shares visits only closes some fits =
-    let x : ℕ × Bool × ℕ = (inside, cleared, kind) in
-    let w = signed_word w32 read in
-    let are = two_passes r ps qs p q o first rest second in
-    let one = subst (λ t. Since sharing t x (known_of p')) are.first
-    (since sharing r p (holder_of p') x o.same_config o.same_last are.opened shares) in
-    let two = subst (λ t. Since visiting t w (known_of q')) are.second
-    (since visiting r q (holder_of q') w o.same_config o.same_last are.also visits) in
-    let ends = subst (λ l. ClosesAll (known_of p') (map known_of l) s) only closes in
-    let d = goes_did ends.goes in
-    let end = ends.ends in
-    let met = ends.met in
-    let met_config : met.config ≡ SIZES = d.config ∙ one.same_config in
-    let met_last : met.last ≡ LAST = d.last ∙ one.same_last in
-    let legal : IsLegal SIZES LAST end.whole =
-    subst (λ (z : Config × ℕ). IsLegal z.0 z.1 end.whole) (λ i. (met_config i, met_last i)) end.legal in
-    let first_part = part_of_first sharing end.whole 0 x (known_of p') met one d end.first in
-    let second_part = part_of_second visiting end.whole 1 w (known_of q') two end.others.0 in
+all_true r ps rs others p q p' q' inside cleared kind read s o are p_back q_back shares visits only closes some fits =
+    let x = Shared inside cleared kind in
+    let y = Visited (signed_word w32 read) in
+    let ran = have_run (λ z. true) story r (p ∷ q ∷ [])
+    (record { answer = x; pass = p' } ∷ record { answer = y; pass = q' } ∷ []) p' others s
+    (opened_so (subst (AreOpened SIZES LAST r) are.all o)) (
+      record {
+        back = p_back;
+        came = λ _. subst (λ t. DidWithPass (story t) p (holder_of p') x) (sym are.first) shares;
+      },
+      (
+        record {
+          back = q_back;
+          came = λ _. subst (λ t. DidWithPass (story t) q (holder_of q') y) (sym are.second) visits;
+        },
+        tt,
+      ),
+    )
+    (λ i. p' ∷ only i) closes in
+    let so : RanTogether (λ z. true) story SIZES LAST (x ∷ y ∷ []) s =
+    subst (λ (z : Config × ℕ). RanTogether (λ z. true) story z.0 z.1 (x ∷ y ∷ []) s)
+    (λ i. (o.same_config i, o.same_last i)) ran in
     record {
-      whole = end.whole;
-      legal = legal;
-      first = first_part;
-      second = second_part;
-      is_read = sym (i32_laws.takes_back read fits)
-          ∙ ap (signed_of w32) (read_is_written end.whole x w legal first_part second_part);
-      is_left = end.is ∙ ap (λ (z : Config × ℕ). summary z.0 z.1 (state end.whole)) (λ i. (met_config i, met_last i));
+      ran = so;
+      is_read = sym (i32_laws.takes_back read fits) ∙ ap (signed_of w32)
+          (read_is_written so.whole x (signed_word w32 read) so.legal (so.parts 0 x (omega arith))
+          (so.parts 1 y (omega arith)));
       some = some;
     }
+
+-- an answer whose refusal was given another form is the same
+pub ok_as : {X E : Type 0} (D : Type 0) (r : Result X E) (x : X) (P : X → Type 0)
+    → MatchResult r (λ y. ◌≡◌ {A = Result X D} (Ok x) (Ok y)) (λ e. ⊥) → IfOk r P → P x
+ok_as D (Ok y) x P is h = subst P (sym (ap (either_way x) is)) h where
+  either_way : {X D : Type 0} → X → Result X D → X
+  either_way z (Ok v) = v
+  either_way z (Err e) = z
+ok_as D (Err e) x P is h = absurd is

@@ -1,5 +1,5 @@
 -- What the calls of each thread come to, over any steps, for whatever was known.
-use Rattle.std.proofs.Common.{◌≡◌, ◌<◌, ◌∙◌, ℕ, ℤ, Bool, Option, Some, None, [], ◌∷◌, Result}
+use Rattle.std.proofs.Common.{◌≡◌, ◌<◌, ◌≤◌, ◌∙◌, ℕ, ℤ, Bool, Option, Some, None, [], ◌∷◌, Result}
 use Rattle.std.proofs.Common.{Ok, Err, IfOk, length, inl, refl, sym, ap, subst, arith}
 use Rattle.std.specs.Int.{w32}
 use Rattle.std.specs.Prelude.{unwrap_or}
@@ -11,14 +11,12 @@ use Rattle.jr_word.specs.declared.kind.Kind.TheVariants.{Int, Long}
 use Rattle.jr_word.specs.Elem.{signed_word}
 use Rattle.jr_model.specs.declared.event.Role.{Role}
 use Rattle.jr_model.specs.declared.event.Role.TheVariants.{Outside}
-use Rattle.jr_model.specs.Frames.{Frames, fresh_frames}
+use Rattle.jr_model.specs.Frames.{Frames}
 use Rattle.jr_model.specs.Objects.{get_array_critical, region_get}
 use Rattle.jr_steps.specs.declared.known.Known.{Known}
-use Rattle.jr_steps.specs.Knowing.{AreOf, Facts, Holds, Spent, Standing}
+use Rattle.jr_steps.specs.Knowing.{AreOf, Facts, Holds, Standing}
 use Rattle.jr_gate.specs.Performing.{IsAsBefore, thread_state, thread_state_with}
 use Rattle.jr_env.proofs.Carrying.{did_in_role, did_more, did_reply, does_then, own_call}
-use Rattle.jr_rule.specs.declared.pass.Pass.{Pass}
-use Rattle.jr_rule.specs.Passes.{Holder, facts_of, holder_of, standing_of}
 use Rattle.jr_frames.specs.Table.{Table}
 use Rattle.jr_critical.specs.declared.levels.Levels.{Levels}
 use Rattle.jr_critical.specs.Levels.{GivesUpAll, Opens, Reaches, in_words, level_object, objects_of}
@@ -27,9 +25,8 @@ use Rattle.jr_env.specs.Collections.{collection}
 use Rattle.jr_env.specs.Deeds.{CarriedOut, Deed, DoesDeed, DoesOutside, after_exit, new_plain, new_array}
 use Rattle.jr_env.specs.Deeds.{new_object_array, new_reference, delete_reference, is_same_object}
 use Rattle.jr_env.specs.Deeds.{get_object_ref_type, push_local_frame, pop_local_frame, set_array_region, done, ◌>>=◌}
-use Rattle.first_room.specs.Calls.{clearing, collecting_in_turn, collecting_twice, is_handed}
+use Rattle.first_room.specs.Calls.{Shared, Visited, clearing, collecting_in_turn, collecting_twice, is_handed}
 use Rattle.first_room.specs.Calls.{is_kept_out, preparing, reading_within, sharing, visiting, word_made}
-use Rattle.first_room.specs.Parts.{HasCome}
 
 module _ {S : Type 0} {facts : S → Facts} where
   -- the first thread's calls before it collects
@@ -90,15 +87,15 @@ module _ {S : Type 0} {facts : S → Facts} where
       → DoesOutside facts s9 s10 f9 f10 (is_same_object (word_made weak) 0) (Ok cleared)
       → DoesOutside facts s10 s11 f10 f11 (delete_reference Global (word_made global)) (Ok tt)
       → DoesOutside facts s11 s12 f11 f12 (get_object_ref_type (word_made global)) (Ok kind)
-      → DoesDeed facts s0 s12 f0 f12 sharing (Ok (inside, cleared, kind))
+      → DoesDeed facts s0 s12 f0 f12 sharing (Ok (Shared inside cleared kind))
   shared s0 s1 s2 s3 s4 s5 s6 s7 s8 s9 s10 s11 s12 f0 f1 f2 f3 f4 f5 f6 f7 f8 f9 f10 f11 f12 lost array weak global
       popped inside c cleared kind out d1 d2 d3 d4 d5 d6 d7 d8 d9 d10 d11 d12 =
       does_then {one = preparing}
-      (λ words. collecting_twice >>= (λ n. clearing words.0 words.1 >>= (λ found. done (n, found.0, found.1))))
+      (λ words. collecting_twice >>= (λ n. clearing words.0 words.1 >>= (λ found. done (Shared n found.0 found.1))))
       (prepared s0 s1 s2 s3 s4 s5 s6 s7 f0 f1 f2 f3 f4 f5 f6 f7 lost array weak global popped out d1 d2 d3 d4 d5 d6 d7)
       (does_then {one = collecting_twice} (λ n. clearing (word_made weak) (word_made global)
-      >>= (λ found. done (n, found.0, found.1))) (collected_twice s7 s8 s9 f7 f8 f9 inside c d7.outside d8 d9)
-      (did_reply {one = clearing (word_made weak) (word_made global)} (λ found. (inside, found.0, found.1))
+      >>= (λ found. done (Shared n found.0 found.1))) (collected_twice s7 s8 s9 f7 f8 f9 inside c d7.outside d8 d9)
+      (did_reply {one = clearing (word_made weak) (word_made global)} (λ found. Shared inside found.0 found.1)
       (cleared, kind) (cleared_then s9 s10 s11 s12 f9 f10 f11 f12 (word_made weak) (word_made global) cleared kind
       d9.outside d10 d11 d12)))
 
@@ -175,9 +172,9 @@ module _ {S : Type 0} {facts : S → Facts} where
       → DoesOutside facts s0 s1 f0 f1 (push_local_frame 4) (Ok tt) → DoesOutside facts s1 s2 f1 f2 new_plain (Ok object)
       → DoesOutside facts s2 s3 f2 f3 (new_object_array 2 object.0) (Ok array)
       → DoesOutside facts s3 s4 f3 f4 (pop_local_frame 0) (Ok popped)
-      → DoesOutside facts s4 s5 f4 f5 (reading_within word) (Ok x) → DoesDeed facts s s5 f f5 visiting (Ok x)
+      → DoesOutside facts s4 s5 f4 f5 (reading_within word) (Ok x) → DoesDeed facts s s5 f f5 visiting (Ok (Visited x))
   visited s s0 s1 s2 s3 s4 s5 f f0 f1 f2 f3 f4 f5 word object array popped x handed out d1 d2 d3 d4 d5 =
-      let read = d5.does d4.outside in
+      let read = did_reply Visited x (d5.does d4.outside) in
       does_then _ handed (does_then _ (d1.does out)
       (does_then _ (d2.does d1.outside) (does_then _ (d3.does d2.outside) (does_then _ (d4.does d3.outside) read))))
 
@@ -228,26 +225,16 @@ module _ {S : Type 0} {facts : S → Facts} where
         → DoesOutside facts a b f g (get_object_ref_type v') r
     typed_on v v' r = subst (λ n. DoesOutside facts a b f g (get_object_ref_type n) r)
 
--- what steps did the pass did that they are made of
-pub come : {S : Type 0} (holder : S → Holder) {A : Type 0} (story : Deed A) (made a b : S) (p : Pass) (now : Holder)
-    (f g : Frames) (x : A)
-    → Spent (λ s. facts_of (holder s)) made a → DoesDeed (λ s. facts_of (holder s)) a b f g story (Ok x)
-    → holder made ≡ holder_of p → now ≡ holder b → f ≡ fresh_frames (standing_of p).config.locals
-    → HasCome story p now x
-come holder story made a b p now f g x spent d old new fresh =
-    let here : DoesDeed facts_of (holder a) (holder b) f g story (Ok x) =
-    record { stands_is = d.stands_is; did = d.did } in
-    let spends : Spent facts_of (holder made) (holder a) =
-    record { stands_is = spent.stands_is; hint_is = spent.hint_is; same = spent.same } in
-    record {
-      spent = holder a;
-      spends = subst (λ z. Spent facts_of z (holder a)) old spends;
-      frames = g;
-      did = subst (λ h. DoesDeed facts_of (holder a) now h g story (Ok x)) fresh
-          (subst (λ z. DoesDeed facts_of (holder a) z f g story (Ok x)) (sym new) here);
-    }
-
 -- the word that stands for a reference, or NULL
 pub word_or_null : (o : Option Handle) (h : Handle) → h ≡ unwrap_or o (record { 0 = 0 }) → h.0 ≡ word_made o
 word_or_null None h e = ap (λ (z : Handle). z.0) e
 word_or_null (Some w) h e = ap (λ (z : Handle). z.0) e
+
+-- how many threads a refusal tells of
+abbrev number_in : Fault → ℕ
+number_in (Busy n) = n
+number_in _ = 0
+
+-- the number of a refused collection is one at least
+pub busy_some : (e : Fault) (i : ℕ) → e ≡ Busy i → (n : ℕ) × (e ≡ Busy n) × (1 ≤ n) → 1 ≤ i
+busy_some e i is b = subst (λ k. 1 ≤ k) (ap number_in (sym b.1 ∙ is)) b.2

@@ -1,32 +1,34 @@
--- The first thread's calls before it hands its reference on, act by act.
-use Rattle.std.proofs.Common.{◌≡◌, ◌<◌, ◌∙◌, ℕ, Bool, true, Option, Some, List, [], ◌∷◌, ◌++◌}
-use Rattle.std.proofs.Common.{map, replicate, Result, Ok, refl, sym, ap, subst, append_assoc}
-use Rattle.jr_word.specs.declared.config.Config.{Config}
+-- The first thread's calls, by which of their acts make arrays of ints or write.
+use Rattle.std.proofs.Common.{◌≡◌, ◌∙◌, ℕ, Bool, Option, List, [], ◌∷◌, ◌++◌, replicate}
+use Rattle.std.proofs.Common.{Result, Ok, refl, sym, ap, subst, append_assoc}
 use Rattle.jr_word.specs.declared.fault.Fault.{Fault}
 use Rattle.jr_word.specs.declared.handle.Handle.{Handle as HandleWord}
 use Rattle.jr_word.specs.declared.handle.RefKind.TheVariants.{Global, Weak}
 use Rattle.jr_word.specs.declared.kind.Kind.TheVariants.{Int, Long}
-use Rattle.jr_word.specs.Handle.{IsHandle, handle_word}
 use Rattle.jr_model.specs.declared.event.Act.{Act}
-use Rattle.jr_model.specs.declared.event.Act.TheVariants.{Gate, Create, LocalPut, Probe}
+use Rattle.jr_model.specs.declared.event.Act.TheVariants.{Gate, Write}
 use Rattle.jr_model.specs.declared.event.GateAct.TheVariants.{Enter, Leave}
-use Rattle.jr_model.specs.State.{Handle}
-use Rattle.jr_model.specs.Checks.{Parts, is_local}
-use Rattle.jr_model.specs.Frames.{Frames, object_of}
-use Rattle.jr_model.specs.History.{Did, state}
+use Rattle.jr_model.specs.Calls.{Call, Ran}
+use Rattle.jr_model.specs.Frames.{Frames}
+use Rattle.jr_model.specs.History.{Did, PassView, state}
 use Rattle.jr_model.specs.Objects as objects
-use Rattle.jr_model.specs.Parts.{write_acts}
+use Rattle.jr_model.specs.Parts as parts
 use Rattle.jr_model.specs.References as references
-use Rattle.jr_model.proofs.OwnActs.{act_among}
+use Rattle.jr_model.proofs.Stays.{did_then}
 use Rattle.jr_gate.specs.Performing.{ThreadState}
-use Rattle.jr_env.specs.Deeds.{Deed, call_by, call_on, done, making_steps, new_array, new_reference, packed}
-use Rattle.jr_env.specs.Deeds.{packed_if, pop_local_frame, push_local_frame, set_array_region, ◌>>=◌, ◌>>◌}
-use Rattle.first_room.specs.declared.TheConstants.{SIZES}
-use Rattle.first_room.specs.Calls.{preparing, word_made}
-use Rattle.first_room.proofs.Answered.{IsMadeLocal, local_shared, local_written, made_local, stayed}
-use Rattle.first_room.proofs.Preparing.{IsOwn, IsQuiet, IsTraced, array_spared, both_done, in_form}
-use Rattle.first_room.proofs.Preparing.{is_handle, local_there, names_own, own_did, pop_spared}
-use Rattle.first_room.proofs.Preparing.{push_spared, quiet_then, read_as, reference_spared}
+use Rattle.jr_env.specs.Collections.{announced_collection}
+use Rattle.jr_env.specs.Deeds.{Deed, delete_reference, done, get_object_ref_type, is_same_object, new_array}
+use Rattle.jr_env.specs.Deeds.{new_reference, packed, pop_local_frame, push_local_frame, set_array_region}
+use Rattle.jr_env.specs.Deeds.{call_by, making_steps, ◌>>=◌, ◌>>◌}
+use Rattle.first_room.specs.declared.TheConstants.{TRIES}
+use Rattle.first_room.specs.Calls.{Found, GotNoTurn, Shared, again, clearing, collecting_in_turn, collecting_twice}
+use Rattle.first_room.specs.Calls.{getting_no_turn, is_kept_out, none, preparing, sharing, word_made}
+use Rattle.first_room.proofs.Answered.{MakesOne, ints_written, made_one, one_between, stayed}
+use Rattle.first_room.proofs.Ints.{HasInts}
+use Rattle.first_room.proofs.Spared.{Spared, answered_spared, array_spared, both_done, deleted_spared, made_quiet}
+use Rattle.first_room.proofs.Spared.{pop_spared, push_spared, reference_spared, same_spared, spared_then, typed_spared}
+use Rattle.first_room.proofs.Sparing.{Spares, Untouching, collect_announced_spares, collect_spares}
+use Rattle.first_room.proofs.Traces.{IsQuiet, IsTraced, quiet_then}
 
 -- THE CALLS THAT ARE LEFT, from each of them on
 
@@ -48,163 +50,147 @@ losing lost = new_reference Weak lost.0 >>= naming
 abbrev making : Deed (ℕ × ℕ)
 making = new_array Long 4 >>= losing
 
--- AN ARRAY WITH A LOCAL REFERENCE
+shared_spared : (weak : Option HandleWord) (array : HandleWord) → Spared (sharing_it weak array)
+shared_spared weak array = spared_then (new_reference Global array.0) (popping weak) (reference_spared Global array.0)
+    (λ global. answered_spared (λ _. (word_made weak, word_made global)) (pop_local_frame 0) (pop_spared 0))
 
-record IsNamedIn (old new : ThreadState) (array : HandleWord) : Type 0 where
-  h : Handle
+-- AN ARRAY OF INTS
+record HasMade (old new : PassView) : Type 0 where
   o : ℕ
-  front : List Act
-  made : IsMadeLocal old.pass.config old.pass.last old.pass.thread old.frames new.frames front h
-  is : array ≡ packed h
-  did : Did old.pass new.pass ((Gate Enter ∷ made.front) ++ LocalPut h.index made.object ∷ Gate Leave ∷ [])
+  acts : List Act
+  did : Did old new acts
+  makes : MakesOne o acts
 
-named_in : (old new : ThreadState) (array : HandleWord) → new_array Int 3 old (Ok array) new → IsNamedIn old new array
-named_in old new array was =
+has_made : (old new : ThreadState) (array : HandleWord) → new_array Int 3 old (Ok array) new
+    → HasMade old.pass new.pass
+has_made old new array was =
     let c = old.pass.config in
     let last = old.pass.last in
     let t = old.pass.thread in
-    let n =
-    in_form packed (call_by (making_steps 3) (λ c last t s. references.new_array c last t Int 3)) old new array was in
-    let r = n.1.0.ran in
-    let st = stayed (references.made c last t Int (replicate 3 0)) old.frames new.frames r.acts n.0 r.is in
-    let m = made_local c last t Int (replicate 3 0) old.frames new.frames st.0 n.0 st.2 in
-    let acts_are : r.acts ≡ (Gate Enter ∷ m.front) ++ LocalPut (n.0).index m.object ∷ Gate Leave ∷ [] =
-    st.1 ∙ (ap (λ l. Gate Enter ∷ (l ++ Gate Leave ∷ [])) m.is
-    ∙ ap (λ l. Gate Enter ∷ l) (append_assoc m.front (LocalPut (n.0).index m.object ∷ []) (Gate Leave ∷ []))) in
+    let n = both_done (call_by (making_steps 3) (λ c last t s. references.new_array c last t Int 3))
+    (λ h. done (packed h)) old new array was in
+    let r = n.one.0.ran in
+    let st = stayed (references.made c last t Int (replicate 3 0)) old.frames (n.mid).frames r.acts n.x r.is in
+    let m = made_one c last t (replicate 3 0) old.frames (n.mid).frames st.0 n.x st.2 in
+    let makes = one_between m.0 (Gate Enter ∷ []) st.0 (Gate Leave ∷ []) (refl, tt) m.1 (refl, tt) in
     record {
-      h = n.0;
-      o = m.object;
-      front = st.0;
-      made = m;
-      is = n.2;
-      did = subst (Did old.pass new.pass) acts_are r.did;
+      o = m.0;
+      acts = r.acts;
+      did = subst (λ (z : ThreadState). Did old.pass z.pass r.acts) (sym n.two.1) r.did;
+      makes = subst (MakesOne m.0) (sym st.1) makes;
     }
 
--- that is read as its handle
-named_handle : {old new : ThreadState} {array : HandleWord} (n : IsNamedIn old new array) → IsOwn old.pass
-    → IsHandle n.h
-named_handle {old} {new} n own =
-    let p = (n.h).index in
-    let o = (n.made).object in
-    let acts = (Gate Enter ∷ (n.made).front) ++ LocalPut p o ∷ Gate Leave ∷ [] in
-    let one = act_among (LocalPut p o) acts (Gate Enter ∷ (n.made).front, Gate Leave ∷ [], refl) n.did in
-    let below : p < SIZES.locals = subst (λ (c : Config). p < c.locals) own.config one.needs.1.1 in
-    is_handle old.pass.last old.pass.thread (n.made).old new.frames n.h o (n.made).is_added own.last own.thread below
-
 -- AND FILLED
+record HasFilled (old new : PassView) : Type 0 where
+  p : ℕ
+  front : List Act
+  none : Untouching front
+  did : Did old new (front ++ Write p 0 10 ∷ Write p 1 20 ∷ Write p 2 30 ∷ Gate Leave ∷ [])
+  ints : HasInts p (state new.seen)
 
-record IsFilledIn (old new : ThreadState) (h : Handle) : Type 0 where
-  o : ℕ
-  names : object_of old.frames h ≡ Some o
-  frames : new.frames ≡ old.frames
-  did : Did old.pass new.pass (Gate Enter ∷ write_acts o 0 (10 ∷ 20 ∷ 30 ∷ []) ++ Gate Leave ∷ [])
-
-filled_in : (old new : ThreadState) (array : HandleWord) (h : Handle) → IsHandle h → is_local h ≡ true
-    → array ≡ packed h → set_array_region Int array.0 0 (10 ∷ 20 ∷ 30 ∷ []) old (Ok tt) new → IsFilledIn old new h
-filled_in old new array h handle local is was =
+has_filled : (w : ℕ) (old new : ThreadState) → set_array_region Int w 0 (10 ∷ 20 ∷ 30 ∷ []) old (Ok tt) new
+    → HasFilled old.pass new.pass
+has_filled w old new was =
     let c = old.pass.config in
     let last = old.pass.last in
     let t = old.pass.thread in
     let s = state new.pass.seen in
     let ws : List ℕ = 10 ∷ 20 ∷ 30 ∷ [] in
     let r = was.2.0.ran in
-    let a = read_as array.0 h was.0 handle (ap (λ (z : HandleWord). z.0) is) was.1 in
-    let st = stayed (objects.part_writing c last t s Int (Parts h) 0 ws) old.frames new.frames r.acts tt
-    (subst (λ z. objects.set_array_region c last t s Int z 0 ws old.frames r.acts (Ok tt) new.frames) a r.is) in
-    let w = local_written c last t s h ws old.frames new.frames st.0 local st.2 in
+    let st = stayed (objects.part_writing c last t s Int was.0 0 ws) old.frames new.frames r.acts tt r.is in
+    let n = ints_written c last t s was.0 ws old.frames new.frames st.0 st.2 in
     record {
-      o = w.0;
-      names = w.2;
-      frames = w.1.2;
-      did = subst (Did old.pass new.pass) (st.1 ∙ ap (λ l. Gate Enter ∷ (l ++ Gate Leave ∷ [])) w.1.0) r.did;
+      p = n.0;
+      front = Gate Enter ∷ n.2;
+      none = (refl, n.3);
+      did = subst (Did old.pass new.pass) (regrouped n.2 n.4 st.1 n.5 n.7.0) r.did;
+      ints = n.1;
     }
+  where
+    regrouped : {acts inside writes : List Act} (front rest : List Act) → acts ≡ Gate Enter ∷ inside ++ Gate Leave ∷ []
+        → inside ≡ front ++ rest → rest ≡ writes → acts ≡ (Gate Enter ∷ front) ++ (writes ++ Gate Leave ∷ [])
+    regrouped {writes = writes} front rest a b e = a ∙ (ap (λ l. Gate Enter ∷ (l ++ Gate Leave ∷ []))
+        (b ∙ ap (λ l. front ++ l) e) ∙ ap (λ l. Gate Enter ∷ l) (append_assoc front writes (Gate Leave ∷ [])))
 
--- AND SHARED
-
-record IsSharedIn (old new : ThreadState) (h : Handle) (made : Option HandleWord) : Type 0 where
-  g : Handle
-  o : ℕ
-  looks : List (ℕ × Bool)
-  names : object_of old.frames h ≡ Some o
-  global : g.kind ≡ Global
-  word : word_made made ≡ handle_word g
-  did : Did old.pass new.pass ((Gate Enter ∷ map (λ l. Probe l.0 l.1) looks) ++ Create g o ∷ Gate Leave ∷ [])
-
-shared_in : (old new : ThreadState) (array : HandleWord) (h : Handle) (made : Option HandleWord) → IsHandle h
-    → is_local h ≡ true → array ≡ packed h → new_reference Global array.0 old (Ok made) new → IsSharedIn old new h made
-shared_in old new array h made handle local is was =
-    let c = old.pass.config in
-    let last = old.pass.last in
-    let t = old.pass.thread in
-    let n =
-    in_form packed_if (call_on array.0 (λ c last t s a. references.new_reference c last t Global a)) old new made was in
-    let r = n.1.2.0.ran in
-    let a = read_as array.0 h n.1.0 handle (ap (λ (z : HandleWord). z.0) is) n.1.1 in
-    let st = stayed (references.creation c last t Global (Parts h)) old.frames new.frames r.acts n.0
-    (subst (λ z. references.new_reference c last t Global z old.frames r.acts (Ok n.0) new.frames) a r.is) in
-    let w = local_shared c last t h old.frames new.frames st.0 n.0 local st.2 in
-    let probes = map (λ (l : ℕ × Bool). Probe l.0 l.1) w.5 in
-    record {
-      g = w.2;
-      o = w.0;
-      looks = w.5;
-      names = w.1;
-      global = w.4;
-      word = ap word_made n.2 ∙ ap (λ z. word_made (packed_if z)) w.3;
-      did = subst (Did old.pass new.pass) (st.1 ∙ (ap (λ l. Gate Enter ∷ (l ++ Gate Leave ∷ [])) w.6
-          ∙ ap (λ l. Gate Enter ∷ l) (append_assoc probes (Create w.2 w.0 ∷ []) (Gate Leave ∷ [])))) r.did;
-    }
-
--- the second of two answers
-second_of : (a b c d : ℕ) → ◌≡◌ {A = Result (ℕ × ℕ) Fault} (Ok (a, b)) (Ok (c, d)) → b ≡ d
-second_of a b c d e = let both : ◌≡◌ {A = ℕ × ℕ} (a, b) (c, d) = cc in ap (λ (z : ℕ × ℕ). z.1) both
-
--- ALL OF IT
-pub traced : (old new : ThreadState) (weak w : ℕ) → IsOwn old.pass → preparing old (Ok (weak, w)) new
-    → IsTraced w old.pass new.pass
-traced old new weak w own was =
-    let x : ℕ × ℕ = (weak, w) in
+-- ALL THAT IT HAD DONE when it handed its reference on
+pub traced : (old new : ThreadState) (x : ℕ × ℕ) → preparing old (Ok x) new → IsTraced old.pass new.pass
+traced old new x was =
     let s1 = both_done (push_local_frame 4) (λ _. making) old new x was in
     let s2 = both_done (new_array Long 4) losing s1.mid new x s1.two in
     let s3 = both_done (new_reference Weak s2.x.0) naming s2.mid new x s2.two in
     let s4 = both_done (new_array Int 3) (filling s3.x) s3.mid new x s3.two in
     let s5 =
     both_done (set_array_region Int s4.x.0 0 (10 ∷ 20 ∷ 30 ∷ [])) (λ _. sharing_it s3.x s4.x) s4.mid new x s4.two in
-    let s6 = both_done (new_reference Global s4.x.0) (popping s3.x) s5.mid new x s5.two in
-    let s7 = both_done (pop_local_frame 0) (λ _. done (word_made s3.x, word_made s6.x)) s6.mid new x s6.two in
-    let begins = quiet_then (push_spared 4 old s1.mid (Ok s1.x) s1.one) (quiet_then (array_spared Long 4 s1.mid s2.mid
-    (Ok s2.x) s2.one) (reference_spared Weak s2.x.0 s2.mid s3.mid (Ok s3.x) s3.one)) in
-    let own3 = own_did own begins.did in
-    let n = named_in s3.mid s4.mid s4.x s4.one in
-    let m = n.made in
-    let handle = named_handle n own3 in
-    let local = local_there s3.mid.pass.last s3.mid.pass.thread m.old s4.mid.frames n.h m.object m.is_added in
-    let f = filled_in s4.mid s5.mid s4.x n.h handle local n.is s5.one in
-    let g = shared_in s5.mid s6.mid s4.x n.h s6.x handle local n.is s6.one in
-    let own_object = names_own s3.mid.pass.last s3.mid.pass.thread m.old s4.mid.frames n.h m.object m.is_added in
-    let same : f.o ≡ m.object = own_object f.o f.names in
-    let word : w ≡ word_made s6.x = second_of weak w (word_made s3.x) (word_made s6.x) s7.two.0 in
-    let also : g.o ≡ m.object = own_object g.o (ap (λ (z : Frames). object_of z n.h) (sym f.frames) ∙ g.names) in
+    let begins = quiet_then (push_spared 4 old s1.mid (Ok s1.x) s1.one) (quiet_then (array_spared Long 4 refl s1.mid
+    s2.mid (Ok s2.x) s2.one) (reference_spared Weak s2.x.0 s2.mid s3.mid (Ok s3.x) s3.one)) in
+    let m = has_made s3.mid s4.mid s4.x s4.one in
+    let f = has_filled s4.x.0 s4.mid s5.mid s5.one in
+    let writes = Write f.p 0 10 ∷ Write f.p 1 20 ∷ Write f.p 2 30 ∷ Gate Leave ∷ [] in
     record {
-      g = g.g;
-      p = (n.h).index;
-      o = m.object;
-      front = Gate Enter ∷ m.front;
-      looks = g.looks;
-      before = s3.mid.pass;
-      named = s4.mid.pass;
+      o = m.o;
+      acts = begins.acts ++ (m.acts ++ f.front);
+      makes = one_between m.o begins.acts m.acts f.front begins.none m.makes f.none;
+      p = f.p;
       filled = s5.mid.pass;
-      shared = s6.mid.pass;
-      begins = begins;
-      names = n.did;
-      no_write = (refl, m.no_write);
-      fills =
-          subst (λ o. Did s4.mid.pass s5.mid.pass (Gate Enter ∷ write_acts o 0 (10 ∷ 20 ∷ 30 ∷ []) ++ Gate Leave ∷ []))
-          same f.did;
-      shares = subst (λ o. Did s5.mid.pass s6.mid.pass
-          ((Gate Enter ∷ map (λ l. Probe l.0 l.1) g.looks) ++ Create g.g o ∷ Gate Leave ∷ [])) also g.did;
-      ends = subst (λ (z : ThreadState). IsQuiet s6.mid.pass z.pass) (sym s7.two.1)
-          (pop_spared 0 s6.mid s7.mid (Ok s7.x) s7.one);
-      word = word ∙ g.word;
-      global = g.global;
+      fills = subst (Did old.pass s5.mid.pass) (regrouped begins.acts m.acts f.front writes)
+          (did_then begins.acts (m.acts ++ (f.front ++ writes)) begins.did
+          (did_then m.acts (f.front ++ writes) m.did f.did));
+      ints = f.ints;
+      ends = shared_spared s3.x s4.x s5.mid new (Ok x) s5.two;
+    }
+  where
+    regrouped : (xs ys zs us : List Act) → xs ++ (ys ++ (zs ++ us)) ≡ (xs ++ (ys ++ zs)) ++ us
+    regrouped xs ys zs us =
+        sym (append_assoc xs (ys ++ zs) us ∙ ap (λ l. xs ++ l) (append_assoc ys zs us))
+
+-- ITS OTHER CALLS
+
+-- collections that get no turn
+no_turns_quiet : {a : PassView} {old new : ThreadState} → IsQuiet a old.pass → GotNoTurn old new → IsQuiet a new.pass
+no_turns_quiet p none = p
+no_turns_quiet p (again before turn) = quiet_then (no_turns_quiet p before)
+    (made_quiet (parts.collect_announced TRIES) (collect_announced_spares TRIES) turn.made)
+
+ran_quiet : {A : Type 0} {old new : PassView} {f g : Frames} {answer : Result A Fault} (call : Call A) → Spares call
+    → Ran old new f g call answer → IsQuiet old new
+ran_quiet {f = f} {g = g} {answer = answer} call spares r =
+    record { acts = r.acts; did = r.did; none = spares f g r.acts answer r.is }
+
+collected_quiet : (old new : ThreadState) (inside : ℕ) → collecting_twice old (Ok inside) new
+    → IsQuiet old.pass new.pass
+collected_quiet old new inside was =
+    let s1 = both_done is_kept_out (λ n. collecting_in_turn >> done n) old new inside was in
+    let s2 = both_done collecting_in_turn (λ _. done s1.x) s1.mid new inside s1.two in
+    let s3 = both_done getting_no_turn (λ _. announced_collection TRIES) s1.mid s2.mid s2.x s2.one in
+    let kept_out = made_quiet parts.collect collect_spares s1.one.2.made in
+    let end = quiet_then (no_turns_quiet kept_out s3.one.1)
+    (ran_quiet (parts.collect_announced TRIES) (collect_announced_spares TRIES) s3.two.ran) in
+    subst (λ (z : ThreadState). IsQuiet old.pass z.pass) (sym s2.two.1) end
+
+cleared_spared : (weak global : ℕ) → Spared (clearing weak global)
+cleared_spared weak global =
+    let ends : Bool → Deed (Bool × ℕ) = λ cleared. get_object_ref_type global >>= (λ kind. done (cleared, kind)) in
+    spared_then (is_same_object weak 0) (λ cleared. delete_reference Global global >> ends cleared)
+    (same_spared weak 0) (λ cleared. spared_then (delete_reference Global global) (λ _. ends cleared)
+    (deleted_spared Global global) (λ _. answered_spared (λ kind. (cleared, kind)) (get_object_ref_type global)
+    (typed_spared global)))
+
+-- ALL THAT IT DID: it prepared, and then nothing does
+pub record HasShared (old new : PassView) : Type 0 where
+  pub mid : PassView
+  pub traced : IsTraced old mid
+  pub ends : IsQuiet mid new
+
+pub has_shared : (old new : ThreadState) (x : Found) → sharing old (Ok x) new → HasShared old.pass new.pass
+has_shared old new x was =
+    let clears : ℕ × ℕ → ℕ → Deed Found = λ words inside. clearing words.0 words.1
+    >>= (λ found. done (Shared inside found.0 found.1)) in
+    let s1 = both_done preparing (λ words. collecting_twice >>= clears words) old new x was in
+    let s2 = both_done collecting_twice (clears s1.x) s1.mid new x s1.two in
+    record {
+      mid = s1.mid.pass;
+      traced = traced old s1.mid s1.x s1.one;
+      ends = quiet_then (collected_quiet s1.mid s2.mid s2.x s2.one)
+          (answered_spared (λ found. Shared s2.x found.0 found.1) (clearing s1.x.0 s1.x.1)
+          (cleared_spared s1.x.0 s1.x.1) s2.mid new (Ok x) s2.two);
     }

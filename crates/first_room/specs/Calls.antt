@@ -1,7 +1,7 @@
 -- What each of the two threads does, call by call.
-use Rattle.std.specs.Prelude.{◌≡◌, ℕ, Bool, Option, Some, None, Ok, Err, [], ◌∷◌}
+use Rattle.std.specs.Prelude.{◌≡◌, ℕ, zero, suc, Bool, Option, Some, None, Ok, Err, [], ◌∷◌}
 use mathlib.Core.List.{IsPrefix}
-use Rattle.first_room.specs.declared.TheConstants.{TRIES}
+use Rattle.first_room.specs.declared.TheConstants.{LAST, SIZES, TRIES}
 use Rattle.jr_word.specs.declared.fault.Fault.{Fault}
 use Rattle.jr_word.specs.declared.fault.Fault.TheVariants.{Busy}
 use Rattle.jr_word.specs.declared.handle.Handle.{Handle}
@@ -18,7 +18,13 @@ use Rattle.jr_env.specs.Deeds.{Deed, done, new_plain, new_array, new_object_arra
 use Rattle.jr_env.specs.Deeds.{delete_reference, is_same_object, get_object_ref_type}
 use Rattle.jr_env.specs.Deeds.{push_local_frame, pop_local_frame, set_array_region, ◌>>=◌, ◌>>◌}
 use Rattle.jr_env.specs.StayDeeds.{within_by}
-use Rattle.first_room.specs.Moments.{first_moment, seen_by}
+use Rattle.jr_threads.specs.Parts.{ComesOfDeed}
+
+-- what a thread found: the first, how many threads were inside as a collection was refused, whether its weak
+-- reference is to null, and the type of its global one, once it is deleted; the second, the word of an element
+pub data Found : Type 0 where
+  Shared : ℕ → Bool → ℕ → Found
+  Visited : ℕ → Found
 
 -- the word of a reference that was made, 0 for NULL
 abbrev pub word_made : Option Handle → ℕ
@@ -74,17 +80,16 @@ clearing weak global = do
   done (cleared, kind)
 
 -- THE FIRST THREAD does this
-abbrev pub sharing : Deed (ℕ × Bool × ℕ)
+abbrev pub sharing : Deed Found
 sharing = do
   words ← preparing
   inside ← collecting_twice
   found ← clearing words.0 words.1
-  done (inside, found.0, found.1)
+  done (Shared inside found.0 found.1)
 
 -- THE FIRST THREAD HAS PREPARED, with this word of the global reference, and it had seen this by then
 abbrev pub HasPrepared : ℕ → History → Type 0
-HasPrepared global seen = (weak : ℕ) × (by_then : ThreadState) × preparing (first_moment 0) (Ok (weak, global)) by_then
-    × (by_then.pass ≡ seen_by 0 seen)
+HasPrepared global seen = (weak : ℕ) × ComesOfDeed SIZES LAST 0 preparing (weak, global) seen
 
 -- it may see more, and no more than that has changed
 pub record SeesMore (old new : ThreadState) : Type 0 where
@@ -114,12 +119,18 @@ reading_within global = do
   done word
 
 -- THE SECOND THREAD is handed the global reference's word, and makes two objects in a frame;
--- and it reads an element of the array that the word names: the element's word
-abbrev pub visiting : Deed ℕ
+-- and it reads an element of the array that the word names
+abbrev pub visiting : Deed Found
 visiting = do
   global ← is_handed
   push_local_frame 4
   object ← new_plain
   new_object_array 2 object.0
   pop_local_frame 0
-  reading_within global
+  word ← reading_within global
+  done (Visited word)
+
+-- what the thread of a number does
+abbrev pub story : ℕ → Deed Found
+story zero = sharing
+story (suc t) = visiting

@@ -1,16 +1,13 @@
 -- What the program writes, and what is so of it.
-use Rattle.std.specs.Prelude.{◌≡◌, ◌≤◌, ℕ, ℤ, pos, Bool, if◌then◌else◌, Option, List, [], ◌∷◌, ◌++◌, codes}
+use Rattle.std.specs.Prelude.{◌≡◌, ◌≤◌, ℕ, ℤ, pos, Bool, true, if◌then◌else◌, Option, List, [], ◌∷◌, ◌++◌, codes}
 use Rattle.std.specs.Fmt.{decimal, signed_decimal}
 use Rattle.std.specs.Io.KnownBytes.{Appends}
 use Rattle.std.specs.Int.{w32}
 use Rattle.first_room.specs.declared.TheConstants.{LAST, SIZES}
 use Rattle.jr_word.specs.Elem.{signed_word}
-use Rattle.jr_model.specs.declared.event.Act.TheVariants.{Meet}
 use Rattle.jr_model.specs.declared.summary.Summary.{Summary}
-use Rattle.jr_model.specs.State.{summary}
-use Rattle.jr_model.specs.History.{History, IsLegal, state}
-use Rattle.first_room.specs.Calls.{sharing, visiting}
-use Rattle.first_room.specs.Parts.{PlaysPart}
+use Rattle.jr_threads.specs.Parts.{RanTogether}
+use Rattle.first_room.specs.Calls.{Shared, Visited, story}
 
 -- what the two threads found
 pub record Report : Type 0 where
@@ -46,17 +43,13 @@ abbrev pub report_text : List (List ℕ) → List ℕ
 report_text [] = []
 report_text (l ∷ ls) = l ++ report_text ls
 
--- THE REPORT IS TRUE: there is one legal history of the machine, in which the first thread's
--- calls and then its look at the gate as the room closes are all that it did, and the second
--- thread's calls all that that one did; the numbers are the calls' answers, the element that
--- was read is the one that was written, and what was left is what stands at the end
+-- THE REPORT IS TRUE: there is one legal history of the machine, of which each thread has its part, and did its story;
+-- the numbers are what the threads found, the element that was read is the one that was written,
+-- and what was left is what stands at the end
 pub record IsTrueReport (r : Report) : Type 0 where
-  pub whole : History
-  pub legal : IsLegal SIZES LAST whole
-  pub first : PlaysPart whole 0 sharing (r.inside, r.cleared, r.kind) (Meet ∷ [])
-  pub second : PlaysPart whole 1 visiting (signed_word w32 r.read) []
+  pub ran : RanTogether (λ x. true) story SIZES LAST
+      (Shared r.inside r.cleared r.kind ∷ Visited (signed_word w32 r.read) ∷ []) r.left
   pub is_read : r.read ≡ pos 20
-  pub is_left : r.left ≡ summary SIZES LAST (state whole)
   pub some : 1 ≤ r.inside
 
 -- WHAT IS WRITTEN is the text of a true report, and nothing else, where it is known

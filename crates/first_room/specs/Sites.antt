@@ -1,12 +1,15 @@
--- For the crate's own functions: which room a thread's pass is of, by a type that stands for the room.
+-- For the crate's own functions: which room a thread's pass is of, by a type that stands for the room, and what it did.
 use Rattle.std.specs.Prelude.{◌≡◌, ℕ, Option, Some}
 use Rattle.atomic_table.specs.Seated.{TableId}
 use Rattle.first_room.specs.declared.TheConstants.{LAST, SIZES}
 use Rattle.jr_word.specs.declared.config.Config.{Config}
 use Rattle.jr_rule.specs.declared.pass.Pass.{Pass}
 use Rattle.jr_rule.specs.declared.room.Room.{Room}
-use Rattle.jr_rule.specs.Passes.{IsOpened}
-use Rattle.jr_rule.specs.Sites.{IsSiteOf}
+use Rattle.jr_model.specs.declared.event.Role.TheVariants.{Outside}
+use Rattle.jr_rule.specs.Passes.{IsOpened, holder_of}
+use Rattle.jr_rule.specs.Sites.{IsPassOf, IsSiteOf}
+use Rattle.jr_threads.specs.Parts.{DidWithPass}
+use Rattle.first_room.specs.Calls.{Found, story}
 
 -- the room is the site's, with its sizes
 pub record IsRoomOf (site : Option TableId) (sizes : Config) (room : Room LAST) : Type 0 where
@@ -20,3 +23,9 @@ pub record IsPassOfThread (site : Option TableId) (sizes : Config) (room : Room 
   pub same_last : room.row.last ≡ LAST
   pub opened : IsOpened room.row p
   pub thread : p.thread ≡ t
+
+-- THE THREAD HAS COME to its end, with its pass: with this it did its story, and found this
+pub record HasCome (site : Option TableId) (sizes : Config) (t : ℕ) (old new : Pass) (x : Found) : Type 0 where
+  pub back : IsPassOf site sizes LAST t new
+  pub outside : new.role ≡ Outside
+  pub did : DidWithPass (story t) old (holder_of new) x

@@ -8,13 +8,11 @@ ghost use Rattle.std.specs.Int.{w32};
 ghost use Rattle.std.specs.Io.KnownBytes.{Appends};
 ghost use Rattle.jr_word.specs.Elem.{signed_word};
 ghost use Rattle.jr_rule.specs.Passes.{AreOpened};
-ghost use Rattle.jr_rule.specs.Rooms.{IsOfRoom};
 ghost use Rattle.jr_env.specs.Collections.{FitsRoom};
 ghost use Rattle.jr_env.specs.Envs.{Does, IsOutside};
-ghost use Rattle.first_room.specs.Calls.{collecting_in_turn, reading_within};
+ghost use Rattle.first_room.specs.Calls.{Shared, Visited, collecting_in_turn, reading_within};
 ghost use Rattle.first_room.specs.Hour.{IsTrueReport, IsWritten, report_lines, report_text};
-ghost use Rattle.first_room.specs.Parts.{HasShared, HasVisited};
-ghost use Rattle.first_room.specs.Sites.{IsPassOfThread, IsRoomOf};
+ghost use Rattle.first_room.specs.Sites.{HasCome, IsPassOfThread, IsRoomOf};
 
 mod handing;
 
@@ -142,7 +140,7 @@ fn share<Q: Site + Send + Sync>(
     baton: &AtomicU64,
 ) -> Result<(Pass, u32, bool, u8), Fault>
     requires { IsPassOfThread Q.room Q.sizes room.now 0 pass }
-    ensures { IfOk result (λ r. IsOfRoom room.now r.0 × (1 ≤ r.1) × HasShared pass r.0 r.1 r.2 r.3) }
+    ensures { IfOk result (λ r. (1 ≤ r.1) × HasCome Q.room Q.sizes 0 pass r.0 (Shared r.1 r.2 r.3)) }
 {
     let Ok(mut env) = Env::new(SiteSteps::<LAST, Q, First>::new(room, pass)) else {
         unreachable!();
@@ -177,7 +175,7 @@ fn visit<Q: Site + Send + Sync>(
     baton: &AtomicU64,
 ) -> Result<(Pass, i32), Fault>
     requires { IsPassOfThread Q.room Q.sizes room.now 1 pass }
-    ensures { IfOk result (λ r. IsOfRoom room.now r.0 × HasVisited pass r.0 r.1) }
+    ensures { IfOk result (λ r. HasCome Q.room Q.sizes 1 pass r.0 (Visited (signed_word w32 r.1))) }
 {
     let Ok(mut env) = Env::new(SiteSteps::<LAST, Q, Second>::new(room, pass)) else {
         unreachable!();

@@ -6,11 +6,11 @@ use Rattle.jr_frames.specs.Table.{Table}
 use Rattle.jr_model.specs.Frames.{fresh_frames}
 use Rattle.jr_rule.specs.Passes.{Holder, facts_of, holder_of}
 use Rattle.jr_rule.specs.Rooms.{holder_over}
-use Rattle.first_room.specs.Calls.{visiting}
-use Rattle.first_room.specs.Parts.{HasVisited}
+use Rattle.jr_threads.specs.Parts.{DidWithPass}
+use Rattle.jr_threads.proofs.Coming.{come}
+use Rattle.first_room.specs.Calls.{Visited, visiting}
 use Rattle.first_room.proofs.Noted.{learns}
-use Rattle.first_room.proofs.Played.{come, visited}
-use Rattle.first_room.proofs.Passes.{same_then, same_before, same_spent, at_end}
+use Rattle.first_room.proofs.Played.{visited}
 use Rattle.first_room.proofs.visit.Goals as goal
 
 pub returns : goal.returns
@@ -24,22 +24,17 @@ returns g c =
     let d4 = c.in_ok-pop_local_frame.ensures in
     let d5 = c.in_ok-read.ensures in
     let outside = d0.stands_is.role ∙ c.in-Ok.ensures.outside in
-    let same = same_then (same_spent _ (c.in-Ok.ensures.steps).stands_is)
-    (same_then (same_before d0.stands_is)
-    (same_then (same_before (d1.does outside).stands_is)
-    (same_then (same_before (d2.does d1.outside).stands_is)
-    (same_then (same_before (d3.does d2.outside).stands_is)
-    (same_then (same_before (d4.does d3.outside).stands_is)
-    (same_before (d5.does d4.outside).stands_is)))))) in
     let calls = visited _ _ _ _ _ _ _ _ _ _ _ _ _ _ c.in_ok-global.field-0.global.0 c.in_ok-object.object
     c.in_ok-new_object_array.field-0 c.in_ok-pop_local_frame.field-0 (signed_word w32 c.in_ok-read.read)
     d0 outside d1 d2 d3 d4 d5 in
-    let handed = c.into_pass-2.ensures.pass ∙ ap holder_over (c.into_pass.ensures.steps d5.outside) in (
-      at_end c.args.room.now.row c.args.pass (holder_over c.new.result) _ c.into_pass-2.result c.requires.opened.row
-          c.new.ensures.pass same handed,
-      subst (HasVisited c.args.pass c.into_pass-2.result) (sym own) (
+    let handed = c.into_pass-2.ensures.pass ∙ ap holder_over (c.into_pass.ensures.steps d5.outside) in record {
+      back = c.into_pass-2.ensures.site;
+      outside = ap (λ (h : Holder). (facts_of h).stands.role) handed ∙ d5.outside;
+      did = subst (λ z. DidWithPass visiting c.args.pass (holder_of c.into_pass-2.result) (Visited (signed_word w32 z)))
+          (sym own) (
           come holder_over visiting c.new.result _ _ c.args.pass (holder_of c.into_pass-2.result) _ _
-          (signed_word w32 c.in_ok-read.read) c.in-Ok.ensures.steps calls c.new.ensures.pass handed
+          (Visited (signed_word w32 c.in_ok-read.read)) c.in-Ok.ensures.steps calls c.new.ensures.pass handed
           (c.in-Ok.ensures.frames
-          ∙ ap (λ (h : Holder). fresh_frames (facts_of h).stands.config.locals) c.new.ensures.pass)),
-    )
+          ∙ ap (λ (h : Holder). fresh_frames (facts_of h).stands.config.locals) c.new.ensures.pass)
+          );
+    }

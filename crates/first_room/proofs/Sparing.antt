@@ -1,4 +1,4 @@
--- Calls that write no element.
+-- Calls that make no array of ints, and write no element.
 use Rattle.std.proofs.Common.{◌≡◌, inl, inr, ℕ, zero, suc, Bool, true, false, not, cond}
 use Rattle.std.proofs.Common.{nat_lt, nat_le, ◌==◌, ◌||◌, ◌<◌, ◌+◌, Option, Some, None, List}
 use Rattle.std.proofs.Common.{[], ◌∷◌, ◌++◌, map, length, Result, Ok, Err, refl, sym, subst}
@@ -8,7 +8,7 @@ use Rattle.jr_word.specs.declared.fault.Fault.{Fault}
 use Rattle.jr_word.specs.declared.fault.Fault.TheVariants as fault
 use Rattle.jr_word.specs.declared.handle.RefKind.{RefKind}
 use Rattle.jr_word.specs.declared.kind.Kind.{Kind}
-use Rattle.jr_word.specs.declared.kind.Kind.TheVariants.{Objects}
+use Rattle.jr_word.specs.declared.kind.Kind.TheVariants.{Int, Objects}
 use Rattle.jr_model.specs.declared.event.Act.{Act}
 use Rattle.jr_model.specs.declared.event.Act.TheVariants.{Gate, Meet, ShutBusy, Clear, Delete, DeleteStale}
 use Rattle.jr_model.specs.declared.event.Act.TheVariants.{Drop, Look, LocalDrop, New, Probe, Reserve}
@@ -17,14 +17,15 @@ use Rattle.jr_model.specs.declared.event.GateAct.TheVariants.{Announce, Cancel, 
 use Rattle.jr_model.specs.declared.event.Found.{Found}
 use Rattle.jr_model.specs.declared.event.Found.TheVariants.{Object, Cleared, Stale}
 use Rattle.jr_model.specs.declared.frames.LocalRef.{LocalRef}
-use Rattle.jr_model.specs.declared.frames.TheConstants.{FRAMES}
+use Rattle.jr_model.specs.declared.frames.TheConstants.{FRAMES, LEVELS}
 use Rattle.jr_model.specs.State.{Handle, State}
 use Rattle.jr_model.specs.CollectionCalls.{collection_acts}
+use Rattle.jr_model.specs.Objects.{level_array, part_of}
 use Rattle.jr_model.specs.Frames.{Frames, free_places, last_frame, object_of, popped}
-use Rattle.jr_model.specs.Calls.{Call, act, decided, done, entered, for_object}
-use Rattle.jr_model.specs.Calls.{one_of, refuse, refuse_if, some_act, ◌>>=◌, ◌>>◌}
-use Rattle.jr_model.specs.Checks.{Word, Nothing, Malformed, Parts, is_foreign, is_local}
-use Rattle.jr_model.specs.Checks.{is_malformed, is_of_kind, is_out_of_bounds, type_found, type_local}
+use Rattle.jr_model.specs.Calls.{Call, act, decided, done, entered, for_object, one_of, opened}
+use Rattle.jr_model.specs.Calls.{refuse, refuse_if, some_act, ◌>>=◌, ◌>>◌}
+use Rattle.jr_model.specs.Checks.{Word, Nothing, Malformed, Parts, is_array, is_foreign, is_local, is_malformed}
+use Rattle.jr_model.specs.Checks.{is_of_kind, is_out_of_bounds, is_primitive, same_element, type_found, type_local}
 use Rattle.jr_model.specs.Parts.{announce, collect, collect_announced, collected, create, created}
 use Rattle.jr_model.specs.Parts.{created_with, delete_at, delete_found, found_closed, found_moved}
 use Rattle.jr_model.specs.Parts.{found_object, frame_left, frame_to_pop, local_object, look, looked}
@@ -33,29 +34,30 @@ use Rattle.jr_model.specs.References.{added, array_making, comparison, creation,
 use Rattle.jr_model.specs.References.{push_local_frame, removal, resolved, resolved_both, room_after, room_for, typing}
 use Rattle.jr_model.proofs.Exactly.{all_map, append_all}
 
--- the act writes an element
-abbrev pub is_write : Act → Bool
-is_write (Write o i v) = true
-is_write _ = false
+-- the act makes an array of ints, or writes an element
+abbrev pub touches : Act → Bool
+touches (New o k ws) = same_element Int k
+touches (Write o i v) = true
+touches _ = false
 
-abbrev pub NoWrite : List Act → Type 0
-NoWrite acts = AllByRecursion (λ a. is_write a ≡ false) acts
+abbrev pub Untouching : List Act → Type 0
+Untouching acts = AllByRecursion (λ a. touches a ≡ false) acts
 
--- a call that writes none
+-- a call that has no such act
 abbrev pub Spares : {A : Type 0} → Call A → Type 0
-Spares {A} call = (f g : Frames) (acts : List Act) (answer : Result A Fault) → call f acts answer g → NoWrite acts
+Spares {A} call = (f g : Frames) (acts : List Act) (answer : Result A Fault) → call f acts answer g → Untouching acts
 
-pub append_none : (xs ys : List Act) → NoWrite xs → NoWrite ys → NoWrite (xs ++ ys)
-append_none = append_all (λ a. is_write a ≡ false)
+pub append_none : (xs ys : List Act) → Untouching xs → Untouching ys → Untouching (xs ++ ys)
+append_none = append_all (λ a. touches a ≡ false)
 
 decided_spares : {A : Type 0} (r : Result A Fault) → Spares (decided r)
-decided_spares r f g acts answer is = subst NoWrite (sym is.0) tt
+decided_spares r f g acts answer is = subst Untouching (sym is.0) tt
 
-act_spares : (a : Act) → is_write a ≡ false → Spares (act a)
-act_spares a no_write f g acts answer is = subst NoWrite (sym is.0) (no_write, tt)
+act_spares : (a : Act) → touches a ≡ false → Spares (act a)
+act_spares a none f g acts answer is = subst Untouching (sym is.0) (none, tt)
 
-some_act_spares : {X : Type 0} (a : X → Act) → ((x : X) → is_write (a x) ≡ false) → Spares (some_act a)
-some_act_spares a no_write f g acts answer is = subst NoWrite (sym is.1) (no_write is.0, tt)
+some_act_spares : {X : Type 0} (a : X → Act) → ((x : X) → touches (a x) ≡ false) → Spares (some_act a)
+some_act_spares a none f g acts answer is = subst Untouching (sym is.1) (none is.0, tt)
 
 refuse_if_spares : (b : Bool) (e : Fault) → Spares (refuse_if b e)
 refuse_if_spares true e = decided_spares (Err e)
@@ -64,7 +66,7 @@ refuse_if_spares false e = decided_spares (Ok tt)
 bind_spares : {A B : Type 0} (first : Call A) (next : A → Call B) → Spares first → ((x : A) → Spares (next x))
     → Spares (first >>= next)
 bind_spares first next p q f g acts answer (inl r) =
-    subst NoWrite (sym r.4) (append_none r.2 r.3 (p f r.1 r.2 (Ok r.0) r.5) (q r.0 r.1 g r.3 answer r.6))
+    subst Untouching (sym r.4) (append_none r.2 r.3 (p f r.1 r.2 (Ok r.0) r.5) (q r.0 r.1 g r.3 answer r.6))
 bind_spares first next p q f g acts answer (inr r) = p f g acts (Err r.0) r.2
 
 for_spares : {A : Type 0} (s : State) (o : ℕ) (next : Kind → ℕ → Call A) → ((k : Kind) (n : ℕ) → Spares (next k n))
@@ -84,9 +86,15 @@ checked : {A : Type 0} (b : Bool) (e : Fault) (next : Call A) → Spares next �
 checked b e next p = bind_spares (refuse_if b e) (λ _. next) (refuse_if_spares b e) (λ _. p)
 
 pub entered_spares : {A : Type 0} (work : Call A) → Spares work → Spares (entered work)
-entered_spares work p f g acts answer (inl is) = subst NoWrite (sym is.0) (refl, (refl, tt))
+entered_spares work p f g acts answer (inl is) = subst Untouching (sym is.0) (refl, (refl, tt))
 entered_spares work p f g acts answer (inr is) =
-    subst NoWrite (sym is.1) (refl, append_none is.0 _ (p f g is.0 answer is.2) (refl, tt))
+    subst Untouching (sym is.1) (refl, append_none is.0 _ (p f g is.0 answer is.2) (refl, tt))
+
+pub opened_spares : {A : Type 0} (work : Call A) → Spares work → Spares (opened work)
+opened_spares work p f g acts answer (inl is) = subst Untouching (sym is.0) (refl, (refl, tt))
+opened_spares work p f g acts (Ok x) (inr is) = subst Untouching (sym is.1.0) (refl, p f g is.0 (Ok x) is.1.1)
+opened_spares work p f g acts (Err e) (inr is) =
+    subst Untouching (sym is.1.0) (refl, append_none is.0 _ (p f g is.0 (Err e) is.1.1) (refl, tt))
 
 -- WHAT REFERENCES NAME
 
@@ -125,10 +133,10 @@ type_at_spares (Parts h) = cond_spares (is_local h) (λ old. done (type_local (o
 
 probes_spare : Spares probes
 probes_spare f g acts answer is =
-    subst NoWrite (sym is.1) (all_map (λ a. is_write a ≡ false) (λ (l : ℕ × Bool). Probe l.0 l.1) is.0 (λ l. refl))
+    subst Untouching (sym is.1) (all_map (λ a. touches a ≡ false) (λ (l : ℕ × Bool). Probe l.0 l.1) is.0 (λ l. refl))
 
 created_with_spares : (k : RefKind) (o : ℕ) → Spares (created_with k o)
-created_with_spares k o f g acts answer is = subst NoWrite (sym is.2) (refl, tt)
+created_with_spares k o f g acts answer is = subst Untouching (sym is.2) (refl, tt)
 
 created_spares : (slots : ℕ) (k : RefKind) (o : Option ℕ) → Spares (created slots k o)
 created_spares slots k None = decided_spares (Ok None)
@@ -163,13 +171,13 @@ reserve_spares (suc n) =
     (bind_spares (some_act {X = ℕ × ℕ} (λ l. ReserveLost (suc n) l.0 l.1)) _
     (some_act_spares {X = ℕ × ℕ} (λ l. ReserveLost (suc n) l.0 l.1) (λ l. refl)) (λ l. decided_spares _)))
 
-pub publish_spares : (k : Kind) (ws : List ℕ) → Spares (publish k ws)
-publish_spares k ws = one_of_spares (some_act (λ o. New o k ws)) (refuse fault.ObjectsFull)
-    (some_act_spares (λ o. New o k ws) (λ o. refl)) (decided_spares _)
+publish_spares : (k : Kind) (ws : List ℕ) → same_element Int k ≡ false → Spares (publish k ws)
+publish_spares k ws other = one_of_spares (some_act (λ o. New o k ws)) (refuse fault.ObjectsFull)
+    (some_act_spares (λ o. New o k ws) (λ o. other)) (decided_spares _)
 
 take_frame_spares : Spares take_frame
-take_frame_spares f g acts answer is = subst NoWrite (sym is.0)
-    (all_map (λ a. is_write a ≡ false) (λ (r : LocalRef). LocalDrop r.handle.index) (last_frame f.frames) (λ r. refl))
+take_frame_spares f g acts answer is = subst Untouching (sym is.0)
+    (all_map (λ a. touches a ≡ false) (λ (r : LocalRef). LocalDrop r.handle.index) (last_frame f.frames) (λ r. refl))
 
 frame_to_pop_spares : Spares frame_to_pop
 frame_to_pop_spares f g acts answer is = refuse_if_spares (nat_lt (length f.frames) 2) fault.NoFrame f g acts answer is
@@ -184,19 +192,19 @@ module _ (c : Config) (last thread : ℕ) where
   room_after_spares (Some o) f g acts answer is =
       refuse_if_spares (free_places last (popped f) == 0) fault.LocalsFull f g acts answer is
 
-  added_spares : (o : ℕ) → Spares (added c last thread o)
-  added_spares o f g acts answer is = subst NoWrite (sym is.1) (refl, tt)
+  pub added_spares : (o : ℕ) → Spares (added c last thread o)
+  added_spares o f g acts answer is = subst Untouching (sym is.1) (refl, tt)
 
   new_local_spares : (o : Option ℕ) → Spares (new_local c last thread o)
   new_local_spares None = decided_spares (Ok None)
   new_local_spares (Some o) = bind_spares (room_for c last thread 1) _ (room_for_spares 1) (λ _.
       bind_spares (added c last thread o) _ (added_spares o) (λ h. decided_spares (Ok (Some h))))
 
-  pub made_spares : (k : Kind) (ws : List ℕ) → Spares (made c last thread k ws)
-  made_spares k ws =
+  pub made_spares : (k : Kind) (ws : List ℕ) → same_element Int k ≡ false → Spares (made c last thread k ws)
+  made_spares k ws other =
       bind_spares (room_for c last thread 1) _ (room_for_spares 1) (λ _.
       bind_spares (reserve (length ws)) _ (reserve_spares (length ws)) (λ _.
-      bind_spares (publish k ws) _ (publish_spares k ws) (λ o. added_spares o)))
+      bind_spares (publish k ws) _ (publish_spares k ws other) (λ o. added_spares o)))
 
   pub resolved_spares : (a : Word) → Spares (resolved c last thread a)
   resolved_spares a =
@@ -241,19 +249,36 @@ module _ (c : Config) (last thread : ℕ) where
       bind_spares take_frame _ take_frame_spares (λ _. new_local_spares x))))
 
   pub array_making_spares : (n : ℕ) (a : Word) → Spares (array_making c last thread n a)
-  array_making_spares n a = bind_spares (resolved c last thread a) _ (resolved_spares a) (λ x. made_spares Objects _)
+  array_making_spares n a = bind_spares (resolved c last thread a) _ (resolved_spares a) (λ x.
+      made_spares Objects _ refl)
+
+  pub part_spares : (s : State) (a : Word) (n : ℕ) → Spares (part_of c last thread s Int 0 n a)
+  part_spares s a n =
+      bind_spares (resolved c last thread a) _ (resolved_spares a) (λ x.
+      bind_spares (not_null x) _ (not_null_spares x) (λ o.
+      for_spares s o _ (λ l m.
+      checked (not (is_array l)) fault.NotArray _ (checked (not (same_element Int l)) fault.WrongElement _
+      (checked (nat_lt m (0 + n)) fault.Range _ (decided_spares (Ok o)))))))
+
+  pub opening_spares : (s : State) (a : Word) → Spares (level_array c last thread s 0 a)
+  opening_spares s a =
+      bind_spares (resolved c last thread a) _ (resolved_spares a) (λ x.
+      bind_spares (not_null x) _ (not_null_spares x) (λ o.
+      for_spares s o _ (λ k n.
+      checked (not (is_array k)) fault.NotArray _ (checked (not (is_primitive k)) fault.WrongElement _
+      (checked (nat_le LEVELS 0) fault.Size _ (decided_spares (Ok o)))))))
 
   pub pushing_spares : (n : ℕ) → Spares (push_local_frame c last thread n)
   pushing_spares n =
       bind_spares frame_left _ (λ f g acts answer is.
       refuse_if_spares (nat_le FRAMES (length f.frames)) fault.LocalsFull f g acts answer is) (λ _.
       bind_spares (room_for c last thread n) _ (room_for_spares n) (λ _ f g acts answer is.
-      subst NoWrite (sym is.0) tt))
+      subst Untouching (sym is.0) tt))
 
 -- A COLLECTION
 
 collection_spares : (cleared : List Handle) (dropped : List ℕ) (used : ℕ)
-    → NoWrite (collection_acts cleared dropped used)
+    → Untouching (collection_acts cleared dropped used)
 collection_spares cleared dropped used = (
   refl,
   append_none _ (Gate Reopen ∷ [])
@@ -265,13 +290,13 @@ collection_spares cleared dropped used = (
 )
 
 collected_spares : Spares collected
-collected_spares f g acts answer is = subst NoWrite (sym is.3) (collection_spares is.0 is.1 is.2)
+collected_spares f g acts answer is = subst Untouching (sym is.3) (collection_spares is.0 is.1 is.2)
 
 closed_spares : {A : Type 0} → Spares (found_closed {A = A})
 closed_spares = bind_spares (some_act ShutBusy) _ (some_act_spares ShutBusy (λ n. refl)) (λ n. decided_spares _)
 
 shuts_spare : (many : ℕ → Type 0) → Spares (refused_shuts many)
-shuts_spare many f g acts answer is = subst NoWrite (sym is.2) (all_map _ ShutBusy is.0 (λ n. refl))
+shuts_spare many f g acts answer is = subst Untouching (sym is.2) (all_map _ ShutBusy is.0 (λ n. refl))
 
 moved_spares : Spares found_moved
 moved_spares f g acts answer is = decided_spares _ f g acts answer is.2
