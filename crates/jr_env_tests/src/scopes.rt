@@ -1,8 +1,8 @@
 //! Calls that are made of others: a frame round a closure, strong references made of weak ones, and a region that ends with all its levels.
 
-use crate::envs::{has_type, made};
 use crate::plain::{Case, try_plain};
 use jr_env::{Env, Scoped, with_local_frame};
+use jr_fixtures::{has_type, made};
 use jr_steps::Steps;
 use jr_word::{Config, Handle};
 use std::process::Abort;
@@ -21,7 +21,7 @@ const SIZES: Config = Config {
 fn leaves_its_frame<S: Steps>(rt: &impl Abort, env: &mut Env<S>) -> Result<(), Fail> {
     let Scoped { answer, popped } = with_local_frame(env, 4, |env| env.new_array::<i32>(2))?;
     assert_eq!(rt; popped, Ok(None));
-    has_type(rt, env, answer?, 0)
+    has_type(env, answer?, 0)
 }
 
 /// A region over an array of two elements ends with both its levels.
@@ -44,8 +44,8 @@ fn becomes_strong<S: Steps>(rt: &impl Abort, env: &mut Env<S>, array: Handle) ->
     let weak = made(env.new_weak_global_ref(array))?;
     let local = made(env.upgrade_local(weak))?;
     let global = made(env.upgrade_global(weak))?;
-    has_type(rt, env, local, 1)?;
-    has_type(rt, env, global, 2)?;
+    has_type(env, local, 1)?;
+    has_type(env, global, 2)?;
     ends_with_both(rt, env, local, global)
 }
 
