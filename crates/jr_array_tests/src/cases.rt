@@ -4,7 +4,7 @@ ghost use Rattle.jr_model.specs.declared.event.Role.TheVariants.{Outside};
 
 use crate::copies::{copies_both, copies_elements, copies_units, goes_to_another, have_no_copies};
 use crate::element_types::{are_of_one_type, has_units};
-use crate::envs::{LAST, env_of, next_steps};
+use crate::envs::env_of;
 use crate::in_a_stay::has_levels;
 use crate::levels::stands_anew;
 use crate::objects::have_kinds;
@@ -12,6 +12,7 @@ use crate::regions::{a_long_part, has_regions, have_no_regions};
 use crate::texts::spell_texts;
 use crate::undisturbed::is_undisturbed;
 use jr_env::Env;
+use jr_fixtures::{LAST, next_steps};
 use jr_rule::{PlainSteps, Room};
 use jr_steps::Steps;
 use jr_word::Config;

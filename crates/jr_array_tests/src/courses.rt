@@ -4,10 +4,11 @@ ghost use Rattle.jr_model.specs.declared.event.Role.TheVariants.{Outside};
 ghost use Rattle.jr_rule.specs.Passes.{IsOpened};
 
 use crate::announced::{answers, is_closed_between, is_moved};
-use crate::envs::{LAST, env_of, leaves, next_env, next_steps};
+use crate::envs::{env_of, leaves};
 use crate::overtaken::{Before, Others, Overtaken, is_overtaken, with_others};
 use crate::plans::{Neighbour, with_plans};
 use jr_env::Env;
+use jr_fixtures::{LAST, next_env, next_steps};
 use jr_model::Summary;
 use jr_rule::{Cells, Pass, Room, RoomSteps, StepsOver};
 use jr_steps::Steps;

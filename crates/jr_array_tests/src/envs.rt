@@ -1,18 +1,16 @@
 //! The envs that arrays are made and read in, what their calls refuse, and words that are no reference.
-ghost use Rattle.std.specs.Prelude.{◌≡◌, All, IfOk};
+ghost use Rattle.std.specs.Prelude.{◌≡◌, All};
 ghost use Rattle.jr_model.specs.declared.event.Role.TheVariants.{Outside};
 ghost use Rattle.jr_rule.specs.Passes.{IsOpened};
 
 use jr_env::Env;
+use jr_fixtures::{LAST, closed, next_pass};
 use jr_model::Summary;
-use jr_rule::{Pass, Room, RoomSteps};
+use jr_rule::{Pass, Room};
 use jr_steps::{Role, Steps};
-use jr_word::{Config, Elem, Fault, Handle, LAST_SERIAL};
+use jr_word::{Config, Elem, Fault, Handle};
 use std::process::Abort;
 use std::test::Fail;
-
-/// The last serial of a slot or a local place.
-pub(crate) const LAST: u32 = LAST_SERIAL;
 
 /// Two threads with four slots and 16 local places each, eight objects, and 32 words for their elements.
 pub(crate) const TWO: Config = Config {
@@ -39,49 +37,16 @@ pub(crate) fn env_of<S: Steps + Drop>(steps: S) -> Result<Env<S>, Fail>
     }
 }
 
-/// The steps over the last of the passes.
-pub(crate) fn next_steps<'a>(
-    room: &'a Room<LAST>,
-    passes: &mut Vec<Pass>,
-) -> Result<RoomSteps<'a, LAST>, Fail>
-    requires { All (λ p. IsOpened room.now.row p) passes.old.items }
-    ensures others { All (λ p. IsOpened room.now.row p) passes.new.items }
-    ensures outside { IfOk result (λ s. s.role ≡ Outside) }
-{
-    match passes.pop() {
-        Some(pass) => Ok(RoomSteps::new(room, pass)),
-        None => Err("a thread has no pass")?,
-    }
-}
-
-/// The env over the last of the passes.
-pub(crate) fn next_env<'a>(
-    room: &'a Room<LAST>,
-    passes: &mut Vec<Pass>,
-) -> Result<Env<RoomSteps<'a, LAST>>, Fail>
-    requires { All (λ p. IsOpened room.now.row p) passes.old.items }
-    ensures { All (λ p. IsOpened room.now.row p) passes.new.items }
-{
-    let steps = next_steps(room, passes)?;
-    env_of(steps)
-}
-
-/// What stands in a room that is closed with the last of the passes.
-fn closed(room: Room<LAST>, passes: Vec<Pass>) -> Option<Summary>
-    requires { All (λ p. IsOpened room.row p) passes.items }
-{
-    let mut passes = passes;
-    match passes.pop() {
-        Some(pass) => room.close(pass).ok(),
-        None => None,
-    }
-}
-
 /// Checks what stands in a room that is closed with the last of the passes.
 pub(crate) fn leaves(rt: &impl Abort, room: Room<LAST>, passes: Vec<Pass>, wanted: Summary)
     requires { All (λ p. IsOpened room.row p) passes.items }
 {
-    assert!(rt; closed(room, passes) == Some(wanted));
+    let mut passes = passes;
+    let left = match next_pass(&room, &mut passes) {
+        Ok(pass) => closed(room, pass),
+        Err(_) => None,
+    };
+    assert!(rt; left == Some(wanted));
 }
 
 /// Checks that a call was refused so.

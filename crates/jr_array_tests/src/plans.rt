@@ -2,8 +2,8 @@
 ghost use Rattle.std.specs.Prelude.{All};
 ghost use Rattle.jr_rule.specs.Passes.{IsOpened};
 
-use crate::envs::{LAST, next_steps};
 use crate::overtaken::Before;
+use jr_fixtures::{LAST, next_steps};
 use jr_rule::{Pass, Room, RoomSteps};
 use jr_steps::{Role, Steps};
 use std::test::Fail;

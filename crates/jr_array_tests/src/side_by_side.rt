@@ -1,8 +1,9 @@
 //! Two threads of a room that run side by side: whose words each reserves while the other looks for them, and regions beside collections.
 use crate::deletion_threads::{Side, delete_beside, make_contested};
-use crate::envs::{LAST, leaves, next_env};
+use crate::envs::leaves;
 use crate::overtaken::FIRST;
 use jr_env::Env;
+use jr_fixtures::{LAST, next_env};
 use jr_gate::shut_gate;
 use jr_model::{Mode, Summary};
 use jr_rule::Room;

@@ -1,9 +1,9 @@
 //! Calls that are made again, and one behind a collection, over plain words.
 
-use crate::envs::is_refused;
 use crate::plain::{Case, try_plain};
 use jr_env::calls::{DeleteLocalRef, NewArray, SetArrayRegion};
 use jr_env::{Env, Patience, with_patience};
+use jr_fixtures::is_refused;
 use jr_steps::Steps;
 use jr_weak::Marker;
 use jr_word::{Config, Fault, Handle};
@@ -45,7 +45,7 @@ const FEW: Config = Config {
 fn fill<S: Steps>(rt: &impl Abort, env: &mut Env<S>) -> Result<(), Fail> {
     let first = env.retry(&NewArray::<i32>::of(3), Patience::of(0))?;
     let full = env.retry(&NewArray::<i32>::of(2), Patience::of(3));
-    is_refused(rt, full, Some(Fault::SpaceFull(3)));
+    assert!(rt; is_refused(full, Some(Fault::SpaceFull(3))));
     env.retry(&DeleteLocalRef(first), Patience::of(3))?;
     Ok(())
 }
@@ -68,7 +68,7 @@ pub(crate) fn is_made_behind<S: Steps>(
     let second = array_behind(alloc, env, 2)??;
     write(rt, env, second)?;
     let third = array_behind(alloc, env, 5)?;
-    is_refused(rt, third, Some(Fault::SpaceFull(0)));
+    assert!(rt; is_refused(third, Some(Fault::SpaceFull(0))));
     Ok(())
 }
 

@@ -1,8 +1,8 @@
 //! What scripts can't show of frames: a capacity of 32 bits, and local references that are freed while their env goes on.
 
-use crate::envs::{has_type, is_refused, made};
 use crate::plain::{Case, try_plain};
 use jr_env::Env;
+use jr_fixtures::{has_type, is_refused, made};
 use jr_steps::Steps;
 use jr_word::{Config, Fault, Handle};
 use std::process::Abort;
@@ -16,8 +16,8 @@ pub(crate) fn are_free<S: Steps>(
 ) -> Result<(), Fail> {
     env.ensure_local_capacity(u32::from(places))?;
     for more in [u32::from(places) + 1, u32::MAX] {
-        is_refused(rt, env.ensure_local_capacity(more), Some(Fault::LocalsFull));
-        is_refused(rt, env.push_local_frame(more), Some(Fault::LocalsFull));
+        assert!(rt; is_refused(env.ensure_local_capacity(more), Some(Fault::LocalsFull)));
+        assert!(rt; is_refused(env.push_local_frame(more), Some(Fault::LocalsFull)));
     }
     Ok(())
 }
@@ -35,8 +35,8 @@ fn in_three_frames<S: Steps>(env: &mut Env<S>) -> Result<[Handle; 3], Fail> {
 
 /// A local reference is freed.
 fn is_freed<S: Steps>(rt: &impl Abort, env: &mut Env<S>, local: Handle) -> Result<(), Fail> {
-    has_type(rt, env, local, 0)?;
-    is_refused(rt, env.new_local_ref(local), Some(Fault::Stale));
+    has_type(env, local, 0)?;
+    assert!(rt; is_refused(env.new_local_ref(local), Some(Fault::Stale)));
     Ok(())
 }
 
@@ -49,12 +49,12 @@ pub(crate) fn frees_all<S: Steps>(rt: &impl Abort, env: &mut Env<S>) -> Result<(
         is_freed(rt, env, local)?;
     }
     are_free(rt, env, 16)?;
-    is_refused(rt, env.pop_local_frame(global), Some(Fault::NoFrame));
+    assert!(rt; is_refused(env.pop_local_frame(global), Some(Fault::NoFrame)));
     let again = made(env.new_local_ref(global))?;
     env.free_locals()?;
     env.free_locals()?;
-    has_type(rt, env, again, 0)?;
-    has_type(rt, env, global, 2)
+    has_type(env, again, 0)?;
+    has_type(env, global, 2)
 }
 
 #[test]

@@ -1,9 +1,9 @@
 //! How many handles a slot and a local place give, and what their row says then.
 
-use crate::envs::{has_type, has_words, is_refused, made, opened_env};
 use crate::frames::are_free;
-use crate::plain::{Case, try_plain};
+use crate::plain::{Case, has_words, try_plain};
 use jr_env::Env;
+use jr_fixtures::{has_type, is_refused, made, opened_env};
 use jr_rule::PlainSteps;
 use jr_steps::Steps;
 use jr_word::{Config, Fault, Handle};
@@ -62,13 +62,13 @@ fn gives_more<S: Steps>(
 ) -> Result<(), Fail> {
     let last = last_renewed(env, kind, object)?;
     assert_eq!(rt; last, given.later[0]);
-    has_type(rt, env, last, 0)?;
-    has_type(rt, env, given.first[0], 0)?;
+    has_type(env, last, 0)?;
+    has_type(env, given.first[0], 0)?;
     // A later reference is told from the one whose serial has the same lower half.
     let next = renew(env, kind, object)?;
     assert_eq!(rt; next, given.later[1]);
-    has_type(rt, env, next, given.ref_type)?;
-    has_type(rt, env, given.first[1], 0)
+    has_type(env, next, given.ref_type)?;
+    has_type(env, given.first[1], 0)
 }
 
 /// The one slot gives more than 65,536 handles.
@@ -116,9 +116,9 @@ fn retires_a_slot<S: Steps>(rt: &impl Abort, env: &mut Env<S>) -> Result<Handle,
         assert_eq!(rt; global, word);
         env.delete_global_ref(global)?;
     }
-    is_refused(rt, env.new_global_ref(local), Some(Fault::RowFull));
+    assert!(rt; is_refused(env.new_global_ref(local), Some(Fault::RowFull)));
     for word in words {
-        has_type(rt, env, word, 0)?;
+        has_type(env, word, 0)?;
     }
     Ok(local)
 }

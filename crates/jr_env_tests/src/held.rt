@@ -1,8 +1,8 @@
 //! What an env holds, while the env itself is out of reach.
 ghost use Rattle.jr_env.specs.Envs.{IsOutside};
 
-use crate::envs::{made, plain_env};
 use jr_env::Env;
+use jr_fixtures::{made, plain_env};
 use jr_gate::enter;
 use jr_steps::Steps;
 use jr_word::{Config, Fault, Handle};

@@ -1,22 +1,14 @@
-//! Tests of the calls of an env for references and frames, and of its collections, over rooms and over plain words: of what scripts can't show.
+//! Tests of the calls of an env for references and frames, over rooms and over plain words: of what scripts can't show.
 #![tactic(auto)]
 
 #[cfg(test)]
 mod again;
-#[cfg(test)]
-mod census;
-#[cfg(test)]
-mod collections;
-#[cfg(test)]
-mod envs;
 #[cfg(test)]
 mod frames;
 #[cfg(test)]
 mod handles;
 #[cfg(test)]
 mod held;
-#[cfg(test)]
-mod left_inside;
 #[cfg(test)]
 mod native_code;
 #[cfg(test)]
@@ -30,11 +22,7 @@ mod references;
 #[cfg(test)]
 mod scopes;
 #[cfg(test)]
-mod shared;
-#[cfg(test)]
 mod slot_threads;
-#[cfg(test)]
-mod stays;
 #[cfg(test)]
 mod ten_lines;
 #[cfg(test)]

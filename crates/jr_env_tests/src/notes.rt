@@ -10,9 +10,9 @@ ghost use Rattle.jr_rule.specs.Rooms.{IsPinnedThere, seen_by_note};
 ghost use Rattle.jr_rule.specs.Sites.{IsSiteOf};
 ghost use Rattle.jr_steps.specs.declared.known.Known.{Known};
 
-use crate::envs::{LAST, has_type, next_pass, opened_env};
 use crate::references::{opened, shared_in};
 use jr_env::Env;
+use jr_fixtures::{LAST, has_type, next_pass, opened_env};
 use jr_model::references_stand_until_deleted;
 use jr_rule::{NoteOf, Pass, PinnedNote, Room, RoomSteps, Site, SiteSteps, StepsIn, ThreadNumber};
 use jr_word::Config;
@@ -92,7 +92,7 @@ fn learn_again<Q: Site, T: ThreadNumber, U: ThreadNumber>(
     assert!(rt; first.learn_pinned(&pinned));
     let again = first.pin::<Q>();
     assert!(rt; second.learn_pinned(&again));
-    has_type(rt, &mut first, shared, 2)
+    has_type(&mut first, shared, 2)
 }
 
 #[test]

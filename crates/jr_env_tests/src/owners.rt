@@ -1,6 +1,7 @@
 //! A room that its threads own: threads that were spawned hand references on by a queue, and whoever is the last closes the room.
 
-use jr::{Config, Fault, Handle, OwnedEnv, Summary, close_owned, open_envs};
+use jr::calls::NewArray;
+use jr::{Config, Fault, Handle, OwnedEnv, Patience, Summary, close_owned, open_envs};
 use std::sync::{Arc, Mutex, Wait};
 use std::test::Fail;
 use std::thread;
@@ -25,9 +26,9 @@ const AT_THE_END: Summary = Summary {
 /// The references that threads hand on.
 type Queue = Mutex<Vec<Handle>>;
 
-/// Shares an array, and takes over one that some thread has shared: a weak reference to it is left. The length of what it took over.
+/// Shares an array, and takes over one that some thread has shared: a weak reference to it is left. The length of what it took over. Each of the two others may reserve words in between once, so the array is made again.
 fn takes_over<R: Wait>(rt: &R, env: &mut OwnedEnv, queue: &Queue) -> Result<u32, Fault> {
-    let array = env.new_array::<i32>(3)?;
+    let array = env.retry(&NewArray::<i32>::of(3), Patience::of(3))?;
     let shared = Handle::or_null(env.new_global_ref(array)?);
     let Ok(()) = queue.lock(rt).push(shared) else {
         return Err(Fault::Memory);

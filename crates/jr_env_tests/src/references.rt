@@ -5,10 +5,10 @@ ghost use Rattle.jr_model.specs.declared.event.Role.TheVariants.{Outside};
 ghost use Rattle.jr_rule.specs.Passes.{IsAt, IsOpened};
 ghost use Rattle.jr_rule.specs.Sites.{IsSiteOf};
 
-use crate::envs::{LAST, has_type, has_words, is_refused, made, next_pass, opened_env};
 use crate::notes::learns;
-use crate::plain::{Case, try_plain};
+use crate::plain::{Case, has_words, try_plain};
 use jr_env::Env;
+use jr_fixtures::{LAST, has_type, is_refused, made, next_pass, opened_env};
 use jr_rule::{Pass, PlainSteps, Room, RoomSteps, Site, SiteSteps, ThreadNumber};
 use jr_steps::Steps;
 use jr_word::{Config, Fault, Handle};
@@ -84,7 +84,7 @@ fn refused_as_local<S: Steps>(rt: &impl Abort, env: &mut Env<S>, of: &OfEach) {
         (FOREIGN, Fault::Foreign),
     ];
     for (word, fault) in rows {
-        is_refused(rt, env.delete_local_ref(word), Some(fault));
+        assert!(rt; is_refused(env.delete_local_ref(word), Some(fault)));
     }
 }
 
@@ -95,9 +95,9 @@ fn have_types<S: Steps>(
     of: &OfEach,
     wanted: [u8; 3],
 ) -> Result<(), Fail> {
-    has_type(rt, env, of.local, wanted[0])?;
-    has_type(rt, env, of.global, wanted[1])?;
-    has_type(rt, env, of.weak, wanted[2])
+    has_type(env, of.local, wanted[0])?;
+    has_type(env, of.global, wanted[1])?;
+    has_type(env, of.weak, wanted[2])
 }
 
 /// What deleting a word as a global and as a weak global reference is refused with, where it is; of the two references of these kinds each is deleted.
@@ -112,8 +112,8 @@ fn refused_as_global<S: Steps>(rt: &impl Abort, env: &mut Env<S>, of: &OfEach) {
         (of.global, None, Some(Fault::WrongKind)),
     ];
     for (word, of_global, of_weak) in rows {
-        is_refused(rt, env.delete_global_ref(word), of_global);
-        is_refused(rt, env.delete_weak_global_ref(word), of_weak);
+        assert!(rt; is_refused(env.delete_global_ref(word), of_global));
+        assert!(rt; is_refused(env.delete_weak_global_ref(word), of_weak));
     }
 }
 
@@ -136,7 +136,7 @@ fn refused<S: Steps + Drop>(rt: &impl Abort, env: Result<Env<S>, (S, Fault)>) ->
     match env {
         Ok(_) => Err("the pass is not fresh")?,
         Err((steps, fault)) => {
-            is_refused(rt, Err::<(), Fault>(fault), Some(Fault::NotFresh));
+            assert!(rt; fault == Fault::NotFresh);
             assert!(rt; !steps.fresh());
             Ok(steps)
         }
@@ -334,7 +334,7 @@ pub(crate) fn goes_round<S: Steps>(rt: &impl Abort, env: &mut Env<S>) -> Result<
     env.delete_global_ref(Handle(2))?;
     is_next(rt, env, local, Handle(0x8_0000_0002))?;
     is_next(rt, env, local, Handle(6))?;
-    is_refused(rt, env.new_global_ref(local), Some(Fault::RowFull));
+    assert!(rt; is_refused(env.new_global_ref(local), Some(Fault::RowFull)));
     Ok(())
 }
 

@@ -1,8 +1,8 @@
 //! Calls that are made of others: a frame round a closure, strong references made of weak ones, and a region that ends with all its levels.
 
-use crate::envs::{has_type, made};
 use crate::plain::{Case, try_plain};
 use jr_env::{Env, Patience, with_local_frame, with_local_frame_returning};
+use jr_fixtures::{has_type, made};
 use jr_steps::Steps;
 use jr_word::{Config, Fault, Handle};
 use std::process::Abort;
@@ -18,9 +18,9 @@ const SIZES: Config = Config {
 };
 
 /// What was made in a frame has no reference behind it.
-fn leaves_its_frame<S: Steps>(rt: &impl Abort, env: &mut Env<S>) -> Result<(), Fail> {
+fn leaves_its_frame<S: Steps>(env: &mut Env<S>) -> Result<(), Fail> {
     let array = with_local_frame(env, 4, Patience::LONG, |env| env.new_array::<i32>(2))?;
-    has_type(rt, env, array?, 0)
+    has_type(env, array?, 0)
 }
 
 /// What was made in a frame is handed on to the frame below, by a reference of its own; where nothing was made, so is the refusal.
@@ -57,14 +57,14 @@ fn becomes_strong<S: Steps>(rt: &impl Abort, env: &mut Env<S>, array: Handle) ->
     let weak = made(env.new_weak_global_ref(array))?;
     let local = made(env.upgrade_local(weak))?;
     let global = made(env.upgrade_global(weak))?;
-    has_type(rt, env, local, 1)?;
-    has_type(rt, env, global, 2)?;
+    has_type(env, local, 1)?;
+    has_type(env, global, 2)?;
     ends_with_both(rt, env, local, global)
 }
 
 /// Tries these calls.
 pub(crate) fn are_made<S: Steps>(rt: &impl Abort, env: &mut Env<S>) -> Result<(), Fail> {
-    leaves_its_frame(rt, env)?;
+    leaves_its_frame(env)?;
     hands_on_from_its_frame(rt, env)?;
     let array = env.new_array::<i32>(2)?;
     becomes_strong(rt, env, array)

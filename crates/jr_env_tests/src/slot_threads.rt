@@ -1,7 +1,7 @@
 //! Threads that fight for the last serials of two slots.
 
-use crate::envs::{NoPass, has_type, next_env};
 use jr_env::Env;
+use jr_fixtures::{NoPass, has_type, next_env};
 use jr_rule::Room;
 use jr_steps::{Role, SlotLoad, Steps};
 use jr_word::{Config, Fault, Handle, SlotParts, SlotWord};
@@ -119,7 +119,7 @@ fn is_at_its_end<S: Steps + Drop>(
     };
     is_each_given_once(rt, [first, second, third]);
     for handle in ALL {
-        has_type(rt, &mut env, handle, 0)?;
+        has_type(&mut env, handle, 0)?;
     }
     let mut steps = env.into_pass();
     are_retired(rt, &mut steps)

@@ -1,8 +1,8 @@
 //! The ten lines of README.md, by one thread in a room of its own.
 ghost use Rattle.jr_rule.specs.Passes.{IsOpened};
 
-use crate::envs::{LAST, next_pass};
 use jr::{Collected, Config, Env, Fault, Handle, Pass, Room, RoomSteps};
+use jr_fixtures::{LAST, next_pass};
 use std::alloc::Global;
 use std::test::Fail;
 

@@ -40,6 +40,8 @@ pub(crate) enum Call {
     Collect,
     /// A collection that is announced, with so many tries.
     CollectAnnounced(u32),
+    /// A census.
+    Census,
 }
 
 /// A room, and what its threads do there.

@@ -13,6 +13,9 @@ const LOST: &[Call] = &[
     Call::DeleteLocal(Ready(0)),
 ];
 
+/// An array of two that nothing reaches, behind an object and a reference that were made ready: 2.
+const UNREACHED: &[Call] = &[Call::NewArray(2), Call::DeleteLocal(Ready(2))];
+
 /// A global reference to an array whose one element is 7, behind an array that nothing reaches: 2.
 const BEHIND: &[Call] = &[
     Call::NewArray(1),
@@ -27,7 +30,7 @@ const BEHIND: &[Call] = &[
 const LOOKS: &[Call] = &[Call::TypeOf(Ready(1)), Call::TypeOf(Ready(1))];
 
 /// All of them.
-pub(crate) const CASES: [Case; 19] = [
+pub(crate) const CASES: [Case; 21] = [
     Case {
         name: "two create in a row of one slot",
         slots: 1,
@@ -183,6 +186,27 @@ pub(crate) const CASES: [Case; 19] = [
             &[Call::CollectAnnounced(2)],
             &[Call::ReadCritical(Ready(2)), Call::ReadCritical(Ready(2))],
         ],
+    },
+    Case {
+        name: "censuses beside a deletion and a creation",
+        slots: 1,
+        objects: 1,
+        ready: &[&[], SHARED],
+        calls: &[
+            &[Call::Census, Call::Census],
+            &[
+                Call::DeleteGlobal(Ready(1)),
+                Call::NewGlobal(Ready(0)),
+                Call::DeleteLocal(Ready(0)),
+            ],
+        ],
+    },
+    Case {
+        name: "a census beside an announced collection",
+        slots: 2,
+        objects: 2,
+        ready: &[LOST, UNREACHED],
+        calls: &[&[Call::Census], &[Call::CollectAnnounced(2)]],
     },
     Case {
         name: "one creates, one deletes, one collects",

@@ -8,6 +8,7 @@ mod at_objects;
 mod at_slots;
 mod case;
 mod cases;
+mod counted;
 mod explore;
 mod machine;
 mod play;

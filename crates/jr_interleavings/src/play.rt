@@ -1,6 +1,7 @@
 //! What one thread of a run does: it makes ready what it needs, and makes its calls.
 
 use crate::case::{Call, Name};
+use crate::counted::Counts;
 use crate::run::Baton;
 use crate::scheduled::Scheduled;
 use crate::seen::Answer;
@@ -30,6 +31,13 @@ fn collect<S: Steps>(env: &mut Env<S>, alloc: Global, tries: u32) -> Result<Coll
     } else {
         env.collect_announced(&mut marker, tries)
     }
+}
+
+/// Takes a census.
+fn counted<S: Steps>(env: &mut Env<S>, alloc: Global) -> Result<Counts, Fault> {
+    let mut marker = Marker::new(alloc, env.held.steps.config())?;
+    let census = env.census(&mut marker)?;
+    Ok(Counts::of(&census))
 }
 
 /// A new reference, to null where there is none.
@@ -79,6 +87,7 @@ fn call_of<S: Steps>(
         Call::NewArray(length) => Ok(Answer::Made(env.new_array::<i32>(length)?)),
         Call::Collect => Ok(Answer::Collected(collect(env, alloc, 0)?)),
         Call::CollectAnnounced(tries) => Ok(Answer::Collected(collect(env, alloc, tries)?)),
+        Call::Census => Ok(Answer::Counted(counted(env, alloc)?)),
         _ => call_at(env, call, handle),
     }
 }

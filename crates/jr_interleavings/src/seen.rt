@@ -1,6 +1,7 @@
 //! What a call has seen of the machine, and the answer that it makes.
 
 use crate::case::Call;
+use crate::counted::Counts;
 use crate::machine::{Machine, Verdict, add, must};
 use jr_model::Found;
 use jr_weak::Collected;
@@ -61,6 +62,8 @@ pub(crate) enum Answer {
     Read(i32),
     /// What a collection did.
     Collected(Collected),
+    /// What a census counted.
+    Counted(Counts),
     /// It was refused.
     Refused(Fault),
 }
@@ -168,6 +171,7 @@ impl Machine {
             Call::Write(_, value) => seen.stale().or(seen.written(value)),
             Call::ReadCritical(_) => seen.stale().or(seen.read()),
             Call::Collect | Call::CollectAnnounced(_) => seen.collected(),
+            Call::Census => self.counted(seen),
             Call::NewPlain | Call::NewArray(_) => match seen.did {
                 None if seen.taken_numbers.count_ones() == self.config.objects => {
                     Some(Answer::Refused(Fault::ObjectsFull))

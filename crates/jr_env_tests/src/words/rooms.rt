@@ -1,9 +1,9 @@
 //! The rooms in which each call is made with each word.
 
-use crate::envs::{LAST, NoPass, collects, has_type, leaves, made, next_env, next_pass, plain_env};
 use crate::words::calls::{CALLS, Call, DELETIONS, Given, INTS, NESTING, OF_TWO, refused_by};
 use crate::words::known::Known;
 use jr_env::Env;
+use jr_fixtures::{LAST, NoPass, closed, collects, has_type, made, next_env, next_pass, plain_env};
 use jr_model::Summary;
 use jr_rule::Room;
 use jr_steps::Steps;
@@ -146,7 +146,7 @@ fn leave_behind<S: Steps>(
     words.push(deleted)?;
     words.push(gone)?;
     stands(known, words, Ok(cleared), None)?;
-    collects(rt, alloc, env, [1, 1, 16])
+    collects(alloc, env, [1, 1, 16])
 }
 
 /// Makes references to an array of ints and to one of objects, until no slot and no local place is free.
@@ -219,7 +219,7 @@ fn is_answered_by<S: Steps>(
     calls: &[Call],
     word: Handle,
 ) -> Result<(), Fail> {
-    has_type(rt, env, word, known.ref_type(word))?;
+    has_type(env, word, known.ref_type(word))?;
     for call in calls {
         is_answered(rt, alloc, env, given, known, *call, [word, Handle::NULL])?;
     }
@@ -290,7 +290,7 @@ fn are_deleted<S: Steps>(
     for word in words {
         is_answered_by(rt, alloc, env, given, known, &DELETIONS, *word)?;
         known.forget(*word);
-        has_type(rt, env, *word, 0)?;
+        has_type(env, *word, 0)?;
     }
     Ok(())
 }
@@ -398,7 +398,7 @@ fn tries<S: Steps>(
     }
     assert_eq!(rt; foreign.new_plain()?, FOREIGN);
     in_a_full_room(rt, alloc, env, given, words)?;
-    has_type(rt, foreign, FOREIGN, 1)
+    has_type(foreign, FOREIGN, 1)
 }
 
 /// The same, where there is a pass for each of the two threads, with words and elements of another room.
@@ -424,7 +424,7 @@ fn in_a_room(rt: &impl Abort, alloc: Global, is_full: bool, left: Summary) -> Re
     let foreign = next_env(&room, &mut passes);
     let env = next_env(&room, &mut passes);
     tries_all(rt, alloc, env, foreign, is_full)?;
-    leaves(rt, room, closing, left);
+    assert!(rt; closed(room, closing) == Some(left));
     Ok(())
 }
 

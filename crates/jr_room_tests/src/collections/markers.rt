@@ -1,6 +1,6 @@
-use crate::envs::{is_refused, plain_env};
 use jr_env::calls::NewPlain;
 use jr_env::{Env, Patience};
+use jr_fixtures::{is_refused, plain_env};
 use jr_steps::Steps;
 use jr_weak::Marker;
 use jr_word::{Config, Fault, Handle};
@@ -48,12 +48,13 @@ fn rooms_beyond_the_limits(rt: HostRuntime) -> Result<(), Fail> {
 
 /// Checks that each collection by this marker is refused, with nothing changed.
 fn fits_no_collection<S: Steps>(rt: &impl Abort, env: &mut Env<S>, marker: &mut Marker) {
-    is_refused(rt, env.collect(marker), Some(Fault::Size));
-    is_refused(rt, env.collect_announced(marker, 3), Some(Fault::Size));
-    is_refused(
-        rt,
-        env.retry_collecting(marker, &NewPlain, Patience::of(3)),
-        Some(Fault::Size),
+    assert!(rt; is_refused(env.collect(marker), Some(Fault::Size)));
+    assert!(rt; is_refused(env.collect_announced(marker, 3), Some(Fault::Size)));
+    assert!(rt;
+        is_refused(
+            env.retry_collecting(marker, &NewPlain, Patience::of(3)),
+            Some(Fault::Size)
+        )
     );
 }
 

@@ -4,9 +4,9 @@ ghost use Rattle.jr_model.specs.declared.event.Role.TheVariants.{Outside};
 ghost use Rattle.jr_env.specs.Collections.{FitsRoom};
 ghost use Rattle.jr_env.specs.Envs.{IsOutside};
 
-use crate::envs::{is_refused, made};
 use crate::shared::{Case, in_a_room};
 use jr_env::Env;
+use jr_fixtures::{is_refused, made};
 use jr_gate::{announce, enter};
 use jr_steps::Steps;
 use jr_weak::{Collected, Marker};
@@ -94,7 +94,7 @@ fn has_length<S: Steps>(
 fn is_as_filled<S: Steps>(rt: &impl Abort, env: &mut Env<S>, filled: Filled) -> Result<(), Fail> {
     assert!(rt; !env.is_same_object(filled.gone_weak, Handle::NULL)?);
     has_length(rt, env, filled.gone_weak, 3)?;
-    is_refused(rt, env.new_array::<i32>(6), Some(Fault::SpaceFull(5)));
+    assert!(rt; is_refused(env.new_array::<i32>(6), Some(Fault::SpaceFull(5))));
     Ok(())
 }
 
@@ -114,7 +114,7 @@ fn is_kept_out<S: Steps>(rt: &impl Abort, env: &mut Env<S>, marker: &mut Marker,
 fn is_barred<A>(rt: &impl Abort, answer: Result<A, Fault>) {
     match answer {
         Ok(_) => panic!(rt; "a call goes in"),
-        Err(fault) => is_refused(rt, Err::<(), Fault>(fault), Some(Fault::Barred)),
+        Err(fault) => assert!(rt; fault == Fault::Barred),
     }
 }
 

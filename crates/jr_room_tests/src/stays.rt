@@ -9,11 +9,11 @@ ghost use Rattle.jr_rule.specs.Rooms.{IsNoteThere};
 ghost use Rattle.jr_rule.specs.Rule.{stepping_pass};
 ghost use Rattle.jr_steps.specs.Knowing.{view};
 
-use crate::envs::{LAST, collected, collects, has_type, is_refused, made, next_pass};
 use crate::plain::try_plain;
 use crate::shared::in_a_room;
 use crate::{plain, shared};
 use jr_env::{Env, Stay};
+use jr_fixtures::{LAST, collected, collects, has_type, is_refused, made, next_pass};
 use jr_gate::announce;
 use jr_model::{Mode, open_stays_exclude_collections};
 use jr_rule::{Note, Room, RoomSteps};
@@ -149,7 +149,7 @@ fn calls_on_frames<S: Steps>(rt: &impl Abort, stay: &mut Stay<'_, S>, array: Han
     let kept = one(rt, stay.pop_local_frame(array));
     have_types(rt, stay, &[(array, 0)]);
     has_length(rt, stay, kept, 3);
-    is_refused(rt, stay.pop_local_frame(kept), Some(Fault::NoFrame));
+    assert!(rt; is_refused(stay.pop_local_frame(kept), Some(Fault::NoFrame)));
     done(rt, stay.free_locals());
     have_types(rt, stay, &[(kept, 0)]);
 }
@@ -172,16 +172,12 @@ fn makes_each_call<S: Steps>(
 
 /// What is refused in a stay, which stands then.
 fn is_refused_in<S: Steps>(rt: &impl Abort, stay: &mut Stay<'_, S>, array: Handle) {
-    is_refused(rt, stay.new_global_ref(Handle(8)), Some(Fault::Stale));
-    is_refused(rt, stay.delete_global_ref(array), Some(Fault::WrongKind));
-    is_refused(rt, stay.get_string_length(array), Some(Fault::WrongKind));
-    is_refused(rt, stay.new_array::<i64>(1000), Some(Fault::SpaceFull(3)));
-    is_refused(
-        rt,
-        stay.set_array_region(array, 3, &[1]),
-        Some(Fault::Range),
-    );
-    is_refused(rt, stay.pop_local_frame(array), Some(Fault::NoFrame));
+    assert!(rt; is_refused(stay.new_global_ref(Handle(8)), Some(Fault::Stale)));
+    assert!(rt; is_refused(stay.delete_global_ref(array), Some(Fault::WrongKind)));
+    assert!(rt; is_refused(stay.get_string_length(array), Some(Fault::WrongKind)));
+    assert!(rt; is_refused(stay.new_array::<i64>(1000), Some(Fault::SpaceFull(3))));
+    assert!(rt; is_refused(stay.set_array_region(array, 3, &[1]), Some(Fault::Range)));
+    assert!(rt; is_refused(stay.pop_local_frame(array), Some(Fault::NoFrame)));
     has_length(rt, stay, array, 3);
 }
 
@@ -201,7 +197,7 @@ pub(crate) fn goes_on<S: Steps>(
     let tried = makes_each_call(rt, alloc, &mut stay, inner);
     stay.end();
     tried?;
-    has_type(rt, env, array, 0)
+    has_type(env, array, 0)
 }
 
 /// Each call is made in a stay, by a thread that is alone.
@@ -231,7 +227,7 @@ fn keeps_a_collection_out<S: Steps>(
     assert_eq!(rt; kept_out, Err(Fault::Busy(1)));
     let global = made(global)?;
     assert_eq!(rt; env.get_array_length(global)?, 2);
-    collects(rt, alloc, other, [0, 0, 2])
+    collects(alloc, other, [0, 0, 2])
 }
 
 /// While a level stands in a stay no other thread collects, and then the stay goes on.
@@ -292,7 +288,7 @@ fn goes_on_beside_who_announces<S: Steps>(
             announced.cancel(announcer);
             stay.end();
             assert_eq!(rt; barred, Some(Fault::Barred));
-            has_type(rt, env, plain?, 1)?;
+            has_type(env, plain?, 1)?;
             assert_eq!(rt; refused_stay(other), None);
             Ok(())
         }

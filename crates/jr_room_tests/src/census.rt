@@ -1,9 +1,9 @@
 //! A census and a dump of a room: what they tell, and that they leave all as it is.
 
-use crate::envs::{collected, made};
 use crate::shared::{Case, in_a_room};
-use jr::Census;
+use jr_census::Census;
 use jr_env::Env;
+use jr_fixtures::{collected, made};
 use jr_steps::Steps;
 use jr_weak::Marker;
 use jr_word::{Fault, HeaderParts, LocalParts, SlotParts};

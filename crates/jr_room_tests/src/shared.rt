@@ -5,10 +5,10 @@ ghost use Rattle.jr_rule.specs.Rooms.{IsOfRoom};
 
 use crate::census::{has_what_stands, tells_lost_words, tells_what_stands};
 use crate::collections::announced::{bars_for_good, is_barred_by_who_announces};
-use crate::envs::{LAST, NoPass, next_env, next_pass, next_steps};
 use crate::left_inside::keeps_out_for_good;
 use crate::stays::excludes_collections;
 use jr_env::Env;
+use jr_fixtures::{LAST, NoPass, next_env, next_pass, next_steps};
 use jr_rule::{Left, Pass, Room};
 use jr_steps::Steps;
 use jr_word::{Config, Fault};

@@ -2,9 +2,9 @@
 ghost use Rattle.std.specs.Prelude.{◌≡◌};
 ghost use Rattle.jr_model.specs.declared.event.Role.TheVariants.{Outside};
 
-use crate::envs::{has_type, is_refused};
 use crate::shared::{Case, in_a_room};
 use jr_env::Env;
+use jr_fixtures::{has_type, is_refused};
 use jr_gate::shut_gate;
 use jr_steps::Steps;
 use jr_weak::Marker;
@@ -35,8 +35,8 @@ fn is_kept_out<S: Steps>(
         Err(fault) => assert_eq!(rt; fault, Fault::Busy(1)),
     }
     let mut marker = Marker::new(alloc, env.held.steps.config())?;
-    is_refused(rt, env.collect(&mut marker), Some(Fault::Busy(1)));
-    has_type(rt, env, Handle::NULL, 0)
+    assert!(rt; is_refused(env.collect(&mut marker), Some(Fault::Busy(1))));
+    has_type(env, Handle::NULL, 0)
 }
 
 /// A thread whose steps are dropped while it is inside keeps the collections of others out for good.

@@ -1,4 +1,6 @@
-//! Rooms and envs for tests, and what their calls answer.
+//! Rooms and envs for tests, and what their calls answer. Nothing here ends the process: it is in tests alone that a crate may.
+#![tactic(auto)]
+
 ghost use Rattle.std.specs.Prelude.{◌≡◌, true, All, IfOk};
 ghost use Rattle.jr_model.specs.declared.event.Role.TheVariants.{Outside};
 ghost use Rattle.jr_rule.specs.Passes.{IsOpened};
@@ -12,14 +14,13 @@ use jr_steps::Steps;
 use jr_weak::Marker;
 use jr_word::{Config, Fault, Handle, LAST_SERIAL};
 use std::alloc::Global;
-use std::process::Abort;
 use std::test::Fail;
 
 /// The last serial of a slot or a local place.
-pub(crate) const LAST: u32 = LAST_SERIAL;
+pub const LAST: u32 = LAST_SERIAL;
 
 /// The env over a fresh pass, which is spent.
-pub(crate) fn opened_env<S: Steps + Drop>(steps: S) -> Env<S>
+pub fn opened_env<S: Steps + Drop>(steps: S) -> Env<S>
     requires outside { (S.facts steps).stands.role ≡ Outside }
     requires fresh { (S.facts steps).stands.fresh ≡ true }
     ensures { Spent S.facts steps result.held.steps }
@@ -31,16 +32,16 @@ pub(crate) fn opened_env<S: Steps + Drop>(steps: S) -> Env<S>
 }
 
 /// The env over plain words in which nothing stands.
-pub(crate) fn plain_env(alloc: Global, config: Config) -> Result<Env<PlainSteps<LAST>>, Fault> {
+pub fn plain_env(alloc: Global, config: Config) -> Result<Env<PlainSteps<LAST>>, Fault> {
     let steps = PlainSteps::new(alloc, config)?;
     Ok(opened_env(steps))
 }
 
 /// What is missing where the passes are at their end.
-pub(crate) type NoPass = &'static str;
+pub type NoPass = &'static str;
 
 /// The last of the passes of a room, whatever its last serial.
-pub(crate) fn next_pass<const SERIAL: u32>(
+pub fn next_pass<const SERIAL: u32>(
     _room: &Room<SERIAL>,
     passes: &mut Vec<Pass>,
 ) -> Result<Pass, NoPass>
@@ -55,7 +56,7 @@ pub(crate) fn next_pass<const SERIAL: u32>(
 }
 
 /// The steps over the last of the passes.
-pub(crate) fn next_steps<'a>(
+pub fn next_steps<'a>(
     room: &'a Room<LAST>,
     passes: &mut Vec<Pass>,
 ) -> Result<RoomSteps<'a, LAST>, NoPass>
@@ -68,7 +69,7 @@ pub(crate) fn next_steps<'a>(
 }
 
 /// The env over the last of the passes.
-pub(crate) fn next_env<'a, const SERIAL: u32>(
+pub fn next_env<'a, const SERIAL: u32>(
     room: &'a Room<SERIAL>,
     passes: &mut Vec<Pass>,
 ) -> Result<Env<RoomSteps<'a, SERIAL>>, NoPass>
@@ -79,18 +80,15 @@ pub(crate) fn next_env<'a, const SERIAL: u32>(
     Ok(opened_env(RoomSteps::new(room, pass)))
 }
 
-/// A room is closed with the pass of a thread that took no step.
-pub(crate) fn leaves(rt: &impl Abort, room: Room<LAST>, pass: Pass, wanted: Summary)
+/// What stands in a room that is closed with the pass of a thread that took no step: `None` where a thread is in the room.
+pub fn closed(room: Room<LAST>, pass: Pass) -> Option<Summary>
     requires { IsOfRoom room pass }
 {
-    match room.close(pass) {
-        Ok(found) => assert_eq!(rt; found, wanted),
-        Err(_) => panic!(rt; "a thread is in the room"),
-    }
+    room.close(pass).ok()
 }
 
 /// The reference that a call made to an object.
-pub(crate) fn made(answer: Result<Option<Handle>, Fault>) -> Result<Handle, Fail> {
+pub fn made(answer: Result<Option<Handle>, Fault>) -> Result<Handle, Fail> {
     match answer {
         Ok(Some(handle)) => Ok(handle),
         Ok(None) => Err("it is to no object")?,
@@ -98,45 +96,34 @@ pub(crate) fn made(answer: Result<Option<Handle>, Fault>) -> Result<Handle, Fail
     }
 }
 
-/// Checks with which refusal a call answers, if with any.
-pub(crate) fn is_refused<A: Drop>(
-    rt: &impl Abort,
-    answer: Result<A, Fault>,
-    wanted: Option<Fault>,
-) {
-    assert_eq!(rt; answer.err(), wanted);
+/// Whether a call answers with this refusal, or with none.
+pub fn is_refused<A: Drop>(answer: Result<A, Fault>, wanted: Option<Fault>) -> bool {
+    answer.err() == wanted
 }
 
 /// Checks the type of the reference that a word is: 1 local, 2 global, 3 weak global, and 0 where it is none.
-pub(crate) fn has_type<S: Steps>(
-    rt: &impl Abort,
-    env: &mut Env<S>,
-    word: Handle,
-    wanted: u8,
-) -> Result<(), Fail> {
-    assert_eq!(rt; env.get_object_ref_type(word)?, wanted);
-    Ok(())
+pub fn has_type<S: Steps>(env: &mut Env<S>, word: Handle, wanted: u8) -> Result<(), Fail> {
+    let found = env.get_object_ref_type(word)?;
+    if found == wanted {
+        Ok(())
+    } else {
+        Err(Fail::new(format_args!("the type is {found}, not {wanted}")))
+    }
 }
 
 /// How many weak references a collection cleared, how many objects it dropped, and how many words are used then. The marker is made for it.
-pub(crate) fn collected<S: Steps>(alloc: Global, env: &mut Env<S>) -> Result<[u32; 3], Fault> {
+pub fn collected<S: Steps>(alloc: Global, env: &mut Env<S>) -> Result<[u32; 3], Fault> {
     let mut marker = Marker::new(alloc, env.held.steps.config())?;
     let collected = env.collect(&mut marker)?;
     Ok([collected.cleared, collected.dropped, collected.used])
 }
 
 /// Checks these three numbers of a collection.
-pub(crate) fn collects<S: Steps>(
-    rt: &impl Abort,
-    alloc: Global,
-    env: &mut Env<S>,
-    wanted: [u32; 3],
-) -> Result<(), Fail> {
-    assert_eq!(rt; collected(alloc, env)?, wanted);
-    Ok(())
-}
-
-/// Checks the words of a row.
-pub(crate) fn has_words(rt: &impl Abort, words: &[u64], wanted: &[u64]) {
-    assert_eq!(rt; words, wanted);
+pub fn collects<S: Steps>(alloc: Global, env: &mut Env<S>, wanted: [u32; 3]) -> Result<(), Fail> {
+    let found = collected(alloc, env)?;
+    if found == wanted {
+        Ok(())
+    } else {
+        Err(Fail::new(format_args!("collected {found:?}, not {wanted:?}")))
+    }
 }

@@ -1,12 +1,11 @@
 //! The words that a collection leaves.
 
-use crate::envs::{collects, made};
 use crate::plain::{Case, leaves_words};
 use jr_env::Env;
+use jr_fixtures::{collects, made};
 use jr_steps::Steps;
 use jr_word::Config;
 use std::alloc::Global;
-use std::process::Abort;
 use std::test::Fail;
 
 /// A room with two slots, two objects and eight words. Its row has 30 words: the gate, the top, the slots from 2 on, the local places from 4 on, the headers from 20 on, and the elements from 22 on.
@@ -30,13 +29,9 @@ pub(crate) fn fills<S: Steps>(env: &mut Env<S>) -> Result<(), Fail> {
 }
 
 /// Makes them, and collects.
-pub(crate) fn fills_and_collects<S: Steps>(
-    rt: &impl Abort,
-    alloc: Global,
-    env: &mut Env<S>,
-) -> Result<(), Fail> {
+pub(crate) fn fills_and_collects<S: Steps>(alloc: Global, env: &mut Env<S>) -> Result<(), Fail> {
     fills(env)?;
-    collects(rt, alloc, env, [1, 1, 2])
+    collects(alloc, env, [1, 1, 2])
 }
 
 /// The weak reference is cleared and its array dropped, and the other array has moved by one place, over its own elements. What stood behind them is left, and is no array's.

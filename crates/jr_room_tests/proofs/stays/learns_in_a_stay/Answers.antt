@@ -6,7 +6,7 @@ use Rattle.jr_steps.specs.Acts.{act_of_entry, act_of_exit}
 use Rattle.jr_steps.specs.Knowing.{Goes, Standing, view}
 use Rattle.jr_steps.proofs.StepFacts.{goes_did, goes_stepped}
 use Rattle.jr_rule.specs.Rule.{stepping_pass}
-use Rattle.jr_env_tests.proofs.stays.learns_in_a_stay.Goals as goal
+use Rattle.jr_room_tests.proofs.stays.learns_in_a_stay.Goals as goal
 
 pub returns : goal.returns
 returns c was =

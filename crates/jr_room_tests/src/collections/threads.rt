@@ -2,9 +2,9 @@
 ghost use Rattle.std.specs.Prelude.{All};
 ghost use Rattle.jr_rule.specs.Passes.{IsOpened};
 
-use crate::envs::{LAST, NoPass, collected, leaves, next_env, next_pass};
 use jr_env::calls::{DeleteGlobalRef, DeleteLocalRef, GetObjectRefType, SetArrayRegion};
 use jr_env::{Env, Patience, with_patience};
+use jr_fixtures::{LAST, NoPass, closed, collected, next_env, next_pass};
 use jr_model::Summary;
 use jr_rule::{Pass, Room};
 use jr_steps::Steps;
@@ -282,7 +282,7 @@ fn has_arrays(
         live: arrays,
         used,
     };
-    leaves(rt, room, pass, summary);
+    assert!(rt; closed(room, pass) == Some(summary));
     Ok(())
 }
 

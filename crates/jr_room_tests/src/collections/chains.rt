@@ -1,8 +1,8 @@
 //! Chains of as many arrays as there may be, each of which names the one before, followed without recursion.
 
-use crate::envs::{collects, has_type, made};
 use crate::plain::{Case, try_plain};
 use jr_env::Env;
+use jr_fixtures::{collects, has_type, made};
 use jr_steps::Steps;
 use jr_word::{Config, Handle};
 use std::alloc::Global;
@@ -48,16 +48,12 @@ fn close<S: Steps>(
 }
 
 /// A chain stands while its last is named, and is dropped then.
-pub(crate) fn reaches_a_chain<S: Steps>(
-    rt: &impl Abort,
-    alloc: Global,
-    env: &mut Env<S>,
-) -> Result<(), Fail> {
+pub(crate) fn reaches_a_chain<S: Steps>(alloc: Global, env: &mut Env<S>) -> Result<(), Fail> {
     let first = env.new_object_array(1, Handle::NULL)?;
     let last = chain(env, first, LINKS)?;
-    collects(rt, alloc, env, [0, 0, 60_000])?;
+    collects(alloc, env, [0, 0, 60_000])?;
     env.delete_local_ref(last)?;
-    collects(rt, alloc, env, [0, 60_000, 0])
+    collects(alloc, env, [0, 60_000, 0])
 }
 
 #[test]
@@ -76,10 +72,10 @@ pub(crate) fn reaches_a_cycle<S: Steps>(
     let word = made(env.new_weak_global_ref(first))?;
     let last = chain(env, first, LINKS)?;
     close(rt, env, kept, last)?;
-    collects(rt, alloc, env, [0, 0, 60_000])?;
+    collects(alloc, env, [0, 0, 60_000])?;
     env.delete_global_ref(kept)?;
-    collects(rt, alloc, env, [1, 60_000, 0])?;
-    has_type(rt, env, word, 3)
+    collects(alloc, env, [1, 60_000, 0])?;
+    has_type(env, word, 3)
 }
 
 #[test]
