@@ -14,6 +14,8 @@ mod native_code;
 #[cfg(test)]
 mod notes;
 #[cfg(test)]
+mod owner_threads;
+#[cfg(test)]
 mod owners;
 #[cfg(test)]
 mod plain;

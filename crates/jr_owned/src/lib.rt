@@ -1,10 +1,12 @@
 //! The steps and the env of a thread that owns its room together with others, so that neither has a lifetime.
 #![tactic(auto)]
 
+mod code;
 mod envs;
 mod owned;
 mod site;
 
+pub use code::{NoteQueue, OwnedCode, spawn_owned};
 pub use envs::{OwnedEnv, open_envs};
 pub use owned::{
     OwnedCells, OwnedSteps, close_owned, end_owner, last_owner, open_owned, owned_steps,

@@ -1,0 +1,10 @@
+use Rattle.std.proofs.Common.{◌≡◌}
+use Rattle.std.specs.Arc.{arc_value}
+use Rattle.std.specs.List.{All}
+use Rattle.jr_rule.specs.declared.pass.Pass.{Pass}
+use Rattle.jr_rule.specs.Passes.{IsOpened}
+use Rattle.jr_owned.proofs.code.jobs.Given as goal
+
+abbrev pub invariant-loop-pass : goal.invariant-loop-pass
+invariant-loop-pass g l = (arc_value l.room ≡ l.fn.room)
+    × All (λ (p : Pass). IsOpened l.fn.room.row p) l.pass-iterator.rest.items
