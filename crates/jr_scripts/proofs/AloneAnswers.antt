@@ -97,7 +97,7 @@ outside_alone turns names (commands.WithTries with_tries.CollectAnnounced tries)
 outside_alone turns names c old new answer alone d = made_outside turns names c tt (λ v m e h. h) old new answer alone d
 
 -- a command where the thread stands
-place_alone : (turns : ℕ) (p : Place) (c : Command) (old new : ThreadState) (answer : Result Reply Fault)
+pub place_alone : (turns : ℕ) (p : Place) (c : Command) (old new : ThreadState) (answer : Result Reply Fault)
     → IsAlone new.pass → deed_at turns p c old answer new
     → Led (IsAloneFault turns p c new.pass new.frames) old.pass new.pass answer
 place_alone turns p c old new answer alone d = go p.objects d

@@ -100,7 +100,7 @@ kind_fits w h (Parts g) is reads = subst (λ (x : HandleParts). same_kind h.kind
 -- THE CALLS
 
 module _ (turns : ℕ) (command : Asked) where
-  plain_alone : ((last : ℕ) (f : Frames) → free_places last f ≡ 0 → LacksRoom last command.1 f)
+  pub plain_alone : ((last : ℕ) (f : Frames) → free_places last f ≡ 0 → LacksRoom last command.1 f)
       → LeadsAlone turns command new_plain
   plain_alone full = answered_alone turns command _ (call_alone turns command (λ c. c.objects) (λ c last t s.
       references.making c last t) (λ c last t s one first. making_uncontended s command c last t one first (full last))
@@ -136,7 +136,7 @@ module _ (turns : ℕ) (command : Asked) where
       (λ c last t s a b one first. comparison_uncontended s command c last t one first a b) (λ c last t s a b.
       refusals_change_nothing c last t s _ (CallOf.is_same_object a b))
 
-  type_alone : (w : ℕ) → LeadsAlone turns command (get_object_ref_type w)
+  pub type_alone : (w : ℕ) → LeadsAlone turns command (get_object_ref_type w)
   type_alone w = on_alone turns command (λ c. 0) w (λ c last t s a. references.typing c t a)
       (λ c last t s a reads one first. typing_uncontended s command c last t one first a) (λ c last t s a.
       refusals_change_nothing c last t s _ (CallOf.get_object_ref_type a))

@@ -24,10 +24,10 @@ use Rattle.jr_scripts.proofs.AloneAnswers.{given_up_alone, went_alone}
 use Rattle.jr_scripts.proofs.AloneWithin.{led_alone}
 
 -- a command whose refusals are those of a free, and more
-plainly : Asked
+pub plainly : Asked
 plainly = (no_names, commands.Make make.Plain [])
 
-free_alone : (turns : ℕ) → LeadsAlone turns plainly free_locals
+pub free_alone : (turns : ℕ) → LeadsAlone turns plainly free_locals
 free_alone turns = call_alone turns plainly (λ c. 0) (λ c last t s. references.freeing)
     (λ c last t s one first. freeing_uncontended s plainly c last t one first) (λ c last t s.
     refusals_change_nothing c last t s _ CallOf.free_locals)

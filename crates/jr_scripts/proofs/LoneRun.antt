@@ -1,4 +1,11 @@
 -- A script of one thread that is run as one of several: its run is that of the thread alone.
+pub mod MadeCalls
+pub mod MeaningFits
+pub mod MeaningCounts
+pub mod MeaningParts
+pub mod MeaningDeeds
+pub mod MeaningCommands
+pub mod MeaningRun
 use Rattle.std.proofs.Common.{◌≡◌, ℕ, Option, List, [], ◌∷◌}
 use Rattle.std.proofs.Common.{◌++◌, length, refl, sym, ap, subst, ◌∙◌, arith}
 use Rattle.std.proofs.lemmas.List.{append-nil}
@@ -25,6 +32,7 @@ use Rattle.jr_scripts.proofs.AloneAnswers.{all_map, lone_pass, unbarred}
 use Rattle.jr_scripts.proofs.AloneCalls.{IsAlone, AllUncontended}
 use Rattle.jr_scripts.proofs.AloneHistories.{all_back, own_events}
 use Rattle.jr_scripts.proofs.FreedAlone.{ended_alone}
+use Rattle.jr_scripts.proofs.LoneRun.MeaningRun.{meant}
 
 one_part : (ps : List ThreadPart) → length ps ≡ 1 → (p : ThreadPart) × (ps ≡ p ∷ [])
 one_part [] long = absurd (omega arith)
@@ -105,13 +113,16 @@ pub lone_run : (turns last : ℕ) (s : Script) (old new text : List ℕ) → new
     → s.config.threads ≡ 1 → RunsSingle turns last s old new
 lone_run turns last s old new text grew r one =
     let q = one_part s.threads (r.right.one_each ∙ one) in
+    let run : IsRun turns last s.config q.0 text =
+    parts_alone r.board r.rank turns last s.config one r.whole r.legal q.0 r.lines
+    (subst (λ ps. ArePartsOf r.board r.rank turns last s.config r.whole 0 2 ps r.lines) q.1 r.parts) text
+    (subst (λ cs. IsOfPosts cs r.board) (ap commands_of q.1 ∙ append-nil (q.0).commands) r.posted)
+    (r.text_is ∙ ap (λ ps. text_of_parts ps r.lines ++ ending (summary s.config last (state r.whole))) q.1) in
     record {
       part = q.0;
       has = record { part_is = q.1; one = one; limits = r.right.limits; once = r.right.once };
       text = text;
       grew = grew;
-      run = parts_alone r.board r.rank turns last s.config one r.whole r.legal q.0 r.lines
-          (subst (λ ps. ArePartsOf r.board r.rank turns last s.config r.whole 0 2 ps r.lines) q.1 r.parts) text
-          (subst (λ cs. IsOfPosts cs r.board) (ap commands_of q.1 ∙ append-nil (q.0).commands) r.posted)
-          (r.text_is ∙ ap (λ ps. text_of_parts ps r.lines ++ ending (summary s.config last (state r.whole))) q.1);
+      run = run;
+      means = meant turns last s.config q.0 text one r.right.limits run;
     }

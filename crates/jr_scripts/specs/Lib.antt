@@ -13,6 +13,7 @@ pub mod Places
 pub mod RegionCommands
 pub mod Explains
 pub mod AloneAnswers
+pub mod Meaning
 pub mod Runs
 pub mod AllRuns
 pub mod Jobs

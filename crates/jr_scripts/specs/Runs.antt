@@ -28,6 +28,7 @@ use Rattle.jr_scripts.specs.Commands.{tried}
 use Rattle.jr_scripts.specs.Text.{printed, names_set, heading, ending}
 use Rattle.jr_scripts.specs.Explains.{Explained, LeavesText}
 use Rattle.jr_scripts.specs.AloneAnswers.{AnswersAlone}
+use Rattle.jr_scripts.specs.Meaning.{MeansText}
 
 -- THE COMMANDS RUN, and add the text: from one moment to the other all of it is explained, or memory was refused
 abbrev pub running : Speech → ℕ → ℕ → List Command → List ℕ → Deed (Unit {0})
@@ -111,10 +112,11 @@ pub record HasPart (s : Script) (part : ThreadPart) : Type 0 where
 abbrev pub IsSingle : Script → Type 0
 IsSingle s = (part : ThreadPart) × HasPart s part
 
--- the script was run, and the output grew by its text
+-- the script was run, and the output grew by its text, which is what the part means
 pub record RunsSingle (turns last : ℕ) (s : Script) (old new : List ℕ) : Type 0 where
   pub part : ThreadPart
   pub has : HasPart s part
   pub text : List ℕ
   pub grew : new ≡ old ++ text
   pub run : IsRun turns last s.config part text
+  pub means : MeansText turns last s.config part text

@@ -3,6 +3,7 @@
 ghost use Rattle.std.specs.Prelude.{◌≡◌, ◌⊎◌, ◌↔◌, true, IfOk, IfErr, OnOk, OnErr, Err};
 ghost use Rattle.jr_word.specs.declared.fault.Fault.TheVariants.{Memory, Size};
 ghost use Rattle.jr_word.specs.Config.{in_limits};
+ghost use Rattle.jr_scripts.specs.Meaning.{MeansText};
 ghost use Rattle.jr_scripts.specs.Runs.{IsRun, IsSingle, RunsSingle};
 
 use crate::hold::NoHold;
@@ -30,6 +31,7 @@ fn run_part(alloc: Global, config: Config, part: &ThreadPart, turns: u64) -> Res
     requires one { config.threads ≡ 1 }
     requires limits { in_limits config ≡ true }
     ensures ok { IfOk result (λ text. IsRun turns 4294967295 config part.now text.items) }
+    ensures means { IfOk result (λ text. MeansText turns 4294967295 config part.now text.items) }
     ensures err { IfErr result (λ e. e ≡ Memory) }
 {
     let mut text = heading(alloc, &part.name).map_err(out_of_memory)?;

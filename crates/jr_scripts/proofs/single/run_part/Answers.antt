@@ -3,6 +3,7 @@ use Rattle.jr_scripts.specs.Posting.{WasInVain}
 use Rattle.jr_scripts.specs.Text.{heading, ending}
 use Rattle.jr_scripts.proofs.Speaking.{carried}
 use Rattle.jr_scripts.proofs.ToEnd.{ran_still}
+use Rattle.jr_scripts.proofs.LoneRun.MeaningRun.{meant}
 use Rattle.jr_scripts.proofs.WholeRun.{plain_run}
 use Rattle.jr_scripts.proofs.single.run_part.Goals as goal
 
@@ -24,3 +25,7 @@ returns-clause-ok c =
     (search rules) (ran_still (carried (λ words n w h. Unit {0}) (λ words n w h. Unit {0}) (λ n w h. ⊥) (λ n w h. ⊥)
     (WasInVain (λ first n found last. Unit {0}) c.args.turns) (λ n. Unit {0}) (λ words n w h t. tt) (λ n w h t. t)
     (λ n v. tt)) x.2) c.summary-summary.ensures whole
+
+pub returns-clause-means : goal.returns-clause-means
+returns-clause-means c = meant c.args.turns 4294967295 c.args.config c.args.part.now
+    c.extend_from_slice.new.self.items c.requires.one c.requires.limits (returns-clause-ok c)

@@ -1,0 +1,299 @@
+-- The text of a run is what its script means.
+use Rattle.std.proofs.Common.{◌≡◌, ◌≢◌, ℕ, zero, suc, ◌<◌, ◌≤◌, ◌+◌, ◌^◌, Bool, true, false, cond, Option, Some, None}
+use Rattle.std.proofs.Common.{is_some, List, [], ◌∷◌, ◌++◌, map, length, replicate, get_or, nat_le, Result, Ok, IfErr}
+use Rattle.std.proofs.Common.{refl, sym, ap, subst, ◌∙◌, arith}
+use Rattle.std.proofs.lemmas.List.{length-replicate}
+use Rattle.std.proofs.lemmas.Bool.Decides.{nat_tests}
+use Rattle.std.specs.FinMap.{get-empty}
+use Rattle.std.specs.List.{AllByRecursion, filter}
+use Rattle.jr_word.specs.declared.config.Config.{Config}
+use Rattle.jr_word.specs.declared.fault.Fault.{Fault}
+use Rattle.jr_word.specs.declared.handle.RefKind.{RefKind}
+use Rattle.jr_word.specs.declared.handle.RefKind.TheVariants.{Local, Global, Weak}
+use Rattle.jr_word.specs.Config.{in_limits}
+use Rattle.jr_word.proofs.Limits.{limited}
+use Rattle.jr_model.specs.declared.event.Act.TheVariants.{Gate, LocalDrop}
+use Rattle.jr_model.specs.declared.event.GateAct.TheVariants.{Enter, Leave}
+use Rattle.jr_model.specs.declared.event.Found.TheVariants.{Stale}
+use Rattle.jr_model.specs.declared.frames.LocalRef.{LocalRef}
+use Rattle.jr_model.specs.declared.summary.Summary.{Summary}
+use Rattle.jr_model.specs.Maps.{count_below, sum_below}
+use Rattle.jr_model.specs.State.{Handle, State, is_there, references, same_kind, summary}
+use Rattle.jr_model.specs.Steps.{act_after}
+use Rattle.jr_model.specs.Frames.{all_refs, drop_all, fresh_frames, free_places, is_free, object_of}
+use Rattle.jr_model.specs.History.{PassView, by, state, state_from}
+use Rattle.jr_model.specs.References.{freeing}
+use Rattle.jr_model.specs.References as calls
+use Rattle.jr_model.proofs.Counts.{bit}
+use Rattle.jr_model.proofs.Lengths.{sum_zero}
+use Rattle.jr_gate.specs.Performing.{ThreadState}
+use Rattle.jr_syntax.specs.declared.command.Command.{Command}
+use Rattle.jr_syntax.specs.declared.thread.ThreadPart.{ThreadPart}
+use Rattle.jr_scripts.specs.declared.reply.Reply.{Reply}
+use Rattle.jr_scripts.specs.Names.{name_order, or_nothing}
+use Rattle.jr_scripts.specs.declared.binding.Binding.{Binding}
+use Rattle.jr_scripts.specs.Places.{Place, place_after}
+use Rattle.jr_scripts.specs.Posting.{Words, said_alone}
+use Rattle.jr_scripts.specs.Explains.{Explains, nothing, then}
+use Rattle.jr_scripts.specs.RegionCommands.{giving_up_all}
+use Rattle.jr_scripts.specs.Text.{heading, ending, printed}
+use Rattle.jr_scripts.specs.AloneAnswers.{AnswersAlone}
+use Rattle.jr_scripts.specs.Runs.{IsFreed, IsRun, IsUnbarred, opening_moment}
+use Rattle.jr_scripts.proofs.AloneHistories.{all_front, all_back, all_prefix}
+use Rattle.jr_scripts.proofs.AloneCalls.{IsAlone}
+use Rattle.jr_scripts.proofs.AloneParts.{tries_alone, was_alone}
+use Rattle.jr_scripts.proofs.AloneAnswers.{all_map, given_up_alone, place_alone}
+use Rattle.jr_scripts.proofs.AloneWithin.{led_alone}
+use Rattle.jr_scripts.proofs.FreedAlone.{free_alone, plainly}
+use Rattle.jr_scripts.specs.Meaning.{IsCovered, MeansText, World, Ref, Told, how_many, first_told, is_ref_of}
+use Rattle.jr_scripts.specs.Meaning.{meaning_at}
+use Rattle.jr_scripts.specs.Meaning.{refs_of, standing, standing_at, summary_of, tells, told_after, told_from}
+use Rattle.jr_scripts.specs.Meaning.{text_of_part, first_world}
+use Rattle.jr_scripts.proofs.LoneRun.MadeCalls.{Moment, IsSo, stayed}
+use Rattle.jr_scripts.proofs.LoneRun.MeaningFits.{Pairing, Fits, RefFits}
+use Rattle.jr_scripts.proofs.LoneRun.MeaningDeeds.{BindingFits, IsPass, call_made, made_once, now}
+use Rattle.jr_scripts.proofs.LoneRun.MeaningCommands.{Stands, Stepped, step}
+
+-- ONE COMMAND MORE
+told_snoc : (c : Config) (line : ℕ) (before : List Command) (x : Command) (t : Told)
+    → told_from c line (before ++ x ∷ []) t ≡ told_after c (line + length before) x (told_from c line before t)
+told_snoc c line [] x t = ap (λ k. told_after c k x t) (omega arith)
+told_snoc c line (y ∷ ys) x t = told_snoc c (line + 1) ys x (told_after c line y t)
+    ∙ ap (λ k. told_after c k x (told_from c (line + 1) ys (told_after c line y t))) (omega arith)
+
+-- COUNTS
+
+count_all : (n : ℕ) (p : ℕ → Bool) → ((k : ℕ) → k < n → p k ≡ true) → count_below n p ≡ n
+unfolding sum_below
+count_all zero p all = refl
+count_all (suc n) p all =
+    let rest : count_below n p ≡ n = count_all n p (λ k l. all k (omega arith)) in
+    let last : bit (p n) ≡ 1 = ap bit (all n (omega arith)) in
+    let whole : count_below (suc n) p ≡ count_below n p + bit (p n) = refl in
+    omega arith
+
+get_zero : (n p : ℕ) → ◌≡◌ {A = ℕ} (get_or (replicate n 0) p 0) 0
+get_zero zero p = refl
+get_zero (suc n) zero = refl
+get_zero (suc n) (suc p) = get_zero n p
+
+-- before the first command every place is free
+all_free : (n last : ℕ) → free_places last (fresh_frames n) ≡ n
+all_free n last =
+    let e : count_below (length (replicate n 0)) (is_free last (fresh_frames n)) ≡ length (replicate n 0) =
+    count_all (length (replicate n 0)) (is_free last (fresh_frames n)) (λ k l.
+    ap (λ z. nat_le z last) (get_zero n k) ∙ zero_least last) in
+    e ∙ length-replicate n 0
+  where
+    zero_least : (k : ℕ) → nat_le 0 k ≡ true
+    zero_least k = grind (arith, nat_tests)
+
+-- no reference of another kind stands
+IsLocalOne : Option Ref → Type 0
+IsLocalOne None = Unit {0}
+IsLocalOne (Some r) = r.kind ≡ Local
+
+none_of : (k : RefKind) → same_kind k Local ≡ false → (xs : List (Option Ref))
+    → ((i : ℕ) → i < length xs → IsLocalOne (standing_at xs i)) → how_many (is_ref_of k) xs ≡ 0
+unfolding IsLocalOne
+none_of k other [] all = refl
+none_of k other (None ∷ xs) all = none_of k other xs (λ i l. all (suc i) (omega arith))
+none_of k other (Some r ∷ xs) all =
+    let here : same_kind k r.kind ≡ false = ap (λ z. same_kind k z) (all 0 (omega arith)) ∙ other in
+    ap (λ b. length (cond b (Some r ∷ filter (is_ref_of k) xs) (filter (is_ref_of k) xs))) here
+    ∙ none_of k other xs (λ i l. all (suc i) (omega arith))
+
+local_one : (P : Pairing) (n : ℕ) (r : Option Ref) (l : Option ℕ) → RefFits P n r l → IsLocalOne r
+unfolding IsLocalOne
+local_one P n None l fits = tt
+local_one P n (Some r) (Some p) fits = fits.0
+local_one P n (Some r) None fits = absurd fits
+
+-- references that are freed change no other table
+record SameTables (s s' : State) : Type 0 where
+  pub objects : s'.objects ≡ s.objects
+  pub refs : s'.refs ≡ s.refs
+  pub used : s'.used ≡ s.used
+
+drops_keep : (s : State) (rs : List LocalRef) → SameTables s (state_from s (map (by 0) (drop_all rs)))
+drops_keep s [] = record { objects = refl; refs = refl; used = refl }
+drops_keep s (r ∷ rs) =
+    let rest = drops_keep (act_after s 0 (LocalDrop r.handle.index)) rs in
+    record { objects = rest.objects; refs = rest.refs; used = rest.used }
+
+same_summary : (g w l u g' w' l' u' : ℕ) → g ≡ g' → w ≡ w' → l ≡ l' → u ≡ u'
+    → ◌≡◌ {A = Summary} (record { globals = g; weaks = w; live = l; used = u })
+    (record { globals = g'; weaks = w'; live = l'; used = u' })
+same_summary g w l u g' w' l' u' a b x y = cc
+
+module _ (c : Config) (last turns : ℕ) (one : c.threads ≡ 1) (some_turns : turns ≢ 0) (small : c.locals ≤ 4096)
+    (few : last < 2 ^ 32) (memory : List Bool) where
+  some_threads : 1 ≤ c.threads
+  some_threads = omega arith
+
+  first_pairing : Pairing
+  first_pairing = record { handle = λ i. record { kind = Local; serial = 0; index = 0; owner = 0 }; object = λ o. o }
+
+  opening_fits : Fits c last first_pairing (first_world memory) (now (opening_moment c last))
+  opening_fits = record {
+    numbers = [];
+    numbered = refl;
+    each = refl;
+    locals = [];
+    framed = refl;
+    own = λ i l. absurd (omega arith);
+    stands = λ i l. absurd (omega arith);
+    count = sum_zero (c.objects + 1) (λ o. 0) (λ o. refl);
+    all_objects = refl;
+    no_zero = refl;
+    present = λ o l. absurd (omega arith);
+    places = (let free = all_free c.locals last in omega arith);
+    given = length-replicate c.locals 0;
+    slots = λ h. refl;
+    unused = refl;
+    unused_then = refl;
+  }
+
+  -- what is told of commands is what was printed
+  record IsTold (commands : List Command) (text : List ℕ) (new : ThreadState) (place : Place) : Type 0 where
+    pub pairing : Pairing
+    pub stands : Stands c last pairing (told_from c 3 commands (first_told memory)).world new place
+        (told_from c 3 commands (first_told memory)).place
+    pub text_is : text ≡ (told_from c 3 commands (first_told memory)).text
+
+  -- what is so of it
+  record TellsSo (t : Told) (text : List ℕ) (new : ThreadState) (place : Place) : Type 0 where
+    pub pairing : Pairing
+    pub stands : Stands c last pairing t.world new place t.place
+    pub text_is : text ≡ t.text
+
+  tells_so : (t : Told) (line : ℕ) (x : Command) (answer : Result Reply Fault) (text : List ℕ) (new : ThreadState)
+      (place : Place) → text ≡ t.text
+      → Stepped c last x new place t.place answer (meaning_at c t.place t.words t.place.objects x t.world)
+      → TellsSo (told_after c line x t) (text ++ printed line x answer) new (place_after x answer place)
+  tells_so t line x answer text new place is stepped = go (meaning_at c t.place t.words t.place.objects x t.world)
+      stepped
+    where
+      go : (r : Result Reply Fault × World) → Stepped c last x new place t.place answer r
+          → TellsSo (tells line x t r) (text ++ printed line x answer) new (place_after x answer place)
+      go (k, v) s = record {
+        pairing = s.pairing;
+        stands = s.stands;
+        text_is = ap (λ z. z ++ printed line x answer) is ∙ ap (λ z. t.text ++ z) (s.text line);
+      }
+
+  all_told : (commands : List Command) (text : List ℕ) (new : ThreadState) (place : Place) (words : Words)
+      (e : Explains said_alone turns 3 (opening_moment c last) commands text new place words) → AnswersAlone e
+      → AllByRecursion IsCovered commands → IsAlone new.pass → AllByRecursion IsUnbarred new.pass.seen
+      → IsTold commands text new place
+  all_told commands text new place words nothing answers firsts alone all = record {
+    pairing = first_pairing;
+    stands = record {
+      pass = record { config = refl; last_is = refl; thread = refl };
+      fits = opening_fits;
+      names = λ n. subst (λ (o : Option Binding). BindingFits first_pairing (first_world memory) (or_nothing o)
+          (or_nothing o))
+          (sym (get-empty name_order n)) tt;
+      outside = refl;
+      outside_then = refl;
+    };
+    text_is = refl;
+  }
+  all_told commands text new place words
+      (then {before = before} {text = lines} {mid = mid} {place = stood} {words = had} x answer done did said) answers
+      firsts
+      alone all =
+      let first = (all_back IsCovered before (x ∷ []) firsts).0 in
+      let y = place_alone turns stood x mid new answer alone did in
+      let i = all_told before lines mid stood had done answers.0 (all_front IsCovered before (x ∷ []) firsts)
+      (led_alone y alone) (all_prefix IsUnbarred mid.pass.seen new.pass.seen y.begins all) in
+      let t = told_from c 3 before (first_told memory) in
+      let stepped = step c last turns some_turns some_threads small few i.pairing t.world mid new stood t.place
+      i.stands alone
+      all x t.words answer first did answers.1 in
+      let so = tells_so t (3 + length before) x answer lines new stood i.text_is stepped in
+      let whole = told_snoc c 3 before x (first_told memory) in
+      record {
+        pairing = so.pairing;
+        stands = subst (λ (z : Told). Stands c last so.pairing z.world new (place_after x answer stood) z.place)
+            (sym whole) so.stands;
+        text_is = so.text_is ∙ ap (λ (z : Told). z.text) (sym whole);
+      }
+
+  -- THE END
+
+  freed_tables : (told left : ThreadState) (f : IsFreed turns told left) → f.answer ≡ Ok tt → IsPass c last told.pass
+      → IsAlone left.pass → AllByRecursion IsUnbarred left.pass.seen
+      → SameTables (state told.pass.seen) (state left.pass.seen)
+  freed_tables told left f is pass alone all =
+      let d = made_once plainly free_alone turns told left f.answer alone some_turns f.tries in
+      let made = call_made c last (λ k. 0) (λ k l t s. calls.free_locals) told left f.answer pass alone all
+      (subst (λ z. IfErr z (IsSo c last (state left.pass.seen))) (sym is) tt) d in
+      let i = stayed c last 0 freeing (now told) (now left) f.answer made in
+      let acts : (i.made).acts ≡ drop_all (all_refs told.frames) = ((i.made).is).0 in
+      let keep = drops_keep (act_after (state told.pass.seen) 0 (Gate Enter)) (all_refs told.frames) in
+      let inside : (i.end).state ≡ state_from (act_after (state told.pass.seen) 0 (Gate Enter)) (map (by 0) (drop_all
+      (all_refs told.frames)))
+      = (i.made).leads ∙ ap (λ l. state_from (act_after (state told.pass.seen) 0 (Gate Enter)) (map (by 0) l)) acts in
+      let left_is : state left.pass.seen ≡ act_after (i.end).state 0 (Gate Leave) = ap (λ
+      (m : Moment). m.state) i.leaves in
+      record {
+        objects = ap (λ (s : State). s.objects) left_is ∙ (ap (λ (s : State). s.objects) inside ∙ keep.objects);
+        refs = ap (λ (s : State). s.refs) left_is ∙ (ap (λ (s : State). s.refs) inside ∙ keep.refs);
+        used = ap (λ (s : State). s.used) left_is ∙ (ap (λ (s : State). s.used) inside ∙ keep.used);
+      }
+
+  no_slots : (k : RefKind) (s : State) → ((h : Handle) → s.refs h ≡ Stale) → references c last k s ≡ 0
+  no_slots k s none = sum_zero c.slots _ (λ i. sum_zero (last + 1) _ (λ n.
+      ap (λ r. bit (is_there r)) (none (record { kind = k; serial = n; index = i; owner = 0 }))))
+
+  ends_so : (P : Pairing) (w : World) (m : Moment) (s : State) → Fits c last P w m → SameTables m.state s
+      → summary c last s ≡ summary_of w
+  ends_so P w m s f same =
+      let none : (h : Handle) → s.refs h ≡ Stale = λ h. ap (λ r. r h) same.refs ∙ f.slots h in
+      let locals : (i : ℕ) → i < length w.refs → IsLocalOne (standing_at w.refs i) =
+      λ i l. local_one P (length w.objects) (standing_at w.refs i) (object_of m.frames (P.handle i)) (f.stands i l) in
+      same_summary (references c last Global s) (references c last Weak s) (count_below (c.objects + 1) (λ o. is_some
+      (s.objects o)))
+      s.used (refs_of Global w) (refs_of Weak w) (standing w.objects) w.used
+      (no_slots Global s none ∙ sym (none_of Global refl w.refs locals))
+      (no_slots Weak s none ∙ sym (none_of Weak refl w.refs locals))
+      (ap (λ t. count_below (c.objects + 1) (λ o. is_some (t o))) same.objects ∙ (f.count ∙ sym f.all_objects))
+      (same.used ∙ (f.unused ∙ sym f.unused_then))
+
+  pub run_means : (part : ThreadPart) (text : List ℕ) → AllByRecursion IsCovered part.commands
+      → IsRun turns last c part text
+      → text ≡ text_of_part memory c part
+  run_means part text firsts r =
+      let x = r.explained in
+      let all : AllByRecursion IsUnbarred r.left.pass.seen = subst (λ (p : PassView). AllByRecursion IsUnbarred
+      p.seen) (sym r.saw) r.alone in
+      let alone : IsAlone r.left.pass = subst IsAlone (sym r.saw) (record {
+        one = one;
+        first = refl;
+        own = all_map (λ e u. u.own) r.seen r.alone;
+        enters = all_map (λ e u. u.enters) r.seen r.alone;
+      }) in
+      let y = tries_alone plainly free_alone turns r.told r.left r.freed.answer alone r.freed.tries in
+      let told_alone = was_alone y alone in
+      let told_all = all_prefix IsUnbarred r.told.pass.seen r.left.pass.seen y.begins all in
+      let g = given_up_alone x.place.objects x.done r.told (Ok tt) told_alone x.ended in
+      let i = all_told part.commands r.lines x.done x.place x.words x.explains r.answers firsts (led_alone g told_alone)
+      (all_prefix IsUnbarred x.done.pass.seen r.told.pass.seen g.begins told_all) in
+      let t = told_from c 3 part.commands (first_told memory) in
+      let still : r.told ≡ x.done =
+      (subst (λ os. giving_up_all os x.done (Ok tt) r.told) i.stands.outside x.ended).1 in
+      let same = freed_tables r.told r.left r.freed (r.freed_all some_turns)
+      (subst (λ (m : ThreadState). IsPass c last m.pass) (sym still) i.stands.pass) alone all in
+      let end = ends_so i.pairing t.world (now x.done) (state r.left.pass.seen) i.stands.fits
+      (subst (λ (m : ThreadState). SameTables (state m.pass.seen) (state r.left.pass.seen)) still same) in
+      let seen_is : state r.seen ≡ state r.left.pass.seen = ap (λ (p : PassView). state p.seen) (sym r.saw) in
+      r.text_is ∙ (ap (λ l. heading part.name ++ l ++ ending (summary c last (state r.seen))) i.text_is
+      ∙ ap (λ z. heading part.name ++ t.text ++ ending z) (ap (summary c last) seen_is ∙ end))
+
+-- so is the text of any run
+pub meant : (turns last : ℕ) (c : Config) (part : ThreadPart) (text : List ℕ) → c.threads ≡ 1 → in_limits c ≡ true
+    → IsRun turns last c part text → MeansText turns last c part text
+meant turns last c part text one limits r some few covered =
+    let most : c.locals ≤ 4096 = (limited c limits).locals.1 in
+    ([], run_means c last turns one some most few [] part text covered r)
