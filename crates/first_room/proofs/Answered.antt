@@ -18,10 +18,10 @@ use Rattle.jr_model.specs.Parts.{not_null, publish, reserve, write}
 use Rattle.jr_model.specs.References.{added, made, resolved, room_for}
 use Rattle.jr_model.specs.Objects.{part_of, part_writing, region_get}
 use Rattle.jr_model.proofs.Exactly.{append_all}
-use Rattle.first_room.proofs.InHistory.{acts_each, count, count_append, count_none}
+use Rattle.first_room.proofs.InHistory.{all_each, count, count_append, count_none}
 use Rattle.first_room.proofs.Ints.{HasInts, MakesOnly, untouched_only}
 use Rattle.first_room.proofs.Sparing.{Untouching, added_spares, append_none, part_spares}
-use Rattle.first_room.proofs.Sparing.{reserve_spares, room_for_spares}
+use Rattle.first_room.proofs.Sparing.{reserve_spares, room_for_spares, touches}
 
 -- one call and then another were answered
 pub record BothAnswered {A B : Type 0} (first : Call A) (next : A → Call B) (f g : Frames) (acts : List Act)
@@ -68,7 +68,7 @@ pub record MakesOne (o : ℕ) (acts : List Act) : Type 0 where
 pub one_between : (o : ℕ) (xs acts ys : List Act) → Untouching xs → MakesOne o acts → Untouching ys
     → MakesOne o (xs ++ (acts ++ ys))
 one_between o xs acts ys p m q =
-    let each = λ (zs : List Act). acts_each (λ a. _) (λ a. MakesOnly o a) zs (untouched_only o) in
+    let each = λ (zs : List Act). all_each (λ a. touches a ≡ false) (MakesOnly o) zs (untouched_only o) in
     let a : count (xs ++ (acts ++ ys)) ≡ count xs + count (acts ++ ys) = count_append xs (acts ++ ys) in
     let b : count (acts ++ ys) ≡ count acts + count ys = count_append acts ys in
     let c = count_none xs p in

@@ -15,15 +15,12 @@ use Rattle.first_room.proofs.Sparing.{Untouching, touches}
 
 -- WHAT HOLDS OF ALL EVENTS OF A LIST
 
-pub all_front : (P : Event → Type 0) (xs ys : History) → AllByRecursion P (xs ++ ys) → AllByRecursion P xs
-all_front P [] ys h = tt
-all_front P (x ∷ xs) ys h = (h.0, all_front P xs ys h.1)
+pub all_parts : (P : Event → Type 0) (xs ys : History) → AllByRecursion P (xs ++ ys)
+    → AllByRecursion P xs × AllByRecursion P ys
+all_parts P [] ys h = (tt, h)
+all_parts P (x ∷ xs) ys h = let r = all_parts P xs ys h.1 in ((h.0, r.0), r.1)
 
-pub all_behind : (P : Event → Type 0) (xs ys : History) → AllByRecursion P (xs ++ ys) → AllByRecursion P ys
-all_behind P [] ys h = h
-all_behind P (x ∷ xs) ys h = all_behind P xs ys h.1
-
-pub all_each : (P Q : Event → Type 0) (xs : History) → ((e : Event) → P e → Q e) → AllByRecursion P xs
+pub all_each : {X : Type 0} (P Q : X → Type 0) (xs : List X) → ((x : X) → P x → Q x) → AllByRecursion P xs
     → AllByRecursion Q xs
 all_each P Q [] f h = tt
 all_each P Q (x ∷ xs) f h = (f x h.0, all_each P Q xs f h.1)
@@ -54,11 +51,6 @@ all_acts P t es own others = all_each (λ e. (e.thread ≡ t → P e.act) × (e.
     go : (e : Event) (b : Bool) → (e.thread == t) ≡ b → (e.thread ≡ t → P e.act) → (e.thread ≢ t → P e.act) → P e.act
     go e true is here there = here (eq_true e.thread t is)
     go e false is here there = there (eq_false e.thread t is)
-
-pub acts_each : (P Q : Act → Type 0) (xs : List Act) → ((a : Act) → P a → Q a) → AllByRecursion P xs
-    → AllByRecursion Q xs
-acts_each P Q [] f h = tt
-acts_each P Q (x ∷ xs) f h = (f x h.0, acts_each P Q xs f h.1)
 
 -- HOW MANY ACTS make an array of ints, or write
 

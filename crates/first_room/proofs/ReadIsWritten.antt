@@ -23,7 +23,7 @@ use Rattle.jr_model.proofs.Stays.{append_cancel, did_then, mine_did, still_along
 use Rattle.jr_threads.specs.Parts.{ComesOfDeed, IsThreadPart, pass_that_saw, start_moment}
 use Rattle.first_room.specs.declared.TheConstants.{LAST, SIZES}
 use Rattle.first_room.specs.Calls.{Found, Visited, story, visiting}
-use Rattle.first_room.proofs.InHistory.{acts_each, all_acts, all_behind, all_both, all_each, all_front, all_own}
+use Rattle.first_room.proofs.InHistory.{all_acts, all_both, all_each, all_own, all_parts}
 use Rattle.first_room.proofs.InHistory.{count, count_append, count_none, legal_prefix, none_counted, threads_below}
 use Rattle.first_room.proofs.Ints.{IsOnly, IsTwenty, MakesOnly, WritesTwenty, only_along, twenty_along}
 use Rattle.first_room.proofs.Ints.{twenty_written, untouched_only, untouched_twenty}
@@ -62,12 +62,12 @@ module _ (c : Config) (last : ℕ) where
       only = all_acts (MakesOnly t.o) 0 stop.seen
           (subst (AllByRecursion (MakesOnly t.o)) (sym done_by_then)
           (append_all _ (t.acts ++ writes) end (append_all _ t.acts writes (t.makes).only (tt, (tt, (tt, (tt, tt)))))
-          (acts_each _ _ end (untouched_only t.o) (t.ends).none)))
+          (all_each _ _ end (untouched_only t.o) (t.ends).none)))
           (all_each _ _ stop.seen (λ e h ne. untouched_only t.o e.act (h ne)) others)
 
       only_at : (xs : History) → IsPrefix xs stop.seen → IsOnly t.o (state xs)
       only_at xs p = only_along c last t.o opening xs (λ q x e. absurd cc)
-          (all_front _ xs p.0 (subst (AllByRecursion (λ e. MakesOnly t.o e.act)) (sym p.1) only))
+          (all_parts _ xs p.0 (subst (AllByRecursion (λ e. MakesOnly t.o e.act)) (sym p.1) only)).0
 
       -- so that the second element of each is 20
       pub twenty_there : IsTwenty (state stop.seen)
@@ -84,11 +84,11 @@ module _ (c : Config) (last : ℕ) where
           let now = twenty_written c last t.p (state k.before) 0 (subst (λ q. IsOnly q (state k.before)) (sym same)
           (only_at k.before (event ∷ k.since, sym k.parts))) l.1.0.1 in
           let own : AllByRecursion WritesTwenty (mine k.since 0) = subst (AllByRecursion WritesTwenty) (sym k.rest)
-          ((λ bad. absurd (omega arith)), (tt, acts_each _ _ end untouched_twenty (t.ends).none)) in
-          let theirs = all_behind _ k.before (event ∷ k.since)
+          ((λ bad. absurd (omega arith)), (tt, all_each _ _ end untouched_twenty (t.ends).none)) in
+          let theirs = all_parts _ k.before (event ∷ k.since)
           (subst (AllByRecursion (λ e. e.thread ≢ 0 → touches e.act ≡ false)) k.parts others) in
           let late = all_acts WritesTwenty 0 k.since own
-          (all_each _ _ k.since (λ e h ne. untouched_twenty e.act (h ne)) theirs.1) in
+          (all_each _ _ k.since (λ e h ne. untouched_twenty e.act (h ne)) theirs.1.1) in
           subst IsTwenty (sym (ap state k.parts ∙ state_append k.before (event ∷ k.since)))
           (twenty_along c last (after (state k.before) event) k.since now late l.1.1)
 
@@ -104,7 +104,7 @@ module _ (c : Config) (last : ℕ) where
         subst (λ l. IsTwenty (state l)) p.1 (subst IsTwenty (sym (state_append noted p.0))
         (twenty_along c last (state noted) p.0 there
         (all_each _ _ p.0 (λ e. untouched_twenty e.act)
-        (all_front _ p.0 q.0 (subst (AllByRecursion (λ e. touches e.act ≡ false)) (sym cut) calm))) l.1))
+        (all_parts _ p.0 q.0 (subst (AllByRecursion (λ e. touches e.act ≡ false)) (sym cut) calm)).0) l.1))
 
     -- so that 20 is read
     pub twenty_read : {x : ℕ} {old new : PassView} (h : HasRead x old new) → old.thread ≡ 1 → IsPrefix noted old.seen
@@ -168,7 +168,7 @@ read_is_written whole y x legal one two = ∥∥₁_elim h.prepared (hlevel prop
     let noted_up : IsPrefix h.noted whole =
     prefix_trans h.noted (h.mid).pass.seen whole h.begins (prefix_trans _ _ whole (read_did r) up) in
     let noted_legal = legal_prefix SIZES LAST h.noted whole noted_up legal in
-    let front = all_front _ h.noted noted_up.0
+    let theirs = all_parts _ h.noted noted_up.0
     (subst (AllByRecursion (λ e. e.thread ≢ 0 → touches e.act ≡ false)) (sym noted_up.1) others) in
     let cut : count (mine whole 0) ≡ count (mine h.noted 0) + count (mine noted_up.0 0) =
     ap (λ l. count (mine l 0)) (sym noted_up.1)
@@ -176,10 +176,9 @@ read_is_written whole y x legal one two = ∥∥₁_elim h.prepared (hlevel prop
     let noted_four : count (mine h.noted 0) ≡ 4 = four SIZES LAST t in
     let all_four = whole_four in
     let left = none_counted (mine noted_up.0 0) (omega arith) in
-    let calm = all_acts (λ a. touches a ≡ false) 0 noted_up.0 left (all_behind _ h.noted noted_up.0
-    (subst (AllByRecursion (λ e. e.thread ≢ 0 → touches e.act ≡ false)) (sym noted_up.1) others)) in
+    let calm = all_acts (λ a. touches a ≡ false) 0 noted_up.0 left theirs.1 in
     twenty_read SIZES LAST whole h.noted noted_up.0 legal noted_up.1 calm
-    (twenty_there SIZES LAST t noted_legal front) r ((h.learned).did.thread) h.begins up)
+    (twenty_there SIZES LAST t noted_legal theirs.0) r ((h.learned).did.thread) h.begins up)
   where
     d : ComesOfDeed SIZES LAST 1 visiting (Visited x) two.seen
     d = two.did refl
