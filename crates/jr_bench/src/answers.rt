@@ -5,6 +5,7 @@ use crate::case::CASES;
 use crate::collections::{COLLECTING, Collections, WAYS};
 use crate::measure::time_of;
 use crate::notes::NOTES;
+use crate::owned::OWNED;
 use crate::round::{Job, Work, done_at, round};
 use std::alloc::Global;
 use std::io;
@@ -48,6 +49,9 @@ pub(crate) fn print<R: Threads + Clock + Print + Sync>(rt: &R, alloc: Global) ->
         let two = right(rt, alloc, Job::Calls(case, work_of(2)));
         let name = case.name();
         println!(rt; "{name}: {one} by one thread, {two} by two")?;
+        let one = right(rt, alloc, Job::Owned(case, work_of(1)));
+        let two = right(rt, alloc, Job::Owned(case, work_of(2)));
+        println!(rt; "{OWNED}{name}: {one} by one thread, {two} by two")?;
     }
     let one = right(rt, alloc, Job::Notes(work_of(1)));
     let two = right(rt, alloc, Job::Notes(work_of(2)));

@@ -1,7 +1,7 @@
 //! How long the calls for references and arrays take in a room that threads share, how often they answer as they should, and how many collections come in beside them.
 //!
 //! With no word it makes each call a few hundred times, by one thread and by two, and prints how often each answered as it should: the same text on every machine.
-//! With the words THREADS STANDING CALLS ROUNDS it measures each call, with stays before them just those that are made in stays too and with notes a note that is made and learned, and with the words collect ARRAYS EVERY ROUNDS a collection, announced or not, and a census: `measure` tells what it prints.
+//! With the words THREADS STANDING CALLS ROUNDS it measures each call, with stays before them just those that are made in stays too with notes a note that is made and learned and with owned each call over steps that own their room too, and with the words collect ARRAYS EVERY ROUNDS a collection, announced or not, and a census: `measure` tells what it prints.
 //! With the words beside CALLERS TRIES ROUNDS it counts how many collections come in beside so many threads that call without a break: `beside` tells what it prints.
 #![tactic(auto)]
 
@@ -15,6 +15,7 @@ mod copies;
 mod criticals;
 mod measure;
 mod notes;
+mod owned;
 mod round;
 mod stays;
 
@@ -39,6 +40,8 @@ enum Measured {
     Stays(Work),
     /// A note that is made and learned.
     Notes(Work),
+    /// Each call, over steps that own their room too.
+    Owned(Work),
     /// A collection, and a census.
     Collection(Collections),
     /// How many collections come in beside threads that call.
@@ -59,13 +62,14 @@ fn act<R: AllocGlobal + Env + Print + Eprint + Clock + Threads + Sync>(rt: &R) -
             measure::print(rt, rt.alloc(), &WITH_STAYS, work, rounds)
         }
         Some((Measured::Notes(work), rounds)) => notes::print(rt, rt.alloc(), work, rounds),
+        Some((Measured::Owned(work), rounds)) => owned::print(rt, rt.alloc(), work, rounds),
         Some((Measured::Collection(work), rounds)) => {
             collections::print(rt, rt.alloc(), work, rounds)
         }
         Some((Measured::Beside(tries), rounds)) => beside::print(rt, rt.alloc(), tries, rounds),
         None => {
             eprintln!(rt;
-                "usage: jr_bench [[stays | notes] THREADS STANDING CALLS ROUNDS | collect ARRAYS EVERY ROUNDS | beside CALLERS TRIES ROUNDS]"
+                "usage: jr_bench [[stays | notes | owned] THREADS STANDING CALLS ROUNDS | collect ARRAYS EVERY ROUNDS | beside CALLERS TRIES ROUNDS]"
             )?;
             Err(io::Error::from(io::ErrorKind::InvalidInput))
         }
@@ -100,6 +104,7 @@ fn of_kind(kind: &String, work: Work) -> Option<Measured> {
     match kind.as_str() {
         "stays" => Some(Measured::Stays(work)),
         "notes" => Some(Measured::Notes(work)),
+        "owned" => Some(Measured::Owned(work)),
         _ => None,
     }
 }

@@ -38,7 +38,9 @@ fn time_of_call(calls: u32, done: &[Option<Done>]) -> Option<u128> {
 pub(crate) fn time_of<R: Threads + Clock + Sync>(rt: &R, alloc: Global, job: Job) -> Option<u128> {
     let done = round(rt, alloc, job)?;
     match job {
-        Job::Calls(_, work) | Job::Notes(work) => time_of_call(work.calls, &done),
+        Job::Calls(_, work) | Job::Owned(_, work) | Job::Notes(work) => time_of_call(
+            work.calls, &done,
+        ),
         Job::Collects(..) => Some(done_at(&done, 0)?.ran.saturating_mul(10)),
         Job::Beside(_) => match tries_of(&done)? {
             (tries, true) => Some(tries),

@@ -7,6 +7,7 @@ use crate::beside::Task;
 use crate::case::{Case, Env, FrameCase};
 use crate::collections::{Collections, Way};
 use crate::notes::note_all;
+use crate::owned;
 use jr_rule::{Pass, Room, Site, SiteSteps, StepsIn, ThreadNumber};
 use jr_steps::Steps;
 use jr_word::{Config, LAST_SERIAL};
@@ -44,6 +45,8 @@ pub(crate) struct Work {
 pub(crate) enum Job {
     /// Each makes the same call.
     Calls(Case, Work),
+    /// Each makes the same call, in a room that they own.
+    Owned(Case, Work),
     /// Each notes what it has seen, and learns it.
     Notes(Work),
     /// One tries collections, and the others call without a break.
@@ -142,7 +145,7 @@ pub(crate) fn all_came(signs: &Signs, threads: u32) -> bool {
 }
 
 /// A thread makes ready what it needs, waits for the others, and makes the calls.
-fn call_all<R: Clock, S: Steps>(
+pub(crate) fn call_all<R: Clock, S: Steps>(
     rt: &R,
     alloc: Global,
     env: &mut Env<S>,
@@ -169,7 +172,7 @@ impl Job {
     /// The sizes of its room.
     fn config(self) -> Config {
         match self {
-            Job::Calls(_, work) | Job::Notes(work) => Config {
+            Job::Calls(_, work) | Job::Owned(_, work) | Job::Notes(work) => Config {
                 threads: work.threads,
                 slots: Config::MOST_SLOTS,
                 objects: Config::MOST_OBJECTS,
@@ -190,7 +193,9 @@ impl Job {
         signs: &Signs,
     ) -> Option<Done> {
         match self {
-            Job::Calls(case, work) => call_all(rt, alloc, env, case, work, signs),
+            Job::Calls(case, work) | Job::Owned(case, work) => call_all(
+                rt, alloc, env, case, work, signs,
+            ),
             Job::Notes(work) => note_all::<Q, R, S>(rt, env, work, signs),
             Job::Beside(task) => task.act(rt, alloc, env, signs),
             Job::Collects(work, way) => work.time_in(rt, alloc, env, way, signs),
@@ -235,12 +240,15 @@ pub(crate) fn round<R: Threads + Clock + Sync>(
     alloc: Global,
     job: Job,
 ) -> Option<Vec<Option<Done>>> {
-    let (room, passes) = Room::<LAST_SERIAL>::open(alloc, job.config()).ok()?;
     let signs = Signs {
         began: Instant::now(rt).ok()?,
         came: AtomicU64::new(0),
         ended: AtomicBool::new(false),
     };
+    if let Job::Owned(case, work) = job {
+        return owned::round(rt, alloc, job.config(), case, work, &signs);
+    }
+    let (room, passes) = Room::<LAST_SERIAL>::open(alloc, job.config()).ok()?;
     let (room, signs) = (&room, &signs);
     let work_each = |pass| work_one(rt, alloc, room, pass, job, signs);
     thread::map_vec(rt, passes, &work_each).ok()
