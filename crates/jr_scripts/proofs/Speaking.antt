@@ -41,8 +41,9 @@ use Rattle.jr_scripts.specs.RegionCommands.{deed_at, deed_within}
 use Rattle.jr_scripts.specs.Places.{Place, by_region, is_speaking, levels_after, objects_after}
 use Rattle.jr_scripts.specs.Text.{buffers_after}
 use Rattle.jr_scripts.specs.Posting.{Account, Awaits, HasLookedFor, HasPosted, HasSpoken, HasWaited, IsAnswered}
-use Rattle.jr_scripts.specs.Posting.{LearnsOf, LooksInVain, Keeps, SaysSo, Speech, WasInVain, Words, one_more}
-use Rattle.jr_scripts.specs.Posting.{reply_to_wait, speaks, talk_of, word_under, words_after, words_found, words_with}
+use Rattle.jr_scripts.specs.Posting.{LearnsByLook, LearnsOf, LooksInVain, Keeps, SaysSo, Speech, WasInVain, Words}
+use Rattle.jr_scripts.specs.Posting.{one_more, reply_to_wait, speaks, talk_of, word_under}
+use Rattle.jr_scripts.specs.Posting.{words_after, words_found, words_with}
 use Rattle.jr_scripts.specs.Explains.{Explains, IsCutOff, LeavesText, nothing, then, unwritten, written}
 use Rattle.jr_scripts.specs.Advancing.{KnowsWith, StandsWith, deed_spoken, place_with, role_with}
 use mathlib.Core.List.{IsPrefix}
@@ -153,10 +154,6 @@ found_words names n None answer words is =
 pub known_words : (n : List ℕ) (w : ℕ) (words : Words) → word_under words n ≡ Some w
     → words ≡ words_found n (Some w) words
 known_words n w words is = sym (ap (λ o. cond (is_some o) words (words ++ (n, w) ∷ [])) is)
-
-pub only_plain : (v : Make) (n : List ℕ) → is_speaking (commands.Make v n) ≡ false → v ≡ make.Plain
-only_plain make.Plain n is = refl
-only_plain make.Wait n is = absurd cc
 
 -- SO MANY LOOKS
 
@@ -307,6 +304,10 @@ module _ {S : Type 0} (facts : S → Facts) where
   holds_said f (commands.Make make.Wait n) answer k k' (inr x) m = subst (Holds f) (sym x.1) m
   holds_said f _ answer k k' x m = absurd x
 
+  holds_looked : (f : Frames) (found : Option ℕ) (k k' : Known) → LearnsByLook found k k' → Holds f k → Holds f k'
+  holds_looked f (Some w) k k' x m = holds_did k k' f [] x.did tt m
+  holds_looked f None k k' x m = subst (Holds f) (sym x) m
+
   levels_said : (v : Levels) (f : Frames) (c : Command) (answer : Result Reply Fault) (k k' : Known)
       → SaysSo c answer k k' → role_of (view k) ≡ Within → KnowsLevels v f k → KnowsLevels v f k'
   levels_said v f (commands.OnName w n) answer k k' x within m = subst (KnowsLevels v f) (sym x.1) m
@@ -361,17 +362,29 @@ module _ {S : Type 0} (facts : S → Facts) where
       go (o ∷ os) (commands.Make make.Wait n) x = awaited_so a b f answer k k' stands hint x
       go os _ x = absurd x
 
-  -- the frames are the thread's own still
-  pub own_said : {a b : S} {t : Table} (talk : Speech) (names : Names) (words : Words) (c : Command)
-      (answer : Result Reply Fault) → HasSpoken facts a b talk names words c answer → AreOwn facts a t
-      → AreOwn facts b t
-  own_said {t = t} talk names words c answer w own = record {
+  -- the frames are the thread's own still, where what is known of them holds still
+  own_still : {a b : S} {t : Table} {made shows : Known → Known → Type 0}
+      → Went facts a b (facts a).stands anything made shows
+      → ((k k' : Known) → made k k' → Holds t.frames k → Holds t.frames k') → AreOwn facts a t → AreOwn facts b t
+  own_still w held own = record {
     owner = own.owner ∙ sym (ap (λ (z : Standing). z.thread) w.stands_is);
     last = own.last ∙ sym (ap (λ (z : Standing). z.last) w.stands_is);
     places = own.places ∙ sym (ap (λ (z : Standing). z.config.locals) w.stands_is);
-    agrees = ∥∥₁_map own.agrees (λ k. let x = w.leads k.0 k.1 tt in
-        (x.0, x.1, holds_said t.frames c answer k.0 x.0 x.2 k.2));
+    agrees = ∥∥₁_map own.agrees (λ k. let x = w.leads k.0 k.1 tt in (x.0, x.1, held k.0 x.0 x.2 k.2));
   }
+
+  pub own_said : {a b : S} {t : Table} (talk : Speech) (names : Names) (words : Words) (c : Command)
+      (answer : Result Reply Fault) → HasSpoken facts a b talk names words c answer → AreOwn facts a t
+      → AreOwn facts b t
+  own_said {t = t} talk names words c answer w own = own_still w (holds_said t.frames c answer) own
+
+  pub own_posted : {a b : S} {t : Table} (account : Account) (words : Words) (n : List ℕ) (w : ℕ)
+      → HasPosted facts a b account words n w → AreOwn facts a t → AreOwn facts b t
+  own_posted {t = t} account words n w p own = own_still p (λ k k' same. subst (Holds t.frames) (sym same)) own
+
+  pub own_looked : {a b : S} {t : Table} (account : Account) (n : List ℕ) (found : Option ℕ)
+      → HasLookedFor facts a b account n found → AreOwn facts a t → AreOwn facts b t
+  own_looked {t = t} account n found l own = own_still l (holds_looked t.frames found) own
 
 module _ {S : Type 0} {G : Ghosts S} where
   stands_role : (region : Option Region) (env : Env S G) → StandsWith region env

@@ -1,5 +1,6 @@
--- What was done where a thread stands in a region, and how it came there, for whatever was known.
+-- What was done where a thread stands in a region, how it came there, and what a command leaves there and outside.
 use Rattle.std.proofs.Common.{◌≡◌, ◌≤◌, ◌∷◌, [], ◌∙◌, ℕ, ℤ, List, Result, Ok, Err, length, subst, sym, ap, refl, arith}
+use Rattle.std.proofs.Common.{Bool, true, false, Option, Some, None, ◌≢◌}
 use Rattle.std.specs.Prelude.{IfErr, IfOk}
 use Rattle.jr_word.specs.declared.config.Config.{Config}
 use Rattle.jr_word.specs.declared.fault.Fault.{Fault}
@@ -20,32 +21,45 @@ use Rattle.jr_frames.specs.Table.{Table}
 use Rattle.jr_gate.specs.Performing.{Performed}
 use Rattle.jr_gate.proofs.Spending.{made_of, spend_none}
 use Rattle.jr_critical.specs.declared.levels.Levels.{Levels}
-use Rattle.jr_critical.specs.Levels.{KnowsLevels, LearnsFirst, Nests, Opens, Reaches, Stand, TellsKind}
-use Rattle.jr_critical.specs.Levels.{level_nested, level_object, object_opened, objects_of, role_opened}
+use Rattle.jr_critical.specs.Levels.{KnowsLevels, LearnsFirst, Nests, Opens, Reaches, Stand, TellsKind, level_nested}
+use Rattle.jr_critical.specs.Levels.{level_object, object_opened, objects_of, role_opened}
 use Rattle.jr_steps.specs.declared.steps.Steps.{Ghosts}
 use Rattle.jr_env.specs.declared.env.Env.{Env}
-use Rattle.jr_env.specs.Envs.{IsOutside}
+use Rattle.jr_env.specs.Envs.{IsOutside, WasDone}
 use Rattle.jr_env.specs.Criticals.{HasEntered, WasRefused}
 use Rattle.jr_env.specs.Deeds.{CarriedOut, Deed, decided, done, ◌>>=◌, ◌>>◌}
-use Rattle.jr_env.proofs.Carrying.{did_call, did_decided, did_decline, did_in_role, did_more}
-use Rattle.jr_env.proofs.Carrying.{did_refused, did_reply, did_then, own_call, role_kept}
+use Rattle.jr_env.proofs.Carrying.{did_call, did_decided, did_decline, did_in_role, did_more, did_refused, did_reply}
+use Rattle.jr_env.proofs.Carrying.{did_then, own_call, role_kept, did_nowhere, does_nothing}
 use Rattle.jr_syntax.specs.declared.verb.OpenLevel.{OpenLevel}
 use Rattle.jr_scripts.specs.declared.number.NumberKind.{NumberKind}
 use Rattle.jr_scripts.specs.declared.reply.Reply.{Reply}
 use Rattle.jr_scripts.specs.declared.reply.Reply.TheVariants as replies
-use Rattle.jr_scripts.specs.Advancing.{DidOpen, KnowsOpened}
+use Rattle.jr_scripts.specs.Advancing.{DidOpen, KnowsOpened, DidCommand, DidWith, StandsIn, StandsWith}
+use Rattle.jr_scripts.specs.Advancing.{answer_without_call, level_names, makes_no_call, objects_in, place_with}
 use Rattle.jr_scripts.specs.Numbers.{has_numbers, kind_numbered, word_of_number}
-use Rattle.jr_scripts.specs.Names.{Names}
+use Rattle.jr_scripts.specs.Names.{Names, word_posted}
 use Rattle.jr_scripts.specs.Text.{buffers_after}
 use Rattle.jr_syntax.specs.declared.command.Command.{Command}
 use Rattle.jr_syntax.specs.declared.command.Command.TheVariants as commands
 use Rattle.jr_syntax.specs.declared.verb.PutAt.{PutAt}
 use Rattle.jr_syntax.specs.declared.verb.PutAt.TheVariants as put_at
+use Rattle.jr_syntax.specs.declared.verb.Release.TheVariants as release
 use Rattle.jr_scripts.proofs.CommandDeeds.{numbered_has}
-use Rattle.jr_scripts.specs.Commands.{opening_by, opens}
+use Rattle.jr_scripts.specs.Commands.{opening_by, opens, deed}
 use Rattle.jr_env.specs.StayDeeds.{within_by}
 use Rattle.jr_scripts.specs.RegionCommands.{deed_at, deed_within, kind_of_level, nesting, nests, read_kind}
 use Rattle.jr_scripts.specs.RegionCommands.{level_reading, reading_as, level_writing, writing_as}
+use Rattle.jr_word.specs.declared.fault.Fault.TheVariants.{InCritical}
+use Rattle.jr_syntax.specs.declared.verb.Make.TheVariants as make
+use Rattle.jr_syntax.specs.declared.verb.OnName.{OnName}
+use Rattle.jr_scripts.specs.declared.region.Region.{Region}
+use Rattle.jr_scripts.specs.Layouts.{Layout}
+use Rattle.jr_scripts.specs.Places.{is_speaking, levels_after, objects_after}
+use Rattle.jr_scripts.specs.Posting.{Account, HasPosted, HasSpoken, HasWaited, Keeps, WasInVain, Words}
+use Rattle.jr_scripts.specs.Posting.{reply_to_wait, talk_of, word_under, words_after, words_found, words_with}
+use Rattle.jr_scripts.proofs.CopyDeeds.{does_get, does_put}
+use Rattle.jr_scripts.proofs.Speaking.{did_silent, did_speak, keeps_all, said_buffers, said_levels, said_objects}
+use Rattle.jr_scripts.proofs.Speaking.{found_words, silent_words, spoke_posting, spoke_waiting, stands_still}
 
 module _ {S : Type 0} {facts : S → Facts} where
   -- a number was stored at a level
@@ -229,3 +243,201 @@ pub did_at : {S : Type 0} {facts : S → Facts} {a b : S} {f g : Frames} {role :
     role met shown (deed_at turns (record { names = names; levels = levels; objects = objects }) c) answer
 did_at turns names levels [] c some d = absurd (omega arith)
 did_at turns names levels (o ∷ os) c some d = d
+
+-- WHAT A COMMAND LEAVES
+
+-- a command that is none of those that make calls or open a region makes no call
+pub left_over : (c : Command) → ((v : _) (n : _) → c ≢ commands.Make v n)
+    → ((v : _) (n : _) (r : _) → c ≢ commands.MakeFrom v n r) → ((v : _) (r : _) → c ≢ commands.On v r)
+    → ((v : _) (q : _) (r : _) → c ≢ commands.OnBoth v q r) → ((v : _) (n : _) → c ≢ commands.OnName v n)
+    → ((v : _) (n : _) → c ≢ commands.WithCount v n) → ((v : _) (n : _) (l : _) → c ≢ commands.MakeSized v n l)
+    → ((v : _) (n : _) (u : _) → c ≢ commands.MakeText v n u)
+    → ((v : _) (n : _) (l : _) (r : _) → c ≢ commands.MakeFilled v n l r)
+    → ((v : _) (n : _) (r : _) (i : _) → c ≢ commands.MakeAt v n r i)
+    → ((v : _) (r : _) (i : _) → c ≢ commands.OnAt v r i)
+    → ((v : _) (r : _) (i : _) (q : _) → c ≢ commands.SetAt v r i q)
+    → ((v : _) (r : _) (i : _) (x : _) → c ≢ commands.StoreAt v r i x)
+    → ((v : _) (n : _) (r : _) (m : _) → c ≢ commands.Release v n r m)
+    → ((v : _) (n : _) (r : _) → c ≢ commands.OpenLevel v n r) → ((v : _) → c ≢ commands.OfRoom v)
+    → ((v : _) (k : _) → c ≢ commands.WithTries v k) → makes_no_call c ≡ true
+left_over (commands.Make v n) other _ _ _ _ _ _ _ _ _ _ _ _ _ _ _ _ = absurd (other v n refl)
+left_over (commands.MakeFrom v n r) _ other _ _ _ _ _ _ _ _ _ _ _ _ _ _ _ = absurd (other v n r refl)
+left_over (commands.On v r) _ _ other _ _ _ _ _ _ _ _ _ _ _ _ _ _ = absurd (other v r refl)
+left_over (commands.OnBoth v q r) _ _ _ other _ _ _ _ _ _ _ _ _ _ _ _ _ = absurd (other v q r refl)
+left_over (commands.OnName v n) _ _ _ _ other _ _ _ _ _ _ _ _ _ _ _ _ = absurd (other v n refl)
+left_over (commands.WithCount v n) _ _ _ _ _ other _ _ _ _ _ _ _ _ _ _ _ = absurd (other v n refl)
+left_over (commands.MakeSized v n l) _ _ _ _ _ _ other _ _ _ _ _ _ _ _ _ _ = absurd (other v n l refl)
+left_over (commands.MakeText v n u) _ _ _ _ _ _ _ other _ _ _ _ _ _ _ _ _ = absurd (other v n u refl)
+left_over (commands.MakeFilled v n l r) _ _ _ _ _ _ _ _ other _ _ _ _ _ _ _ _ = absurd (other v n l r refl)
+left_over (commands.MakeAt v n r i) _ _ _ _ _ _ _ _ _ other _ _ _ _ _ _ _ = absurd (other v n r i refl)
+left_over (commands.OnAt v r i) _ _ _ _ _ _ _ _ _ _ other _ _ _ _ _ _ = absurd (other v r i refl)
+left_over (commands.SetAt v r i q) _ _ _ _ _ _ _ _ _ _ _ other _ _ _ _ _ = absurd (other v r i q refl)
+left_over (commands.StoreAt v r i x) _ _ _ _ _ _ _ _ _ _ _ _ other _ _ _ _ = absurd (other v r i x refl)
+left_over (commands.Release v n r m) _ _ _ _ _ _ _ _ _ _ _ _ _ other _ _ _ = absurd (other v n r m refl)
+left_over (commands.OpenLevel v n r) _ _ _ _ _ _ _ _ _ _ _ _ _ _ other _ _ = absurd (other v n r refl)
+left_over (commands.OfRoom v) _ _ _ _ _ _ _ _ _ _ _ _ _ _ _ other _ = absurd (other v refl)
+left_over (commands.WithTries v k) _ _ _ _ _ _ _ _ _ _ _ _ _ _ _ _ other = absurd (other v k refl)
+left_over (commands.OnNameAt v n i) _ _ _ _ _ _ _ _ _ _ _ _ _ _ _ _ _ = refl
+left_over (commands.PutAt v n i x) _ _ _ _ _ _ _ _ _ _ _ _ _ _ _ _ _ = refl
+left_over (commands.CloseLevel v m) _ _ _ _ _ _ _ _ _ _ _ _ _ _ _ _ _ = refl
+
+-- no refused command changes a buffer
+kept_by_refusal : (c : Command) (e : Fault) (names : Names) → names ≡ buffers_after c (Err e) names
+kept_by_refusal (commands.PutAt put_at.Put n i x) e names = refl
+kept_by_refusal (commands.Release release.Elements n r mode) e names = refl
+kept_by_refusal _ e names = refl
+
+-- whether a command is done in a region
+abbrev pub is_of_region : Command → Bool
+is_of_region (commands.OpenLevel v n r) = true
+is_of_region (commands.CloseLevel v mode) = true
+is_of_region (commands.OnNameAt v n i) = true
+is_of_region (commands.PutAt v n i x) = true
+is_of_region (commands.OnName v n) = true
+is_of_region (commands.Make make.Wait n) = true
+is_of_region _ = false
+
+module _ {S B : Type 0} {G : Ghosts S} {layout : B → Layout} {tells : B → Account}
+    {looked : B → List ℕ → Option ℕ → B → Type 0} {follows : B → Words → Type 0} {turns : ℕ} {words : Words} where
+  module _ {old new : Env S G} {names names' : Names} {region' : Option Region} {board : B}
+      {answer : Result Reply Fault} (c d : Command) (is : c ≡ d) where
+    -- a command by which threads hand each other nothing, where no region stood
+    pub outside : is_speaking d ≡ false → follows board words
+        → DidWith old new None region' (deed turns names d) answer → StandsWith region' new
+        → level_names region' ≡ levels_after d answer [] → objects_in region' ≡ objects_after d answer []
+        → names' ≡ buffers_after d answer names
+        → DidCommand layout tells looked follows turns c words old new names names' None region' board board answer
+    outside silent has did stand levels objects changed = subst (λ e.
+        DidCommand layout tells looked follows turns e words old new names names' None region' board board answer)
+        (sym is) (record {
+          does = did_silent tells looked board turns (place_with names None) words d silent did;
+          stand = stand;
+          levels = levels;
+          objects = objects;
+          names = changed;
+          follows = subst (follows board) (silent_words names d answer words silent) has;
+          kept = keeps_all;
+        })
+
+    -- the same in a region
+    pub inside : (r : Region) → StandsIn r old → is_speaking d ≡ false → follows board words
+        → DidWith old new (Some r) region' (deed_within (place_with names (Some r)) d) answer → StandsWith region' new
+        → level_names region' ≡ levels_after d answer (level_names (Some r))
+        → objects_in region' ≡ objects_after d answer (objects_in (Some r)) → names' ≡ buffers_after d answer names
+        → DidCommand layout tells looked follows turns c words old new names names' (Some r) region' board board answer
+    inside r stood silent has did stand levels objects changed = subst (λ e. DidCommand layout tells looked follows
+        turns e words old new names names' (Some r) region' board board answer)
+        (sym is) (record {
+          does = did_silent tells looked board turns (place_with names (Some r)) words d silent
+              (did_at turns names (level_names (Some r)) (objects_in (Some r)) d stood.stand.some did);
+          stand = stand;
+          levels = levels;
+          objects = objects;
+          names = changed;
+          follows = subst (follows board) (silent_words names d answer words silent) has;
+          kept = keeps_all;
+        })
+
+  -- what was done is told with the region and the answer that it left
+  pub as_told : {old new : Env S G} {names names' : Names} {board board' : B} {region region' : Option Region}
+      {answer : Result Reply Fault} (c : Command) (o : Option Region) (a : Result Reply Fault) → o ≡ region'
+      → a ≡ answer
+      → DidCommand layout tells looked follows turns c words old new names names' region region' board board' answer
+      → DidCommand layout tells looked follows turns c words old new names names' region o board board' a
+  as_told {old} {new} {names} {names'} {board} {board'} {region} {region'} {answer} c o a is says d = subst
+      (λ x. DidCommand layout tells looked follows turns c words old new names names' region x board board' a) (sym is)
+      (subst (λ x. DidCommand layout tells looked follows turns c words old new names names' region region' board board'
+      x) (sym says) d)
+
+  -- a command that is none of a region
+  pub refused_inside : {old : Env S G} {names : Names} {board : B} (c : Command) (r : Region)
+      → StandsIn r old → follows board words → is_of_region c ≡ false → DidCommand layout tells looked follows turns c
+      words old old names names (Some r) (Some r) board board (Err InCritical)
+  refused_inside (commands.OpenLevel v n r) region stood has other = absurd cc
+  refused_inside (commands.CloseLevel v mode) region stood has other = absurd cc
+  refused_inside (commands.OnNameAt v n i) region stood has other = absurd cc
+  refused_inside (commands.PutAt v n i x) region stood has other = absurd cc
+  refused_inside (commands.OnName v n) region stood has other = absurd cc
+  refused_inside (commands.Make make.Wait n) region stood has other = absurd cc
+  refused_inside c region stood has other =
+      inside c c refl region stood refl has (did_nowhere stood.stand.ready.role_is (λ k m. m) (λ p. (refl, refl))) stood
+      refl refl (kept_by_refusal c InCritical _)
+
+  -- a command that makes calls, and opens no region
+  pub called : {old new : Env S G} {names names' : Names} {board : B} {answer : Result Reply Fault} (c d : Command)
+      (region : Option Region) → c ≡ d → region ≡ None → IsOutside old → is_speaking d ≡ false → follows board words
+      → WasDone old new (deed turns names d) answer → [] ≡ levels_after d answer [] → [] ≡ objects_after d answer []
+      → names' ≡ buffers_after d answer names
+      → DidCommand layout tells looked follows turns c words old new names names' None region board board answer
+  called {old} {new} {names} {names'} {board} {answer} c d region is none stood silent has did levels objects changed =
+      subst (λ r. DidCommand layout tells looked follows turns c words old new names names' None r board board answer)
+      (sym none)
+      (outside c d is silent has (did_in_role stood did) (did.stands_is.role ∙ stood) levels objects changed)
+
+  -- a command that makes no call
+  pub uncalled : {old : Env S G} {names names' : Names} {board : B} {answer : Result Reply Fault} (c : Command)
+      (region : Option Region) → region ≡ None → IsOutside old → follows board words → makes_no_call c ≡ true
+      → answer ≡ answer_without_call names c → names' ≡ buffers_after c answer names
+      → DidCommand layout tells looked follows turns c words old old names names' None region board board answer
+  uncalled {names = names} {answer = answer} (commands.OnNameAt v n i) region none stood has some says changed =
+      let d : Command = commands.OnNameAt v n i in
+      called d d region refl none stood refl has (does_get turns names v n i answer says) refl refl changed
+  uncalled {names = names} {answer = answer} (commands.PutAt v n i x) region none stood has some says changed =
+      let d : Command = commands.PutAt v n i x in
+      called d d region refl none stood refl has (does_put turns names v n i x answer says) refl refl changed
+  uncalled {answer = Ok reply} (commands.CloseLevel v mode) region none stood has some says changed = absurd cc
+  uncalled {answer = Err e} (commands.CloseLevel v mode) region none stood has some says changed =
+      let d : Command = commands.CloseLevel v mode in
+      called d d region refl none stood refl has (does_nothing (λ p. (says, refl))) refl refl changed
+  uncalled _ region none stood has some says changed = absurd cc
+
+  -- one by which they do, wherever the thread stands
+  pub spoken : AreOf G.facts → {old new : Env S G} {names : Names} {region : Option Region} {board board' : B}
+      {answer : Result Reply Fault} (c : Command) (region' : Option Region) → region' ≡ region → StandsWith region old
+      → is_speaking c ≡ true → new.held.frames ≡ old.held.frames
+      → HasSpoken G.facts old.held.steps new.held.steps (talk_of tells looked turns board') names words c answer
+      → follows board' (words_after names c answer words) → Keeps layout tells board board'
+      → DidCommand layout tells looked follows turns c words old new names names region region' board board' answer
+  spoken fits {old} {new} {names} {region} {board} {board'} {answer} c region' same stood speaks frames spoke has kept =
+      let talk = talk_of tells looked turns board' in
+      subst (λ r. DidCommand layout tells looked follows turns c words old new names names region r board board' answer)
+      (sym same) (record {
+        does = did_speak fits talk turns names words region old new c answer stood frames spoke;
+        stand = stands_still fits talk names words region old new c answer stood frames spoke;
+        levels = said_levels c answer (level_names region) speaks;
+        objects = said_objects c answer (objects_in region) speaks;
+        names = said_buffers c answer names speaks;
+        follows = has;
+        kept = kept;
+      })
+
+  -- a wait
+  pub waited : AreOf G.facts → {old new : Env S G} {names : Names} {region : Option Region} {board board' : B}
+      {answer : Result Reply Fault} {n : List ℕ} (c : Command) (region' : Option Region) → region' ≡ region
+      → StandsWith region old → c ≡ commands.Make make.Wait n → new.held.frames ≡ old.held.frames
+      → HasWaited G.facts old.held.steps new.held.steps (tells board') (WasInVain looked turns n) n (word_under words n)
+      answer → (found : Option ℕ) × (answer ≡ reply_to_wait found) × follows board' (words_found n found words)
+      → Keeps layout tells board board'
+      → DidCommand layout tells looked follows turns c words old new names names region region' board board' answer
+  waited fits {names = names} {board' = board'} {answer = answer} {n = n} c region' same stood is frames w has kept =
+      spoken fits c region' same stood (ap is_speaking is) frames
+      (spoke_waiting G.facts tells looked turns board' names words c make.Wait answer is (ap is_speaking is) w)
+      (subst (follows board') (sym (ap (λ d. words_after names d answer words) is
+      ∙ found_words names n has.0 answer words has.1)) has.2)
+      kept
+
+  -- a post
+  pub posted : AreOf G.facts → {old new : Env S G} {names : Names} {region : Option Region} {board board' : B}
+      {answer : Result Reply Fault} {v : OnName} {n : List ℕ} {w : ℕ} (c : Command) (region' : Option Region)
+      → region' ≡ region → StandsWith region old → c ≡ commands.OnName v n → w ≡ word_posted names n
+      → answer ≡ Ok replies.Done → new.held.frames ≡ old.held.frames
+      → HasPosted G.facts old.held.steps new.held.steps (tells board') words n w → follows board' (words_with words n w)
+      → Keeps layout tells board board'
+      → DidCommand layout tells looked follows turns c words old new names names region region' board board' answer
+  posted fits {names = names} {board' = board'} {answer = answer} {v = v} {n = n} c region' same stood is word says
+      frames p has kept =
+      as_told c region' answer refl says (spoken fits c region' same stood (ap is_speaking is) frames
+      (spoke_posting G.facts tells looked turns board' names words c v is word p)
+      (subst (follows board') (ap (words_with words n) word
+      ∙ ap (λ d. words_after names d (Ok replies.Done) words) (sym is)) has)
+      kept)

@@ -1,5 +1,5 @@
 -- For the crate's own functions: where a thread stands with its region, and what it did there.
-use Rattle.std.specs.Prelude.{◌≡◌, ℕ, List, [], length, Option, Some, None, Result, Ok, Err}
+use Rattle.std.specs.Prelude.{◌≡◌, ℕ, Bool, true, false, List, [], length, Option, Some, None, Result, Ok, Err}
 use Rattle.jr_word.specs.declared.fault.Fault.{Fault}
 use Rattle.jr_word.specs.declared.fault.Fault.TheVariants as fault
 use Rattle.jr_model.specs.declared.event.Role.{Role}
@@ -14,15 +14,20 @@ use Rattle.jr_env.specs.declared.env.Env.{Env}
 use Rattle.jr_env.specs.Deeds.{Deed}
 use Rattle.jr_env.specs.Envs.{IsOutside, WasDoneFrom}
 use Rattle.jr_syntax.specs.declared.command.Command.{Command}
+use Rattle.jr_syntax.specs.declared.command.Command.TheVariants as commands
 use Rattle.jr_syntax.specs.declared.verb.OnNameAt.{OnNameAt}
 use Rattle.jr_syntax.specs.declared.verb.OnNameAt.TheVariants as on_name_at
 use Rattle.jr_syntax.specs.declared.verb.PutAt.{PutAt}
 use Rattle.jr_syntax.specs.declared.verb.PutAt.TheVariants as put_at
 use Rattle.jr_scripts.specs.declared.region.Region.{Region}
 use Rattle.jr_scripts.specs.declared.reply.Reply.{Reply}
-use Rattle.jr_scripts.specs.Names.{Names}
-use Rattle.jr_scripts.specs.Posting.{Speech, Words}
-use Rattle.jr_scripts.specs.Places.{Place}
+use Rattle.jr_elements.specs.Copies.{answer_in}
+use Rattle.jr_scripts.specs.declared.reply.Reply.TheVariants as replies
+use Rattle.jr_scripts.specs.Names.{Names, binding, getting, putting}
+use Rattle.jr_scripts.specs.Layouts.{Layout}
+use Rattle.jr_scripts.specs.Text.{buffers_after}
+use Rattle.jr_scripts.specs.Posting.{Account, Keeps, Speech, Words, talk_of, words_after}
+use Rattle.jr_scripts.specs.Places.{Place, levels_after, objects_after}
 use Rattle.jr_scripts.specs.RegionCommands.{deed_at}
 
 -- the answer of a command at an index where no region stands: E19 where it is about a level
@@ -34,6 +39,22 @@ got_by on_name_at.GetInLevel answer = Err fault.InCritical
 abbrev pub put_by : PutAt → Result Reply Fault → Result Reply Fault
 put_by put_at.Put answer = answer
 put_by put_at.PutInLevel answer = Err fault.InCritical
+
+-- whether a command makes no call where no region stands:
+-- it is about an element of what a name stands for, or gives up a level
+abbrev pub makes_no_call : Command → Bool
+makes_no_call (commands.OnNameAt v n i) = true
+makes_no_call (commands.PutAt v n i x) = true
+makes_no_call (commands.CloseLevel v mode) = true
+makes_no_call _ = false
+
+-- and its answer: E19 where it is none about an element
+abbrev pub answer_without_call : Names → Command → Result Reply Fault
+answer_without_call names (commands.OnNameAt v n i) =
+    got_by v (answer_in (λ x. replies.Value x) (getting i (binding names n)))
+answer_without_call names (commands.PutAt v n i x) =
+    put_by v (answer_in (λ _. replies.Done) (putting i x (binding names n)))
+answer_without_call names _ = Err fault.InCritical
 
 -- what a command does where the thread stands, with what it says and hears
 abbrev pub deed_spoken : Speech → ℕ → Place → Words → Command → Deed Reply
@@ -95,3 +116,18 @@ module _ {S : Type 0} {G : Ghosts S} where
   abbrev pub DidOpen : Env S G → Env S G → Deed ℕ → Result Levels Fault → Type 0
   DidOpen old new deed answer =
       WasDoneFrom old new Holds (KnowsOpened answer) (role_opened answer) deed (object_opened answer)
+
+-- A COMMAND WAS DONE where the thread stood, with its board: it did what the command does there, with what it said and
+-- heard, and stands where the command leaves it; nothing else of the names, the region and the board was changed
+module _ {S B : Type 0} {G : Ghosts S} (layout : B → Layout) (tells : B → Account)
+    (looked : B → List ℕ → Option ℕ → B → Type 0) (has : B → Words → Type 0) where
+  pub record DidCommand (turns : ℕ) (c : Command) (words : Words) (old new : Env S G) (named named' : Names)
+      (region region' : Option Region) (board board' : B) (answer : Result Reply Fault) : Type 0 where
+    pub does : DidWith old new region region'
+        (deed_spoken (talk_of tells looked turns board') turns (place_with named region) words c) answer
+    pub stand : StandsWith region' new
+    pub levels : level_names region' ≡ levels_after c answer (level_names region)
+    pub objects : objects_in region' ≡ objects_after c answer (objects_in region)
+    pub names : named' ≡ buffers_after c answer named
+    pub follows : has board' (words_after named c answer words)
+    pub kept : Keeps layout tells board board'

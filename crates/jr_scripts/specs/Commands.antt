@@ -183,11 +183,6 @@ abbrev pub collecting_announced : ℕ → ℕ → Deed Reply
 collecting_announced turns tries old answer new =
     (once : Result Collected Fault) × (answer ≡ told once) × tried turns (announced_collection tries) old once new
 
--- a collection as the command asks for it
-abbrev pub collecting_by : ℕ → Command → Deed Reply
-collecting_by turns (commands.WithTries v tries) = collecting_announced turns tries
-collecting_by turns _ = collecting
-
 -- A THREAD LEARNS:
 -- all that others have done in between is seen, by at most one operation, and nothing else of it changes
 pub record HasLearned (old new : ThreadState) : Type 0 where
@@ -300,8 +295,8 @@ module _ (turns : ℕ) (names : Names) where
     o ← opening_levels v r
     done (replies.Level o)
   deed (commands.CloseLevel v mode) = decided (Err fault.InCritical)
-  deed (commands.OfRoom v) = collecting_by turns (commands.OfRoom v)
-  deed (commands.WithTries v tries) = collecting_by turns (commands.WithTries v tries)
+  deed (commands.OfRoom v) = collecting
+  deed (commands.WithTries v tries) = collecting_announced turns tries
   deed (commands.OnNameAt on_name_at.GetInLevel n i) = decided (Err fault.InCritical)
   deed (commands.PutAt put_at.PutInLevel n i x) = decided (Err fault.InCritical)
   deed (commands.OnNameAt on_name_at.Get n i) = do

@@ -74,17 +74,7 @@ place_after c answer p = record {
   objects = objects_after c answer p.objects;
 }
 
--- whether a command opens a level
-abbrev pub is_opening : Command → Bool
-is_opening (commands.OpenLevel v n r) = true
-is_opening _ = false
-
--- whether it gives one up
-abbrev pub is_closing : Command → Bool
-is_closing (commands.CloseLevel v mode) = true
-is_closing _ = false
-
--- whether threads hand each other something by it
+-- whether threads hand each other something by a command
 abbrev pub is_speaking : Command → Bool
 is_speaking (commands.OnName v n) = true
 is_speaking (commands.Make make.Wait n) = true

@@ -24,7 +24,6 @@ mod perform;
 mod printed;
 mod region;
 mod reply;
-mod retry;
 mod room_board;
 mod run;
 mod runnable;

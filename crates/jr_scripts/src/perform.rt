@@ -7,19 +7,23 @@ ghost use Rattle.jr_scripts.specs.declared.reply.Reply.TheVariants as replies;
 ghost use Rattle.jr_env.specs.Deeds.{answered_by};
 ghost use Rattle.jr_env.specs.Collections.{FitsRoom};
 ghost use Rattle.jr_env.specs.Envs.{WasDone, IsOutside};
-ghost use Rattle.std.specs.Prelude.{◌≡◌, false};
+ghost use Rattle.std.specs.Prelude.{◌≡◌, None};
 ghost use Rattle.jr_weak.specs.Markers.{room_of};
-ghost use Rattle.jr_scripts.specs.Places.{is_opening, is_speaking};
+ghost use Rattle.jr_scripts.specs.Advancing.{answer_without_call, DidCommand};
 ghost use Rattle.jr_scripts.specs.Text.{buffers_after};
 ghost use Rattle.jr_scripts.specs.Commands.{deletion, type_of as type_deed, made_of, making_room, filling, referring_to, deed};
 
 use crate::ask::ask;
+use crate::board::Board;
 use crate::calls::copies::GetStringChars;
 use crate::calls::objects::NewArray;
-use crate::commands::collections::collect;
+use crate::commands::collections::{collect, collect_announced};
 use crate::commands::copies::{copy, get_by, put_by, release};
 use crate::commands::elements::{load, store};
+use crate::commands::posting::{post, wait};
+use crate::commands::regions::open_region;
 use crate::names::Names;
+use crate::region::Region;
 use crate::reply::Reply;
 use jr_env::Env;
 use jr_env::calls::{
@@ -30,7 +34,7 @@ use jr_env::calls::{
 };
 use jr_frames::Reference;
 use jr_steps::Steps;
-use jr_syntax::{Command, MakeFrom, On, Reference as Target, WithCount};
+use jr_syntax::{Command, Make, MakeFrom, Name, On, Reference as Target, WithCount};
 use jr_weak::Marker;
 use jr_word::{Fault, Handle, RefKind};
 use std::alloc::Global;
@@ -184,28 +188,52 @@ fn same<S: Steps>(
     ask(env, turns, &IsSameObject(left, right))
 }
 
-/// Makes the calls of a command that opens no region and is neither `post` nor `wait`, where no region stands, and changes or frees the buffer that it is about; `eget` and `eput` make none.
-pub fn perform<S: Steps>(
+/// What a command does, where no region stands, that makes no call: one about an element of what a name stands for. E19 for any other.
+fn without_call(names: &mut Names, command: &Command) -> Result<Reply, Fault>
+    ensures answer { result ≡ answer_without_call names.old command.now }
+    ensures names { names.new ≡ buffers_after command.now result names.old }
+{
+    match command {
+        Command::OnNameAt { verb, name, index } => get_by(names, *verb, name, *index),
+        Command::PutAt {
+            verb,
+            name,
+            index,
+            value,
+        } => put_by(names, *verb, name, *index, *value),
+        _ => Err(Fault::InCritical),
+    }
+}
+
+/// What a command does where no region stands: it makes its calls, hands over a word, or opens a region.
+pub fn perform<S: Steps, B: Board<S>>(
     alloc: Global,
     env: &mut Env<S>,
     names: &mut Names,
     marker: &mut Marker,
+    region: &mut Option<Region>,
+    words: &[(Name, u64)],
+    board: &mut B,
     turns: u64,
     command: &Command,
 ) -> Result<Reply, Fault>
     requires outside { IsOutside env.old }
-    requires opens { is_opening command.now ≡ false }
-    requires silent { is_speaking command.now ≡ false }
+    requires none { region.old ≡ None }
     requires room { FitsRoom marker.old env.old }
-    ensures does { WasDone env.old env.new (deed turns names.old command.now) result }
-    ensures names { names.new ≡ buffers_after command.now result names.old }
+    requires there { (B.tells board.old).serves (S.facts env.old.held.steps).stands.room }
+    requires follows { B.follows board.old words.now }
+    ensures did { DidCommand B.layout B.tells B.looked B.follows turns command.now words.now env.old env.new names.old names.new None region.new board.old board.new result }
     ensures room { room_of marker.new ≡ room_of marker.old }
 {
     match command {
-        Command::Make { .. } => ask(env, turns, &NewPlain),
+        Command::Make { verb, name } => match verb {
+            Make::Plain => ask(env, turns, &NewPlain),
+            Make::Wait => wait(board, env, words, name, turns),
+        },
         Command::MakeFrom { verb, target, .. } => make_of(alloc, env, names, turns, *verb, target),
         Command::On { verb, target } => on(alloc, env, names, turns, *verb, target),
         Command::OnBoth { left, right, .. } => same(env, names, turns, left, right),
+        Command::OnName { name, .. } => post(board, env, name, names.word(name)),
         Command::WithCount { verb, count } => with_count(env, turns, *verb, *count),
         Command::MakeSized { verb, length, .. } => ask(env, turns, &NewArray(*verb, *length)),
         Command::MakeText { units, .. } => ask(env, turns, &NewString(units.as_slice())),
@@ -223,21 +251,18 @@ pub fn perform<S: Steps>(
             index,
             value,
             ..
-        } => { store(env, turns, names.wanted(target)?, *index, *value) }
-        Command::OnNameAt { verb, name, index } => get_by(names, *verb, name, *index),
-        Command::PutAt {
-            verb,
-            name,
-            index,
-            value,
-        } => put_by(names, *verb, name, *index, *value),
+        } => store(env, turns, names.wanted(target)?, *index, *value),
         Command::Release {
             name,
             target,
             mode,
             ..
         } => release(env, names, turns, name, target, *mode),
-        Command::OfRoom { .. } | Command::WithTries { .. } => collect(env, marker, turns, command),
-        _ => Err(Fault::InCritical),
+        Command::OpenLevel { verb, name, target } => {
+            open_region(env, names, region, turns, *verb, name, target)
+        }
+        Command::OfRoom { .. } => collect(env, marker),
+        Command::WithTries { tries, .. } => collect_announced(env, marker, turns, *tries),
+        _ => without_call(names, command),
     }
 }

@@ -9,7 +9,7 @@ ghost use Rattle.jr_scripts.specs.Text.{sets, names_set, binding_made as made_to
 ghost use Rattle.jr_scripts.specs.Posting.{talk_of, Keeps};
 ghost use Rattle.jr_scripts.specs.Runs.{RanThread, WritesDown};
 
-use crate::advance::{Left, advance};
+use crate::advance::{Outcome, advance};
 use crate::binding::Binding;
 use crate::board::Board;
 use crate::commands::regions::end;
@@ -125,7 +125,7 @@ pub fn run_thread<S: Steps, B: Board<S>, H: Hold>(
     for (i, command) in commands.iter().enumerate() {
         let line = first + i;
         hold.before(env.held.steps.thread(), line);
-        let left = advance(
+        let outcome = advance(
             alloc,
             env,
             &mut names,
@@ -137,10 +137,10 @@ pub fn run_thread<S: Steps, B: Board<S>, H: Hold>(
             command,
         );
         hold.after(env.held.steps.thread(), line);
-        let Left {
+        let Outcome {
             region: stands,
             answer,
-        } = left;
+        } = outcome;
         region = stands;
         let Ok(()) = record(alloc, &mut names, &mut words, line, command, answer, out) else {
             end(env, region);

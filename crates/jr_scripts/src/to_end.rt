@@ -6,9 +6,9 @@ ghost use Rattle.jr_env.specs.Envs.{IsOutside};
 ghost use Rattle.jr_scripts.specs.Posting.{talk_of, Keeps};
 ghost use Rattle.jr_scripts.specs.Runs.{RanThread, RanToEnd};
 
+use crate::ask::retry;
 use crate::board::Board;
 use crate::hold::Hold;
-use crate::retry::retry;
 use crate::run::run_thread;
 use jr_env::Env;
 use jr_env::calls::FreeLocals;

@@ -4,35 +4,17 @@ ghost use Rattle.std.specs.Prelude.{◌≡◌, ◌≤◌};
 ghost use Rattle.jr_weak.specs.Markers.{room_of};
 ghost use Rattle.jr_env.specs.Collections.{FitsRoom, announced_collection};
 ghost use Rattle.jr_env.specs.Envs.{IsOutside, WasDone};
-ghost use Rattle.jr_scripts.specs.Commands.{collecting, collecting_announced, collecting_by, tried};
+ghost use Rattle.jr_scripts.specs.Commands.{collecting, collecting_announced, tried};
 
 use crate::reply::Reply;
 use jr_env::{Env, is_made_again};
 use jr_steps::Steps;
-use jr_syntax::{Command, Tries};
+use jr_syntax::Tries;
 use jr_weak::{Collected, Marker};
 use jr_word::Fault;
 
-/// Makes the collection that a command asks for.
-pub(crate) fn collect<S: Steps>(
-    env: &mut Env<S>,
-    marker: &mut Marker,
-    turns: u64,
-    command: &Command,
-) -> Result<Reply, Fault>
-    requires outside { IsOutside env.old }
-    requires room { FitsRoom marker.old env.old }
-    ensures does { WasDone env.old env.new (collecting_by turns command.now) result }
-    ensures room { room_of marker.new ≡ room_of marker.old }
-{
-    match command {
-        Command::WithTries { tries, .. } => collect_announced(env, marker, turns, *tries),
-        _ => collect_at_once(env, marker),
-    }
-}
-
 /// Collects, or tells how many threads are not outside. It is tried once.
-fn collect_at_once<S: Steps>(env: &mut Env<S>, marker: &mut Marker) -> Result<Reply, Fault>
+pub(crate) fn collect<S: Steps>(env: &mut Env<S>, marker: &mut Marker) -> Result<Reply, Fault>
     requires outside { IsOutside env.old }
     requires room { FitsRoom marker.old env.old }
     ensures does { WasDone env.old env.new collecting result }
@@ -46,7 +28,7 @@ fn collect_at_once<S: Steps>(env: &mut Env<S>, marker: &mut Marker) -> Result<Re
 }
 
 /// Announces a collection and collects, or tells how many threads kept it out.
-fn collect_announced<S: Steps>(
+pub(crate) fn collect_announced<S: Steps>(
     env: &mut Env<S>,
     marker: &mut Marker,
     turns: u64,

@@ -13,14 +13,13 @@ ghost use Rattle.jr_scripts.specs.Commands.{copying, deed, releasing, tried};
 ghost use Rattle.jr_scripts.specs.Text.{buffers_after, elements_left, left_by};
 ghost use Rattle.jr_scripts.specs.Advancing.{got_by, put_by as put_by_verb};
 
-use crate::ask::ask;
+use crate::ask::{ask, retry};
 use crate::binding::Binding;
 use crate::buffer::{Buffer, CopiedElements};
 use crate::calls::copies::GetElements;
 use crate::names::Names;
 use crate::number::NumberKind;
 use crate::reply::Reply;
-use crate::retry::retry;
 use jr_elements::Elements;
 use jr_env::calls::KindOf;
 use jr_env::{Env, is_made_again};

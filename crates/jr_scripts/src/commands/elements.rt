@@ -3,11 +3,10 @@
 ghost use Rattle.jr_env.specs.Envs.{WasDone, IsOutside};
 ghost use Rattle.jr_scripts.specs.Commands.{loading, storing};
 
-use crate::ask::ask;
+use crate::ask::{ask, retry};
 use crate::calls::objects::{GetNumber, SetElement};
 use crate::number::{Element, NumberKind};
 use crate::reply::Reply;
-use crate::retry::retry;
 use jr_env::Env;
 use jr_env::calls::KindOf;
 use jr_steps::Steps;

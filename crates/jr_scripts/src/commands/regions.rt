@@ -1,19 +1,19 @@
 //! What the commands of a critical region do at its levels.
 
-ghost use Rattle.std.specs.Prelude.{◌≡◌, ◌<◌, IfErr, IfOk, Ok, Err, Some, None, length};
+ghost use Rattle.std.specs.Prelude.{◌≡◌, ◌<◌, IfErr, IfOk, Ok, Err, Some, None, [], length};
 ghost use Rattle.jr_word.specs.declared.fault.Fault.TheVariants.{InCritical};
 ghost use Rattle.jr_syntax.specs.declared.command.Command.TheVariants as commands;
 ghost use Rattle.jr_syntax.specs.declared.verb.PutAt.TheVariants as put_verbs;
 ghost use Rattle.jr_critical.specs.Levels.{level_object, level_nested, objects_of, StandOver, WasAdded};
 ghost use Rattle.jr_env.specs.Envs.{IsOutside};
 ghost use Rattle.jr_scripts.specs.Advancing.{level_names, objects_in, place_with, DidWith, DidWithin, DidOpen, StandsIn, StandsWith};
-ghost use Rattle.jr_scripts.specs.Commands.{opening_by, tried};
+ghost use Rattle.jr_scripts.specs.Commands.{deed, opening_by, opening_levels, tried};
 ghost use Rattle.jr_scripts.specs.Places.{all_but_last, levels_after, objects_after};
 ghost use Rattle.jr_scripts.specs.RegionCommands.{deed_within, giving_up, giving_up_all, nesting, read_kind as kind_read, level_reading, reading_as, reading_at, reading_by, level_writing, writing_as, writing_at, writing_by};
 
 use crate::names::Names;
 use crate::number::{Number, NumberKind};
-use crate::region::Region;
+use crate::region::{Region, first};
 use crate::reply::Reply;
 use jr_critical::Levels;
 use jr_env::{Env, is_made_again, levels_beside};
@@ -21,6 +21,7 @@ use jr_model::Mode;
 use jr_steps::Steps;
 use jr_syntax::{Name, OnNameAt, OpenLevel, PutAt, Reference as Target};
 use jr_word::{Fault, Handle, Kind};
+use std::mem;
 
 /// Opens a region over what a handle names, by one call.
 fn open_once<S: Steps>(env: &mut Env<S>, verb: OpenLevel, handle: Handle) -> Result<Levels, Fault>
@@ -37,7 +38,7 @@ fn open_once<S: Steps>(env: &mut Env<S>, verb: OpenLevel, handle: Handle) -> Res
 }
 
 /// Opens a region over what a handle names, and again as long as the call is barred: E20 once it was made so many times.
-pub(crate) fn open<S: Steps>(
+fn open<S: Steps>(
     env: &mut Env<S>,
     turns: u64,
     verb: OpenLevel,
@@ -60,6 +61,53 @@ pub(crate) fn open<S: Steps>(
         }
     }
     Err(Fault::Turns)
+}
+
+/// Opens a region over what a reference names.
+fn open_levels<S: Steps>(
+    env: &mut Env<S>,
+    names: &Names,
+    turns: u64,
+    verb: OpenLevel,
+    target: &Target,
+) -> Result<Levels, Fault>
+    requires { IsOutside env.old }
+    ensures does { DidOpen env.old env.new (opening_levels turns names.now verb target.now) result }
+    ensures stand { IfOk result (λ v. StandOver v env.new.held) }
+    ensures one { IfOk result (λ v. length (objects_of v) ≡ 1) }
+    ensures outside { IfErr result (λ _. IsOutside env.new) }
+{
+    let handle = names.wanted(target)?;
+    open(env, turns, verb, handle)
+}
+
+/// Opens a region, whose first level has a name.
+pub(crate) fn open_region<S: Steps>(
+    env: &mut Env<S>,
+    names: &Names,
+    region: &mut Option<Region>,
+    turns: u64,
+    verb: OpenLevel,
+    name: &Name,
+    target: &Target,
+) -> Result<Reply, Fault>
+    requires outside { IsOutside env.old }
+    requires none { region.old ≡ None }
+    ensures does { DidWith env.old env.new None region.new (deed turns names.now (commands.OpenLevel verb name.now target.now)) result }
+    ensures stand { StandsWith region.new env.new }
+    ensures levels { level_names region.new ≡ levels_after (commands.OpenLevel verb name.now target.now) result [] }
+    ensures objects { objects_in region.new ≡ objects_after (commands.OpenLevel verb name.now target.now) result [] }
+{
+    match open_levels(env, names, turns, verb, target) {
+        Ok(levels) => {
+            let object = levels.object(0);
+            match mem::replace(region, Some(first(levels, name))) {
+                None => Ok(Reply::Level(object)),
+                Some(_before) => unreachable!(),
+            }
+        }
+        Err(fault) => Err(fault),
+    }
 }
 
 /// Adds a level over what a handle names: its number.

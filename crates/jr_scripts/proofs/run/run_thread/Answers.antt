@@ -15,49 +15,53 @@ loop-i-init g c = (
 
 pub loop-i-preserved : goal.loop-i-preserved
 loop-i-preserved g c = (
-  went_on (carries_on g.B.Board.layout g.B.Board.tells g.B.Board.looked c.args.turns _ _ c.advance-left.ensures.kept) _
+  went_on (carries_on g.B.Board.layout g.B.Board.tells g.B.Board.looked c.args.turns _ _
+      c.advance-outcome.ensures.did.kept) _
       _ _ c.loop-i.i c.index-commands-i.result _ _ _ _ _ _ c.as_slice.ensures.value _ _ c.record.result (omega arith)
-      (search rules) c.loop-i.invariant.0 c.advance-left.ensures.does c.advance-left.ensures.names
-      c.advance-left.ensures.levels c.advance-left.ensures.objects c.record.ensures c.in-Ok.is,
-  c.advance-left.ensures.stand,
-  c.advance-left.ensures.room ∙ c.loop-i.invariant.2,
-  still_more g.B.Board.layout g.B.Board.tells c.loop-i.invariant.3 c.advance-left.ensures.kept,
-  followed c.index-commands-i.result _ _ _ _ _ _ _ _ _ _ c.record.result (g.B.Board.follows c.advance-left.new.board)
-      c.as_slice.ensures.value c.advance-left.ensures.names c.record.ensures c.in-Ok.is c.advance-left.ensures.follows,
+      (search rules) c.loop-i.invariant.0 c.advance-outcome.ensures.did.does c.advance-outcome.ensures.did.names
+      c.advance-outcome.ensures.did.levels c.advance-outcome.ensures.did.objects c.record.ensures c.in-Ok.is,
+  c.advance-outcome.ensures.did.stand,
+  c.advance-outcome.ensures.room ∙ c.loop-i.invariant.2,
+  still_more g.B.Board.layout g.B.Board.tells c.loop-i.invariant.3 c.advance-outcome.ensures.did.kept,
+  followed c.index-commands-i.result _ _ _ _ _ _ _ _ _ _ c.record.result (g.B.Board.follows
+      c.advance-outcome.new.board)
+      c.as_slice.ensures.value c.advance-outcome.ensures.did.names c.record.ensures c.in-Ok.is
+      c.advance-outcome.ensures.did.follows,
 )
 
-pub advance-left-requires-clause-follows : goal.advance-left-requires-clause-follows
-advance-left-requires-clause-follows g c =
+pub advance-outcome-requires-clause-follows : goal.advance-outcome-requires-clause-follows
+advance-outcome-requires-clause-follows g c =
     subst (g.B.Board.follows c.loop-i.board) (sym c.as_slice.ensures.value) c.loop-i.invariant.4
 
-pub advance-left-requires-clause-there : goal.advance-left-requires-clause-there
-advance-left-requires-clause-there g c =
+pub advance-outcome-requires-clause-there : goal.advance-outcome-requires-clause-there
+advance-outcome-requires-clause-there g c =
     c.loop-i.invariant.3.serves _ (subst (λ room. (g.B.Board.tells c.args.board.now).serves room)
     (sym (c.loop-i.invariant.0).stands_is.room) c.requires.there)
 
-pub advance-left-requires-clause-room : goal.advance-left-requires-clause-room
-advance-left-requires-clause-room g c = c.loop-i.invariant.2
+pub advance-outcome-requires-clause-room : goal.advance-outcome-requires-clause-room
+advance-outcome-requires-clause-room g c = c.loop-i.invariant.2
     ∙ (c.requires.room ∙ sym (ap (λ (x : Config). x.objects) (c.loop-i.invariant.0).stands_is.config))
 
 pub returns-in_default-clause-room : goal.returns-in_default-clause-room
-returns-in_default-clause-room g c = c.advance-left.ensures.room ∙ c.loop-i.invariant.2
+returns-in_default-clause-room g c = c.advance-outcome.ensures.room ∙ c.loop-i.invariant.2
 
 pub returns-clause-room : goal.returns-clause-room
 returns-clause-room g c = c.loop-i.invariant.2
 
 pub returns-in_default-clause-kept : goal.returns-in_default-clause-kept
 returns-in_default-clause-kept g c =
-    still_more g.B.Board.layout g.B.Board.tells c.loop-i.invariant.3 c.advance-left.ensures.kept
+    still_more g.B.Board.layout g.B.Board.tells c.loop-i.invariant.3 c.advance-outcome.ensures.did.kept
 
 pub returns-clause-kept : goal.returns-clause-kept
 returns-clause-kept g c = c.loop-i.invariant.3
 
 pub returns-in_default-clause-explained : goal.returns-in_default-clause-explained
 returns-in_default-clause-explained g c =
-    cut_off (carries_on g.B.Board.layout g.B.Board.tells g.B.Board.looked c.args.turns _ _ c.advance-left.ensures.kept)
+    cut_off (carries_on g.B.Board.layout g.B.Board.tells g.B.Board.looked c.args.turns _ _
+    c.advance-outcome.ensures.did.kept)
     _ _ _ c.loop-i.i c.index-commands-i.result _ _ _ _ _ _ c.as_slice.ensures.value _ _ c.record.result _
-    c.requires.outside (omega arith) (search rules) c.loop-i.invariant.0 c.advance-left.ensures.does
-    c.advance-left.ensures.objects c.record.ensures c.in_default.is c.end.ensures.does
+    c.requires.outside (omega arith) (search rules) c.loop-i.invariant.0 c.advance-outcome.ensures.did.does
+    c.advance-outcome.ensures.did.objects c.record.ensures c.in_default.is c.end.ensures.does
 
 pub returns-clause-explained : goal.returns-clause-explained
 returns-clause-explained g c =

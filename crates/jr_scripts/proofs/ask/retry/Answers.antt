@@ -1,6 +1,6 @@
 use Rattle.std.proofs.Common.{rules, arith}
 use Rattle.jr_scripts.proofs.Retries.{does_no_turns, does_run_out, does_settle}
-use Rattle.jr_scripts.proofs.retry.retry.Goals as goal
+use Rattle.jr_scripts.proofs.ask.retry.Goals as goal
 
 pub returns-then-turns-eq0 : goal.returns-then-turns-eq0
 returns-then-turns-eq0 g c = does_no_turns c.args.turns (omega arith)
