@@ -1,15 +1,17 @@
 -- The owners of a room that was opened, one for each pass and as it, and the envs over their steps.
-use Rattle.std.proofs.Common.{◌≡◌, ◌++◌, ◌∷◌, [], List, map, subst, sym, ap, ◌∙◌, refl}
+use Rattle.std.proofs.Common.{◌≡◌, ◌++◌, ◌∷◌, [], ℕ, zero, suc, List, arith, length, map, subst, sym, ap, ◌∙◌, refl}
 use Rattle.std.specs.Arc.{arc_value}
 use Rattle.std.specs.List.{All, AllZip}
 use Rattle.std.proofs.lemmas.List.Elements.{All-append, All-cons, All-nil, All-head, All-tail}
+use Rattle.std.proofs.lemmas.List.{length-append, length-map}
 use mathlib.Core.List.{map-append}
 use Rattle.jr_word.specs.declared.config.Config.{Config}
 use Rattle.jr_rule.specs.declared.cells.Cells.{Ghosts}
 use Rattle.jr_rule.specs.declared.over.StepsOver.{StepsOver}
 use Rattle.jr_rule.specs.declared.pass.Pass.{Pass}
 use Rattle.jr_rule.specs.declared.room.Room.{Room}
-use Rattle.jr_rule.specs.Passes.{Holder, holder_of, IsOpened, AreOpened}
+use Rattle.jr_rule.specs.declared.row.Row.{Row}
+use Rattle.jr_rule.specs.Passes.{Holder, holder_of, numbers_below, IsOpened, AreOpened}
 use Rattle.jr_rule.specs.Rule.{known, stepping_pass}
 use Rattle.jr_steps.specs.Holdings.{empty}
 use Rattle.jr_steps.specs.declared.steps.Steps.{Ghosts as StepsGhosts}
@@ -93,3 +95,12 @@ module _ {P : Type 0} {G : Ghosts (OwnedCells 4294967295) P}
       → AllZip IsEnvOver (ss ++ s ∷ []) ts
   env_more ss es ts s e is was more =
       subst (AllZip IsEnvOver (ss ++ s ∷ [])) (sym is) (zip_more IsEnvOver ss es s e was more)
+
+numbers_long : (n : ℕ) → length (numbers_below n) ≡ n
+numbers_long zero = refl
+numbers_long (suc n) = let e = length-append (numbers_below n) (n ∷ []) in let f = numbers_long n in omega arith
+
+-- one pass a thread
+pub passes_long : (c : Config) (last : ℕ) (r : Row) (ps : List Pass) → AreOpened c last r ps → length ps ≡ c.threads
+passes_long c last r ps o =
+    sym (length-map ps (λ (p : Pass). p.thread)) ∙ (ap (λ (ns : List ℕ). length ns) o.threads ∙ numbers_long c.threads)

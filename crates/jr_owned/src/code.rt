@@ -1,5 +1,5 @@
 //! Threads that were spawned, each with an env of its own in the room that they own together, and a queue of notes between them.
-ghost use Rattle.std.specs.Prelude.{◌≡◌, ◌⊎◌, ◌↔◌, All, Some, true, false, Err, IfErr};
+ghost use Rattle.std.specs.Prelude.{◌≡◌, ◌⊎◌, ◌↔◌, All, Some, length, true, false, Err, IfOk, IfErr};
 ghost use Rattle.std.specs.Arc.{arc_value};
 ghost use Rattle.jr_word.specs.declared.fault.Fault.TheVariants.{Memory, Size};
 ghost use Rattle.jr_word.specs.Config.{in_limits};
@@ -103,6 +103,7 @@ fn jobs<Q: Site, C: OwnedCode>(
 ) -> Result<Vec<Job<Q, C>>, AllocError>
     requires opened { All (λ p. IsOpened room.row p) passes.items }
     requires site { Some room.row.table.shared.table_id ≡ Q.room }
+    ensures { IfOk result (λ r. length r.items ≡ length passes.items) }
 {
     let room = Arc::new(alloc, room)?;
     let code = Arc::new(alloc, code)?;
@@ -124,7 +125,8 @@ fn start<R: Threads, Q: Site + Send + Sync + 'static, C: OwnedCode + Send + Sync
 where
     C::Message: Send + 'static,
     C::Answer: Send + 'static,
-    ensures { IfErr result (λ e. e ≡ Memory) }
+    ensures memory { IfErr result (λ e. e ≡ Memory) }
+    ensures count { IfOk result (λ r. length r.items ≡ length jobs.items) }
 {
     let Ok(mut threads) = Vec::with_capacity(alloc, jobs.len()) else {
         return Err(Fault::Memory);
@@ -153,7 +155,8 @@ where
     C::Answer: Send + 'static,
     requires opened { All (λ p. IsOpened room.row p) passes.items }
     requires site { Some room.row.table.shared.table_id ≡ Q.room }
-    ensures { IfErr result (λ e. e ≡ Memory) }
+    ensures memory { IfErr result (λ e. e ≡ Memory) }
+    ensures count { IfOk result (λ r. length r.items ≡ length passes.items) }
 {
     let Ok(jobs) = jobs::<Q, C>(alloc, room, passes, code) else {
         return Err(Fault::Memory);
@@ -177,6 +180,7 @@ where
     C::Answer: Send + 'static,
     ensures size { (result ≡ Err Size) ↔ (in_limits config ≡ false) }
     ensures memory { IfErr result (λ e. (e ≡ Size) ⊎ (e ≡ Memory)) }
+    ensures count { IfOk result (λ r. length r.items ≡ config.threads) }
 {
     let (room, passes) = Room::<LAST>::open(alloc, config)?;
     spawn_at::<R, Brand, C>(rt, alloc, room, passes, code)

@@ -1,4 +1,4 @@
-use Rattle.std.proofs.Common.{◌≡◌}
+use Rattle.std.proofs.Common.{◌≡◌, ◌+◌, length}
 use Rattle.std.specs.Arc.{arc_value}
 use Rattle.std.specs.List.{All}
 use Rattle.jr_rule.specs.declared.pass.Pass.{Pass}
@@ -7,4 +7,5 @@ use Rattle.jr_owned.proofs.code.jobs.Given as goal
 
 abbrev pub invariant-loop-pass : goal.invariant-loop-pass
 invariant-loop-pass g l = (arc_value l.room ≡ l.fn.room)
-    × All (λ (p : Pass). IsOpened l.fn.room.row p) l.pass-iterator.rest.items
+    × (All (λ (p : Pass). IsOpened l.fn.room.row p) l.pass-iterator.rest.items
+    × (length l.jobs.items + length l.pass-iterator.rest.items ≡ length l.fn.passes.items))
