@@ -85,7 +85,7 @@ fn run_in<R: Threads + Sync, N: NativeCode + Sync>(
 ///
 /// E17 exactly where the sizes are beyond their limits; E16 where memory was refused.
 ///
-/// No native code has run then: all memory is taken before a thread starts.
+/// No native code has run then: all memory is taken before a thread starts. Where the system can't make a thread, that is no refusal: its native code runs in another's, behind or before that one's own.
 pub fn run_native<R: Threads + Sync, N: NativeCode + Sync>(
     rt: &R,
     alloc: Global,
