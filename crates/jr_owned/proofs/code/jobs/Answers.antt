@@ -16,7 +16,11 @@ loop-pass-init g c =
       own,
       (
         All-same opens c.into_iter-pass-iterator.result.rest.items c.args.passes.items all c.requires.opened,
-        (let none : length c.in_ok-jobs.jobs.items ≡ 0 = search rules in let same = ap (λ xs. length xs) all in omega arith),
+        (
+            let none : length c.in_ok-jobs.jobs.items ≡ 0 = search rules in
+            let same = ap (λ xs. length xs) all in
+            omega arith
+            ),
       ),
     )
 
