@@ -10,7 +10,7 @@ use crate::patience::Patience;
 use jr_steps::Steps;
 use jr_word::{Fault, Handle};
 
-/// Why a frame round a closure wasn't opened, or wasn't popped. It becomes the `Fault` by `?`.
+/// Why a frame round a closure wasn't opened, or wasn't popped.
 #[derive(Debug, Drop)]
 pub enum Unscoped<T> {
     /// The frame was not opened, and nothing was done.
@@ -19,14 +19,15 @@ pub enum Unscoped<T> {
     NotPopped(T, Fault),
 }
 
-impl<T: Drop> From<Unscoped<T>> for Fault {
+impl<T: Drop> Unscoped<T> {
     ghost use Rattle.std.specs.Prelude.{◌≡◌};
     ghost use Rattle.jr_env.specs.Scopes.{refusal_in};
 
-    ghost from_gives = { λ unscoped fault. fault ≡ refusal_in unscoped };
-
-    fn from(unscoped: Unscoped<T>) -> Fault {
-        match unscoped {
+    /// The refusal alone: of the push, or of the pop at its last try.
+    pub fn fault(self) -> Fault
+        ensures { result ≡ refusal_in self }
+    {
+        match self {
             Unscoped::NotOpened(fault) | Unscoped::NotPopped(_, fault) => fault,
         }
     }

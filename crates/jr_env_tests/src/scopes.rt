@@ -19,20 +19,27 @@ const SIZES: Config = Config {
 
 /// What was made in a frame has no reference behind it.
 fn leaves_its_frame<S: Steps>(env: &mut Env<S>) -> Result<(), Fail> {
-    let array = with_local_frame(env, 4, Patience::LONG, |env| env.new_array::<i32>(2))?;
+    let array = with_local_frame(env, 4, Patience::LONG, |env| env.new_array::<i32>(2)).map_err(
+        |unscoped| unscoped.fault(),
+    )?;
     has_type(env, array?, 0)
 }
 
 /// What was made in a frame is handed on to the frame below, by a reference of its own; where nothing was made, so is the refusal.
 fn hands_on_from_its_frame<S: Steps>(rt: &impl Abort, env: &mut Env<S>) -> Result<(), Fail> {
-    let string = with_local_frame_returning(env, 4, Patience::LONG, |env| env.new_string(&[104]))?;
+    let string = with_local_frame_returning(
+        env,
+        4,
+        Patience::LONG,
+        |env| env.new_string(&[104]),
+    ).map_err(|unscoped| unscoped.fault())?;
     assert_eq!(rt; env.get_string_length(Handle::or_null(string?)), Ok(1));
     let refused = with_local_frame_returning(
         env,
         4,
         Patience::LONG,
         |env| env.new_array::<i32>(17),
-    )?;
+    ).map_err(|unscoped| unscoped.fault())?;
     assert_eq!(rt; refused, Err(Fault::SpaceFull(3)));
     Ok(())
 }

@@ -23,7 +23,9 @@ pub(crate) fn draw<W: Write>(
 ) -> io::Result<()> {
     writeln!(out, "digraph room {{\n  rankdir=LR;\n{LEGEND}")?;
     for (index, slot) in notes.slots.iter().enumerate() {
-        draw_slot(out, index as u16, *slot)?;
+        if let Ok(index) = u16::try_from(index) {
+            draw_slot(out, index, *slot)?;
+        }
     }
     for (index, local) in notes.locals.iter().enumerate() {
         draw_local(out, index, locals as usize, *local)?;

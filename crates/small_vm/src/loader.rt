@@ -21,7 +21,9 @@ pub(crate) fn run<S: Steps>(env: &mut Env<S>, board: &Board) -> Result<u32, Faul
 fn load_all<S: Steps>(env: &mut Env<S>, board: &Board) -> Result<u32, Fault> {
     let mut units = 0u32;
     for symbol in 0..SYMBOLS {
-        let loaded = with_local_frame(env, 8, PATIENCE, |env| load(env, board, symbol))?;
+        let loaded = with_local_frame(env, 8, PATIENCE, |env| load(env, board, symbol)).map_err(
+            |unscoped| unscoped.fault(),
+        )?;
         units = units.wrapping_add(loaded?);
     }
     Ok(units)

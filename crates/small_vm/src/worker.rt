@@ -35,7 +35,8 @@ fn work_all<S: Steps>(alloc: Global, env: &mut Env<S>, board: &Board) -> Result<
         let shared = board.wait(symbol)?;
         let worked = with_local_frame(env, 8, PATIENCE, |env| {
             work(alloc, env, board, symbol, shared)
-        })?;
+        })
+        .map_err(|unscoped| unscoped.fault())?;
         let one = worked?;
         found.units = found.units.wrapping_add(one.units);
         found.sum = found.sum.wrapping_add(one.sum);
