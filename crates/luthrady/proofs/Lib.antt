@@ -1,3 +1,4 @@
-pub mod Crossing
+pub mod Pointers
+pub mod Lending
 pub mod ThroughPointers
 pub mod Batching

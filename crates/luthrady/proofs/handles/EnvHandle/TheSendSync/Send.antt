@@ -1,16 +1,8 @@
-use mir.Raw.{raw}
-use denote.Memory.{lone}
-use denote.Struct.Struct.{exits_of}
-use denote.Struct.Owning.{shape, fields, to}
-use denote.Param.Send.{IsSend, AllSend, owning_send, struct_send, sendable}
-use Rattle.std.proofs.Crossing as heap
-use Rattle.luthrady.proofs.Crossing.{lies, quiet}
-use Rattle.luthrady.specs.contracts.held.Attached.{the_row as I}
-use Rattle.luthrady.proofs.held.Attached.TheSendSync.{the_send as inner}
+use denote.Param.Send.{IsSend}
+use Rattle.luthrady.proofs.Pointers.{sent}
+use Rattle.luthrady.proofs.held.Attached.TheSendSync.{the_send}
 use Rattle.luthrady.specs.contracts.handles.EnvHandle.{the_row, the_type}
+use Rattle.luthrady.specs.contracts.held.Attached.{the_row as I}
 
 pub send : IsSend the_row
-send =
-    let all : AllSend (fields the_type) = (search sendable, (search sendable depth 20, tt)) in
-    owning_send the_type all (λ h. (lies I inner h.at h.value, heap.frees.frees h.alloc (raw (lone I.mir)) h.at))
-    (λ k. quiet (to the_type) (exits_of k (fields the_type)) ((struct_send (shape the_type) all).leaving k))
+send = sent the_type I (λ h. h.at) (λ h. h.alloc) (λ h. h.value) the_send

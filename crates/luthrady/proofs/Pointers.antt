@@ -1,0 +1,56 @@
+-- A handle, over any value: a pointer and an allocator, which owns the value behind the pointer. It goes to other
+-- threads, where that value may.
+use Rattle.std.proofs.Common.{List, [], ◌∷◌}
+use base.Fraction.{full_share}
+use base.Shift.{Keyless}
+use denote.Exit.{Exit, unchanged, leaves, hidden, under}
+use denote.Memory.{lone}
+use denote.Param.Send.{IsSend, AllSend, Quiet, owning_send, part_keyless, struct_send, sendable}
+use denote.RattleType.{RattleType}
+use denote.RawPtr.{Ptr, block_ptr, null_ptr, lies_at}
+use denote.Struct.Field.{Field, RawPtr-field, rows}
+use denote.Struct.Owning.{Owning, row, shape, fields, to}
+use denote.Struct.Struct.{exits_of}
+use denote.Struct.Values.{intos}
+use mir.Raw.{raw}
+use Rattle.std.proofs.Crossing as heap
+use Rattle.std.specs.Box.Ownership.{box_owns}
+use Rattle.std.specs.contracts.alloc.Global.{the_field}
+use Rattle.std.specs.contracts.impls.GlobalAllocator.TheImpl.{ghosts}
+use Rattle.std.specs.declared.alloc.Global.{Global}
+
+-- what lies behind a pointer names no thread
+pub lies : (R : RattleType) → IsSend R → (p : Ptr) (x : R.Denot) → Keyless (lies_at R full_share p x)
+lies R s (block_ptr b o) x = part_keyless R s full_share x b o
+lies R s null_ptr x = tt
+
+-- nor does what a value leaves
+pub quiet : {D X : Type 0} (to : D → X) (e : Exit X) → Quiet e → Quiet (hidden (under to e))
+quiet to unchanged q = λ x w. tt
+quiet to (leaves L l S s r₀) q = λ d. q (to d)
+
+-- T is the struct of the handle, and I what stands behind its pointer
+module _ (T : Owning) (I : RattleType) (at : T.D → Ptr) (alloc : T.D → Global) (value : T.D → I.Denot) where
+  abbrev data_fields : List Field
+  data_fields = RawPtr-field ∷ the_field ∷ []
+
+  abbrev pub Handle : Owning
+  Handle = record {
+    name = T.name;
+    args = [];
+    types = [];
+    parts = data_fields;
+    D = T.D;
+    as_values = λ h. (at h, (alloc h, tt));
+    coded = T.coded;
+    heap = λ h. box_owns (ghosts.dealloc_token (alloc h)) I (at h) (value h);
+    exit = λ k. hidden (under (λ h. intos data_fields (at h, (alloc h, tt))) (exits_of k (rows data_fields)));
+    shr_at = T.shr_at;
+  }
+
+  pub sent : IsSend I → IsSend (row Handle)
+  sent inner =
+      let all : AllSend (fields Handle) = (search sendable, (search sendable depth 20, tt)) in
+      owning_send Handle all
+      (λ h. (lies I inner (at h) (value h), heap.frees.frees (alloc h) (raw (lone I.mir)) (at h)))
+      (λ k. quiet (to Handle) (exits_of k (fields Handle)) ((struct_send (shape Handle) all).leaving k))
