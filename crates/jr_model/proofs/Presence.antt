@@ -5,7 +5,7 @@ use Rattle.jr_word.specs.declared.config.Config.{Config}
 use Rattle.jr_word.specs.declared.handle.RefKind.{RefKind}
 use Rattle.jr_word.specs.declared.handle.RefKind.TheVariants.{Local, Global, Weak}
 use Rattle.jr_word.specs.declared.kind.Kind.{Kind}
-use Rattle.jr_word.specs.declared.kind.Kind.TheVariants.{Plain, Boolean, Byte, Char, Short, Int, Long, Objects, Text}
+use Rattle.jr_word.specs.declared.kind.Kind.TheVariants.{Objects}
 use Rattle.jr_model.specs.declared.event.Role.{Role}
 use Rattle.jr_model.specs.declared.event.Role.TheVariants.{Collecting}
 use Rattle.jr_model.specs.declared.event.Found.TheVariants.{Object, Cleared, Stale}
@@ -59,14 +59,7 @@ sound_apart s t r i quiet = record {
 pub word_mono : (s s' : State) (k : Kind) (v : ℕ) → ((o : ℕ) → IsPresent s o → IsPresent s' o) → IsWord s k v
     → IsWord s' k v
 word_mono s s' Objects v more w = ⊎_elim (λ e. inl e) (λ p. inr (more v p)) w
-word_mono s s' Plain v more w = w
-word_mono s s' Boolean v more w = w
-word_mono s s' Byte v more w = w
-word_mono s s' Char v more w = w
-word_mono s s' Short v more w = w
-word_mono s s' Int v more w = w
-word_mono s s' Long v more w = w
-word_mono s s' Text v more w = w
+word_mono s s' _ v more w = w
 
 written_some : (x : Option Contents) (i v : ℕ) → IsSome x → IsSome (written x i v)
 written_some None i v p = p

@@ -33,12 +33,10 @@ use Rattle.jr_weak.proofs.RootMarks.{alone_is}
 use Rattle.jr_weak.proofs.Sweeping.{SweepsTo, TakenTo, sweeps_may, sweeps_next, sweeps_none, taken_next, taken_none}
 
 weak_is : (q : SlotParts) (n o : ℕ) → weak_in q ≡ Some (n, o) → q ≡ slot.Weak n (Some o)
-weak_is (slot.Free m) n o e = absurd cc
-weak_is (slot.Retired m) n o e = absurd cc
-weak_is (slot.Global m r) n o e = absurd cc
-weak_is (slot.Weak m None) n o e = absurd cc
 weak_is (slot.Weak m (Some r)) n o e = let z : (m, r) ≡ (n, o) = cc in let a = ap (λ (p : ℕ × ℕ). p.0) z in
     let b = ap (λ (p : ℕ × ℕ). p.1) z in ap (λ (p : ℕ × ℕ). slot.Weak p.0 (Some p.1)) z
+weak_is (slot.Weak m None) n o e = absurd cc
+weak_is _ n o e = absurd cc
 
 -- what is told of a slot is its weak reference that is not cleared, if one stands
 weak_of : (i : ℕ) (q : SlotParts) (k : Known) → ShowsSlot i q k → (h : Handle) (o : ℕ) → h.kind ≡ Weak → h.index ≡ i
