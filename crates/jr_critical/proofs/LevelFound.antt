@@ -74,21 +74,9 @@ module _ (v : PassView) (f : Frames) (l : IsLegal v.config v.last v.seen) where
   ran_level Array kind.Text n o = ran_no_array true n o
   ran_level Array kind.Objects n o = ran_passed false NotArray (λ u. elements true n o) refl
       (ran_refused v f true WrongElement (λ u. room n o) refl tt l)
-  ran_level Array kind.Boolean n o = ran_array n o
-  ran_level Array kind.Byte n o = ran_array n o
-  ran_level Array kind.Char n o = ran_array n o
-  ran_level Array kind.Short n o = ran_array n o
-  ran_level Array kind.Int n o = ran_array n o
-  ran_level Array kind.Long n o = ran_array n o
+  ran_level Array _ n o = ran_array n o
   ran_level Text kind.Text n o = ran_passed false WrongKind (λ u. room n o) refl (ran_room (nat_le LEVELS n) o)
-  ran_level Text kind.Plain n o = ran_no_text n o
-  ran_level Text kind.Boolean n o = ran_no_text n o
-  ran_level Text kind.Byte n o = ran_no_text n o
-  ran_level Text kind.Char n o = ran_no_text n o
-  ran_level Text kind.Short n o = ran_no_text n o
-  ran_level Text kind.Int n o = ran_no_text n o
-  ran_level Text kind.Long n o = ran_no_text n o
-  ran_level Text kind.Objects n o = ran_no_text n o
+  ran_level Text _ n o = ran_no_text n o
 
 -- what a new level asks at the object that a reference names
 abbrev next_at : Wanted → ℕ → State → ℕ → Call ℕ

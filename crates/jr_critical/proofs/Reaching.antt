@@ -96,21 +96,8 @@ module _ (p : PassView) (f : Frames) (l : IsLegal p.config p.last p.seen) (k kin
 pub same_kind_of : (k l : Kind) → is_text l ≡ false → is_read_as k l ≡ true → same_element k l ≡ true
 same_kind_of kind.Char kind.Text t e = absurd cc
 same_kind_of kind.Char kind.Char t e = e
-same_kind_of kind.Char kind.Plain t e = absurd cc
-same_kind_of kind.Char kind.Boolean t e = absurd cc
-same_kind_of kind.Char kind.Byte t e = absurd cc
-same_kind_of kind.Char kind.Short t e = absurd cc
-same_kind_of kind.Char kind.Int t e = absurd cc
-same_kind_of kind.Char kind.Long t e = absurd cc
-same_kind_of kind.Char kind.Objects t e = absurd cc
-same_kind_of kind.Plain l t e = e
-same_kind_of kind.Boolean l t e = e
-same_kind_of kind.Byte l t e = e
-same_kind_of kind.Short l t e = e
-same_kind_of kind.Int l t e = e
-same_kind_of kind.Long l t e = e
-same_kind_of kind.Objects l t e = e
-same_kind_of kind.Text l t e = e
+same_kind_of kind.Char _ t e = absurd cc
+same_kind_of _ l t e = e
 
 module _ {p q : PassView} (f : Frames) (k kind : Kind) (o i n v : ℕ) where
   pub get_there : is_read_as k kind ≡ true → nat_le n i ≡ false → Did p q (Read o i v ∷ [])

@@ -128,15 +128,8 @@ both_passed p d next f g acts x P later (inl y) = later (one_passed p d f y.1 y.
 both_passed p d next f g acts x P later (inr y) = absurd (let e = y.1 in cc)
 
 objects_only : (k : Kind) → not (is_objects k) ≡ false → k ≡ Objects
-objects_only Plain e = absurd cc
-objects_only Boolean e = absurd cc
-objects_only Byte e = absurd cc
-objects_only Char e = absurd cc
-objects_only Short e = absurd cc
-objects_only Int e = absurd cc
-objects_only Long e = absurd cc
 objects_only Objects e = refl
-objects_only Text e = absurd cc
+objects_only _ e = absurd cc
 
 -- then it is an object array, and the index lies in it
 pub checks_passed : (k : Kind) (n i : ℕ) → ((g : Frames) → element_checks k n i g [] (Ok tt) g)

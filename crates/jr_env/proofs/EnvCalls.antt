@@ -40,10 +40,7 @@ packed_if_is None (Some h) e = absurd e
 
 outside_or : (r : Role) → (r ≡ Outside) ⊎ (r ≢ Outside)
 outside_or Outside = inl refl
-outside_or Knocking = inr (λ e. cc)
-outside_or Within = inr (λ e. cc)
-outside_or Announcing = inr (λ e. cc)
-outside_or Collecting = inr (λ e. cc)
+outside_or _ = inr (λ e. cc)
 
 module _ {S : Type 0} {facts : S → Facts} where
   -- THE EXIT from a stay that a region left, and then a deed

@@ -25,14 +25,7 @@ NoLeave acts = AllByRecursion (λ a. a ≢ Gate Leave) acts
 
 pub word_still : (s s' : State) → IsStill s s' → (kind : Kind) (v : ℕ) → IsWord s kind v → IsWord s' kind v
 word_still s s' still Objects v w = ⊎_elim (λ e. inl e) (λ p. inr (present_still s s' v still p)) w
-word_still s s' still Plain v w = w
-word_still s s' still Boolean v w = w
-word_still s s' still Byte v w = w
-word_still s s' still Char v w = w
-word_still s s' still Short v w = w
-word_still s s' still Int v w = w
-word_still s s' still Long v w = w
-word_still s s' still Text v w = w
+word_still s s' still _ v w = w
 
 module _ (k k' : Known) (acts : List Act) (d : Did (view k) (view k') acts) (within : role_of (view k) ≡ Within)
     (stays : NoLeave acts) where

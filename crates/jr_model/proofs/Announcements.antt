@@ -27,11 +27,9 @@ use Rattle.jr_model.proofs.Updates.{at_number, at_number_self}
 
 -- who keeps the gate closed announces or collects
 pub closes_by : (r : Role) → is_barring r ≡ true → (r ≡ Announcing) ⊎ (r ≡ Collecting)
-closes_by Outside e = absurd cc
-closes_by Within e = absurd cc
-closes_by Knocking e = absurd cc
 closes_by Announcing e = inl refl
 closes_by Collecting e = inr refl
+closes_by _ e = absurd cc
 
 -- one thread alone keeps the gate closed
 pub one_closes : {role : ℕ → Role} → IsApart role → (t u : ℕ) → is_barring (role t) ≡ true → is_barring (role u) ≡ true
@@ -88,13 +86,7 @@ module _ (c : Config) (last : ℕ) where
 -- one goes in by an entry alone
 behind_within : (a : GateAct) → role_behind a ≡ Within → a ≡ Enter
 behind_within Enter e = refl
-behind_within Knock e = absurd cc
-behind_within Leave e = absurd cc
-behind_within Withdraw e = absurd cc
-behind_within Announce e = absurd cc
-behind_within Cancel e = absurd cc
-behind_within Shut e = absurd cc
-behind_within Reopen e = absurd cc
+behind_within _ e = absurd cc
 
 -- whoever is within behind an act that is no entry was so before it, and has not left by it
 within_before : (s : State) (v : ℕ) (a : Act) (u : ℕ) → a ≢ Gate Enter → (act_after s v a).role u ≡ Within

@@ -1,5 +1,5 @@
 -- How calls are composed: what holds of the parts of a call holds of the call, whatever it is that holds.
-use Rattle.std.proofs.Common.{◌≡◌, inl, inr, ℕ, zero, suc, Bool, true, false, cond, Some, List}
+use Rattle.std.proofs.Common.{◌≡◌, ⊎_elim, inl, inr, ℕ, zero, suc, Bool, true, false, cond, Some, List}
 use Rattle.std.proofs.Common.{[], ◌∷◌, ◌++◌, length, Result, Ok, Err, refl, sym, ap, subst, ◌∙◌}
 use Rattle.jr_word.specs.declared.kind.Kind.{Kind}
 use Rattle.jr_word.specs.declared.fault.Fault.{Fault}
@@ -214,7 +214,7 @@ entered_gives {A} {Whole = Whole} {Worse = Worse} {work = work} good bad barred 
     fails old new acts e (inr r) =
         subst (λ l. Worse old l e new) (sym r.1) (bad old new r.0 e (p.fails old new r.0 e r.2))
 
--- work in a stay that goes on where it is not refused
+-- work in a stay that goes on where it is not refused; where it is, it is work in a stay of its own
 pub opened_gives : {A : Type 0} {Good Whole : Going} {Bad Worse : Refusing} {work : Call A}
     → ((f g : Frames) (xs : List Act) → Good f xs g → Whole f (Gate Enter ∷ xs) g)
     → ((f g : Frames) (xs : List Act) (e : Fault) → Bad f xs e g → Worse f (Gate Enter ∷ xs ++ Gate Leave ∷ []) e g)
@@ -228,7 +228,5 @@ opened_gives {A} {Whole = Whole} {Worse = Worse} {work = work} good bad barred p
         subst (λ l. Whole old l new) (sym r.1.0) (good old new r.0 (p.goes old new r.0 x r.1.1))
 
     fails : (old new : Frames) (acts : List Act) (e : Fault) → opened work old acts (Err e) new → Worse old acts e new
-    fails old new acts e (inl r) = subst (λ z. Worse old acts z new) (same_fault {A = A} e Barred r.1)
-        (placed (λ l g. Worse old l Barred g) r.0 r.2 (barred old))
-    fails old new acts e (inr r) =
-        subst (λ l. Worse old l e new) (sym r.1.0) (bad old new r.0 e (p.fails old new r.0 e r.1.1))
+    fails old new acts e r = (entered_gives {Whole = λ f xs g. Unit {0}} {Worse = Worse} (λ f g xs q. tt) bad barred p).fails old new acts e
+        (⊎_elim (λ x. inl x) (λ x. inr (x.0, x.1.0, x.1.1)) r)

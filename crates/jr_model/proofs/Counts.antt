@@ -6,7 +6,7 @@ use Rattle.jr_model.specs.declared.event.Role.{Role}
 use Rattle.jr_model.specs.Maps.{update, sum_below, count_below}
 use Rattle.jr_model.specs.State.{State, opening, is_barring, is_inside, is_outside, not_outside}
 use Rattle.std.proofs.lemmas.Bool.{cases_lt}
-use Rattle.jr_model.specs.declared.event.Role.TheVariants.{Outside, Within, Knocking, Announcing, Collecting}
+use Rattle.jr_model.specs.declared.event.Role.TheVariants.{Outside}
 use Rattle.jr_model.specs.declared.event.Event.{Event}
 use Rattle.jr_model.specs.declared.event.Act.TheVariants.{Gate, ShutBusy}
 use Rattle.jr_model.specs.declared.event.GateAct.TheVariants.{Knock}
@@ -82,10 +82,7 @@ sum_split (suc n) f g h e = let rest = sum_split n f g h e in let here = e n in 
 -- who is not outside is inside, or keeps the gate closed
 bit_outside : (r : Role) → bit (not (is_outside r)) ≡ bit (is_inside r) + bit (is_barring r)
 bit_outside Outside = refl
-bit_outside Within = refl
-bit_outside Knocking = refl
-bit_outside Announcing = refl
-bit_outside Collecting = refl
+bit_outside _ = refl
 
 pub not_outside_split : (c : Config) (s : State) → not_outside c s
     ≡ count_below c.threads (λ t. is_inside (s.role t)) + count_below c.threads (λ t. is_barring (s.role t))
@@ -99,10 +96,7 @@ not_true false no' = refl
 
 outside_true : (r : Role) → not (is_outside r) ≡ false → r ≡ Outside
 outside_true Outside e = refl
-outside_true Within e = absurd cc
-outside_true Knocking e = absurd cc
-outside_true Announcing e = absurd cc
-outside_true Collecting e = absurd cc
+outside_true _ e = absurd cc
 
 -- one thread is all that is counted
 count_one : (n : ℕ) (p : ℕ → Bool) (k : ℕ) → k < n → ((j : ℕ) → k ≢ j → p j ≡ false) → count_below n p ≡ bit (p k)
@@ -118,10 +112,7 @@ count_one n p k l others = go (p k) refl
 
 own_is : (r : Role) → ◌≡◌ {A = ℕ} (if is_outside r then 0 else 1) (bit (not (is_outside r)))
 own_is Outside = refl
-own_is Within = refl
-own_is Knocking = refl
-own_is Announcing = refl
-own_is Collecting = refl
+own_is _ = refl
 
 module _ (c : Config) (last : ℕ) where
   pub beyond_after : (s : State) (e : Event) → ((t : ℕ) → c.threads ≤ t → s.role t ≡ Outside) → Needs c last s e

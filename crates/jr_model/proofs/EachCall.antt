@@ -27,7 +27,7 @@ use Rattle.jr_model.specs.Checks.{is_read_as, is_text, is_value, same_element}
 use Rattle.jr_model.specs.Parts.{collect, collect_announced, collected, create, created}
 use Rattle.jr_model.specs.Parts.{delete, delete_at, delete_found, delete_local_at, enter}
 use Rattle.jr_model.specs.Parts.{publish, read, read_acts, reserve, write, write_acts}
-use Rattle.jr_model.specs.References.{delete_local, freeing, made, new_local, resolved}
+use Rattle.jr_model.specs.References.{delete_local, made}
 use Rattle.jr_model.specs.Objects.{copying_back, length_reading, nest_array, nest_string}
 use Rattle.jr_model.specs.Objects.{region_get, region_release, region_set, release_array_elements}
 use Rattle.jr_model.specs.CollectionCalls.{collection_acts}

@@ -5,20 +5,19 @@ use Rattle.jr_word.specs.declared.config.Config.{Config}
 use Rattle.jr_word.specs.declared.handle.RefKind.{RefKind}
 use Rattle.jr_word.specs.declared.handle.RefKind.TheVariants.{Local, Global, Weak}
 use Rattle.jr_word.specs.declared.kind.Kind.{Kind}
-use Rattle.jr_word.specs.declared.kind.Kind.TheVariants.{Plain, Boolean, Byte, Char, Short, Int, Long, Objects, Text}
+use Rattle.jr_word.specs.declared.kind.Kind.TheVariants.{Objects}
 use Rattle.jr_model.specs.declared.event.Role.{Role}
-use Rattle.jr_model.specs.declared.event.Role.TheVariants.{Outside, Within, Knocking, Announcing, Collecting}
+use Rattle.jr_model.specs.declared.event.Role.TheVariants.{Collecting}
 use Rattle.jr_model.specs.declared.event.Found.TheVariants.{Object, Cleared, Stale}
 use Rattle.jr_model.specs.declared.event.Event.{Event}
 use Rattle.jr_model.specs.declared.event.Act.{Act}
 use Rattle.jr_model.specs.declared.event.Act.TheVariants.{Gate, Create, Delete, Clear, LocalPut}
 use Rattle.jr_model.specs.declared.event.Act.TheVariants.{LocalDrop, New, Write, Drop}
-use Rattle.jr_model.specs.declared.event.GateAct.TheVariants.{Enter, Knock, Leave, Withdraw}
-use Rattle.jr_model.specs.declared.event.GateAct.TheVariants.{Announce, Cancel, Shut, Reopen}
+use Rattle.jr_model.specs.declared.event.GateAct.TheVariants.{Shut, Reopen}
 use Rattle.jr_model.specs.Maps.{update}
 use Rattle.jr_model.specs.State.{Handle, Contents, State, opening, IsPresent, NobodyCollects}
 use Rattle.jr_model.specs.State.{IsWord, AreWords, IsClosed, from_global, from_local}
-use Rattle.jr_model.specs.Steps.{Needs, ActNeeds, act_after, after, written}
+use Rattle.jr_model.specs.Steps.{Needs, ActNeeds, act_after, after, role_behind, written}
 use Rattle.jr_model.specs.History.{History, state, IsLegal}
 use Rattle.jr_model.specs.Laws.{NamedIsPresent, ElementsArePresent}
 use Rattle.jr_model.proofs.Updates.{at_handle, at_number, at_number_self}
@@ -47,18 +46,20 @@ quiet_before : (role : ℕ → Role) (t : ℕ) (r : Role) → role t ≢ Collect
 quiet_before role t r quiet nobody u = at_number (λ x. x ≢ Collecting → role u ≢ Collecting) role t u r
     (λ e p. subst (λ v. role v ≢ Collecting) e quiet) (λ ne p. p) (nobody u)
 
+-- a thread that did not collect takes another role
+sound_apart : (s : State) (t : ℕ) (r : Role) → IsSound s → s.role t ≢ Collecting
+    → IsSound (record s { role = update nat_eq s.role t r })
+sound_apart s t r i quiet = record {
+  named = i.named;
+  local = i.local;
+  closed = λ nobody. i.closed (quiet_before s.role t r quiet nobody);
+}
+
 -- a word of the kind stays one where no object goes
 pub word_mono : (s s' : State) (k : Kind) (v : ℕ) → ((o : ℕ) → IsPresent s o → IsPresent s' o) → IsWord s k v
     → IsWord s' k v
 word_mono s s' Objects v more w = ⊎_elim (λ e. inl e) (λ p. inr (more v p)) w
-word_mono s s' Plain v more w = w
-word_mono s s' Boolean v more w = w
-word_mono s s' Byte v more w = w
-word_mono s s' Char v more w = w
-word_mono s s' Short v more w = w
-word_mono s s' Int v more w = w
-word_mono s s' Long v more w = w
-word_mono s s' Text v more w = w
+word_mono s s' _ v more w = w
 
 written_some : (x : Option Contents) (i v : ℕ) → IsSome x → IsSome (written x i v)
 written_some None i v p = p
@@ -86,42 +87,13 @@ words_written s x y i v w old is kind j u at =
 module _ (c : Config) (last : ℕ) where
   sound_act : (s : State) (t : ℕ) (a : Act) → IsKept c last s → IsApart s.role → IsSound s → ActNeeds c last s t a
       → IsSound (act_after s t a)
-  sound_act s t (Gate Enter) k g i n = record {
-    named = i.named;
-    local = i.local;
-    closed = λ nobody. i.closed (quiet_before s.role t Within (λ e. let r = n.0 in cc) nobody);
-  }
-  sound_act s t (Gate Knock) k g i n = record {
-    named = i.named;
-    local = i.local;
-    closed = λ nobody. i.closed (quiet_before s.role t Knocking (λ e. let r = n.0 in cc) nobody);
-  }
-  sound_act s t (Gate Leave) k g i n = record {
-    named = i.named;
-    local = i.local;
-    closed = λ nobody. i.closed (quiet_before s.role t Outside (λ e. let r = n.0 in cc) nobody);
-  }
-  sound_act s t (Gate Withdraw) k g i n = record {
-    named = i.named;
-    local = i.local;
-    closed = λ nobody. i.closed (quiet_before s.role t Outside (λ e. let r = n.0 in cc) nobody);
-  }
-  sound_act s t (Gate Announce) k g i n = record {
-    named = i.named;
-    local = i.local;
-    closed = λ nobody. i.closed (quiet_before s.role t Announcing (λ e. let r = n.0 in cc) nobody);
-  }
-  sound_act s t (Gate Cancel) k g i n = record {
-    named = i.named;
-    local = i.local;
-    closed = λ nobody. i.closed (quiet_before s.role t Outside (λ e. let r = n.0 in cc) nobody);
-  }
   sound_act s t (Gate Shut) k g i n = record {
     named = i.named;
     local = i.local;
     closed = λ nobody. absurd (nobody t (at_number_self s.role t Collecting));
   }
   sound_act s t (Gate Reopen) k g i n = record { named = i.named; local = i.local; closed = λ nobody. n.1 }
+  sound_act s t (Gate a) k g i n = sound_apart s t (role_behind a) i (λ e. let r = n.0 in cc)
   sound_act s t (Create h o) k g i n = record {
     named = λ f p. at_handle (λ x. x ≡ Object p → IsPresent s p) s.refs h f (Object o)
         (λ e q. let same : o ≡ p = cc in subst (λ j. IsPresent s j) same n.1)

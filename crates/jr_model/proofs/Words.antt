@@ -16,14 +16,7 @@ use Rattle.jr_model.proofs.Presence.{slice_get_set, elements_are_present}
 -- what a word of another kind than Objects is does not hang on the state
 word_any : (s s' : State) (k : Kind) (v : ℕ) → k ≢ Objects → IsWord s k v → IsWord s' k v
 word_any s s' Objects v ne w = absurd (ne refl)
-word_any s s' Plain v ne w = w
-word_any s s' Boolean v ne w = w
-word_any s s' Byte v ne w = w
-word_any s s' Char v ne w = w
-word_any s s' Short v ne w = w
-word_any s s' Int v ne w = w
-word_any s s' Long v ne w = w
-word_any s s' Text v ne w = w
+word_any s s' _ v ne w = w
 
 -- the elements of all objects but object arrays are words of their kinds, which hang on no state
 abbrev HasWords : State → Type 0

@@ -65,14 +65,7 @@ looks_more found found' n o k k' l is before same =
 -- a kind is that of object arrays, or isn't
 pub kind_objects : (k : Kind) → is_objects k ≡ true → k ≡ Objects
 kind_objects Objects e = refl
-kind_objects Plain e = absurd cc
-kind_objects Boolean e = absurd cc
-kind_objects Byte e = absurd cc
-kind_objects Char e = absurd cc
-kind_objects Short e = absurd cc
-kind_objects Int e = absurd cc
-kind_objects Long e = absurd cc
-kind_objects Text e = absurd cc
+kind_objects _ e = absurd cc
 
 pub kind_other : (k : Kind) → is_objects k ≡ false → k ≢ Objects
 kind_other k e same = let all : is_objects k ≡ true = ap is_objects same in absurd cc

@@ -23,7 +23,6 @@ use Rattle.jr_steps.specs.Knowing.{Facts, Standing, AreOf, MayKnow, Took, anythi
 use Rattle.jr_steps.specs.Says.{StandsAlone, local_parts}
 use Rattle.jr_weak.specs.Marks.{IsMarked, HasGlobals, HasLocalsOf, HasLocals, with_mark, global_in, local_in}
 use Rattle.jr_weak.specs.Marking.{MarkedTo, MarksAll}
-use Rattle.jr_compact.proofs.Counting.{within_most}
 use Rattle.jr_weak.proofs.Leading.{marked_turn, marked_join, marked_most, marked_none}
 use Rattle.jr_weak.proofs.Leading.{marked_so, more_with, here_with, told_few}
 
@@ -136,30 +135,14 @@ module _ {S : Type 0} {facts : S → Facts} (fits : AreOf facts) where
   pub globals_all : {a b : S} {marks marks' : List Bool} (i : ℕ) → i ≡ (facts a).stands.config.slots
       → MarkedTo facts (λ j. i) marks marks' a b (GlobalsBelow i)
       → MarksAll facts (λ j. j.config.slots) marks marks' a b HasGlobals
-  globals_all {a} {b} i end p = record {
-    more = p.more;
-    saw = record {
-      stands_is = p.saw.stands_is;
-      hint_is = p.saw.hint_is;
-      leads = λ k s m.
-          let x = p.saw.leads k s m in
-          let of = fits b x.0 x.1 in
-          let size = ap (λ (c : Config). c.slots) (fits a k s).config in (
-            x.0,
-            x.1,
-            within_most k.config.slots (omega arith) x.2,
-            (
-              x.3.0,
-              λ h o kind is.
-                  let kept = kept_state (x.0).config (x.0).last (x.0).seen of.legal in
-                  let row = (kept.in_row h (kept.was_given h (λ e. let z = sym e ∙ is in cc))).2 in
-                  let same =
-                  ap (λ (c : Config). c.slots) of.config ∙ ap (λ (z : Standing). z.config.slots) p.saw.stands_is in
-                  x.3.1 h o kind (omega arith) is,
-            ),
-          );
-    };
-  }
+  globals_all {a} {b} i end p = marked_most fits (λ j. j.config.slots)
+      (λ k s. let size = ap (λ (c : Config). c.slots) (fits a k s).config in omega arith)
+      (marked_so fits p (λ k s has h o kind is.
+      let of = fits b k s in
+      let kept = kept_state k.config k.last k.seen of.legal in
+      let row = (kept.in_row h (kept.was_given h (λ e. let z = sym e ∙ is in cc))).2 in
+      let same = ap (λ (c : Config). c.slots) of.config ∙ ap (λ (z : Standing). z.config.slots) p.saw.stands_is in
+      has h o kind (omega arith) is))
 
   pub places_few : {b c : S} (t p : ℕ) (q : LocalParts) → MayKnow facts b anything → (facts b).stands.role ≡ Collecting
       → Took facts b c [] anything (λ j k. ShowsLocal t p q k × keeps j k)
@@ -185,29 +168,13 @@ module _ {S : Type 0} {facts : S → Facts} (fits : AreOf facts) where
   pub places_all : {a b : S} {marks marks' : List Bool} (t p : ℕ) → p ≡ (facts a).stands.config.locals
       → MarkedTo facts (λ j. p) marks marks' a b (PlacesBelow t p)
       → MarksAll facts (λ j. j.config.locals) marks marks' a b (HasLocalsOf t)
-  places_all {a} {b} t n end p = record {
-    more = p.more;
-    saw = record {
-      stands_is = p.saw.stands_is;
-      hint_is = p.saw.hint_is;
-      leads = λ k s m.
-          let x = p.saw.leads k s m in
-          let of = fits b x.0 x.1 in
-          let size = ap (λ (c : Config). c.locals) (fits a k s).config in (
-            x.0,
-            x.1,
-            within_most k.config.locals (omega arith) x.2,
-            (
-              x.3.0,
-              λ r o is.
-                  let row = ((in_room (x.0).config (x.0).last (x.0).seen of.legal).locals t r o is).1 in
-                  let same =
-                  ap (λ (c : Config). c.locals) of.config ∙ ap (λ (z : Standing). z.config.locals) p.saw.stands_is in
-                  x.3.1 r o (omega arith) is,
-            ),
-          );
-    };
-  }
+  places_all {a} {b} t n end p = marked_most fits (λ j. j.config.locals)
+      (λ k s. let size = ap (λ (c : Config). c.locals) (fits a k s).config in omega arith)
+      (marked_so fits p (λ k s has r o is.
+      let of = fits b k s in
+      let row = ((in_room k.config k.last k.seen of.legal).locals t r o is).1 in
+      let same = ap (λ (c : Config). c.locals) of.config ∙ ap (λ (z : Standing). z.config.locals) p.saw.stands_is in
+      has r o (omega arith) is))
 
   pub threads_none : (marks : List Bool) (a : S)
       → MarkedTo facts (λ j. 0 * j.config.locals) marks marks a a (ThreadsBelow 0)

@@ -1,9 +1,6 @@
 -- Weak references are cleared, slot by slot.
-use Rattle.std.proofs.Common.{◌≡◌, ◌≢◌, ◌+◌, ◌<◌, ◌≤◌, ℕ, Bool, true, false, Option, Some, None, is_some}
-use Rattle.std.proofs.Common.{List, [], ◌∷◌, ◌++◌, length, map, Contains, refl, sym, ap, subst, ◌∙◌, arith}
-use Rattle.std.specs.List.{AllByRecursion, IsDistinct}
-use Rattle.std.proofs.lemmas.List.{append-nil, map-append, length-append}
-use Rattle.std.proofs.lemmas.List.Elements.{Contains-push, Contains-append_left}
+use Rattle.std.proofs.Common.{◌≡◌, ◌≢◌, ◌+◌, ◌<◌, ◌≤◌, ℕ, Bool, true, false, Option, Some, None}
+use Rattle.std.proofs.Common.{List, [], ◌∷◌, ◌++◌, cond, refl, sym, ap, subst, ◌∙◌, arith}
 use mathlib.Core.Logic.{dite, ∥∥₁_map}
 use native.Mathlib.Decide.{ℕ_discrete}
 use Rattle.jr_word.specs.declared.config.Config.{Config}
@@ -16,33 +13,30 @@ use Rattle.jr_model.specs.declared.event.Found.TheVariants.{Object, Cleared, Sta
 use Rattle.jr_model.specs.declared.event.Act.TheVariants.{Clear}
 use Rattle.jr_model.specs.State.{Handle, same_handle, Contents, State, IsClosed, IsReached, HaveSameTables}
 use Rattle.jr_model.specs.CollectionCalls.{IsToClear}
-use Rattle.jr_model.specs.History.{Did}
 use Rattle.jr_model.proofs.References.{kept_state}
-use Rattle.jr_model.proofs.Stays.{did_nothing, did_then}
+use Rattle.jr_model.proofs.Stays.{did_then}
 use Rattle.jr_model.proofs.Updates.{at_handle, handle_true}
 use Rattle.jr_steps.specs.declared.known.Known.{Known}
 use Rattle.jr_steps.specs.declared.known.Holdings.{Holdings}
 use Rattle.jr_steps.specs.Acts.{handle_of}
 use Rattle.jr_steps.specs.Collecting.{CanWipe}
-use Rattle.jr_steps.specs.Knowing.{Facts, Standing, AreOf, MayKnow, Went, Took}
-use Rattle.jr_steps.specs.Knowing.{anything, view, state_of, keeps, ShowsSlot}
+use Rattle.jr_steps.specs.Knowing.{Facts, Standing, AreOf, MayKnow, Took}
+use Rattle.jr_steps.specs.Knowing.{anything, state_of, keeps, ShowsSlot}
 use Rattle.jr_steps.proofs.CollectorFacts.{same_tables}
 use Rattle.jr_steps.proofs.StepFacts.{goes_did}
-use Rattle.jr_compact.specs.Counting.{TakesWithin}
 use Rattle.jr_weak.specs.Marks.{IsMarked, weak_in}
 use Rattle.jr_weak.specs.Marking.{IsMarkedNow}
-use Rattle.jr_weak.specs.Sweeping.{clear_acts, SlotIsSwept, SweepsSlot, ClearsUnreached}
+use Rattle.jr_weak.specs.Sweeping.{listed, SlotIsSwept, SweepsSlot, ClearsUnreached}
 use Rattle.jr_weak.proofs.Kept.{ClearedFrom, cleared_from, exactly_same, exactly_cleared}
 use Rattle.jr_weak.proofs.Leading.{closed_on, reached_on}
 use Rattle.jr_weak.proofs.RootMarks.{alone_is}
+use Rattle.jr_weak.proofs.Sweeping.{SweepsTo, TakenTo, sweeps_may, sweeps_next, sweeps_none, taken_next, taken_none}
 
 weak_is : (q : SlotParts) (n o : ℕ) → weak_in q ≡ Some (n, o) → q ≡ slot.Weak n (Some o)
-weak_is (slot.Free m) n o e = absurd cc
-weak_is (slot.Retired m) n o e = absurd cc
-weak_is (slot.Global m r) n o e = absurd cc
-weak_is (slot.Weak m None) n o e = absurd cc
 weak_is (slot.Weak m (Some r)) n o e = let z : (m, r) ≡ (n, o) = cc in let a = ap (λ (p : ℕ × ℕ). p.0) z in
     let b = ap (λ (p : ℕ × ℕ). p.1) z in ap (λ (p : ℕ × ℕ). slot.Weak p.0 (Some p.1)) z
+weak_is (slot.Weak m None) n o e = absurd cc
+weak_is _ n o e = absurd cc
 
 -- what is told of a slot is its weak reference that is not cleared, if one stands
 weak_of : (i : ℕ) (q : SlotParts) (k : Known) → ShowsSlot i q k → (h : Handle) (o : ℕ) → h.kind ≡ Weak → h.index ≡ i
@@ -97,7 +91,7 @@ module _ {S : Type 0} {facts : S → Facts} (fits : AreOf facts) (marks : List B
   -- nothing is to be cleared there
   pub slot_left : ((n o : ℕ) → weak_in q ≡ Some (n, o) → IsMarked marks o) → SweepsSlot facts marks i a b false
   slot_left left = record {
-    cleared = None;
+    taken = None;
     counted = refl;
     went = record {
       stands_is = t.stands_is;
@@ -145,7 +139,7 @@ module _ {S : Type 0} {facts : S → Facts} (fits : AreOf facts) (marks : List B
     pub slot_cleared : {c : S} → Took facts b c (Clear (handle_of Weak n i) ∷ []) (CanWipe i n o) keeps
         → SweepsSlot facts marks i a c true
     slot_cleared {c} u = record {
-      cleared = Some (handle_of Weak n i);
+      taken = Some (handle_of Weak n i);
       counted = refl;
       went = record {
         stands_is = u.stands_is ∙ t.stands_is;
@@ -211,39 +205,12 @@ pub record ClearedTo (marks : List Bool) (i : ℕ) (cleared : List Handle) (j k 
   pub objects : (state_of k).objects ≡ (state_of j).objects
   pub ahead : (h : Handle) → i ≤ h.index → (state_of k).refs h ≡ (state_of j).refs h
   pub named : (h : Handle) (o : ℕ) → h.kind ≡ Weak → h.index < i → (state_of k).refs h ≡ Object o → IsMarked marks o
-  pub all : (h : Handle) → h.index < i → IsToClear (state_of j) h → Contains cleared h
-  pub only : AllByRecursion (IsToClear (state_of j)) cleared
-  pub low : AllByRecursion (λ h. h.index < i) cleared
-  pub once : IsDistinct same_handle cleared
+  pub taken : TakenTo (λ (h : Handle). h.index + 1) same_handle (IsToClear (state_of j)) i cleared
 
-pub record ClearsTo {S : Type 0} (facts : S → Facts) (marks : List Bool) (i : ℕ) (old new : S)
-    (count : ℕ) : Type 0 where
-  pub cleared : List Handle
-  pub counted : length cleared ≡ count
-  pub went : Went facts old new (facts old).stands (IsMarkedNow marks)
-      (λ j k. Did (view j) (view k) (map Clear cleared) × TakesWithin (i + i) j k) (ClearedTo marks i cleared)
+abbrev pub ClearsTo : {S : Type 0} → (S → Facts) → List Bool → ℕ → S → S → ℕ → Type 0
+ClearsTo facts marks = SweepsTo facts Clear (IsMarkedNow marks) (ClearedTo marks)
 
-pub all_more : {X : Type 0} (P : X → Type 0) (xs : List X) (x : X) → AllByRecursion P xs → P x
-    → AllByRecursion P (xs ++ x ∷ [])
-all_more P [] x a p = (p, tt)
-all_more P (y ∷ xs) x a p = (a.0, all_more P xs x a.1 p)
-
-pub all_weaker : {X : Type 0} (P Q : X → Type 0) (xs : List X) → ((x : X) → P x → Q x) → AllByRecursion P xs
-    → AllByRecursion Q xs
-all_weaker P Q [] f a = tt
-all_weaker P Q (y ∷ xs) f a = (f y a.0, all_weaker P Q xs f a.1)
-
-pub distinct_more : {X : Type 0} (same : X → X → Bool) (xs : List X) (x : X) → IsDistinct same xs
-    → AllByRecursion (λ y. same y x ≡ false) xs → IsDistinct same (xs ++ x ∷ [])
-unfolding IsDistinct
-distinct_more same [] x d a = (tt, tt)
-distinct_more same (y ∷ xs) x d a = (all_more (λ z. same y z ≡ false) xs x d.0 a.0, distinct_more same xs x d.1 a.1)
-
-pub distinct_none : {X : Type 0} (same : X → X → Bool) → IsDistinct same []
-unfolding IsDistinct
-distinct_none same = tt
-
-below_apart : (h g : Handle) → h.index < g.index → same_handle h g ≡ false
+below_apart : (h g : Handle) → h.index + 1 < g.index + 1 → same_handle h g ≡ false
 below_apart h g l = go (same_handle h g) refl
   where
     go : (b : Bool) → same_handle h g ≡ b → b ≡ false
@@ -255,158 +222,57 @@ to_clear_back : (j k : Known) (h : Handle) → (state_of k).refs h ≡ (state_of
     → IsToClear (state_of j) h
 to_clear_back j k h same r c = (c.0, c.1, sym same ∙ c.2, λ z. c.3 (r c.1 z))
 
+module _ (marks : List Bool) where
+  clears_begin : (k : Known) → IsMarkedNow marks k → ClearedTo marks 0 [] k k
+  clears_begin k m = record {
+    marked = m;
+    objects = refl;
+    ahead = λ h l. refl;
+    named = λ h o kind l. absurd (omega arith);
+    taken = taken_none;
+  }
+
+  -- one slot more
+  clears_turn : (i : ℕ) (l : List Handle) (one : Option Handle) (j k k' : Known) → IsMarkedNow marks j
+      → ClearedTo marks i l j k → SlotIsSwept marks i one k k' → ClearedTo marks (i + 1) (l ++ listed one) j k'
+  clears_turn i l one j k k' m was z = record {
+    marked = z.marked;
+    objects = z.objects ∙ was.objects;
+    ahead = λ h low. z.others h (λ e. absurd (omega arith)) ∙ was.ahead h (omega arith);
+    named = λ h o kind low is. dite (ℕ_discrete h.index i) (λ e. z.named h o kind e is)
+        (λ ne. was.named h o kind (omega arith) (sym (z.others h ne) ∙ is));
+    taken = taken_next below_apart one was.taken
+        (λ h e c. let at : h.index ≡ i = omega arith in z.all h at
+        (to_clear_back k j h (sym (was.ahead h (omega arith))) (λ o r. (m.0 o).0 ((was.marked.0 o).1 r)) c))
+        (λ h e. let only = z.only h e in let at = only.1 in (
+          to_clear_back j k h (was.ahead h (omega arith)) (λ o r. (was.marked.0 o).0 ((m.0 o).1 r)) only.0,
+          omega arith,
+        ));
+  }
+
 module _ {S : Type 0} {facts : S → Facts} (fits : AreOf facts) (marks : List Bool) where
   pub clears_none : (a : S) → ClearsTo facts marks 0 a a 0
-  clears_none a = record {
-    cleared = [];
-    counted = refl;
-    went = record {
-      stands_is = refl;
-      hint_is = refl;
-      leads = λ k s m. (
-        k,
-        s,
-        (did_nothing (view k) (fits a k s).legal, omega arith),
-        record {
-          marked = m;
-          objects = refl;
-          ahead = λ h l. refl;
-          named = λ h o kind l. absurd (omega arith);
-          all = λ h l. absurd (omega arith);
-          only = tt;
-          low = tt;
-          once = distinct_none same_handle;
-        },
-      );
-    };
-  }
+  clears_none = sweeps_none fits (clears_begin marks)
 
   pub clears_may : {a b : S} {i n : ℕ} → MayKnow facts a (IsMarkedNow marks) → ClearsTo facts marks i a b n
       → MayKnow facts b (IsMarkedNow marks)
-  clears_may {i = i} may p = ∥∥₁_map may (λ k. let x = p.went.leads k.0 k.1 k.2 in
-      let z : ClearedTo marks i p.cleared k.0 x.0 = x.3 in (x.0, x.1, z.marked))
+  clears_may {i = i} = sweeps_may (IsMarkedNow marks) (λ l j k (was : ClearedTo marks i l j k). was.marked)
 
-  -- one slot more
-  clears_same : {a b c : S} {n : ℕ} (i : ℕ) → (p : ClearsTo facts marks i a b n)
-      → (q : SweepsSlot facts marks i b c false) → q.cleared ≡ None → ClearsTo facts marks (i + 1) a c n
-  clears_same {a} {b} {c} i p q none = record {
-    cleared = p.cleared;
-    counted = p.counted;
-    went = record {
-      stands_is = q.went.stands_is ∙ p.went.stands_is;
-      hint_is = q.went.hint_is ∙ p.went.hint_is;
-      leads = λ k s m.
-          let x = p.went.leads k s m in
-          let was : ClearedTo marks i p.cleared k x.0 = x.3 in
-          let y = q.went.leads x.0 x.1 was.marked in
-          let z : SlotIsSwept marks i q.cleared x.0 y.0 = y.3 in (
-            y.0,
-            y.1,
-            (
-              subst (λ l. Did (view k) (view y.0) l) (append-nil (map Clear p.cleared)) (did_then (map Clear p.cleared)
-                  [] x.2.0 (subst (λ (o : Option Handle). Did (view x.0) (view y.0) (clear_acts o)) none y.2.0)),
-              let some = x.2.1 in let two = y.2.1 in omega arith,
-            ),
-            record {
-              marked = z.marked;
-              objects = z.objects ∙ was.objects;
-              ahead = λ h l. z.others h (λ e. absurd (omega arith)) ∙ was.ahead h (omega arith);
-              named = λ h o kind l is. dite (ℕ_discrete h.index i) (λ e. z.named h o kind e is) (λ ne.
-                  was.named h o kind (omega arith) (sym (z.others h ne) ∙ is));
-              all = λ h l c. dite (ℕ_discrete h.index i) (λ e. let w = sym none
-                  ∙ z.all h e (again k x.0 h was (omega arith) m c) in absurd cc) (λ ne. was.all h (omega arith) c);
-              only = was.only;
-              low = all_weaker (λ h. h.index < i) (λ h. h.index < i + 1) p.cleared (λ h l. omega arith) was.low;
-              once = was.once;
-            },
-          );
-    };
-  }
-    where
-      again : (j k : Known) (h : Handle) → ClearedTo marks i p.cleared j k → i ≤ h.index → IsMarkedNow marks j
-          → IsToClear (state_of j) h → IsToClear (state_of k) h
-      again j k h was l m c = to_clear_back k j h (sym (was.ahead h l)) (λ o r. (m.0 o).0 ((was.marked.0 o).1 r)) c
-
-  clears_more : {a b c : S} {n : ℕ} (i : ℕ) → (p : ClearsTo facts marks i a b n)
-      → (q : SweepsSlot facts marks i b c true) → (g : Handle) → q.cleared ≡ Some g
-      → ClearsTo facts marks (i + 1) a c (n + 1)
-  clears_more {a} {b} {c} {n} i p q g one = record {
-    cleared = p.cleared ++ g ∷ [];
-    counted = let l = length-append p.cleared (g ∷ []) in let e = p.counted in omega arith;
-    went = record {
-      stands_is = q.went.stands_is ∙ p.went.stands_is;
-      hint_is = q.went.hint_is ∙ p.went.hint_is;
-      leads = λ k s m.
-          let x = p.went.leads k s m in
-          let was : ClearedTo marks i p.cleared k x.0 = x.3 in
-          let y = q.went.leads x.0 x.1 was.marked in
-          let z : SlotIsSwept marks i q.cleared x.0 y.0 = y.3 in
-          let only = z.only g one in
-          let at = only.1 in (
-            y.0,
-            y.1,
-            (
-              subst (λ l. Did (view k) (view y.0) l) (sym (map-append Clear p.cleared (g ∷ [])))
-                  (did_then (map Clear p.cleared) (Clear g ∷ []) x.2.0
-                  (subst (λ (o : Option Handle). Did (view x.0) (view y.0) (clear_acts o)) one y.2.0)),
-              let some = x.2.1 in let two = y.2.1 in omega arith,
-            ),
-            record {
-              marked = z.marked;
-              objects = z.objects ∙ was.objects;
-              ahead = λ h l. z.others h (λ e. absurd (omega arith)) ∙ was.ahead h (omega arith);
-              named = λ h o kind l is. dite (ℕ_discrete h.index i) (λ e. z.named h o kind e is) (λ ne.
-                  was.named h o kind (omega arith) (sym (z.others h ne) ∙ is));
-              all = λ h l c. dite (ℕ_discrete h.index i)
-                  (λ e. let w = some_same g h (sym one ∙ z.all h e (again k x.0 h was (omega arith) m c)) in
-                  subst (λ f. Contains (p.cleared ++ g ∷ []) f) w (Contains-push p.cleared g))
-                  (λ ne. Contains-append_left p.cleared (g ∷ []) h (was.all h (omega arith) c));
-              only = all_more (IsToClear (state_of k)) p.cleared g was.only
-                  (to_clear_back k x.0 g (was.ahead g (omega arith)) (λ o r. (was.marked.0 o).0 ((m.0 o).1 r)) only.0);
-              low = all_more (λ h. h.index < i + 1) p.cleared g (all_weaker (λ h. h.index < i) (λ h. h.index < i + 1)
-                  p.cleared (λ h l. omega arith) was.low) (omega arith);
-              once = distinct_more same_handle p.cleared g was.once (all_weaker (λ h. h.index < i)
-                  (λ h. same_handle h g ≡ false) p.cleared (λ h l. below_apart h g (omega arith)) was.low);
-            },
-          );
-    };
-  }
-    where
-      again : (j k : Known) (h : Handle) → ClearedTo marks i p.cleared j k → i ≤ h.index → IsMarkedNow marks j
-          → IsToClear (state_of j) h → IsToClear (state_of k) h
-      again j k h was l m c = to_clear_back k j h (sym (was.ahead h l)) (λ o r. (m.0 o).0 ((was.marked.0 o).1 r)) c
-
-  pub clears_next_not : {a b c : S} {n : ℕ} (i : ℕ) (did : Bool) → did ≡ false → ClearsTo facts marks i a b n
-      → SweepsSlot facts marks i b c did → ClearsTo facts marks (i + 1) a c n
-  clears_next_not {a} {b} {c} {n} i did e p q0 = let q : SweepsSlot facts marks i b c false =
-      subst (λ d. SweepsSlot facts marks i b c d) e q0 in go q q.cleared refl q.counted
-    where
-      go : (q : SweepsSlot facts marks i b c false) (x : Option Handle) → q.cleared ≡ x → is_some q.cleared ≡ false
-          → ClearsTo facts marks (i + 1) a c n
-      go q None is m = clears_same i p q is
-      go q (Some h) is m = absurd (let z = sym m ∙ ap (λ (o : Option Handle). is_some o) is in cc)
-
-  pub clears_next_one : {a b c : S} {n : ℕ} (i : ℕ) (did : Bool) → did ≡ true → ClearsTo facts marks i a b n
-      → SweepsSlot facts marks i b c did → ClearsTo facts marks (i + 1) a c (n + 1)
-  clears_next_one {a} {b} {c} {n} i did e p q0 = let q : SweepsSlot facts marks i b c true =
-      subst (λ d. SweepsSlot facts marks i b c d) e q0 in go q q.cleared refl q.counted
-    where
-      go : (q : SweepsSlot facts marks i b c true) (x : Option Handle) → q.cleared ≡ x → is_some q.cleared ≡ true
-          → ClearsTo facts marks (i + 1) a c (n + 1)
-      go q None is m = absurd (let z = sym m ∙ ap (λ (o : Option Handle). is_some o) is in cc)
-      go q (Some h) is m = clears_more i p q h is
+  pub clears_next : {a b c : S} {n : ℕ} (i : ℕ) (did : Bool) → ClearsTo facts marks i a b n
+      → SweepsSlot facts marks i b c did → ClearsTo facts marks (i + 1) a c (n + cond did 1 0)
+  clears_next i did = sweeps_next i did (λ l j k (was : ClearedTo marks i l j k). was.marked) (clears_turn marks i)
 
   pub clears_all : {a b : S} {n : ℕ} (i : ℕ) → i ≡ (facts a).stands.config.slots → ClearsTo facts marks i a b n
       → ClearsUnreached facts marks a b n
   clears_all {a} {b} i end p = record {
-    cleared = p.cleared;
+    cleared = p.taken;
     counted = p.counted;
     went = record {
       stands_is = p.went.stands_is;
       hint_is = p.went.hint_is;
       leads = λ k s m.
           let x = p.went.leads k s m in
-          let z : ClearedTo marks i p.cleared k x.0 = x.3 in
+          let z : ClearedTo marks i p.taken k x.0 = x.3 in
           let size = ap (λ (c : Config). c.slots) (fits a k s).config in
           let some = x.2.1 in (
             x.0,
@@ -414,9 +280,10 @@ module _ {S : Type 0} {facts : S → Facts} (fits : AreOf facts) (marks : List B
             (x.2.0, omega arith),
             (
               record {
-                all = λ h c. let l = in_row a k s h (λ e. let w = sym e ∙ c.2 in cc) in z.all h (omega arith) c;
-                only = z.only;
-                once = z.once;
+                all = λ h c. let l = in_row a k s h (λ e. let w = sym e ∙ c.2 in cc) in
+                    z.taken.all h (omega arith) (omega arith) c;
+                only = z.taken.only;
+                once = z.taken.once;
               },
               z.objects,
               record {

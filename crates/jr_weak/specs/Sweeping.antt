@@ -45,14 +45,10 @@ pub record MayDrop (marks : List Bool) (k : Known) : Type 0 where
   pub named : (h : Handle) (o : ℕ) → h.kind ≡ Weak → (state_of k).refs h ≡ Object o → IsMarked marks o
   pub settled : IsSettled k
 
--- the act of clearing a reference, if there is one, and of dropping an object
-abbrev pub clear_acts : Option Handle → List Act
-clear_acts None = []
-clear_acts (Some h) = Clear h ∷ []
-
-abbrev pub drop_acts : Option ℕ → List Act
-drop_acts None = []
-drop_acts (Some o) = Drop o ∷ []
+-- what there is, as a list
+abbrev pub listed : {X : Type 0} → Option X → List X
+listed None = []
+listed (Some x) = x ∷ []
 
 -- the slot of an index was looked at, and its reference cleared if it was to be
 pub record SlotIsSwept (marks : List Bool) (i : ℕ) (cleared : Option Handle) (j k : Known) : Type 0 where
@@ -73,19 +69,21 @@ pub record NumberIsSwept (marks : List Bool) (o : ℕ) (dropped : Option ℕ) (j
   pub only : (r : ℕ) → dropped ≡ Some r → IsToDrop (state_of j) r × (r ≡ o)
 
 module _ {S : Type 0} (facts : S → Facts) where
-  -- a slot was swept, by two steps at the most, and something was cleared or not
-  pub record SweepsSlot (marks : List Bool) (i : ℕ) (old new : S) (did : Bool) : Type 0 where
-    pub cleared : Option Handle
-    pub counted : is_some cleared ≡ did
-    pub went : Went facts old new (facts old).stands (IsMarkedNow marks)
-        (λ j k. Did (view j) (view k) (clear_acts cleared) × TakesWithin 2 j k) (SlotIsSwept marks i cleared)
+  -- a place was swept, by two steps at the most: one thing was taken there, by this act, or none
+  pub record Sweeps {X : Type 0} (act : X → Act) (met : Known → Type 0) (shows : Option X → Known → Known → Type 0)
+      (old new : S) (did : Bool) : Type 0 where
+    pub taken : Option X
+    pub counted : is_some taken ≡ did
+    pub went : Went facts old new (facts old).stands met
+        (λ j k. Did (view j) (view k) (map act (listed taken)) × TakesWithin 2 j k) (shows taken)
 
-  -- a number was swept, by two steps at the most, and something was dropped or not
-  pub record SweepsNumber (marks : List Bool) (o : ℕ) (old new : S) (did : Bool) : Type 0 where
-    pub dropped : Option ℕ
-    pub counted : is_some dropped ≡ did
-    pub went : Went facts old new (facts old).stands (MayDrop marks)
-        (λ j k. Did (view j) (view k) (drop_acts dropped) × TakesWithin 2 j k) (NumberIsSwept marks o dropped)
+  -- a slot was swept, and something was cleared or not
+  abbrev pub SweepsSlot : List Bool → ℕ → S → S → Bool → Type 0
+  SweepsSlot marks i = Sweeps Clear (IsMarkedNow marks) (SlotIsSwept marks i)
+
+  -- a number was swept, and something was dropped or not
+  abbrev pub SweepsNumber : List Bool → ℕ → S → S → Bool → Type 0
+  SweepsNumber marks o = Sweeps Drop (MayDrop marks) (NumberIsSwept marks o)
 
   -- SO MANY WEAK REFERENCES WERE CLEARED, exactly those that were to be
   pub record ClearsUnreached (marks : List Bool) (old new : S) (count : ℕ) : Type 0 where

@@ -1,7 +1,7 @@
-use Rattle.std.proofs.Common.{◌+◌, sym, ap, subst, arith}
+use Rattle.std.proofs.Common.{◌≡◌, ◌+◌, ◌∙◌, ℕ, cond, sym, ap, subst, arith}
 use Rattle.jr_word.specs.declared.config.Config.{Config}
 use Rattle.jr_weak.specs.Markers.{marks_of}
-use Rattle.jr_weak.proofs.Sweeps.{ClearsTo, clears_none, clears_may, clears_next_not, clears_next_one, clears_all}
+use Rattle.jr_weak.proofs.Sweeps.{ClearsTo, clears_none, clears_may, clears_next, clears_all}
 use Rattle.jr_weak.proofs.marker.Marker.clear_weak.Goals as goal
 use Rattle.jr_weak.proofs.marker.Marker.clear_weak.Goals.{then-clear_slot, else-clear_slot}
 
@@ -21,23 +21,19 @@ returns g c =
 
 pub loop-index-preserved : goal.loop-index-preserved
 loop-index-preserved g c =
+    let marks = marks_of c.args.self.now in
     let p = c.loop-index.invariant in
     let l = p.1 in
+    let next : (n : ℕ) → n ≡ c.loop-index.cleared + cond c.clear_slot.result 1 0
+    → ClearsTo g.S.Steps.facts marks (c.loop-index.index + 1) c.args.steps.now c.clear_slot.new.steps n =
+    λ n is. subst (ClearsTo g.S.Steps.facts marks (c.loop-index.index + 1) c.args.steps.now c.clear_slot.new.steps) (sym is)
+    (clears_next g.met.S.Steps.fits marks c.loop-index.index c.clear_slot.result p.0 c.clear_slot.ensures) in
     elim c.if-clear_slot.branch [
       | then-clear_slot w ↦
-          let e = w.cleared-is in (
-            subst (λ n. ClearsTo g.S.Steps.facts (marks_of c.args.self.now) (c.loop-index.index + 1) c.args.steps.now
-                c.clear_slot.new.steps n) (sym e)
-                (clears_next_one g.met.S.Steps.fits (marks_of c.args.self.now) c.loop-index.index c.clear_slot.result
-                w.if-clear_slot.true p.0 c.clear_slot.ensures),
-            omega arith,
-          )
+          let e = w.cleared-is in
+          (next _ (e ∙ ap (λ b. c.loop-index.cleared + cond b 1 0) (sym w.if-clear_slot.true)), omega arith)
       | else-clear_slot w ↦
-          let e = w.cleared-is in (
-            subst (λ n. ClearsTo g.S.Steps.facts (marks_of c.args.self.now) (c.loop-index.index + 1) c.args.steps.now
-                c.clear_slot.new.steps n) (sym e)
-                (clears_next_not g.met.S.Steps.fits (marks_of c.args.self.now) c.loop-index.index c.clear_slot.result
-                w.if-clear_slot.false p.0 c.clear_slot.ensures),
-            omega arith,
-          )
+          let e = w.cleared-is in
+          let none : c.loop-index.cleared ≡ c.loop-index.cleared + 0 = omega arith in
+          (next _ (e ∙ (none ∙ ap (λ b. c.loop-index.cleared + cond b 1 0) (sym w.if-clear_slot.false))), omega arith)
     ]

@@ -1,7 +1,7 @@
-use Rattle.std.proofs.Common.{◌+◌, refl, sym, ap, subst, arith}
+use Rattle.std.proofs.Common.{◌≡◌, ◌+◌, ◌∙◌, ℕ, cond, sym, ap, subst, arith}
 use Rattle.jr_word.specs.declared.config.Config.{Config}
 use Rattle.jr_weak.specs.Markers.{marks_of}
-use Rattle.jr_weak.proofs.Drops.{DropsTo, drops_none, drops_may, drops_next_not, drops_next_one, drops_all}
+use Rattle.jr_weak.proofs.Drops.{DropsTo, drops_none, drops_may, drops_next, drops_all}
 use Rattle.jr_weak.proofs.marker.Marker.drop_unreached.Goals as goal
 use Rattle.jr_weak.proofs.marker.Marker.drop_unreached.Goals.{then-drop_number, else-drop_number}
 
@@ -21,23 +21,19 @@ returns g c =
 
 pub loop-index-preserved : goal.loop-index-preserved
 loop-index-preserved g c =
+    let marks = marks_of c.args.self.now in
     let p = c.loop-index.invariant in
     let l = p.1 in
+    let next : (n : ℕ) → n ≡ c.loop-index.dropped + cond c.drop_number.result 1 0
+    → DropsTo g.S.Steps.facts marks (c.loop-index.index + 1) c.args.steps.now c.drop_number.new.steps n =
+    λ n is. subst (DropsTo g.S.Steps.facts marks (c.loop-index.index + 1) c.args.steps.now c.drop_number.new.steps) (sym is)
+    (drops_next g.met.S.Steps.fits marks c.loop-index.index c.drop_number.result p.0 c.drop_number.ensures) in
     elim c.if-drop_number.branch [
       | then-drop_number w ↦
-          let e = w.dropped-is in (
-            subst (λ n. DropsTo g.S.Steps.facts (marks_of c.args.self.now) (c.loop-index.index + 1) c.args.steps.now
-                c.drop_number.new.steps n) (sym e)
-                (drops_next_one g.met.S.Steps.fits (marks_of c.args.self.now) c.loop-index.index
-                (c.loop-index.index + 1) c.drop_number.result w.if-drop_number.true refl p.0 c.drop_number.ensures),
-            omega arith,
-          )
+          let e = w.dropped-is in
+          (next _ (e ∙ ap (λ b. c.loop-index.dropped + cond b 1 0) (sym w.if-drop_number.true)), omega arith)
       | else-drop_number w ↦
-          let e = w.dropped-is in (
-            subst (λ n. DropsTo g.S.Steps.facts (marks_of c.args.self.now) (c.loop-index.index + 1) c.args.steps.now
-                c.drop_number.new.steps n) (sym e)
-                (drops_next_not g.met.S.Steps.fits (marks_of c.args.self.now) c.loop-index.index
-                (c.loop-index.index + 1) c.drop_number.result w.if-drop_number.false refl p.0 c.drop_number.ensures),
-            omega arith,
-          )
+          let e = w.dropped-is in
+          let none : c.loop-index.dropped ≡ c.loop-index.dropped + 0 = omega arith in
+          (next _ (e ∙ (none ∙ ap (λ b. c.loop-index.dropped + cond b 1 0) (sym w.if-drop_number.false))), omega arith)
     ]
