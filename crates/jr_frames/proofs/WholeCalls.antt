@@ -43,7 +43,7 @@ kept_by_leave k k' is within g =
     (y.0, ap (λ objects. objects o) (ap (λ es. (state es).objects) g.seen ∙ left) ∙ y.1, y.2, y.3)
 
 -- an entry, work in between, and an exit
-left_before : {r s t u : Standing} → r.role ≡ Outside → s ≡ standing_after r (Gate Enter ∷ []) → IsAsBefore s t
+pub left_before : {r s t u : Standing} → r.role ≡ Outside → s ≡ standing_after r (Gate Enter ∷ []) → IsAsBefore s t
     → u ≡ standing_after t (Gate Leave ∷ []) → IsAsBefore r u
 left_before {r} out e p l = record {
   room = ap (λ (x : Standing). x.room) l ∙ (p.room ∙ ap (λ (x : Standing). x.room) e);

@@ -7,6 +7,7 @@ pub mod Freeing
 pub mod Reading
 pub mod OverSteps
 pub mod Finding
+pub mod Explaining
 pub mod Ready
 pub mod Dropping
 pub mod Giving

@@ -33,7 +33,7 @@ impl Model for Frames {
 }
 
 impl Frames {
-    ghost use Rattle.std.specs.Prelude.{◌≡◌, ◌≢◌, ◌≤◌, ◌==◌, ◌<◌, ◌+◌, ◌↔◌, [], IsTrue, length, IfSome, IfNone, IsSome, Some, None};
+    ghost use Rattle.std.specs.Prelude.{◌≡◌, ◌≢◌, ◌≤◌, ◌==◌, ◌<◌, ◌+◌, ◌↔◌, [], IsTrue, length, IfSome, IfNone, IsSome, Some, None, nat_lt, slice_index};
     ghost use Rattle.jr_model.specs.declared.frames.TheConstants.{FRAMES};
     ghost use Rattle.jr_model.specs.Frames.{fresh_frames, object_of, object_at, free_places, IsAdded, AreSound, without_local, pushed, popped, last_frame};
     ghost use Rattle.jr_frames.specs.Table.{IsNext, IsOnly, TakesOldest, TakesOldestOf, with_frames, frame_at, oldest_handle};
@@ -109,6 +109,17 @@ impl Frames {
             Some(place.object)
         } else {
             None
+        }
+    }
+
+    /// Whether the place of a handle's index has given its serial, to a reference that stands or to one that is gone.
+    #[inline(always)]
+    pub fn has_given(&self, handle: HandleParts) -> bool
+        ensures { result ≡ nat_lt handle.serial (slice_index self.now.frames.given handle.index) }
+    {
+        match self.places.get(usize::from(handle.index)) {
+            Some(place) => u64::from(handle.serial) < place.given(),
+            None => false,
         }
     }
 

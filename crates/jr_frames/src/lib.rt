@@ -1,6 +1,7 @@
 //! The local references of one thread, in frames: the table, where each call is a constant amount of work, but for the making of a table and the question whether a pop frees a place; and over any steps the references that native code hands in.
 #![tactic(auto)]
 
+mod explaining;
 mod finding;
 mod frames;
 mod free;
@@ -14,6 +15,7 @@ mod resolving;
 mod ring_walk;
 mod rings;
 
+pub use explaining::{Explanation, explain};
 pub use finding::find;
 pub use frames::Frames;
 pub use free::free_all;
