@@ -30,12 +30,12 @@ LIBRARY = {
     "unsigned_abs": abs, "int_rem_euclid": lambda k, l: k % abs(l), "cast_signed": lambda w, n: n if n < 2 ** (w - 1) else n - 2**w,
     "decimal": lambda n: tuple(b"%d" % n), "signed_decimal": lambda k: tuple(b"%d" % k), "codes": tuple, "bytes_eq": lambda xs, ys: xs == ys,
     "◌∷◌": lambda x, xs: (x, *xs), "◌++◌": lambda xs, ys: xs + ys, "length": len, "replicate": lambda n, x: (x,) * n,
-    "take": lambda n, xs: xs[:n], "drop": lambda n, xs: xs[n:], "slice_index": lambda xs, n: xs[n] if n < len(xs) else 0,
+    "drop": lambda n, xs: xs[n:], "slice_index": lambda xs, n: xs[n] if n < len(xs) else 0,
     "slice_index_or": lambda xs, n, x: xs[n] if n < len(xs) else x, "slice_set": lambda xs, n, x: (*xs[:n], x, *xs[n + 1 :]) if n < len(xs) else xs,
     "map": lambda f, xs: tuple(map(f, xs)), "filter": lambda p, xs: tuple(filter(p, xs)), "flat_map": lambda f, xs: tuple(y for x in xs for y in f(x)),
     "list_any": lambda p, xs: any(map(p, xs)), "list_all": lambda p, xs: all(map(p, xs)), "sum_by": lambda f, xs: sum(map(f, xs)),
     "find": lambda p, xs: next((("Some", x) for x in xs if p(x)), ("None",)), "join_with_byte": lambda c, xs: tuple(bytes([c]).join(map(bytes, xs))),
-    "is_some": lambda o: o[0] == "Some", "is_none": lambda o: o[0] == "None", "option_map": lambda f, o: ("Some", f(o[1])) if o[0] == "Some" else o,
+    "is_some": lambda o: o[0] == "Some", "option_map": lambda f, o: ("Some", f(o[1])) if o[0] == "Some" else o,
     "option_map_or": lambda f, o, x: f(o[1]) if o[0] == "Some" else x, "get": lambda m, k: ("Some", m[k]) if k in m else ("None",),
     "insert": lambda m, k, x: {**m, k: x},
 }  # fmt: skip
@@ -289,6 +289,8 @@ class Equation:
         elif head[1] in SHAPES:
             test, *parts = (it.format(value) for it in SHAPES[head[1]])
             tests = [test]
+        elif head[1][0].isupper():
+            raise LookupError(f"'{head[1]}' in '{self.left}' is no constructor that is known here")
         else:
             tests, parts = [], []
             self.known |= {head[1]}
@@ -360,6 +362,8 @@ class Definitions:
             function = f"f{len(self.functions)}"
             if module:
                 self.make(function, self.file(module), name)
+            elif name not in LIBRARY:
+                raise LookupError(f"'{name}' is a word neither of specs/ nor of the library as it stands here")
             else:
                 self.space[function] = LIBRARY[name] if callable(LIBRARY[name]) else lambda: LIBRARY[name]
                 self.functions[module, name] = (function, getattr(getattr(self.space[function], "__code__", None), "co_argcount", 1))

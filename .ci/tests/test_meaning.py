@@ -105,6 +105,11 @@ class SmallDefinitions(unittest.TestCase):
     def test_a_record_may_be_another_but_for_a_field(self):
         self.assertEqual(self.said("both", (4, 5, 6)), {"left": 4, "right": (6,)})
 
+    def test_what_is_no_word_that_is_known_is_refused(self):
+        for equation in ("f Never = 0", "f n = never n"):
+            with self.assertRaises(LookupError):
+                Definitions({"a.specs.B": f"abbrev pub f : ℕ → ℕ\n{equation}\n"}).run("a.specs.B", "f", 0)
+
     def test_equations_that_nothing_came_to_are_told(self):
         self.assertEqual(self.said("lost", 2), 2 + 5)
         self.assertEqual(self.definitions.unused("a.specs.B"), ["lost zero"])
@@ -124,7 +129,13 @@ class Scripts(unittest.TestCase):
             self.assertEqual(meant.printed(kept[name].text), kept[name].output, what)
             self.assertNotEqual(planted.printed(kept[name].text), kept[name].output, what)
 
-    def test_a_copy_without_memory_and_a_wait_in_vain_are_refused(self):
+    def test_definitions_that_are_run_otherwise_stand(self):
+        definitions = meaning.Meant().definitions
+        lines = {**definitions.file(meaning.MEANING).lines, **definitions.file("jr_syntax.specs.Faults").lines, **definitions.file("jr_syntax.specs.Command").lines}
+        self.assertEqual({*meaning.AS_SETS, *meaning.KEPT} - {*lines}, set())
+
+    def test_what_no_kept_text_can_show(self):
+        self.assertEqual(meaning.Meant().fault(b"a" * 65_537), b"script fault at line 1: too long\n")
         text = b"vm threads 1 slots 1 objects 1 words 1 locals 16\nthread a\nint a 1\nelems b a\nelems b a\neget b 0\nwait c\n"
         said = meaning.Meant().printed(text, (False,))
         self.assertEqual(said, b"[a]\n4 ! E16\neget b 0 0\n7 ! E20\n[end]\nglobals 0 weaks 0 live 1 used 1\n")
