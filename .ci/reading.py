@@ -135,10 +135,10 @@ class Scope:
 class Specs:
     """A file of specs/ or proofs/: its definitions, and its scope."""
 
-    def __init__(self, path):
-        """Takes in the text of a file."""
+    def __init__(self, path, text=None):
+        """Takes in the text of a file, or this one in its place."""
         self.path, self.module = path, path[len("crates/"):-len(".antt")].replace("/", ".")
-        self.text = text_of(path)
+        self.text = text_of(path) if text is None else text
         self.code = IMPORT.sub(lambda it: "\n" * it[0].count("\n"), self.text)
         self.scope, self.definitions = Scope(self.text), []
 

@@ -1,0 +1,141 @@
+"""Tries the running of definitions: on definitions of its own, and that kept scripts tell what is planted in those of a script's meaning."""
+
+import os
+import unittest
+
+from shared import CI, script
+from antt import Definitions
+from cases import cases
+from rattle import text_of
+
+meaning = script("meaning")
+SMALL = """-- Of no use.
+use Rattle.std.specs.Prelude.{ℕ, zero, suc, Bool, cond, List, [], ◌∷◌, ◌+◌, ◌*◌, map, sum_by}
+
+infixl 20 ◌>>=◌
+abbrev pub ◌>>=◌ : (ℕ → ℕ × ℕ) → (ℕ → ℕ → ℕ × ℕ) → ℕ → ℕ × ℕ
+(first >>= next) n = next (first n).0 (first n).1
+
+module _ (k : ℕ) where
+  abbrev pub plus : ℕ → ℕ
+  plus n = n + 2 * k
+
+  -- adds k twice to each
+  abbrev pub all_plus : List ℕ → List ℕ
+  all_plus ns = map plus ns
+
+-- counts by a loop
+abbrev pub down : ℕ → ℕ → ℕ
+down zero n = n
+down (suc m) n = down m (n + 1)
+
+abbrev pub step : ℕ → ℕ → ℕ × ℕ
+step m n = (m, n + m)
+
+abbrev pub steps : ℕ → ℕ → ℕ × ℕ
+steps m = do
+  a ← step m
+  b ← step (a
+    + 1)
+  λ n. let c = n * 2 in
+    (b, c)
+
+pub record Both : Type 0 where
+  pub left : ℕ
+  pub right : List ℕ
+
+abbrev pub both : List ℕ → Both
+both (m ∷ n ∷ ns) = record (both (n ∷ ns)) { left = m }
+both ns = record {
+  left = 0;
+  right = ns;
+}
+
+abbrev pub lost : ℕ → ℕ
+lost zero = 7
+lost n = (both (n ∷ 3 ∷ [])).left + sum_by (λ m. m + n) (both (3 ∷ [])).right
+"""
+# What is planted in the definitions: a kept script that tells it, and what takes the place of what.
+PLANTED = {
+    "E18 comes after E7": (
+        "scripts/arrays/what_is_refused_at_objects",
+        "  word ← decided (word_of_number x.kind number)\n  refuse_if (nat_le (length x.words) i) fault.Range\n",
+        "  refuse_if (nat_le (length x.words) i) fault.Range\n  word ← decided (word_of_number x.kind number)\n",
+    ),
+    "a cleared weak reference has type 0": (
+        "scripts/collections/a_weak_reference_is_cleared", "type_in (Some r) = kind_number r.kind", "type_in (Some r) = cond (is_some r.object) (kind_number r.kind) 0",
+    ),
+    "a pop keeps nothing": ("scripts/frames/results_of_pops", "frames = all_but_last w.frames })\n    new_local o", "frames = all_but_last w.frames })\n    new_local None"),
+    "an object needs no local place": ("scripts/references/sixteen_local_places", "    room_for 1\n    reserve (length words)", "    reserve (length words)"),
+    "an array's kind comes after E17": (
+        "scripts/regions/a_kind_before_a_seventeenth_level",
+        "  refuse_if (not (is_primitive a.1.kind)) fault.WrongElement\n  refuse_if (nat_le LEVELS levels) fault.Size\n",
+        "  refuse_if (nat_le LEVELS levels) fault.Size\n  refuse_if (not (is_primitive a.1.kind)) fault.WrongElement\n",
+    ),
+    "an array comes before what it is to name": (
+        "scripts/arrays/both_references_of_a_set", "    o ← object n\n    a ← wanted_element m i\n    rewrites", "    a ← wanted_element m i\n    o ← object n\n    rewrites",
+    ),
+    "an array's name comes before its buffer's": (
+        "scripts/copies/names_of_a_release",
+        "    b ← decided (buffer_in (binding names n))\n    m ← the names r\n",
+        "    m ← the names r\n    b ← decided (buffer_in (binding names n))\n",
+    ),
+}  # fmt: skip
+
+
+class SmallDefinitions(unittest.TestCase):
+    """Definitions of no use."""
+
+    def setUp(self):
+        self.definitions = Definitions({"a.specs.B": SMALL})
+
+    def said(self, name, *arguments):
+        """Returns what a definition is of these arguments."""
+        return self.definitions.run("a.specs.B", name, *arguments)
+
+    def test_a_definition_of_a_block_takes_its_parameters(self):
+        self.assertEqual(self.said("all_plus", 5, (1, 2)), (11, 12))
+
+    def test_a_call_that_is_the_last_is_a_loop(self):
+        self.assertEqual(self.said("down", 100_000, 1), 100_001)
+
+    def test_statements_follow_one_another(self):
+        self.assertEqual(self.said("steps", 3)(10), (4, 34))
+
+    def test_a_record_may_be_another_but_for_a_field(self):
+        self.assertEqual(self.said("both", (4, 5, 6)), {"left": 4, "right": (6,)})
+
+    def test_what_is_no_word_that_is_known_is_refused(self):
+        for equation in ("f Never = 0", "f n = never n"):
+            with self.assertRaises(LookupError):
+                Definitions({"a.specs.B": f"abbrev pub f : ℕ → ℕ\n{equation}\n"}).run("a.specs.B", "f", 0)
+
+    def test_equations_that_nothing_came_to_are_told(self):
+        self.assertEqual(self.said("lost", 2), 2 + 5)
+        self.assertEqual(self.definitions.unused("a.specs.B"), ["lost zero"])
+
+
+class Scripts(unittest.TestCase):
+    """What kept scripts tell of the definitions of a script's meaning."""
+
+    def setUp(self):
+        os.chdir(f"{CI}/..")
+
+    def test_kept_scripts_tell_what_is_planted(self):
+        text, kept, meant = text_of(f"crates/{meaning.MEANING.replace('.', '/')}.antt"), {it.name: it for it in cases()}, meaning.Meant()
+        for what, (name, old, new) in PLANTED.items():
+            self.assertEqual(text.count(old), 1, what)
+            planted = meaning.Meant({meaning.MEANING: text.replace(old, new)})
+            self.assertEqual(meant.printed(kept[name].text), kept[name].output, what)
+            self.assertNotEqual(planted.printed(kept[name].text), kept[name].output, what)
+
+    def test_definitions_that_are_run_otherwise_stand(self):
+        definitions = meaning.Meant().definitions
+        lines = {**definitions.file(meaning.MEANING).lines, **definitions.file("jr_syntax.specs.Faults").lines, **definitions.file("jr_syntax.specs.Command").lines}
+        self.assertEqual({*meaning.AS_SETS, *meaning.KEPT} - {*lines}, set())
+
+    def test_what_no_kept_text_can_show(self):
+        self.assertEqual(meaning.Meant().fault(b"a" * 65_537), b"script fault at line 1: too long\n")
+        text = b"vm threads 1 slots 1 objects 1 words 1 locals 16\nthread a\nint a 1\nelems b a\nelems b a\neget b 0\nwait c\n"
+        said = meaning.Meant().printed(text, (False,))
+        self.assertEqual(said, b"[a]\n4 ! E16\neget b 0 0\n7 ! E20\n[end]\nglobals 0 weaks 0 live 1 used 1\n")
