@@ -395,6 +395,6 @@ class Definitions:
 def deeply(function, *arguments):
     """Returns what a function returns whose calls go deep."""
     sys.setrecursionlimit(10**6)
-    threading.stack_size(2**29)
+    threading.stack_size(2**28)
     with ThreadPoolExecutor(1) as pool:
         return pool.submit(function, *arguments).result()
