@@ -27,7 +27,7 @@ LIBRARY = {
     "suc": lambda n: n + 1, "◌+◌": lambda m, n: m + n, "◌-◌": lambda m, n: max(m - n, 0), "◌*◌": lambda m, n: m * n, "◌^◌": lambda m, n: m**n,
     "◌==◌": lambda m, n: m == n, "nat_lt": lambda m, n: m < n, "nat_le": lambda m, n: m <= n, "not": lambda b: not b,
     "pos": lambda n: n, "negsuc": lambda n: -1 - n, "neg_ℤ": lambda k: -k, "int_lt": lambda k, l: k < l, "int_le": lambda k, l: k <= l,
-    "unsigned_abs": abs, "int_rem_euclid": lambda k, l: k % abs(l), "cast_signed": lambda w, n: n if n < 2 ** (w - 1) else n - 2**w,
+    "unsigned_abs": abs, "int_rem_euclid": lambda k, l: k % abs(l), "cast_signed": lambda w, n: n if n < 2 ** (w - 1) else -1 - max(2**w - 1 - n, 0),
     "decimal": lambda n: tuple(b"%d" % n), "signed_decimal": lambda k: tuple(b"%d" % k), "codes": tuple, "bytes_eq": lambda xs, ys: xs == ys,
     "◌∷◌": lambda x, xs: (x, *xs), "◌++◌": lambda xs, ys: xs + ys, "length": len, "replicate": lambda n, x: (x,) * n,
     "drop": lambda n, xs: xs[n:], "slice_index": lambda xs, n: xs[n] if n < len(xs) else 0,
@@ -395,6 +395,6 @@ class Definitions:
 def deeply(function, *arguments):
     """Returns what a function returns whose calls go deep."""
     sys.setrecursionlimit(10**6)
-    threading.stack_size(2**29)
+    threading.stack_size(2**28)
     with ThreadPoolExecutor(1) as pool:
         return pool.submit(function, *arguments).result()

@@ -3,12 +3,12 @@
 import os
 import unittest
 
-from shared import CI, script
+from shared import CI
 from antt import Definitions
 from cases import cases
+from meant import AS_SETS, KEPT, MEANING, Meant
 from rattle import text_of
 
-meaning = script("meaning")
 SMALL = """-- Of no use.
 use Rattle.std.specs.Prelude.{ℕ, zero, suc, Bool, cond, List, [], ◌∷◌, ◌+◌, ◌*◌, map, sum_by}
 
@@ -122,20 +122,20 @@ class Scripts(unittest.TestCase):
         os.chdir(f"{CI}/..")
 
     def test_kept_scripts_tell_what_is_planted(self):
-        text, kept, meant = text_of(f"crates/{meaning.MEANING.replace('.', '/')}.antt"), {it.name: it for it in cases()}, meaning.Meant()
+        text, kept, whole = text_of(f"crates/{MEANING.replace('.', '/')}.antt"), {it.name: it for it in cases()}, Meant()
         for what, (name, old, new) in PLANTED.items():
             self.assertEqual(text.count(old), 1, what)
-            planted = meaning.Meant({meaning.MEANING: text.replace(old, new)})
-            self.assertEqual(meant.printed(kept[name].text), kept[name].output, what)
+            planted = Meant({MEANING: text.replace(old, new)})
+            self.assertEqual(whole.printed(kept[name].text), kept[name].output, what)
             self.assertNotEqual(planted.printed(kept[name].text), kept[name].output, what)
 
     def test_definitions_that_are_run_otherwise_stand(self):
-        definitions = meaning.Meant().definitions
-        lines = {**definitions.file(meaning.MEANING).lines, **definitions.file("jr_syntax.specs.Faults").lines, **definitions.file("jr_syntax.specs.Command").lines}
-        self.assertEqual({*meaning.AS_SETS, *meaning.KEPT} - {*lines}, set())
+        definitions = Meant().definitions
+        lines = {**definitions.file(MEANING).lines, **definitions.file("jr_syntax.specs.Faults").lines, **definitions.file("jr_syntax.specs.Command").lines}
+        self.assertEqual({*AS_SETS, *KEPT} - {*lines}, set())
 
     def test_what_no_kept_text_can_show(self):
-        self.assertEqual(meaning.Meant().fault(b"a" * 65_537), b"script fault at line 1: too long\n")
+        self.assertEqual(Meant().fault(b"a" * 65_537), b"script fault at line 1: too long\n")
         text = b"vm threads 1 slots 1 objects 1 words 1 locals 16\nthread a\nint a 1\nelems b a\nelems b a\neget b 0\nwait c\n"
-        said = meaning.Meant().printed(text, (False,))
+        said = Meant().printed(text, (False,))
         self.assertEqual(said, b"[a]\n4 ! E16\neget b 0 0\n7 ! E20\n[end]\nglobals 0 weaks 0 live 1 used 1\n")
