@@ -11,20 +11,18 @@ use Rattle.jr_model.specs.Calls.{Ran}
 use Rattle.jr_model.specs.Frames.{Frames}
 use Rattle.jr_model.specs.History.{PassView, IsLegal}
 use Rattle.jr_model.specs.Objects.{region_release}
-use Rattle.jr_model.proofs.Runs.{ran_act, ran_done}
-use Rattle.jr_model.proofs.Windows.{stepped_last}
+use Rattle.jr_model.proofs.Runs.{ran_done}
 use Rattle.jr_steps.specs.declared.known.Known.{Known}
-use Rattle.jr_steps.specs.Knowing.{AreOf, Facts, Standing, anything, view, lets_go, Took}
-use Rattle.jr_steps.proofs.StepFacts.{goes_did, goes_stepped}
+use Rattle.jr_steps.specs.Knowing.{AreOf, Facts, Holds, Leads, anything, view, lets_go, Took}
 use Rattle.jr_gate.specs.Stays.{IsOwnStay}
-use Rattle.jr_gate.proofs.Spending.{made_of, spend_none, spend_step}
-use Rattle.jr_frames.specs.Ready.{StandsReady}
+use Rattle.jr_gate.specs.Performing.{IsMade, thread_state}
+use Rattle.jr_gate.proofs.SameRoom.{as_before}
+use Rattle.jr_gate.proofs.Spending.{made_of, spend_none}
 use Rattle.jr_frames.specs.Table.{Table}
-use Rattle.jr_frames.proofs.FramesAgree.{holds_did}
-use Rattle.jr_frames.proofs.StillReady.{own_stepped}
+use Rattle.jr_frames.proofs.StillReady.{exit_made}
 use Rattle.jr_critical.specs.declared.level.Level.{Level}
 use Rattle.jr_critical.specs.declared.levels.Levels.{Levels}
-use Rattle.jr_critical.specs.Levels.{AreKnown, GivesUpAll, GivesUpLast, Stand, objects_of}
+use Rattle.jr_critical.specs.Levels.{AreKnown, GivesUpAll, GivesUpLast, KnowsLevels, Stand, objects_of}
 use Rattle.jr_critical.proofs.KnownLevels.{known_before}
 
 -- a list with an element more
@@ -79,30 +77,10 @@ module _ {S : Type 0} {facts : S → Facts} {a : S} {t : Table} {v : Levels} (st
 
     pub closes_first : GivesUpLast facts a b t.frames v None
     closes_first = record {
-      stands_is = record {
-        room = ap (λ (s : Standing). s.room) took.stands_is;
-        config = ap (λ (s : Standing). s.config) took.stands_is;
-        last = ap (λ (s : Standing). s.last) took.stands_is;
-        thread = ap (λ (s : Standing). s.thread) took.stands_is;
-        role = ap (λ (s : Standing). s.role) took.stands_is;
-      };
-      ran = λ k s m.
-          let y = took.goes k s tt in
-          let d = goes_did y.2 in
-          let left = ran_act t.frames (Gate Leave) (λ out. absurd cc) (λ out. stepped_last (goes_stepped y.2)) d in (
-            y.0,
-            y.1,
-            made_of (spend_step took (λ n i. refl) k s tt t.frames t.frames) (subst
-                (λ n. Ran (view k) (view y.0) t.frames t.frames (region_release n) (Ok tt)) (sym one_level) left),
-            (y.3, holds_did k y.0 t.frames (Gate Leave ∷ []) d (refl, tt) m.1),
-          );
-    }
-
-    pub ready_left : StandsReady facts Outside b t
-    ready_left = record {
-      role_is = ap (λ (s : Standing). s.role) took.stands_is;
-      spent = ap (λ (s : Standing). s.fresh) took.stands_is ∙ stand.ready.spent;
-      own = own_stepped (Gate Leave) refl stand.ready.own took;
+      stands_is = as_before (record ((facts a).stands) { role = Outside }) took.stands_is;
+      ran = subst (λ n. Leads facts a b (KnowsLevels v t.frames) (λ k k'. IsMade 0 (thread_state (facts a) k t.frames)
+          (thread_state (facts b) k' t.frames) (region_release n) (Ok tt)) (λ j k. lets_go j k × Holds t.frames k))
+          (sym one_level) (exit_made t.frames (λ k m. m.1) took);
     }
 
   module _ (left : (length ys == 0) ≡ false) (w : Levels) (same : w.levels.items ≡ ys) where
@@ -136,31 +114,9 @@ module _ {S : Type 0} {facts : S → Facts} {a : S} {t : Table} {v : Levels} (st
     }
 
 -- all levels are given up
-module _ {S : Type 0} {facts : S → Facts} {a b : S} {t : Table} {v : Levels} (stand : Stand facts v a t)
-    (took : Took facts a b (Gate Leave ∷ []) anything lets_go) where
-  pub closes_all : GivesUpAll facts a b t.frames v
-  closes_all = record {
-    stands_is = record {
-      room = ap (λ (s : Standing). s.room) took.stands_is;
-      config = ap (λ (s : Standing). s.config) took.stands_is;
-      last = ap (λ (s : Standing). s.last) took.stands_is;
-      thread = ap (λ (s : Standing). s.thread) took.stands_is;
-      role = ap (λ (s : Standing). s.role) took.stands_is;
-    };
-    ran = λ k s m.
-        let y = took.goes k s tt in
-        let d = goes_did y.2 in
-        let left = ran_act t.frames (Gate Leave) (λ out. absurd cc) (λ out. stepped_last (goes_stepped y.2)) d in (
-          y.0,
-          y.1,
-          made_of (spend_step took (λ n i. refl) k s tt t.frames t.frames) left,
-          (y.3, holds_did k y.0 t.frames (Gate Leave ∷ []) d (refl, tt) m.1),
-        );
-  }
-
-  pub ready_outside : StandsReady facts Outside b t
-  ready_outside = record {
-    role_is = ap (λ (s : Standing). s.role) took.stands_is;
-    spent = ap (λ (s : Standing). s.fresh) took.stands_is ∙ stand.ready.spent;
-    own = own_stepped (Gate Leave) refl stand.ready.own took;
-  }
+pub closes_all : {S : Type 0} {facts : S → Facts} {a b : S} {f : Frames} {v : Levels}
+    → Took facts a b (Gate Leave ∷ []) anything lets_go → GivesUpAll facts a b f v
+closes_all {facts = facts} {a = a} {f = f} took = record {
+  stands_is = as_before (record ((facts a).stands) { role = Outside }) took.stands_is;
+  ran = exit_made f (λ k m. m.1) took;
+}

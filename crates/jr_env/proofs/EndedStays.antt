@@ -5,16 +5,12 @@ use Rattle.jr_model.specs.declared.event.Role.TheVariants.{Outside, Within}
 use Rattle.jr_model.specs.declared.event.Act.TheVariants.{Gate}
 use Rattle.jr_model.specs.declared.event.GateAct.TheVariants.{Leave}
 use Rattle.jr_model.specs.Frames.{Frames}
-use Rattle.jr_model.proofs.Runs.{ran_act}
-use Rattle.jr_model.proofs.Windows.{stepped_last}
 use Rattle.jr_steps.specs.Acts.{act_of_exit}
 use Rattle.jr_steps.specs.Knowing.{Facts, Standing, anything, lets_go, Took}
-use Rattle.jr_steps.proofs.StepFacts.{goes_did, goes_stepped}
-use Rattle.jr_gate.proofs.Spending.{made_of, spend_step}
+use Rattle.jr_gate.proofs.SameRoom.{as_before}
 use Rattle.jr_frames.specs.Table.{Table}
 use Rattle.jr_frames.specs.Ready.{AreOwn, StandsReady}
-use Rattle.jr_frames.proofs.FramesAgree.{holds_did}
-use Rattle.jr_frames.proofs.StillReady.{own_stepped}
+use Rattle.jr_frames.proofs.StillReady.{exit_made, ready_left}
 use Rattle.jr_env.specs.Calling.{CanCall}
 use Rattle.jr_env.specs.OpenStays.{Leaves}
 use Rattle.jr_env.specs.Works.{EndsStay}
@@ -23,22 +19,8 @@ use Rattle.jr_env.specs.Works.{EndsStay}
 module _ {S : Type 0} (facts : S → Facts) (a b : S) (f : Frames) where
   pub leaves : Took facts a b (Gate Leave ∷ []) anything lets_go → Leaves facts a b f
   leaves took = record {
-    stands_is = record {
-      room = ap (λ (s : Standing). s.room) took.stands_is;
-      config = ap (λ (s : Standing). s.config) took.stands_is;
-      last = ap (λ (s : Standing). s.last) took.stands_is;
-      thread = ap (λ (s : Standing). s.thread) took.stands_is;
-      role = ap (λ (s : Standing). s.role) took.stands_is;
-    };
-    ran = λ k s m.
-        let y = took.goes k s tt in
-        let d = goes_did y.2 in
-        let left = ran_act f (Gate Leave) (λ out. absurd cc) (λ out. stepped_last (goes_stepped y.2)) d in (
-          y.0,
-          y.1,
-          made_of (spend_step took (λ n i. refl) k s tt f f) left,
-          (y.3, holds_did k y.0 f (Gate Leave ∷ []) d (refl, tt) m),
-        );
+    stands_is = as_before (record ((facts a).stands) { role = Outside }) took.stands_is;
+    ran = exit_made f (λ k m. m) took;
   }
 
 module _ {S : Type 0} {facts : S → Facts} where
@@ -61,11 +43,7 @@ module _ {S : Type 0} {facts : S → Facts} where
         same = λ out. absurd (let no_more = sym within ∙ out in cc);
         left = λ inside. l;
         frames = refl;
-        ready = record {
-          role_is = ap (λ (s : Standing). s.role) l.stands_is;
-          spent = ap (λ (s : Standing). s.fresh) l.stands_is ∙ can.spent;
-          own = own_stepped (Gate Leave) refl own l;
-        };
+        ready = ready_left {role = Within} (record { role_is = within; spent = can.spent; own = own }) l;
         thread = ap (λ (s : Standing). s.thread) l.stands_is;
         config = ap (λ (s : Standing). s.config) l.stands_is;
       }

@@ -19,17 +19,17 @@ use Rattle.jr_model.proofs.Moments.{prefix_self}
 use Rattle.jr_steps.specs.declared.known.Known.{Known}
 use Rattle.jr_steps.specs.declared.steps.Steps.{Ghosts}
 use Rattle.jr_steps.specs.Knowing.{AreOf, Facts, Standing, anything, keeps, lets_go, state_of, view, Holds, Took}
-use Rattle.jr_steps.proofs.StepFacts.{goes_did, goes_stepped}
 use Rattle.jr_gate.specs.declared.inside.Inside.{Inside}
 use Rattle.jr_gate.specs.Acting.{ActedTo, LetsGoInTwo}
 use Rattle.jr_gate.specs.Performing.{Performed}
 use Rattle.jr_gate.specs.Stays.{IsOwnStay}
-use Rattle.jr_gate.proofs.Spending.{made_of, spend_barred, spend_step}
+use Rattle.jr_gate.proofs.SameRoom.{as_before}
+use Rattle.jr_gate.proofs.Spending.{made_of, spend_barred}
 use Rattle.jr_frames.specs.declared.held.Held.{Held}
 use Rattle.jr_frames.specs.Table.{Table}
 use Rattle.jr_frames.specs.Ready.{AreOwn, StandsReady}
 use Rattle.jr_frames.proofs.FramesAgree.{holds_did}
-use Rattle.jr_frames.proofs.StillReady.{own_stepped, ready_entered}
+use Rattle.jr_frames.proofs.StillReady.{one_act, ready_entered}
 use Rattle.jr_elements.specs.Copies.{answer_in}
 use Rattle.jr_env.specs.Calling.{CanCall}
 use Rattle.jr_env.specs.OpenStays.{BehindExit, EndsAsOneStay, Enters, EntersOver, IsInStay, StaysOn, StaysSince}
@@ -101,32 +101,14 @@ module _ {S : Type 0} (facts : S → Facts) (a b : S) (t : Table) where
 
   enters : Took facts a b (Gate Enter ∷ []) anything keeps → Enters facts a b t.frames (Ok tt)
   enters took = record {
-    stands_is = record {
-      room = ap (λ (s : Standing). s.room) took.stands_is;
-      config = ap (λ (s : Standing). s.config) took.stands_is;
-      last = ap (λ (s : Standing). s.last) took.stands_is;
-      thread = ap (λ (s : Standing). s.thread) took.stands_is;
-      role = ap (λ (s : Standing). s.role) took.stands_is;
-    };
-    ran = λ k s m.
-        let y = took.goes k s tt in (
-          y.0,
-          y.1,
-          made_of (spend_step took (λ n i. refl) k s tt t.frames t.frames) (ran_in t.frames (goes_stepped y.2)),
-          (y.3, holds_did k y.0 t.frames (Gate Enter ∷ []) (goes_did y.2) (refl, tt) m),
-        );
+    stands_is = as_before (record ((facts a).stands) { role = Within }) took.stands_is;
+    ran = one_act t.frames refl (λ n i. refl) (λ k m. m) (λ p q s. ran_in t.frames s) took;
   }
 
   enters_barred : ActedTo facts a b (Gate Knock ∷ Gate Withdraw ∷ []) anything LetsGoInTwo
       → Enters facts a b t.frames (Err Barred)
   enters_barred took = record {
-    stands_is = record {
-      room = ap (λ (s : Standing). s.room) took.stands_is;
-      config = ap (λ (s : Standing). s.config) took.stands_is;
-      last = ap (λ (s : Standing). s.last) took.stands_is;
-      thread = ap (λ (s : Standing). s.thread) took.stands_is;
-      role = ap (λ (s : Standing). s.role) took.stands_is;
-    };
+    stands_is = as_before (record ((facts a).stands) { role = Outside }) took.stands_is;
     ran = λ k s m.
         let y = took.leads k s tt in (
           y.0,
@@ -162,16 +144,6 @@ module _ {S : Type 0} (facts : S → Facts) (a b : S) (t : Table) where
         → IfErr answer (λ e. (e ≡ Barred) × ((facts b).stands.role ≡ Outside))
     refused_entered (Ok i) shut = tt
     refused_entered (Err e) shut = (shut.0, (shut_ready shut.1).role_is)
-
-  -- THE EXIT
-
-  pub ready_left : StandsReady facts Within a t → Took facts a b (Gate Leave ∷ []) anything lets_go
-      → StandsReady facts Outside b t
-  ready_left r took = record {
-    role_is = ap (λ (s : Standing). s.role) took.stands_is;
-    spent = ap (λ (s : Standing). s.fresh) took.stands_is ∙ r.spent;
-    own = own_stepped (Gate Leave) refl r.own took;
-  }
 
 -- OVER WHAT A THREAD HOLDS
 

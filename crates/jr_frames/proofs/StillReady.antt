@@ -1,5 +1,5 @@
 -- A thread and its frames go on standing ready.
-use Rattle.std.proofs.Common.{◌≡◌, ℕ, Option, true, false, List, [], ◌∷◌, Result, length, refl, sym, ap, ◌∙◌}
+use Rattle.std.proofs.Common.{◌≡◌, ℕ, Option, Bool, Ok, true, false, List, [], ◌∷◌, Result, length, refl, sym, ap, ◌∙◌}
 use Rattle.std.proofs.Math.Logic.{∥∥₁_elim}
 use Rattle.std.proofs.Props.{props}
 use Rattle.std.proofs.lemmas.List.{length-replicate}
@@ -10,16 +10,22 @@ use Rattle.jr_model.specs.declared.event.Role.{Role}
 use Rattle.jr_model.specs.declared.event.Role.TheVariants.{Outside, Within}
 use Rattle.jr_model.specs.declared.event.Act.{Act}
 use Rattle.jr_model.specs.declared.event.Act.TheVariants.{Gate, LocalPut, LocalDrop, Meet}
-use Rattle.jr_model.specs.declared.event.GateAct.TheVariants.{Enter}
+use Rattle.jr_model.specs.declared.event.GateAct.TheVariants.{Enter, Leave}
 use Rattle.jr_model.specs.State.{State}
-use Rattle.jr_model.specs.Frames.{fresh_frames, object_at}
-use Rattle.jr_model.specs.Calls.{Call}
+use Rattle.jr_model.specs.Frames.{Frames, fresh_frames, object_at}
+use Rattle.jr_model.specs.History.{PassView, role_after}
+use Rattle.jr_model.specs.Windows.{Stepped}
+use Rattle.jr_model.specs.Calls.{Call, Ran}
+use Rattle.jr_model.specs.Parts.{leave}
+use Rattle.jr_model.proofs.Runs.{ran_act}
+use Rattle.jr_model.proofs.Windows.{stepped_last}
 use Rattle.jr_model.proofs.Agreement.{spares_places}
 use Rattle.jr_steps.specs.declared.known.Known.{Known}
-use Rattle.jr_steps.specs.Knowing.{Facts, Standing, fresh_from, anything, keeps}
+use Rattle.jr_steps.specs.Knowing.{Facts, Leads, Standing, view, fresh_after, fresh_from, anything, keeps, lets_go}
 use Rattle.jr_steps.specs.Knowing.{Holds, HasNoLocals, MayKnow, Took, Spent}
-use Rattle.jr_steps.proofs.StepFacts.{goes_did}
-use Rattle.jr_gate.specs.Performing.{Performed, IsAsBefore}
+use Rattle.jr_steps.proofs.StepFacts.{goes_did, goes_stepped}
+use Rattle.jr_gate.specs.Performing.{Performed, IsAsBefore, IsMade, thread_state}
+use Rattle.jr_gate.proofs.Spending.{KeepsHint, made_of, spend_step}
 use Rattle.jr_frames.specs.Table.{Table}
 use Rattle.jr_frames.specs.OverSteps.{Resolves, Calls}
 use Rattle.jr_frames.specs.Ready.{AreOwn, StandsReady, KeepsOwner}
@@ -100,18 +106,48 @@ module _ {S : Type 0} {facts : S → Facts} where
         (x.0, x.1, holds_did k.0 x.0 t.frames (act ∷ []) (goes_did x.2) (spares, tt) k.2));
   }
 
-  module _ {a b : S} {t : Table} (r : StandsReady facts Outside a t) where
-    pub ready_entered : Took facts a b (Gate Enter ∷ []) anything keeps → StandsReady facts Within b t
-    ready_entered e = record {
-      role_is = ap (λ (s : Standing). s.role) e.stands_is;
-      spent = ap (λ (s : Standing). s.fresh) e.stands_is ∙ r.spent;
-      own = own_stepped (Gate Enter) refl r.own e;
-    }
+  -- a step that stores no local word leaves the thread ready in its new role, where it leaves the pass as fresh as it was
+  pub ready_stepped : {a b : S} {t : Table} {role : Role} {shows : Known → Known → Type 0} (act : Act)
+      → spares_places act ≡ true → ((f : Bool) → fresh_after f act ≡ f) → StandsReady facts role a t
+      → Took facts a b (act ∷ []) anything shows → StandsReady facts (role_after role act) b t
+  ready_stepped {a} act spares as_fresh r e = record {
+    role_is = ap (λ (s : Standing). s.role) e.stands_is ∙ ap (λ x. role_after x act) r.role_is;
+    spent = ap (λ (s : Standing). s.fresh) e.stands_is ∙ (as_fresh (facts a).stands.fresh ∙ r.spent);
+    own = own_stepped act spares r.own e;
+  }
 
-    -- frames that agree go on agreeing, whatever the thread learns
-    pub ready_met : Took facts a b (Meet ∷ []) anything keeps → StandsReady facts Outside b t
-    ready_met e = record {
-      role_is = ap (λ (s : Standing). s.role) e.stands_is ∙ r.role_is;
-      spent = ap (λ (s : Standing). s.fresh) e.stands_is ∙ r.spent;
-      own = own_stepped Meet refl r.own e;
-    }
+  pub ready_entered : {a b : S} {t : Table} → StandsReady facts Outside a t
+      → Took facts a b (Gate Enter ∷ []) anything keeps → StandsReady facts Within b t
+  ready_entered = ready_stepped (Gate Enter) refl (λ f. refl)
+
+  pub ready_left : {a b : S} {t : Table} {role : Role} → StandsReady facts role a t
+      → Took facts a b (Gate Leave ∷ []) anything lets_go → StandsReady facts Outside b t
+  ready_left = ready_stepped (Gate Leave) refl (λ f. refl)
+
+  -- frames that agree go on agreeing, whatever the thread learns
+  pub ready_met : {a b : S} {t : Table} → StandsReady facts Outside a t → Took facts a b (Meet ∷ []) anything keeps
+      → StandsReady facts Outside b t
+  ready_met = ready_stepped Meet refl (λ f. refl)
+
+  -- A CALL OF ONE ACT that stores no local word and makes no reference, over frames that stay as they are
+  pub one_act : {A : Type 0} {a b : S} {act : Act} {call : Call A} {answer : Result A Fault} {met : Known → Type 0}
+      {shows : Known → Known → Type 0} (f : Frames) → spares_places act ≡ true → KeepsHint act
+      → ((k : Known) → met k → Holds f k) → ((p q : PassView) → Stepped p q act → Ran p q f f call answer)
+      → Took facts a b (act ∷ []) anything shows
+      → Leads facts a b met (λ k k'. IsMade 0 (thread_state (facts a) k f) (thread_state (facts b) k' f) call answer)
+      (λ j k. shows j k × Holds f k)
+  one_act {act = act} f spares keeps_hint holds ran took k s m =
+      let y = took.goes k s tt in (
+        y.0,
+        y.1,
+        made_of (spend_step took keeps_hint k s tt f f) (ran (view k) (view y.0) (goes_stepped y.2)),
+        (y.3, holds_did k y.0 f (act ∷ []) (goes_did y.2) (spares, tt) (holds k m)),
+      )
+
+  -- the exit
+  pub exit_made : {a b : S} {met : Known → Type 0} (f : Frames) → ((k : Known) → met k → Holds f k)
+      → Took facts a b (Gate Leave ∷ []) anything lets_go
+      → Leads facts a b met (λ k k'. IsMade 0 (thread_state (facts a) k f) (thread_state (facts b) k' f) leave (Ok tt))
+      (λ j k. lets_go j k × Holds f k)
+  exit_made f holds =
+      one_act f refl (λ n i. refl) holds (λ p q s. ran_act f (Gate Leave) (λ out. absurd cc) (λ out. stepped_last s) s.did)
