@@ -112,7 +112,7 @@ module _ (turns : ℕ) (command : Asked) where
       (λ c last t s a reads one first. creation_uncontended s command c last t one first k a) (λ c last t s a.
       refusals_change_nothing c last t s _ (CallOf.new_reference k a)))
 
-  local_ref_alone : ((last : ℕ) (f : Frames) → free_places last f ≡ 0 → LacksRoom last command.1 f) → (w : ℕ)
+  pub local_ref_alone : ((last : ℕ) (f : Frames) → free_places last f ≡ 0 → LacksRoom last command.1 f) → (w : ℕ)
       → LeadsAlone turns command (new_local_ref w)
   local_ref_alone full w = answered_alone turns command _
       (on_alone turns command (λ c. 0) w (λ c last t s a. references.local_creation c last t a)
@@ -125,13 +125,13 @@ module _ (turns : ℕ) (command : Asked) where
       (λ c last t s a reads one first. removal_uncontended s command c last t one first k a (is a reads))
       (λ c last t s a. refusals_change_nothing c last t s _ (CallOf.delete_reference k a))
 
-  delete_local_alone : (w : ℕ) → ((a : Word) → IsReadAs w a → is_of_kind Local a ≡ true)
+  pub delete_local_alone : (w : ℕ) → ((a : Word) → IsReadAs w a → is_of_kind Local a ≡ true)
       → LeadsAlone turns command (delete_local_ref w)
   delete_local_alone w is = on_alone turns command (λ c. 0) w (λ c last t s a. references.local_removal c t a)
       (λ c last t s a reads one first. local_removal_uncontended s command c last t one first a (is a reads))
       (λ c last t s a. refusals_change_nothing c last t s _ (CallOf.delete_local_ref a))
 
-  same_alone : (v w : ℕ) → LeadsAlone turns command (is_same_object v w)
+  pub same_alone : (v w : ℕ) → LeadsAlone turns command (is_same_object v w)
   same_alone v w = on_both_alone turns command (λ c. 0) v w (λ c last t s a b. references.comparison c last t a b)
       (λ c last t s a b one first. comparison_uncontended s command c last t one first a b) (λ c last t s a b.
       refusals_change_nothing c last t s _ (CallOf.is_same_object a b))
@@ -267,15 +267,15 @@ module _ (turns : ℕ) (command : Asked) where
           (stayed turns command old.pass new.frames answer (fault_of old new answer d.0.ran.acts d.0.ran.is))
 
 module _ (turns : ℕ) (names : Names) where
-  push_alone : (n : ℕ) → LeadsAlone turns (names, commands.WithCount with_count.Push n) (push_local_frame n)
+  pub push_alone : (n : ℕ) → LeadsAlone turns (names, commands.WithCount with_count.Push n) (push_local_frame n)
   push_alone n =
       apart_alone turns _ (λ c last t. references.push_local_frame c last t n) (λ c last t. push_refused c last t n)
 
-  ensure_alone : (n : ℕ) → LeadsAlone turns (names, commands.WithCount with_count.Ensure n) (ensure_local_capacity n)
+  pub ensure_alone : (n : ℕ) → LeadsAlone turns (names, commands.WithCount with_count.Ensure n) (ensure_local_capacity n)
   ensure_alone n = apart_alone turns _ (λ c last t. references.ensure_local_capacity c last t n) (λ c last t.
       ensure_refused c last t n)
 
-  pop_alone : (n : List ℕ) (r : Reference) (w : ℕ)
+  pub pop_alone : (n : List ℕ) (r : Reference) (w : ℕ)
       → LeadsAlone turns (names, commands.MakeFrom make_from.Pop n r) (pop_local_frame w)
   pop_alone n r w = answered_alone turns _ _ (on_alone turns _ (λ c. 0) w (λ c last t s a. popped_to c last t a)
       (λ c last t s a reads one first. pop_uncontended names n r s c last t one first a) (λ c last t s a.

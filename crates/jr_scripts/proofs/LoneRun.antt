@@ -1,8 +1,10 @@
 -- A script of one thread that is run as one of several: its run is that of the thread alone.
 pub mod MadeCalls
+pub mod MeaningFrames
 pub mod MeaningFits
 pub mod MeaningCounts
 pub mod MeaningParts
+pub mod MeaningCalls
 pub mod MeaningDeeds
 pub mod MeaningCommands
 pub mod MeaningRun

@@ -606,8 +606,12 @@ text_of_part memory c part = heading part.name ++ (told_from c 3 part.commands (
 
 -- the commands of which it is proved so far that they print what they mean
 abbrev pub IsCovered : Command → Type 0
-IsCovered (commands.Make make.Plain n) = Unit {0}
+IsCovered (commands.Make v n) = Unit {0}
+IsCovered (commands.MakeFrom make_from.Local n r) = Unit {0}
 IsCovered (commands.On on.Type r) = Unit {0}
+IsCovered (commands.OnBoth v q r) = Unit {0}
+IsCovered (commands.OnName v n) = Unit {0}
+IsCovered (commands.WithCount with_count.Ensure n) = Unit {0}
 IsCovered _ = ⊥
 
 -- THE TEXT OF A RUN IS WHAT ITS SCRIPT MEANS, where there are turns, serials have 32 bits, and all commands are covered

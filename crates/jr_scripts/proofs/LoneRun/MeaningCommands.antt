@@ -1,48 +1,65 @@
 -- What a lone thread's commands mean, each from a moment that is as the world.
-use Rattle.std.proofs.Common.{◌≡◌, ◌≢◌, inl, inr, ℕ, suc, ◌<◌, ◌≤◌, ◌^◌, Option, Some, None, List, [], length, Result}
-use Rattle.std.proofs.Common.{Ok, Err, IfErr, refl, sym, ap, subst, ◌∙◌}
+use Rattle.std.proofs.Common.{◌≡◌, ◌≢◌, inl, inr, ℕ, zero, suc, ◌<◌, ◌≤◌, ◌^◌, Bool, Option, Some, None, List, []}
+use Rattle.std.proofs.Common.{length, map, MatchOption, Result, Ok, Err, IfErr, refl, sym, ap, subst, ◌∙◌, arith}
+use Rattle.std.proofs.lemmas.List.{append-nil}
 use Rattle.std.specs.List.{AllByRecursion}
 use Rattle.jr_word.specs.declared.config.Config.{Config}
 use Rattle.jr_word.specs.declared.fault.Fault.{Fault}
-use Rattle.jr_word.specs.declared.fault.Fault.TheVariants.{RowFull, ObjectsFull}
+use Rattle.jr_word.specs.declared.fault.Fault.TheVariants.{RowFull, ObjectsFull, Stale, Turns}
+use Rattle.jr_word.specs.declared.handle.Handle.{Handle as HandleWord}
 use Rattle.jr_word.specs.declared.kind.Kind.TheVariants.{Plain}
 use Rattle.jr_word.specs.Handle.{handle_word, IsHandle}
 use Rattle.jr_model.specs.declared.event.Act.{Act}
-use Rattle.jr_model.specs.State.{Handle}
-use Rattle.jr_model.specs.History.{PassView, Did, state}
+use Rattle.jr_model.specs.State.{Handle, State}
+use Rattle.jr_model.specs.History.{History, PassView, Did, state}
 use Rattle.jr_model.specs.Frames.{Frames}
+use Rattle.jr_model.specs.Calls.{Call}
+use Rattle.jr_model.specs.Checks.{Word}
 use Rattle.jr_model.specs.References as references
-use Rattle.jr_gate.specs.Performing.{ThreadState}
-use Rattle.jr_env.specs.Deeds.{call_by, decided, done, get_object_ref_type, new_plain, packed, ◌>>=◌}
+use Rattle.jr_model.proofs.Histories.{state_append}
+use Rattle.jr_model.proofs.Stays.{sees_its_own_acts}
+use Rattle.jr_frames.specs.Reading.{IsReadAs}
+use Rattle.jr_gate.specs.Performing.{IsMade, ThreadState}
+use Rattle.jr_env.specs.Deeds.{Deed, call_by, call_on, call_on_both, decided, done, ensure_local_capacity}
+use Rattle.jr_env.specs.Deeds.{get_object_ref_type, is_same_object, new_local_ref, new_plain, packed, packed_if, ◌>>=◌}
 use Rattle.jr_syntax.specs.declared.name.Reference.{Reference}
 use Rattle.jr_syntax.specs.declared.name.Reference.TheVariants as refers
 use Rattle.jr_syntax.specs.declared.command.Command.{Command}
 use Rattle.jr_syntax.specs.declared.command.Command.TheVariants as commands
 use Rattle.jr_syntax.specs.declared.verb.Make.TheVariants as make
+use Rattle.jr_syntax.specs.declared.verb.MakeFrom.TheVariants as make_from
 use Rattle.jr_syntax.specs.declared.verb.On.TheVariants as on
+use Rattle.jr_syntax.specs.declared.verb.OnBoth.TheVariants as on_both
+use Rattle.jr_syntax.specs.declared.verb.OnName.TheVariants as on_name
+use Rattle.jr_syntax.specs.declared.verb.WithCount.TheVariants as with_count
 use Rattle.jr_scripts.specs.declared.reply.Reply.{Reply}
 use Rattle.jr_scripts.specs.declared.reply.Reply.TheVariants as replies
 use Rattle.jr_scripts.specs.declared.binding.Binding.{Binding}
 use Rattle.jr_scripts.specs.declared.binding.Binding.TheVariants as bound
-use Rattle.jr_scripts.specs.Names.{Names, reference_in, referent}
-use Rattle.jr_scripts.specs.Commands.{deed, tried, type_of}
+use Rattle.jr_scripts.specs.Names.{Names, binding, reference_in, referent, wanted, with_name, word_posted}
+use Rattle.jr_scripts.specs.Commands.{HasLearned, awaited, deed, makes_reference, tried, type_of}
 use Rattle.jr_scripts.specs.RegionCommands.{deed_at, deed_within}
-use Rattle.jr_scripts.specs.Places.{Place, by_region, place_after}
-use Rattle.jr_scripts.specs.Posting.{Words}
-use Rattle.jr_scripts.specs.Text.{printed}
+use Rattle.jr_scripts.specs.Places.{Place, by_region, objects_after, place_after}
+use Rattle.jr_scripts.specs.Posting.{IsAnswered, Words, reply_to_wait, said_alone, word_under, words_after, words_with}
+use Rattle.jr_scripts.specs.Text.{names_after, printed, reference_made, says}
 use Rattle.jr_scripts.specs.AloneAnswers.{IsAloneFault, IsCommandFault, IsFaultOutside, IsFaultWithin}
 use Rattle.jr_scripts.specs.Runs.{IsUnbarred}
-use Rattle.jr_scripts.proofs.AloneCalls.{IsAlone}
-use Rattle.jr_scripts.proofs.AloneDeeds.{plain_alone, type_alone}
+use Rattle.jr_scripts.proofs.AloneCalls.{IsAlone, LeadsAlone}
+use Rattle.jr_scripts.proofs.AloneDeeds.{ensure_alone, local_ref_alone, plain_alone, same_alone, type_alone}
 use Rattle.jr_scripts.proofs.Uncontended.{Asked}
 use Rattle.jr_scripts.specs.Meaning.{IsCovered, World, Meaning, goes_on, reply_made, type_named, meaning_at}
 use Rattle.jr_scripts.specs.Meaning as meaning
-use Rattle.jr_scripts.proofs.LoneRun.MadeCalls.{IsSo}
-use Rattle.jr_scripts.proofs.LoneRun.MeaningFits.{Pairing, Later, Fits, IsSame, Outcome, later_self}
-use Rattle.jr_scripts.proofs.LoneRun.MeaningParts.{NewFits, plain_means, type_means}
-use Rattle.jr_scripts.proofs.LoneRun.MeaningDeeds.{IsPass, NamesFit, BindingFits, HandleFits, call_made, formed}
-use Rattle.jr_scripts.proofs.LoneRun.MeaningDeeds.{made_once}
-use Rattle.jr_scripts.proofs.LoneRun.MeaningDeeds.{names_later, names_set_fit, now, own_handle, read_fits, was_formed}
+use Rattle.jr_scripts.proofs.LoneRun.MadeCalls.{IsSo, moment_is}
+use Rattle.jr_scripts.proofs.LoneRun.MeaningFrames.{Pairing}
+use Rattle.jr_scripts.proofs.LoneRun.MeaningFits.{Later, Fits, Fitting, IsDone, IsSame, Means, Outcome, fits_less}
+use Rattle.jr_scripts.proofs.LoneRun.MeaningFits.{later_self}
+use Rattle.jr_scripts.proofs.LoneRun.MeaningParts.{room_means}
+use Rattle.jr_scripts.proofs.LoneRun.MeaningCalls.{MaybeFits, NewFits, WordFits, local_means, plain_means, same_means}
+use Rattle.jr_scripts.proofs.LoneRun.MeaningCalls.{new_maybe, type_means}
+use Rattle.jr_scripts.proofs.LoneRun.MeaningDeeds.{IsPass, NamesFit, BindingFits, HandleFits, MaybeWord, WordsFit}
+use Rattle.jr_scripts.proofs.LoneRun.MeaningDeeds.{after_decided, call_made, formed, formed_both, made_once, names_later}
+use Rattle.jr_scripts.proofs.LoneRun.MeaningDeeds.{names_set_fit, now, own_handle, posted_fits, read_fits, was_formed}
+use Rattle.jr_scripts.proofs.LoneRun.MeaningDeeds.{word_under_fits, words_later, words_with_fit}
 
 -- a pass later on
 pub pass_later : (c : Config) (last : ℕ) (old new : PassView) (acts : List Act) → Did old new acts → IsPass c last old
@@ -66,210 +83,493 @@ err_formed : {A B : Type 0} (F : Fault → Type 0) (form : A → B) (r : Result 
 err_formed F form (Ok x) h = tt
 err_formed F form (Err e) h = h
 
+-- a command with this answer sets no name, changes no level, and says and hears nothing
+abbrev pub Keeps : Command → Result Reply Fault → Type 0
+Keeps x a = (names : Names) (objects : List ℕ) (words : Words)
+    → (names_after x a names ≡ names) × (objects_after x a objects ≡ objects) × (words_after names x a words ≡ words)
+
+-- one that makes something sets this name alone
+abbrev pub Sets : Command → List ℕ → Type 0
+Sets x n = (h : Option HandleWord) (names : Names) (objects : List ℕ) (words : Words)
+    → (names_after x (Ok (replies.Made h)) names ≡ with_name names n (bound.Reference (reference_made h)))
+    × (objects_after x (Ok (replies.Made h)) objects ≡ objects)
+    × (words_after names x (Ok (replies.Made h)) words ≡ words)
+
+-- and prints nothing of a reference
+abbrev pub IsSilent : Command → Type 0
+IsSilent x = (h g : HandleWord) → says x (replies.Made (Some h)) ≡ says x (replies.Made (Some g))
+
 module _ (c : Config) (last : ℕ) where
-  -- THE THREAD STANDS as in the world, with names for the same, and outside a region
-  pub record Stands (P : Pairing) (w : World) (m : ThreadState) (p q : Place) : Type 0 where
+  -- THE THREAD STANDS as in the world, with names for the same and the same words, and outside a region
+  pub record Stands (k : ℕ) (P : Pairing) (w : World) (m : ThreadState) (p q : Place) (had told : Words) : Type 0 where
     pub pass : IsPass c last m.pass
-    pub fits : Fits c last P w (now m)
+    pub fits : Fits c last k P w (now m)
     pub names : NamesFit P w p.names q.names
     pub outside : p.objects ≡ []
     pub outside_then : q.objects ≡ []
+    pub words : WordsFit P w had told
 
   -- THE COMMAND WAS DONE as it means: it printed the same, and the thread stands as in the world then
-  pub record Stepped (x : Command) (new : ThreadState) (p q : Place) (answer : Result Reply Fault)
-      (r : Result Reply Fault × World) : Type 0 where
+  pub record Stepped (k : ℕ) (x : Command) (new : ThreadState) (p q : Place) (had told : Words)
+      (answer : Result Reply Fault) (r : Result Reply Fault × World) : Type 0 where
     pub pairing : Pairing
-    pub stands : Stands pairing r.1 new (place_after x answer p) (place_after x r.0 q)
+    pub stands : Stands k pairing r.1 new (place_after x answer p) (place_after x r.0 q)
+        (words_after p.names x answer had) (words_after q.names x r.0 told)
     pub text : (line : ℕ) → printed line x answer ≡ printed line x r.0
 
   module _ (turns : ℕ) (some_turns : turns ≢ 0) (some : 1 ≤ c.threads) (small : c.locals ≤ 4096)
       (few : last < 2 ^ 32) where
-    module _ (P : Pairing) (w : World) (old new : ThreadState) (p q : Place) (s : Stands P w old p q)
-        (alone : IsAlone new.pass)
+    module _ (j k : ℕ) (P : Pairing) (w : World) (old new : ThreadState) (p q : Place) (had told : Words)
+        (s : Stands j P w old p q had told) (alone : IsAlone new.pass)
         (all : AllByRecursion IsUnbarred new.pass.seen) where
       -- what a refusal says of the room is so at the end
       so_then : (x : Command) (answer : Result Reply Fault) → IsPass c last new.pass
           → IfErr answer (IsCommandFault turns p.names x new.pass new.frames)
           → IfErr answer (IsSo c last (state new.pass.seen))
       so_then x answer pass fault = err_map answer (λ e h.
-          subst (λ k. IsSo k last (state new.pass.seen) e) pass.config
+          subst (λ z. IsSo z last (state new.pass.seen) e) pass.config
           (subst (λ l. IsSo new.pass.config l (state new.pass.seen) e) pass.last_is
           (so_of turns p.names x new.pass new.frames e h))) fault
 
-      -- PLAIN
-      module _ (n : List ℕ) (answer : Result Reply Fault) where
-        abbrev pub Next : ℕ → Meaning Reply
-        Next k v = (Ok (reply_made k), v)
+      handles : (i : ℕ) → i < length w.refs → IsHandle (P.handle i)
+      handles i l = own_handle c last (P.handle i) small few (s.fits.locals.own i l)
 
-        plain_after : (once : Result Handle Fault) (r : Result ℕ Fault × World) → IsPass c last new.pass
-            → Outcome c last NewFits P w once r (now new)
-            → answer ≡ formed (λ h. replies.Made (Some h)) (formed packed once)
-            → Stepped (commands.Make make.Plain n) new p q answer (goes_on Next r)
-        plain_after (Ok h) (Ok k, v) pass o is =
-            let i = (o.answers).0 in
-            let key : k ≡ suc i = (o.answers).1 in
-            let Q = o.pairing in
-            let here : Stepped (commands.Make make.Plain n) new p q (Ok (replies.Made (Some (packed h)))) (
-              Ok
-                  (reply_made (suc i)),
-              v,
-            ) = record {
+      module _ (x : Command) (answer : Result Reply Fault) where
+        -- this is what comes of it
+        abbrev Steps : Result Reply Fault × World → Type 0
+        Steps r = Stepped k x new p q had told answer r
+
+        -- where the moment is as a later world
+        record IsThen (Q : Pairing) (v : World) : Type 0 where
+          pub later : Later P w Q v
+          pub pass : IsPass c last new.pass
+          pub fits : Fits c last k Q v (now new)
+
+        -- a command that keeps all
+        kept_step : (Q : Pairing) (v : World) (a b : Result Reply Fault) → IsThen Q v → answer ≡ a → Keeps x a
+            → Keeps x b → ((line : ℕ) → printed line x a ≡ printed line x b) → Steps (b, v)
+        kept_step Q v a b i is keeps keeps' text =
+            subst (λ z. Stepped k x new p q had told z (b, v)) (sym is) (record {
               pairing = Q;
               stands = record {
-                pass = pass;
-                fits = o.fits;
-                names = names_set_fit Q v p.names q.names n (bound.Reference (packed h)) (bound.Reference
-                    (record { 0 = suc i }))
-                    (names_later o.later p.names q.names s.names)
-                    ((o.answers).2, ap handle_word (o.answers).3);
-                outside = s.outside;
-                outside_then = s.outside_then;
+                pass = i.pass;
+                fits = i.fits;
+                names = subst (λ n. NamesFit Q v n (names_after x b q.names)) (sym one.0)
+                    (subst (λ n. NamesFit Q v p.names n) (sym two.0) (names_later i.later p.names q.names s.names));
+                outside = one.1 ∙ s.outside;
+                outside_then = two.1 ∙ s.outside_then;
+                words = subst (λ l. WordsFit Q v l (words_after q.names x b told)) (sym one.2)
+                    (subst (λ l. WordsFit Q v had l) (sym two.2) (words_later i.later had told s.words));
               };
-              text = λ line. refl;
-            } in
-            subst (λ z. Stepped (commands.Make make.Plain n) new p q z (Ok (reply_made k), v)) (sym is)
-            (subst (λ z. Stepped (commands.Make make.Plain n) new p q (Ok (replies.Made (Some (packed h)))) (
-              Ok
-                  (reply_made z),
-              v,
-            )) (sym key) here)
-        plain_after (Err e) (Err d, v) pass o is =
-            let here : Stepped (commands.Make make.Plain n) new p q (Err e) (Err e, v) = record {
-              pairing = o.pairing;
-              stands = record {
-                pass = pass;
-                fits = o.fits;
-                names = names_later o.later p.names q.names s.names;
-                outside = s.outside;
-                outside_then = s.outside_then;
-              };
-              text = λ line. refl;
-            } in
-            subst (λ z. Stepped (commands.Make make.Plain n) new p q z (Err d, v)) (sym is)
-            (subst (λ z. Stepped (commands.Make make.Plain n) new p q (Err e) (Err z, v)) o.answers here)
-        plain_after (Ok h) (Err d, v) pass o is = absurd o.answers
-        plain_after (Err e) (Ok k, v) pass o is = absurd o.answers
+              text = text;
+            })
+          where
+            one : (names_after x a p.names ≡ p.names) × (objects_after x a p.objects ≡ p.objects)
+                × (words_after p.names x a had ≡ had)
+            one = keeps p.names p.objects had
 
-        pub plain_step : deed turns p.names (commands.Make make.Plain n) old answer new
-            → IfErr answer (IsCommandFault turns p.names (commands.Make make.Plain n) new.pass new.frames)
-            → Stepped (commands.Make make.Plain n) new p q answer (goes_on Next (meaning.made c Plain [] w))
-        plain_step d fault =
-            let command : Asked = (p.names, commands.Make make.Plain n) in
-            let f = was_formed (λ h. replies.Made (Some h)) (tried turns new_plain) old new answer d in
-            let once = made_once command (λ k. plain_alone k command (λ l g none. none)) turns old new f.once alone
-            some_turns f.did in
-            let g = was_formed packed (call_by (λ k. k.objects) (λ k l t z. references.new_plain k l t)) old new
-            f.once once in
-            let pass = pass_later c last old.pass new.pass g.did.0.ran.acts g.did.0.ran.did s.pass in
-            let is : answer ≡ formed (λ h. replies.Made (Some h)) (formed packed g.once) =
-            f.is ∙ ap (formed (λ h. replies.Made (Some h))) g.is in
-            let so = err_formed (IsSo c last (state new.pass.seen)) packed g.once (err_formed (IsSo c last
-            (state new.pass.seen)) (λ h. replies.Made (Some h)) (formed packed g.once)
-            (subst (λ z. IfErr z (IsSo c last (state new.pass.seen))) is (so_then
-            (commands.Make make.Plain n) answer pass fault))) in
-            let made = call_made c last (λ k. k.objects) (λ k l t z. references.new_plain k l t) old new g.once s.pass
-            alone all so g.did in
-            plain_after g.once (meaning.made c Plain [] w) pass
-            ((plain_means c last P w).outcome (now old) (now new) g.once s.fits made) is
+            two : (names_after x b q.names ≡ q.names) × (objects_after x b q.objects ≡ q.objects)
+                × (words_after q.names x b told ≡ told)
+            two = keeps' q.names q.objects told
+
+        -- one that makes a reference, or NULL
+        made_step : (n : List ℕ) (Q : Pairing) (v : World) (h g : Option HandleWord) → IsThen Q v
+            → answer ≡ Ok (replies.Made h) → Sets x n → says x (replies.Made h) ≡ says x (replies.Made g)
+            → HandleFits Q v (reference_made h).0 (reference_made g).0 → Steps (Ok (replies.Made g), v)
+        made_step n Q v h g i is sets text fits =
+            subst (λ z. Stepped k x new p q had told z (Ok (replies.Made g), v)) (sym is) (record {
+              pairing = Q;
+              stands = record {
+                pass = i.pass;
+                fits = i.fits;
+                names = subst (λ l. NamesFit Q v l (names_after x (Ok (replies.Made g)) q.names)) (sym one.0)
+                    (subst (λ l. NamesFit Q v (with_name p.names n (bound.Reference (reference_made h))) l) (sym two.0)
+                    (names_set_fit Q v p.names q.names n (bound.Reference (reference_made h))
+                    (bound.Reference (reference_made g)) (names_later i.later p.names q.names s.names) fits));
+                outside = one.1 ∙ s.outside;
+                outside_then = two.1 ∙ s.outside_then;
+                words = subst (λ l. WordsFit Q v l (words_after q.names x (Ok (replies.Made g)) told)) (sym one.2)
+                    (subst (λ l. WordsFit Q v had l) (sym two.2) (words_later i.later had told s.words));
+              };
+              text = λ line. text;
+            })
+          where
+            one : (names_after x (Ok (replies.Made h)) p.names
+                ≡ with_name p.names n (bound.Reference (reference_made h)))
+                × (objects_after x (Ok (replies.Made h)) p.objects ≡ p.objects)
+                × (words_after p.names x (Ok (replies.Made h)) had ≡ had)
+            one = sets h p.names p.objects had
+
+            two : (names_after x (Ok (replies.Made g)) q.names
+                ≡ with_name q.names n (bound.Reference (reference_made g)))
+                × (objects_after x (Ok (replies.Made g)) q.objects ≡ q.objects)
+                × (words_after q.names x (Ok (replies.Made g)) told ≡ told)
+            two = sets g q.names q.objects told
+
+        -- nothing has happened
+        nothing_then : new ≡ old → k ≤ j → IsThen P w
+        nothing_then same le = record {
+          later = later_self P w;
+          pass = subst (λ (m : ThreadState). IsPass c last m.pass) (sym same) s.pass;
+          fits = subst (λ (m : ThreadState). Fits c last k P w (now m)) (sym same)
+              (fits_less le s.fits);
+        }
+
+        -- A CALL THAT WAS MADE, and what it means
+        record CallMeant {A B : Type 0} (V : Fitting A B) (once : Result A Fault)
+            (r : Result B Fault × World) : Type 0 where
+          pub pass : IsPass c last new.pass
+          pub outcome : Outcome c last k V P w once r (now new)
+
+        module _ (fault : IfErr answer (IsCommandFault turns p.names x new.pass new.frames)) where
+          made_call : {A B : Type 0} {V : Fitting A B} (form : A → Reply) (n : ℕ)
+              (asked : Config → ℕ → ℕ → State → Call A) (meant : Meaning B) (once : Result A Fault)
+              → ((z : State) → Means c last j k V P w (asked c last 0 z) meant)
+              → IsMade n old new (asked old.pass.config old.pass.last old.pass.thread (state new.pass.seen)) once
+              → answer ≡ formed form once → CallMeant V once (meant w)
+          made_call form n asked meant once means made is =
+              let pass = pass_later c last old.pass new.pass made.ran.acts made.ran.did s.pass in
+              let so = err_formed (IsSo c last (state new.pass.seen)) form once
+              (subst (λ z. IfErr z (IsSo c last (state new.pass.seen))) is (so_then x answer pass fault)) in
+              record {
+                pass = pass;
+                outcome = (means (state new.pass.seen)).outcome (now old) (now new) once s.fits
+                    (call_made c last asked old new once s.pass alone all so n made);
+              }
+
+          -- one that is handed a word
+          word_call : {A B : Type 0} {V : Fitting A B} (form : A → Reply)
+              (asked : Config → ℕ → ℕ → State → Word → Call A) (meant : Meaning B) (once : Result A Fault) (h g : ℕ)
+              → HandleFits P w h g
+              → ((a : Word) (z : State) → WordFits P w a g → Means c last j k V P w (asked c last 0 z a) meant)
+              → call_on h asked old once new → answer ≡ formed form once → CallMeant V once (meant w)
+          word_call {V = V} form asked meant once h g fits means d is =
+              let a = d.0 in
+              made_call {V = V} form 0 (λ l m t z. asked l m t z a) meant once
+              (λ z. means a z (read_fits P w h g a handles d.1 fits)) (d.2).0 is
+
+        -- what comes of an answer whose reply is the same
+        same_after : {A B : Type 0} {V : Fitting A B} (form : A → Reply) (form' : B → Reply)
+            → ((Q : Pairing) (v : World) (y : A) (z : B) → V Q v y z → form y ≡ form' z)
+            → ((y : A) → Keeps x (Ok (form y))) → ((z : B) → Keeps x (Ok (form' z))) → ((e : Fault) → Keeps x (Err e))
+            → (once : Result A Fault) (r : Result B Fault × World) → CallMeant V once r → answer ≡ formed form once
+            → Steps (goes_on (λ z v. (Ok (form' z), v)) r)
+        same_after form form' same keeps keeps' quiet (Ok y) (Ok z, v) i is =
+            let o = i.outcome in
+            kept_step o.pairing v (Ok (form y)) (Ok (form' z)) (record { later = o.later; pass = i.pass; fits = o.fits })
+            is (keeps y) (keeps' z) (λ line. ap (λ a. says x a) (same o.pairing v y z o.answers))
+        same_after form form' same keeps keeps' quiet (Err e) (Err d, v) i is =
+            let o = i.outcome in
+            kept_step o.pairing v (Err e) (Err d) (record { later = o.later; pass = i.pass; fits = o.fits }) is
+            (quiet e) (quiet d) (λ line. ap (λ a. printed line x (Err a)) o.answers)
+        same_after form form' same keeps keeps' quiet (Ok y) (Err d, v) i is = absurd i.outcome.answers
+        same_after form form' same keeps keeps' quiet (Err e) (Ok z, v) i is = absurd i.outcome.answers
+
+        -- what comes of an answer that makes a reference, or NULL
+        makes_after : (n : List ℕ) → Sets x n → IsSilent x → ((e : Fault) → Keeps x (Err e))
+            → (once : Result (Option Handle) Fault) (r : Result ℕ Fault × World) → CallMeant MaybeFits once r
+            → answer ≡ formed (λ h. replies.Made (packed_if h)) once
+            → Steps (goes_on (λ z v. (Ok (reply_made z), v)) r)
+        makes_after n sets silent quiet (Ok None) (Ok zero, v) i is =
+            let o = i.outcome in
+            made_step n o.pairing v None None (record { later = o.later; pass = i.pass; fits = o.fits }) is sets refl
+            refl
+        makes_after n sets silent quiet (Ok (Some h)) (Ok (suc z), v) i is =
+            let o = i.outcome in
+            made_step n o.pairing v (Some (packed h)) (Some (record { 0 = suc z }))
+            (record { later = o.later; pass = i.pass; fits = o.fits }) is sets (silent (packed h) (record { 0 = suc z }))
+            ((o.answers).0, ap handle_word (o.answers).1)
+        makes_after n sets silent quiet (Err e) (Err d, v) i is =
+            let o = i.outcome in
+            kept_step o.pairing v (Err e) (Err d) (record { later = o.later; pass = i.pass; fits = o.fits }) is
+            (quiet e) (quiet d) (λ line. ap (λ a. printed line x (Err a)) o.answers)
+        makes_after n sets silent quiet (Ok None) (Ok (suc z), v) i is = absurd i.outcome.answers
+        makes_after n sets silent quiet (Ok (Some h)) (Ok zero, v) i is = absurd i.outcome.answers
+        makes_after n sets silent quiet (Ok y) (Err d, v) i is = absurd i.outcome.answers
+        makes_after n sets silent quiet (Err e) (Ok z, v) i is = absurd i.outcome.answers
+
+        -- a reference that is wanted
+        wanted_step : k ≤ j → (next : HandleWord → Deed Reply) (then : ℕ → Meaning Reply) (b b' : Binding)
+            → BindingFits P w b b' → ((e : Fault) → Keeps x (Err e)) → (decided (wanted b) >>= next) old answer new
+            → ((h g : HandleWord) → HandleFits P w h.0 g.0 → next h old answer new → Steps (then g.0 w))
+            → Steps (goes_on then (goes_on (λ h v. (Ok h.0, v)) (wanted b', w)))
+        wanted_step le next then bound.Nothing bound.Nothing fits quiet d found =
+            let r = after_decided next old new answer (wanted bound.Nothing) d in
+            kept_step P w (Err Stale)
+            (Err Stale) (nothing_then r.1 le) r.0 (quiet _)
+            (quiet _) (λ line. refl)
+        wanted_step le next then (bound.Reference h) (bound.Reference g) fits quiet d found =
+            found h g fits (after_decided next old new answer (wanted (bound.Reference h)) d)
+        wanted_step le next then bound.Nothing (bound.Reference g) fits quiet d found = absurd fits
+        wanted_step le next then bound.Nothing (bound.Buffer b) fits quiet d found = absurd fits
+        wanted_step le next then (bound.Reference h) bound.Nothing fits quiet d found = absurd fits
+        wanted_step le next then (bound.Reference h) (bound.Buffer b) fits quiet d found = absurd fits
+        wanted_step le next then (bound.Buffer b) b' fits quiet d found = absurd fits
+
+      -- what a call means that gives up nothing
+      even : {A B : Type 0} {V : Fitting A B} {call : Call A} {meant : Meaning B} → j ≡ k
+          → Means c last j j V P w call meant → Means c last j k V P w call meant
+      even {V = V} {call = call} {meant = meant} one means = subst (λ z. Means c last j z V P w call meant) one means
+
+      at_most : j ≡ k → k ≤ j
+      at_most one = omega arith
+
+      -- PLAIN
+
+      some_once : (once : Result Handle Fault) (r : Result ℕ Fault × World)
+          → Outcome c last k NewFits P w once r (now new) → Outcome c last k MaybeFits P w (formed Some once) r (now new)
+      some_once (Ok h) (Ok n, v) o = record {
+        pairing = o.pairing;
+        later = o.later;
+        fits = o.fits;
+        answers = new_maybe o.pairing v h n o.answers;
+      }
+      some_once (Err e) (Err d, v) o = record {
+        pairing = o.pairing;
+        later = o.later;
+        fits = o.fits;
+        answers = o.answers;
+      }
+      some_once (Ok h) (Err d, v) o = absurd o.answers
+      some_once (Err e) (Ok n, v) o = absurd o.answers
+
+      plain_step : j ≡ k → (n : List ℕ) (answer : Result Reply Fault)
+          → IfErr answer (IsCommandFault turns p.names (commands.Make make.Plain n) new.pass new.frames)
+          → deed turns p.names (commands.Make make.Plain n) old answer new
+          → Steps (commands.Make make.Plain n) answer (meaning.outside c q.names told (commands.Make make.Plain n) w)
+      plain_step one n answer fault d =
+          let x = commands.Make make.Plain n in
+          let command : Asked = (p.names, x) in
+          let f = was_formed (λ h. replies.Made (Some h)) (tried turns new_plain) old new answer d in
+          let once = made_once command (λ z. plain_alone z command (λ l g none. none)) turns old new f.once alone
+          some_turns f.did in
+          let g = was_formed packed (call_by (λ z. z.objects) (λ z l t y. references.new_plain z l t)) old new
+          f.once once in
+          let is : answer ≡ formed (λ h. replies.Made (Some (packed h))) g.once =
+          f.is ∙ (ap (formed (λ h. replies.Made (Some h))) g.is
+          ∙ formed_both (λ h. replies.Made (Some h)) packed g.once) in
+          let i = made_call x answer fault {V = NewFits} (λ h. replies.Made (Some (packed h))) old.pass.config.objects
+          (λ z l t y. references.new_plain z l t) (meaning.made c Plain []) g.once (λ z. even one (plain_means c last j P w))
+          (g.did).0 is in
+          makes_after x answer n (λ h names os ws. (refl, refl, refl)) (λ h g. refl) (λ e names os ws.
+          (refl, refl, refl)) (formed Some g.once) (meaning.made c Plain [] w)
+          (record { pass = i.pass; outcome = some_once g.once (meaning.made c Plain [] w) i.outcome })
+          (is ∙ sym (formed_both (λ h. replies.Made (packed_if h)) Some g.once))
+
+      -- LOCAL
+
+      local_step : j ≡ k → (n : List ℕ) (r : Reference) (answer : Result Reply Fault)
+          → IfErr answer (IsCommandFault turns p.names (commands.MakeFrom make_from.Local n r) new.pass new.frames)
+          → BindingFits P w (referent p.names r) (referent q.names r)
+          → deed turns p.names (commands.MakeFrom make_from.Local n r) old answer new
+          → Steps (commands.MakeFrom make_from.Local n r) answer
+          (meaning.outside c q.names told (commands.MakeFrom make_from.Local n r) w)
+      local_step one n r answer fault fits d =
+          let x = commands.MakeFrom make_from.Local n r in
+          wanted_step x answer (at_most one) (λ h. makes_reference turns (new_local_ref h.0))
+          (meaning.made_from c q.names told make_from.Local) (referent p.names r) (referent q.names r) fits
+          (λ e names os ws. (refl, refl, refl)) d found
+        where
+          found : (h g : HandleWord) → HandleFits P w h.0 g.0
+              → makes_reference turns (new_local_ref h.0) old answer new
+              → Steps (commands.MakeFrom make_from.Local n r) answer
+              (meaning.made_from c q.names told make_from.Local g.0 w)
+          found h g same d' =
+              let x = commands.MakeFrom make_from.Local n r in
+              let command : Asked = (p.names, x) in
+              let f = was_formed (λ z. replies.Made z) (tried turns (new_local_ref h.0)) old new answer d' in
+              let once = made_once command (λ z. local_ref_alone z command (λ l v none. none) h.0) turns old new f.once
+              alone some_turns f.did in
+              let y = was_formed packed_if (call_on h.0 (λ z l t u a. references.new_local_ref z l t a)) old new f.once
+              once in
+              let is : answer ≡ formed (λ z. replies.Made (packed_if z)) y.once =
+              f.is ∙ (ap (formed (λ z. replies.Made z)) y.is ∙ formed_both (λ z. replies.Made z) packed_if y.once) in
+              let meant : Meaning ℕ = λ z. goes_on (meaning.new_local c) (meaning.object g.0 z) in
+              let i = word_call x answer fault {V = MaybeFits} (λ z. replies.Made (packed_if z))
+              (λ z l t u a. references.new_local_ref z l t a) meant y.once h.0 g.0 same
+              (λ a z word. even one (local_means c last j P w a g.0 some word)) y.did is in
+              makes_after x answer n (λ z names os ws. (refl, refl, refl)) (λ z v. refl) (λ e names os ws.
+              (refl, refl, refl)) y.once (meant w) i is
+
+      -- SAME
+
+      module _ (one : j ≡ k) (r t : Reference) (answer : Result Reply Fault)
+          (fault : IfErr answer (IsCommandFault turns p.names (commands.OnBoth on_both.Same r t) new.pass new.frames))
+        where
+          abbrev compare : HandleWord → HandleWord → Deed Reply
+          compare h u = tried turns (is_same_object h.0 u.0) >>= (λ b. done (replies.Same b))
+
+          abbrev second : HandleWord → Deed Reply
+          second v = decided (wanted (referent p.names t)) >>= (λ u. compare v u)
+
+          abbrev compare_means : ℕ → ℕ → Meaning Reply
+          compare_means m n z = goes_on (λ b v. (Ok (replies.Same b), v)) (meaning.same m n z)
+
+          abbrev second_means : ℕ → Meaning Reply
+          second_means m z =
+              goes_on (λ n. compare_means m n) (goes_on (λ h v. (Ok h.0, v)) (wanted (referent q.names t), z))
+
+          same_found : (h g u v : HandleWord) → HandleFits P w h.0 g.0 → HandleFits P w u.0 v.0
+              → compare h u old answer new → Steps (commands.OnBoth on_both.Same r t) answer (compare_means g.0 v.0 w)
+          same_found h g u v same same' d' =
+              let x = commands.OnBoth on_both.Same r t in
+              let command : Asked = (p.names, x) in
+              let f = was_formed (λ b. replies.Same b) (tried turns (is_same_object h.0 u.0)) old new answer d' in
+              let one_of = made_once command (λ z. same_alone z command h.0 u.0) turns old new f.once alone some_turns
+              f.did in
+              let a = one_of.0 in
+              let b = one_of.1 in
+              let i = made_call x answer fault {V = IsSame {A = Bool}} (λ z. replies.Same z) 0
+              (λ z l m y. references.is_same_object z l m a b) (meaning.same g.0 v.0) f.once
+              (λ z. even one (same_means c last j P w a b g.0 v.0 some (read_fits P w h.0 g.0 a handles one_of.2 same)
+              (read_fits P w u.0 v.0 b handles one_of.3 same'))) (one_of.4).0 f.is in
+              same_after x answer {V = IsSame {A = Bool}} (λ z. replies.Same z) (λ z. replies.Same z) (λ Q z y y' e. ap
+              (λ z. replies.Same z) e) (λ y names os ws. (refl, refl, refl)) (λ y names os ws. (refl, refl, refl))
+              (λ e names os ws. (refl, refl, refl)) f.once (meaning.same g.0 v.0 w) i f.is
+
+          same_step : BindingFits P w (referent p.names r) (referent q.names r)
+              → BindingFits P w (referent p.names t) (referent q.names t)
+              → deed turns p.names (commands.OnBoth on_both.Same r t) old answer new
+              → Steps (commands.OnBoth on_both.Same r t) answer
+              (meaning.outside c q.names told (commands.OnBoth on_both.Same r t) w)
+          same_step fits fits' d =
+              wanted_step (commands.OnBoth on_both.Same r t) answer (at_most one) (λ v. second v) (λ m. second_means m)
+              (referent p.names r) (referent q.names r) fits (λ e names os ws. (refl, refl, refl)) d
+              (λ h g same d'. wanted_step (commands.OnBoth on_both.Same r t) answer (at_most one) (λ u. compare h u)
+              (λ n. compare_means g.0 n) (referent p.names t) (referent q.names t) fits' (λ e names os ws.
+              (refl, refl, refl)) d' (λ u v same' d''. same_found h g u v same same' d''))
+
+      -- ENSURE
+
+      ensure_step : j ≡ k → (n : ℕ) (answer : Result Reply Fault)
+          → IfErr answer (IsCommandFault turns p.names (commands.WithCount with_count.Ensure n) new.pass new.frames)
+          → deed turns p.names (commands.WithCount with_count.Ensure n) old answer new
+          → Steps (commands.WithCount with_count.Ensure n) answer
+          (meaning.outside c q.names told (commands.WithCount with_count.Ensure n) w)
+      ensure_step one n answer fault d =
+          let x = commands.WithCount with_count.Ensure n in
+          let command : Asked = (p.names, x) in
+          let f = was_formed (λ u. replies.Done) (tried turns (ensure_local_capacity n)) old new answer d in
+          let once = made_once command (λ z. ensure_alone z p.names n) turns old new f.once alone some_turns f.did in
+          let i = made_call x answer fault {V = IsDone {A = Unit {0}} {B = Unit {0}}} (λ u. replies.Done) 0
+          (λ z l m y. references.ensure_local_capacity z l m n) (meaning.room_for c n) f.once
+          (λ z. even one (room_means c last j {P = P} {w = w} n)) once.0 f.is in
+          same_after x answer {V = IsDone {A = Unit {0}} {B = Unit {0}}} (λ u. replies.Done) (λ u. replies.Done)
+          (λ Q z y y' e. refl) (λ y names os ws. (refl, refl, refl)) (λ y names os ws. (refl, refl, refl))
+          (λ e names os ws. (refl, refl, refl)) f.once (meaning.room_for c n w) i f.is
 
       -- TYPE
-      module _ (r : Reference) (answer : Result Reply Fault) where
-        abbrev pub Typed : ℕ → Meaning Reply
-        Typed k v = (Ok (replies.Type k), v)
 
-        abbrev pub NextType : Option Rattle.jr_word.specs.declared.handle.Handle.Handle → Meaning Reply
-        NextType h v = goes_on Typed (type_named h v)
+      type_step : j ≡ k → (r : Reference) (answer : Result Reply Fault)
+          → IfErr answer (IsCommandFault turns p.names (commands.On on.Type r) new.pass new.frames)
+          → (b b' : Binding) → BindingFits P w b b'
+          → (decided (reference_in b) >>= (λ h. type_of turns h >>= (λ z. done (replies.Type z)))) old answer new
+          → Steps (commands.On on.Type r) answer (goes_on (λ h v. goes_on (λ z v. (Ok (replies.Type z), v))
+          (type_named h v)) (reference_in b', w))
+      type_step one r answer fault bound.Nothing bound.Nothing fits d =
+          let x = commands.On on.Type r in
+          let d' = after_decided (λ h. type_of turns h >>= (λ z. done (replies.Type z))) old new answer
+          (reference_in bound.Nothing) d in
+          let f = was_formed (λ z. replies.Type z) (type_of turns None) old new answer d' in
+          kept_step x answer P w (Ok (replies.Type 0)) (Ok (replies.Type 0))
+          (nothing_then x answer (f.did).1 (at_most one)) (f.is ∙ ap (formed (λ z. replies.Type z)) (f.did).0)
+          (λ names os ws. (refl, refl, refl)) (λ names os ws. (refl, refl, refl)) (λ line. refl)
+      type_step one r answer fault (bound.Reference h) (bound.Reference g) fits d =
+          let x = commands.On on.Type r in
+          let command : Asked = (p.names, x) in
+          let d' = after_decided (λ y. type_of turns y >>= (λ z. done (replies.Type z))) old new answer
+          (reference_in (bound.Reference h)) d in
+          let f = was_formed (λ z. replies.Type z) (tried turns (get_object_ref_type h.0)) old new answer d' in
+          let once = made_once command (λ z. type_alone z command h.0) turns old new f.once alone some_turns f.did in
+          let i = word_call x answer fault {V = IsSame {A = ℕ}} (λ z. replies.Type z)
+          (λ z l t u a. references.get_object_ref_type z l t a) (meaning.type_meant g.0) f.once h.0 g.0 fits
+          (λ a z word. even one (type_means c last j P w a g.0 some word)) once f.is in
+          same_after x answer {V = IsSame {A = ℕ}} (λ z. replies.Type z) (λ z. replies.Type z) (λ Q z y y' e. ap
+          (λ z. replies.Type z) e) (λ y names os ws. (refl, refl, refl)) (λ y names os ws. (refl, refl, refl))
+          (λ e names os ws. (refl, refl, refl)) f.once (meaning.type_meant g.0 w) i f.is
+      type_step one r answer fault bound.Nothing (bound.Reference g) fits d = absurd fits
+      type_step one r answer fault bound.Nothing (bound.Buffer b) fits d = absurd fits
+      type_step one r answer fault (bound.Reference h) bound.Nothing fits d = absurd fits
+      type_step one r answer fault (bound.Reference h) (bound.Buffer b) fits d = absurd fits
+      type_step one r answer fault (bound.Buffer b) b' fits d = absurd fits
 
-        typed : (Q : Pairing) (v : World) (k : ℕ) → Later P w Q v → IsPass c last new.pass → Fits c last Q v (now new)
-            → answer ≡ Ok (replies.Type k) → Stepped (commands.On on.Type r) new p q answer (Ok (replies.Type k), v)
-        typed Q v k later pass fits is =
-            subst (λ z. Stepped (commands.On on.Type r) new p q z (Ok (replies.Type k), v)) (sym is) (record {
-              pairing = Q;
-              stands = record {
-                pass = pass;
-                fits = fits;
-                names = names_later later p.names q.names s.names;
-                outside = s.outside;
-                outside_then = s.outside_then;
-              };
-              text = λ line. refl;
-            })
+      -- POST
 
-        type_refused : (Q : Pairing) (v : World) (e : Fault) → Later P w Q v → IsPass c last new.pass
-            → Fits c last Q v (now new) → answer ≡ Err e → Stepped (commands.On on.Type r) new p q answer (Err e, v)
-        type_refused Q v e later pass fits is =
-            subst (λ z. Stepped (commands.On on.Type r) new p q z (Err e, v)) (sym is) (record {
-              pairing = Q;
-              stands = record {
-                pass = pass;
-                fits = fits;
-                names = names_later later p.names q.names s.names;
-                outside = s.outside;
-                outside_then = s.outside_then;
-              };
-              text = λ line. refl;
-            })
+      post_step : j ≡ k → (n : List ℕ) (answer : Result Reply Fault)
+          → deed turns p.names (commands.OnName on_name.Post n) old answer new
+          → Steps (commands.OnName on_name.Post n) answer (Ok replies.Done, w)
+      post_step one n answer d =
+          let x = commands.OnName on_name.Post n in
+          let i = nothing_then x answer d.1 (at_most one) in
+          subst (λ z. Stepped k x new p q had told z (Ok replies.Done, w)) (sym d.0) (record {
+            pairing = P;
+            stands = record {
+              pass = i.pass;
+              fits = i.fits;
+              names = s.names;
+              outside = s.outside;
+              outside_then = s.outside_then;
+              words = words_with_fit P w had told n (word_posted p.names n) (word_posted q.names n) s.words
+                  (posted_fits P w (binding p.names n) (binding q.names n) (s.names n));
+            };
+            text = λ line. refl;
+          })
 
-        type_after : (once : Result ℕ Fault) (t : Result ℕ Fault × World) → IsPass c last new.pass
-            → Outcome c last (IsSame {A = ℕ}) P w once t (now new) → answer ≡ formed (λ k. replies.Type k) once
-            → Stepped (commands.On on.Type r) new p q answer (goes_on Typed t)
-        type_after (Ok h) (Ok k, v) pass o is =
-            typed o.pairing v k o.later pass o.fits (is ∙ ap (λ (z : ℕ). Ok (replies.Type z)) o.answers)
-        type_after (Err e) (Err d, v) pass o is =
-            type_refused o.pairing v d o.later pass o.fits (is ∙ ap (λ (z : Fault). Err z) o.answers)
-        type_after (Ok h) (Err d, v) pass o is = absurd o.answers
-        type_after (Err e) (Ok k, v) pass o is = absurd o.answers
+      -- WAIT
 
-        handles : (i : ℕ) → i < length w.refs → IsHandle (P.handle i)
-        handles i l = own_handle c last (P.handle i) small few (s.fits.own i l)
+      answered_so : (o : Option ℕ) (answer : Result Reply Fault) → IsAnswered o (λ z. ⊥) (Unit {0}) answer
+          → answer ≡ reply_to_wait o
+      answered_so (Some z) answer is = is
+      answered_so None answer (None, is, vain) = is
+      answered_so None answer (Some z, is, heard) = absurd heard
 
-        type_of_some : (h g : Rattle.jr_word.specs.declared.handle.Handle.Handle) → HandleFits P w h.0 g.0
-            → (type_of turns (Some h) >>= (λ k. done (replies.Type k))) old answer new
-            → IfErr answer (IsCommandFault turns p.names (commands.On on.Type r) new.pass new.frames)
-            → Stepped (commands.On on.Type r) new p q answer (NextType (Some g) w)
-        type_of_some h g fits d fault =
-            let command : Asked = (p.names, commands.On on.Type r) in
-            let f = was_formed (λ k. replies.Type k) (tried turns (get_object_ref_type h.0)) old new answer d in
-            let once = made_once command (λ k. type_alone k command h.0) turns old new f.once alone some_turns f.did in
-            let a = once.0 in
-            let pass = pass_later c last old.pass new.pass once.2.0.ran.acts once.2.0.ran.did s.pass in
-            let so = err_formed (IsSo c last (state new.pass.seen)) (λ k. replies.Type k) f.once
-            (subst (λ z. IfErr z (IsSo c last (state new.pass.seen))) f.is (so_then
-            (commands.On on.Type r) answer pass fault)) in
-            let made = call_made c last (λ k. 0) (λ k l t z. references.get_object_ref_type k l t a) old new f.once
-            s.pass alone all so once.2 in
-            type_after f.once (meaning.type_meant g.0 w) pass
-            ((type_means c last P w a g.0 some (read_fits P w h.0 g.0 a handles once.1 fits)).outcome (now old)
-            (now new) f.once s.fits made) f.is
+      learned_then : (x : Command) (answer : Result Reply Fault) → k ≤ j → HasLearned old new → IsThen x answer P w
+      learned_then x answer le l =
+          let seen : new.pass.seen ≡ old.pass.seen =
+          sees_its_own_acts old.pass new.pass [] l.did alone.own ∙ append-nil old.pass.seen in
+          record {
+            later = later_self P w;
+            pass = pass_later c last old.pass new.pass [] l.did s.pass;
+            fits = subst (Fits c last k P w) (sym (moment_is (state new.pass.seen) (state old.pass.seen) new.frames
+                old.frames (ap state seen) l.frames)) (fits_less le s.fits);
+          }
 
-        type_of_none : (type_of turns None >>= (λ k. done (replies.Type k))) old answer new
-            → Stepped (commands.On on.Type r) new p q answer (NextType None w)
-        type_of_none d =
-            let f = was_formed (λ k. replies.Type k) (type_of turns None) old new answer d in
-            let same : new ≡ old = (f.did).1 in
-            typed P w 0 (later_self P w) (subst (λ (m : ThreadState). IsPass c last m.pass) (sym same) s.pass)
-            (subst (λ (m : ThreadState). Fits c last P w (now m)) (sym same) s.fits)
-            (f.is ∙ ap (formed (λ k. replies.Type k)) (f.did).0)
+      wait_then : (x : Command) (answer : Result Reply Fault) → k ≤ j → awaited old answer new → IsThen x answer P w
+      wait_then x answer le (inl d) = learned_then x answer le d.2
+      wait_then x answer le (inr d) = nothing_then x answer d.1 le
 
-        pub type_step : (b b' : Binding) → BindingFits P w b b'
-            → (decided (reference_in b) >>= (λ h. type_of turns h >>= (λ k. done (replies.Type k)))) old answer new
-            → IfErr answer (IsCommandFault turns p.names (commands.On on.Type r) new.pass new.frames)
-            → Stepped (commands.On on.Type r) new p q answer (goes_on NextType (reference_in b', w))
-        type_step bound.Nothing bound.Nothing fits (inl d) fault =
-            let none : d.0 ≡ None = (let e = d.2.0 in cc) in
-            type_of_none (subst (λ h. (type_of turns h >>= (λ k. done (replies.Type k))) old answer new) none
-            (subst (λ m. (type_of turns d.0 >>= (λ k. done (replies.Type k))) m answer new) d.2.1 d.3))
-        type_step bound.Nothing bound.Nothing fits (inr d) fault = absurd (let e = d.2.0 in cc)
-        type_step (bound.Reference h) (bound.Reference g) fits (inl d) fault =
-            let one : d.0 ≡ Some h = (let e = d.2.0 in cc) in
-            type_of_some h g fits (subst (λ z. (type_of turns z >>= (λ k. done (replies.Type k))) old answer new) one
-            (subst (λ m. (type_of turns d.0 >>= (λ k. done (replies.Type k))) m answer new) d.2.1 d.3)) fault
-        type_step (bound.Reference h) (bound.Reference g) fits (inr d) fault = absurd (let e = d.2.0 in cc)
-        type_step bound.Nothing (bound.Reference g) fits d fault = absurd fits
-        type_step bound.Nothing (bound.Buffer b) fits d fault = absurd fits
-        type_step (bound.Reference h) bound.Nothing fits d fault = absurd fits
-        type_step (bound.Reference h) (bound.Buffer b) fits d fault = absurd fits
-        type_step (bound.Buffer b) b' fits d fault = absurd fits
+      wait_step : j ≡ k → (n : List ℕ) (answer : Result Reply Fault)
+          → said_alone p.names had (commands.Make make.Wait n) old.pass.seen answer new.pass.seen
+          → deed turns p.names (commands.Make make.Wait n) old answer new
+          → Steps (commands.Make make.Wait n) answer (reply_to_wait (word_under told n), w)
+      wait_step one n answer said d =
+          go (word_under had n) (word_under told n) (word_under_fits P w had told n s.words)
+          (answered_so (word_under had n) answer said)
+        where
+          i : IsThen (commands.Make make.Wait n) answer P w
+          i = wait_then (commands.Make make.Wait n) answer (at_most one) d
+
+          go : (o o' : Option ℕ) → MaybeWord P w o o' → answer ≡ reply_to_wait o
+              → Steps (commands.Make make.Wait n) answer (reply_to_wait o', w)
+          go None None same is = kept_step (commands.Make make.Wait n) answer P w (Err Turns) (Err Turns) i is
+              (λ names os ws. (refl, refl, refl)) (λ names os ws. (refl, refl, refl)) (λ line. refl)
+          go (Some a) (Some b) same is =
+              subst (λ z. Stepped k (commands.Make make.Wait n) new p q had told z
+              (Ok (replies.Made (Some (record { 0 = b }))), w)) (sym is) (record {
+                pairing = P;
+                stands = record {
+                  pass = i.pass;
+                  fits = i.fits;
+                  names = names_set_fit P w p.names q.names n (bound.Reference (record { 0 = a }))
+                      (bound.Reference (record { 0 = b })) s.names same;
+                  outside = s.outside;
+                  outside_then = s.outside_then;
+                  words = words_with_fit P w had told n a b s.words same;
+                };
+                text = λ line. refl;
+              })
+          go None (Some b) same is = absurd same
+          go (Some a) None same is = absurd same
 
       -- THE COMMANDS
 
@@ -289,18 +589,38 @@ module _ (c : Config) (last : ℕ) where
       referent_fits refers.Null = refl
       referent_fits (refers.Named n) = s.names n
 
-      pub step : (x : Command) (words : Words) (answer : Result Reply Fault) → IsCovered x
-          → deed_at turns p x old answer new
-          → IfErr answer (IsAloneFault turns p x new.pass new.frames)
-          → Stepped x new p q answer (meaning_at c q words q.objects x w)
-      step (commands.Make make.Plain n) words answer first d fault =
-          subst (λ os. Stepped (commands.Make make.Plain n) new p q answer (meaning_at c q words os
-          (commands.Make make.Plain n) w))
-          (sym s.outside_then) (plain_step n answer (deed_outside (commands.Make make.Plain n) answer d)
-          (fault_outside (commands.Make make.Plain n) answer fault))
-      step (commands.On on.Type r) words answer first d fault =
-          subst (λ os. Stepped (commands.On on.Type r) new p q answer (meaning_at c q words os
-          (commands.On on.Type r) w))
-          (sym s.outside_then) (type_step r answer (referent p.names r) (referent q.names r) (referent_fits r)
-          (deed_outside (commands.On on.Type r) answer d) (fault_outside (commands.On on.Type r) answer fault))
-      step x words answer first d fault = absurd first
+      -- a command that gives up no reference
+      even_step : j ≡ k → (x : Command) (answer : Result Reply Fault) → IsCovered x → deed turns p.names x old answer new
+          → said_alone p.names had x old.pass.seen answer new.pass.seen
+          → IfErr answer (IsFaultOutside turns p.names x new.pass new.frames)
+          → Steps x answer (meaning.outside c q.names told x w)
+      even_step one (commands.Make make.Plain n) answer covered d said fault = plain_step one n answer fault d
+      even_step one (commands.Make make.Wait n) answer covered d said fault = wait_step one n answer said d
+      even_step one (commands.MakeFrom make_from.Local n r) answer covered d said fault =
+          local_step one n r answer fault (referent_fits r) d
+      even_step one (commands.On on.Type r) answer covered d said fault =
+          type_step one r answer fault (referent p.names r) (referent q.names r) (referent_fits r) d
+      even_step one (commands.OnBoth on_both.Same r t) answer covered d said fault =
+          same_step one r t answer fault (referent_fits r) (referent_fits t) d
+      even_step one (commands.OnName on_name.Post n) answer covered d said fault = post_step one n answer d
+      even_step one (commands.WithCount with_count.Ensure n) answer covered d said fault =
+          ensure_step one n answer fault d
+      even_step one x answer covered d said fault = absurd covered
+
+      at_place : (x : Command) (answer : Result Reply Fault) → Steps x answer (meaning.outside c q.names told x w)
+          → Steps x answer (meaning_at c q told q.objects x w)
+      at_place x answer steps =
+          subst (λ os. Steps x answer (meaning_at c q told os x w)) (sym s.outside_then) steps
+
+    -- ONE COMMAND, as it means
+    pub step : (k : ℕ) (P : Pairing) (w : World) (old new : ThreadState) (p q : Place) (had told : Words)
+        (s : Stands k P w old p q had told) → IsAlone new.pass → AllByRecursion IsUnbarred new.pass.seen
+        → (x : Command) (answer : Result Reply Fault) → IsCovered x → deed_at turns p x old answer new
+        → said_alone p.names had x old.pass.seen answer new.pass.seen
+        → IfErr answer (IsAloneFault turns p x new.pass new.frames)
+        → Stepped k x new p q had told answer (meaning_at c q told q.objects x w)
+    step k P w old new p q had told s alone all x answer covered d said fault =
+        at_place k k P w old new p q had told s alone all x answer
+        (even_step k k P w old new p q had told s alone all refl x answer covered
+        (deed_outside k k P w old new p q had told s alone all x answer d) said
+        (fault_outside k k P w old new p q had told s alone all x answer fault))

@@ -1,18 +1,19 @@
 -- What is counted in a room and in the world of what a script means.
 use Rattle.std.proofs.Common.{◌≡◌, ◌≢◌, ◌⊎◌, inl, inr, ℕ, zero, suc, ◌<◌, ◌≤◌, ◌+◌, ◌==◌, ◌&&◌, Bool, true, false, cond}
 use Rattle.std.proofs.Common.{not, nat_eq, nat_lt, nat_le, Option, Some, None, IsSome, is_some, List, [], ◌∷◌, ◌++◌}
-use Rattle.std.proofs.Common.{length, slice_index, slice_set, get_or, refl, sym, ap, subst, ◌∙◌, arith}
-use Rattle.std.proofs.Common.{get_or-set_other}
-use Rattle.std.proofs.lemmas.List.{length-set, append-nil}
+use Rattle.std.proofs.Common.{length, slice_index, slice_set, refl, sym, ap, subst, ◌∙◌, arith}
+use Rattle.std.proofs.Common.{get_or-set_other, get_or-set_same}
+use Rattle.std.proofs.lemmas.List.{length-set}
 use Rattle.std.proofs.lemmas.Bool.Decides.{nat_tests}
 use Rattle.jr_model.specs.declared.frames.LocalRef.{LocalRef}
 use Rattle.jr_model.specs.Maps.{update, sum_below, count_below}
 use Rattle.jr_model.specs.State.{Handle, Contents, same_handle}
-use Rattle.jr_model.specs.Frames.{Frames, IsAdded, all_refs, free_places, is_free, is_held, joined, object_of}
-use Rattle.jr_model.specs.Frames.{object_where, with_last}
+use Rattle.jr_model.specs.Frames.{Frames, AreSound, IsAdded, all_refs, is_free, is_held, object_of, object_where}
 use Rattle.jr_model.proofs.Counts.{bit, sum_at}
-use Rattle.jr_model.proofs.Updates.{at_number, at_number_self, eq_other, eq_self, handle_self, and_right}
-use Rattle.jr_model.proofs.Agreement.{standing_held}
+use Rattle.jr_model.proofs.Updates.{at_number, at_number_self, eq_false, eq_other, eq_self, eq_true, handle_self}
+use Rattle.jr_model.proofs.Updates.{handle_true, and_right}
+use Rattle.jr_model.proofs.Agreement.{joined_last, object_last, standing_held}
+use Rattle.jr_model.proofs.Locals.{IsPast}
 use Rattle.jr_scripts.specs.Meaning.{standing}
 
 -- NUMBERS OF OBJECTS
@@ -81,18 +82,7 @@ held_last (q ∷ rs) r = rw (held_last rs r) (or_true (q.handle.index == r.handl
     or_true true = refl
     or_true false = refl
 
--- an object that was found is found still, and one that wasn't may be the new one
-pub where_first : (p : LocalRef → Bool) (rs : List LocalRef) (r : LocalRef) (o : ℕ) → object_where p rs ≡ Some o
-    → object_where p (rs ++ r ∷ []) ≡ Some o
-where_first p [] r o is = absurd cc
-where_first p (q ∷ rs) r o is = go (p q) is (where_first p rs r o)
-  where
-    go : (b : Bool) → cond b (Some q.object) (object_where p rs) ≡ Some o
-        → (object_where p rs ≡ Some o → object_where p (rs ++ r ∷ []) ≡ Some o)
-        → cond b (Some q.object) (object_where p (rs ++ r ∷ [])) ≡ Some o
-    go true e rest = e
-    go false e rest = rest e
-
+-- an object that wasn't found is the new one
 pub where_last : (p : LocalRef → Bool) (rs : List LocalRef) (r : LocalRef) → object_where p rs ≡ None → p r ≡ true
     → object_where p (rs ++ r ∷ []) ≡ Some r.object
 where_last p [] r none is = rw is refl
@@ -104,15 +94,10 @@ where_last p (q ∷ rs) r none is = go (p q) none (λ e. where_last p rs r e is)
     go true e rest = absurd cc
     go false e rest = rest e
 
--- a frame alone has all references
-pub all_in_one : (f : Frames) (rs : List LocalRef) → f.frames ≡ rs ∷ [] → all_refs f ≡ rs
-all_in_one f rs is = ap joined is ∙ append-nil rs
-
--- ONE MORE LOCAL REFERENCE, where there is one frame
-module _ (last : ℕ) (f g : Frames) (r : LocalRef) (rs : List LocalRef) (one : f.frames ≡ rs ∷ [])
-    (a : IsAdded last 0 f r g) where
-  pub one_frame : g.frames ≡ (rs ++ r ∷ []) ∷ []
-  one_frame = ap (λ (x : Frames). x.frames) a.new_is ∙ ap (λ fs. with_last fs r) one
+-- ONE MORE LOCAL REFERENCE
+module _ (last : ℕ) (f g : Frames) (r : LocalRef) (sound : AreSound f) (a : IsAdded last 0 f r g) where
+  refs_are : all_refs g ≡ all_refs f ++ r ∷ []
+  refs_are = ap (λ (x : Frames). all_refs x) a.new_is ∙ joined_last f.frames r sound.some_frame
 
   given_is : g.given ≡ slice_set f.given r.handle.index (r.handle.serial + 1)
   given_is = ap (λ (x : Frames). x.given) a.new_is
@@ -123,13 +108,13 @@ module _ (last : ℕ) (f g : Frames) (r : LocalRef) (rs : List LocalRef) (one : 
   was_free : is_free last f r.handle.index ≡ true
   was_free = a.free
 
-  pub not_held : is_held rs r.handle.index ≡ false
+  not_held : is_held (all_refs f) r.handle.index ≡ false
   not_held = go (is_held (all_refs f) r.handle.index) refl
     where
-      go : (b : Bool) → is_held (all_refs f) r.handle.index ≡ b → is_held rs r.handle.index ≡ false
+      go : (b : Bool) → is_held (all_refs f) r.handle.index ≡ b → b ≡ false
       go true e = absurd (let no' : (not true && nat_le (slice_index f.given r.handle.index) last) ≡ true =
           ap (λ b. not b && nat_le (slice_index f.given r.handle.index) last) (sym e) ∙ was_free in cc)
-      go false e = ap (λ l. is_held l r.handle.index) (sym (all_in_one f rs one)) ∙ e
+      go false e = refl
 
   pub serial_most : r.handle.serial ≤ last
   serial_most =
@@ -140,46 +125,58 @@ module _ (last : ℕ) (f g : Frames) (r : LocalRef) (rs : List LocalRef) (one : 
       let le : slice_index f.given r.handle.index ≤ last = grind (arith, nat_tests) in
       omega arith
 
-  free_here : is_free last g r.handle.index ≡ false
-  free_here =
-      let held : is_held (all_refs g) r.handle.index ≡ true =
-      ap (λ l. is_held l r.handle.index) (all_in_one g (rs ++ r ∷ []) one_frame) ∙ held_last rs r in
-      ap (λ b. not b && nat_le (slice_index g.given r.handle.index) last) held
+  given_here : slice_index g.given r.handle.index ≡ r.handle.serial + 1
+  given_here = ap (λ l. slice_index l r.handle.index) given_is
+      ∙ get_or-set_same f.given r.handle.index (r.handle.serial + 1) 0 a.place
 
-  free_there : (p : ℕ) → r.handle.index ≢ p → is_free last g p ≡ is_free last f p
-  free_there p ne =
-      let held : is_held (all_refs g) p ≡ is_held (all_refs f) p =
-      ap (λ l. is_held l p) (all_in_one g (rs ++ r ∷ []) one_frame) ∙ (held_more rs r p ne
-      ∙ ap (λ l. is_held l p) (sym (all_in_one f rs one))) in
-      let given : get_or g.given p 0 ≡ get_or f.given p 0 =
-      ap (λ l. get_or l p 0) given_is ∙ get_or-set_other f.given r.handle.index p (r.handle.serial + 1) 0 (λ z. ne
-      (sym z)) in
-      ap (λ b. not b && nat_le (get_or g.given p 0) last) held ∙ ap (λ k. not (is_held
-      (all_refs f) p) && nat_le k last) given
+  pub past_here : IsPast r.handle g
+  past_here = let is : slice_index g.given r.handle.index ≡ r.handle.serial + 1 = given_here in omega arith
 
-  pub one_less : free_places last g + 1 ≡ free_places last f
-  one_less =
-      let e = sum_at (length f.given) (λ p. bit (is_free last f p)) (λ p. bit (is_free last g p)) r.handle.index a.place
-      (λ j ne. ap bit (free_there j ne)) in
-      let was : bit (is_free last f r.handle.index) ≡ 1 = ap bit was_free in
-      let is : bit (is_free last g r.handle.index) ≡ 0 = ap bit free_here in
-      let long : count_below (length g.given) (is_free last g) ≡ count_below (length f.given) (is_free last g) =
-      ap (λ n. count_below n (is_free last g)) given_long in
-      omega arith
-
-  -- what was found is found still
-  pub found_first : (h : Handle) (o : ℕ) → object_of f h ≡ Some o → object_of g h ≡ Some o
-  found_first h o is = ap (object_where (λ q. same_handle q.handle h)) (all_in_one g (rs ++ r ∷ []) one_frame)
-      ∙ where_first (λ q. same_handle q.handle h) rs r o (ap (object_where (λ q. same_handle q.handle h)) (sym
-      (all_in_one f rs one)) ∙ is)
-
-  -- and so is the new one
-  pub found_last : object_of g r.handle ≡ Some r.object
-  found_last = ap (object_where (λ q. same_handle q.handle r.handle)) (all_in_one g (rs ++ r ∷ []) one_frame)
-      ∙ where_last (λ q. same_handle q.handle r.handle) rs r (none (object_where (λ q. same_handle q.handle r.handle)
-      rs) refl) (handle_self r.handle)
+  -- each free place has as many handles left as before
+  pub few_after : (k : ℕ) → ((p : ℕ) → slice_index f.given p + k ≤ last + bit (is_held (all_refs f) p)) → (p : ℕ)
+      → slice_index g.given p + k ≤ last + bit (is_held (all_refs g) p)
+  few_after k few p = go (r.handle.index == p) refl
     where
-      none : (x : Option ℕ) → object_where (λ q. same_handle q.handle r.handle) rs ≡ x
-          → object_where (λ q. same_handle q.handle r.handle) rs ≡ None
+      here : slice_index g.given r.handle.index + k ≤ last + bit (is_held (all_refs g) r.handle.index)
+      here =
+          let given : slice_index g.given r.handle.index ≡ r.handle.serial + 1 = given_here in
+          let serial : r.handle.serial ≡ slice_index f.given r.handle.index =
+          ap (λ (h : Handle). h.serial) a.handle in
+          let held : bit (is_held (all_refs g) r.handle.index) ≡ 1 =
+          ap (λ l. bit (is_held l r.handle.index)) refs_are ∙ ap bit (held_last (all_refs f) r) in
+          let was : slice_index f.given r.handle.index + k ≤ last + bit (is_held (all_refs f) r.handle.index) =
+          few r.handle.index in
+          let none : bit (is_held (all_refs f) r.handle.index) ≡ 0 = ap bit not_held in
+          omega arith
+
+      go : (b : Bool) → (r.handle.index == p) ≡ b → slice_index g.given p + k ≤ last + bit (is_held (all_refs g) p)
+      go true e = subst (λ z. slice_index g.given z + k ≤ last + bit (is_held (all_refs g) z))
+          (eq_true r.handle.index p e) here
+      go false e =
+          let ne : r.handle.index ≢ p = eq_false r.handle.index p e in
+          let given : slice_index g.given p ≡ slice_index f.given p = ap (λ l. slice_index l p) given_is
+          ∙ get_or-set_other f.given r.handle.index p (r.handle.serial + 1) 0 (λ z. ne (sym z)) in
+          let held : bit (is_held (all_refs g) p) ≡ bit (is_held (all_refs f) p) =
+          ap (λ l. bit (is_held l p)) refs_are ∙ ap bit (held_more (all_refs f) r p ne) in
+          let was : slice_index f.given p + k ≤ last + bit (is_held (all_refs f) p) = few p in
+          omega arith
+
+  -- what is found of another handle stays
+  pub found_before : (h : Handle) → r.handle ≢ h → object_of g h ≡ object_of f h
+  found_before h ne = ap (object_where (λ q. same_handle q.handle h)) refs_are
+      ∙ object_last (λ q. same_handle q.handle h) (all_refs f) r (other (same_handle r.handle h) refl)
+    where
+      other : (b : Bool) → same_handle r.handle h ≡ b → same_handle r.handle h ≡ false
+      other true e = absurd (ne (handle_true r.handle h e))
+      other false e = e
+
+  -- and the new one is found
+  pub found_last : object_of g r.handle ≡ Some r.object
+  found_last = ap (object_where (λ q. same_handle q.handle r.handle)) refs_are
+      ∙ where_last (λ q. same_handle q.handle r.handle) (all_refs f) r (none (object_of f r.handle) refl)
+      (handle_self r.handle)
+    where
+      none : (x : Option ℕ) → object_of f r.handle ≡ x → object_of f r.handle ≡ None
       none None e = e
-      none (Some o) e = absurd (let held = standing_held r.handle rs (ap is_some e) in let free = not_held in cc)
+      none (Some o) e = absurd
+          (let held = standing_held r.handle (all_refs f) (ap is_some e) in let free = not_held in cc)

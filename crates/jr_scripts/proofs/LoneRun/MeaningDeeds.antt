@@ -1,11 +1,12 @@
 -- What a lone thread's deeds mean.
-use Rattle.std.proofs.Common.{◌≡◌, ◌≢◌, inl, inr, ℕ, zero, suc, ◌<◌, ◌≤◌, ◌^◌, Bool, true, false, cond, Some, List, []}
-use Rattle.std.proofs.Common.{◌∷◌, ◌++◌, map, length, Result, Ok, Err, IfErr, refl, sym, ap, subst, ◌∙◌, arith}
+use Rattle.std.proofs.Common.{◌≡◌, ◌≢◌, inl, inr, ℕ, zero, suc, ◌<◌, ◌≤◌, ◌^◌, Bool, true, false, cond, Option, Some}
+use Rattle.std.proofs.Common.{None, is_some, List, [], ◌∷◌, ◌++◌, map, length, Result, Ok, Err, IfErr, refl, sym, ap, subst, ◌∙◌, arith}
 use Rattle.std.proofs.lemmas.Grind.{common_steps}
 use Rattle.std.specs.List.{AllByRecursion}
 use Rattle.std.specs.FinMap.{get, get-insert}
 use Rattle.std.specs.Cmp.Lexicographic.{nat_list_cmp_total}
 use Rattle.std.specs.Ordering.{is_eq}
+use Rattle.std.specs.Str.{bytes_eq}
 use Rattle.jr_word.specs.declared.config.Config.{Config}
 use Rattle.jr_word.specs.declared.fault.Fault.{Fault}
 use Rattle.jr_word.specs.declared.handle.HandleParts.{HandleParts}
@@ -22,11 +23,12 @@ use Rattle.jr_model.specs.Checks.{Word, Nothing, Malformed, Parts}
 use Rattle.jr_model.proofs.Histories.{legal_append, state_append}
 use Rattle.jr_model.proofs.Stays.{mine_did, sees_its_own_acts}
 use Rattle.jr_frames.specs.Reading.{IsReadAs}
-use Rattle.jr_gate.specs.Performing.{ThreadState}
-use Rattle.jr_env.specs.Deeds.{Deed, call_by, done, ◌>>=◌}
+use Rattle.jr_gate.specs.Performing.{IsMade, ThreadState}
+use Rattle.jr_env.specs.Deeds.{Deed, decided, done, ◌>>=◌}
 use Rattle.jr_scripts.specs.declared.binding.Binding.{Binding}
 use Rattle.jr_scripts.specs.declared.binding.Binding.TheVariants as bound
-use Rattle.jr_scripts.specs.Names.{Names, binding, name_order, or_nothing, with_name}
+use Rattle.jr_scripts.specs.Names.{Names, binding, name_order, or_nothing, with_name, word_of_reference}
+use Rattle.jr_scripts.specs.Posting.{Words, word_under, words_with}
 use Rattle.jr_scripts.specs.Tries.{Tried, answered, again, gave_up}
 use Rattle.jr_scripts.specs.Runs.{IsUnbarred}
 use Rattle.jr_scripts.proofs.AloneHistories.{all_back, own_acts}
@@ -35,8 +37,9 @@ use Rattle.jr_scripts.proofs.AloneParts.{once_alone, tries_alone, was_alone}
 use Rattle.jr_scripts.proofs.Uncontended.{Asked}
 use Rattle.jr_scripts.specs.Meaning.{World}
 use Rattle.jr_scripts.proofs.LoneRun.MadeCalls.{Moment, Made, AreUnopposed, IsSo, is_opposed, moment}
-use Rattle.jr_scripts.proofs.LoneRun.MeaningFits.{Pairing, Later, IsOwn}
-use Rattle.jr_scripts.proofs.LoneRun.MeaningParts.{WordFits}
+use Rattle.jr_scripts.proofs.LoneRun.MeaningFrames.{Pairing}
+use Rattle.jr_scripts.proofs.LoneRun.MeaningFits.{Later, IsOwn}
+use Rattle.jr_scripts.proofs.LoneRun.MeaningCalls.{WordFits}
 
 -- ANSWERS IN ANOTHER FORM
 
@@ -56,6 +59,23 @@ pub was_formed : {A B : Type 0} (form : A → B) (first : Deed A) (old new : Thr
 was_formed form first old new answer (inl d) =
     record { once = Ok d.0; did = subst (λ m. first old (Ok d.0) m) (sym d.3.1) d.2; is = d.3.0 }
 was_formed form first old new answer (inr d) = record { once = Err d.0; did = d.2; is = d.1 }
+
+pub formed_both : {A B C : Type 0} (f : B → C) (g : A → B) (r : Result A Fault)
+    → formed f (formed g r) ≡ formed (λ x. f (g x)) r
+formed_both f g (Ok x) = refl
+formed_both f g (Err e) = refl
+
+-- a deed that begins with what is decided
+abbrev pub AfterDecided : {A B : Type 0} → (A → Deed B) → ThreadState → ThreadState → Result B Fault → Result A Fault
+    → Type 0
+AfterDecided next old new answer (Ok x) = next x old answer new
+AfterDecided next old new answer (Err e) = (answer ≡ Err e) × (new ≡ old)
+
+pub after_decided : {A B : Type 0} (next : A → Deed B) (old new : ThreadState) (answer : Result B Fault)
+    (r : Result A Fault) → (decided r >>= next) old answer new → AfterDecided next old new answer r
+after_decided next old new answer r (inl d) = subst (AfterDecided next old new answer) (d.2).0
+    (subst (λ m. next d.0 m answer new) (d.2).1 d.3)
+after_decided next old new answer r (inr d) = subst (AfterDecided next old new answer) (d.2).0 (d.1, (d.2).1)
 
 -- NO CALL OF A LONE THREAD IS MADE AGAIN
 pub made_once : {A : Type 0} {one : Deed A} (command : Asked) → ((turns : ℕ) → LeadsAlone turns command one) → (n : ℕ)
@@ -93,13 +113,14 @@ abbrev pub now : ThreadState → Moment
 now m = moment (state m.pass.seen) m.frames
 
 module _ (c : Config) (last : ℕ) where
-  pub call_made : {A : Type 0} (silent : Config → ℕ) (asked : Config → ℕ → ℕ → State → Call A) (old new : ThreadState)
+  pub call_made : {A : Type 0} (asked : Config → ℕ → ℕ → State → Call A) (old new : ThreadState)
       (answer : Result A Fault) → IsPass c last old.pass → IsAlone new.pass → AllByRecursion IsUnbarred new.pass.seen
-      → IfErr answer (IsSo c last (state new.pass.seen)) → call_by silent asked old answer new
+      → IfErr answer (IsSo c last (state new.pass.seen)) → (n : ℕ)
+      → IsMade n old new (asked old.pass.config old.pass.last old.pass.thread (state new.pass.seen)) answer
       → Made c last 0 (asked c last 0 (state new.pass.seen)) (moment (state old.pass.seen) old.frames) answer
       (moment (state new.pass.seen) new.frames)
-  call_made silent asked old new answer p alone all so d =
-      let ran = d.0.ran in
+  call_made asked old new answer p alone all so n d =
+      let ran = d.ran in
       let did = ran.did in
       let thread : new.pass.thread ≡ 0 = did.thread ∙ p.thread in
       let seen : new.pass.seen ≡ old.pass.seen ++ map (by 0) ran.acts =
@@ -181,6 +202,77 @@ names_set_fit P w names names' n s t fit fits m =
     go : (b : Bool) → BindingFits P w (cond b s (binding names m)) (cond b t (binding names' m))
     go true = fits
     go false = fit m
+
+-- WORDS that were posted or heard
+
+-- under the same names stand words of handles that are meant
+abbrev pub WordsFit : Pairing → World → Words → Words → Type 0
+WordsFit P w [] [] = Unit {0}
+WordsFit P w (x ∷ xs) (y ∷ ys) = (x.0 ≡ y.0) × HandleFits P w x.1 y.1 × WordsFit P w xs ys
+WordsFit P w _ _ = ⊥
+
+pub handle_later : {P Q : Pairing} {w v : World} → Later P w Q v → (word k : ℕ) → HandleFits P w word k
+    → HandleFits Q v word k
+handle_later l word zero is = is
+handle_later l word (suc i) is =
+    ((let small = is.0 in let grow = l.refs_grow in omega arith), is.1 ∙ ap handle_word (sym (l.handles i is.0)))
+
+pub words_later : {P Q : Pairing} {w v : World} → Later P w Q v → (xs ys : Words) → WordsFit P w xs ys
+    → WordsFit Q v xs ys
+words_later l [] [] fits = tt
+words_later l (x ∷ xs) (y ∷ ys) fits = (fits.0, handle_later l x.1 y.1 fits.1, words_later l xs ys fits.2)
+words_later l [] (y ∷ ys) fits = absurd fits
+words_later l (x ∷ xs) [] fits = absurd fits
+
+-- the word under a name is meant, or there is none in both
+abbrev pub MaybeWord : Pairing → World → Option ℕ → Option ℕ → Type 0
+MaybeWord P w None None = Unit {0}
+MaybeWord P w (Some a) (Some b) = HandleFits P w a b
+MaybeWord P w _ _ = ⊥
+
+pub word_under_fits : (P : Pairing) (w : World) (xs ys : Words) (n : List ℕ) → WordsFit P w xs ys
+    → MaybeWord P w (word_under xs n) (word_under ys n)
+word_under_fits P w [] [] n fits = tt
+word_under_fits P w (x ∷ xs) (y ∷ ys) n fits =
+    subst (λ m. MaybeWord P w (cond (bytes_eq n x.0) (Some x.1) (word_under xs n)) (cond (bytes_eq n m) (Some y.1)
+    (word_under ys n))) fits.0 (go (bytes_eq n x.0) (word_under_fits P w xs ys n fits.2))
+  where
+    go : (b : Bool) → MaybeWord P w (word_under xs n) (word_under ys n)
+        → MaybeWord P w (cond b (Some x.1) (word_under xs n)) (cond b (Some y.1) (word_under ys n))
+    go true rest = fits.1
+    go false rest = rest
+word_under_fits P w [] (y ∷ ys) n fits = absurd fits
+word_under_fits P w (x ∷ xs) [] n fits = absurd fits
+
+words_put : (P : Pairing) (w : World) (xs ys : Words) (n : List ℕ) (a b : ℕ) → WordsFit P w xs ys
+    → HandleFits P w a b → WordsFit P w (xs ++ (n, a) ∷ []) (ys ++ (n, b) ∷ [])
+words_put P w [] [] n a b fits one = (refl, one, tt)
+words_put P w (x ∷ xs) (y ∷ ys) n a b fits one = (fits.0, fits.1, words_put P w xs ys n a b fits.2 one)
+words_put P w [] (y ∷ ys) n a b fits one = absurd fits
+words_put P w (x ∷ xs) [] n a b fits one = absurd fits
+
+-- one more word, where none stands under the name
+pub words_with_fit : (P : Pairing) (w : World) (xs ys : Words) (n : List ℕ) (a b : ℕ) → WordsFit P w xs ys
+    → HandleFits P w a b → WordsFit P w (words_with xs n a) (words_with ys n b)
+words_with_fit P w xs ys n a b fits one = go (word_under xs n) (word_under ys n) (word_under_fits P w xs ys n fits)
+  where
+    go : (x y : Option ℕ) → MaybeWord P w x y
+        → WordsFit P w (cond (is_some x) xs (xs ++ (n, a) ∷ [])) (cond (is_some y) ys (ys ++ (n, b) ∷ []))
+    go None None same = words_put P w xs ys n a b fits one
+    go (Some x) (Some y) same = fits
+    go None (Some y) same = absurd same
+    go (Some x) None same = absurd same
+
+-- the word that is posted for a name
+pub posted_fits : (P : Pairing) (w : World) (s t : Binding) → BindingFits P w s t
+    → HandleFits P w (word_of_reference s) (word_of_reference t)
+posted_fits P w bound.Nothing bound.Nothing fits = refl
+posted_fits P w (bound.Reference h) (bound.Reference g) fits = fits
+posted_fits P w bound.Nothing (bound.Reference g) fits = absurd fits
+posted_fits P w bound.Nothing (bound.Buffer b) fits = absurd fits
+posted_fits P w (bound.Reference h) bound.Nothing fits = absurd fits
+posted_fits P w (bound.Reference h) (bound.Buffer b) fits = absurd fits
+posted_fits P w (bound.Buffer b) t fits = absurd fits
 
 -- the word of a handle is not NULL
 not_null : (h : HandleParts) → IsHandle h → handle_word h ≢ 0

@@ -24,6 +24,7 @@ use Rattle.jr_model.specs.Frames.{all_refs, drop_all, fresh_frames, free_places,
 use Rattle.jr_model.specs.History.{PassView, by, state, state_from}
 use Rattle.jr_model.specs.References.{freeing}
 use Rattle.jr_model.specs.References as calls
+use Rattle.jr_model.proofs.Agreement.{fresh_are_sound}
 use Rattle.jr_model.proofs.Counts.{bit}
 use Rattle.jr_model.proofs.Lengths.{sum_zero}
 use Rattle.jr_gate.specs.Performing.{ThreadState}
@@ -33,7 +34,7 @@ use Rattle.jr_scripts.specs.declared.reply.Reply.{Reply}
 use Rattle.jr_scripts.specs.Names.{name_order, or_nothing}
 use Rattle.jr_scripts.specs.declared.binding.Binding.{Binding}
 use Rattle.jr_scripts.specs.Places.{Place, place_after}
-use Rattle.jr_scripts.specs.Posting.{Words, said_alone}
+use Rattle.jr_scripts.specs.Posting.{Words, said_alone, words_after}
 use Rattle.jr_scripts.specs.Explains.{Explains, nothing, then}
 use Rattle.jr_scripts.specs.RegionCommands.{giving_up_all}
 use Rattle.jr_scripts.specs.Text.{heading, ending, printed}
@@ -50,7 +51,8 @@ use Rattle.jr_scripts.specs.Meaning.{meaning_at}
 use Rattle.jr_scripts.specs.Meaning.{refs_of, standing, standing_at, summary_of, tells, told_after, told_from}
 use Rattle.jr_scripts.specs.Meaning.{text_of_part, first_world}
 use Rattle.jr_scripts.proofs.LoneRun.MadeCalls.{Moment, IsSo, stayed}
-use Rattle.jr_scripts.proofs.LoneRun.MeaningFits.{Pairing, Fits, RefFits}
+use Rattle.jr_scripts.proofs.LoneRun.MeaningFrames.{Pairing, no_frame, no_local, one_frame}
+use Rattle.jr_scripts.proofs.LoneRun.MeaningFits.{Fits, RefFits}
 use Rattle.jr_scripts.proofs.LoneRun.MeaningDeeds.{BindingFits, IsPass, call_made, made_once, now}
 use Rattle.jr_scripts.proofs.LoneRun.MeaningCommands.{Stands, Stepped, step}
 
@@ -63,30 +65,10 @@ told_snoc c line (y ∷ ys) x t = told_snoc c (line + 1) ys x (told_after c line
 
 -- COUNTS
 
-count_all : (n : ℕ) (p : ℕ → Bool) → ((k : ℕ) → k < n → p k ≡ true) → count_below n p ≡ n
-unfolding sum_below
-count_all zero p all = refl
-count_all (suc n) p all =
-    let rest : count_below n p ≡ n = count_all n p (λ k l. all k (omega arith)) in
-    let last : bit (p n) ≡ 1 = ap bit (all n (omega arith)) in
-    let whole : count_below (suc n) p ≡ count_below n p + bit (p n) = refl in
-    omega arith
-
 get_zero : (n p : ℕ) → ◌≡◌ {A = ℕ} (get_or (replicate n 0) p 0) 0
 get_zero zero p = refl
 get_zero (suc n) zero = refl
 get_zero (suc n) (suc p) = get_zero n p
-
--- before the first command every place is free
-all_free : (n last : ℕ) → free_places last (fresh_frames n) ≡ n
-all_free n last =
-    let e : count_below (length (replicate n 0)) (is_free last (fresh_frames n)) ≡ length (replicate n 0) =
-    count_all (length (replicate n 0)) (is_free last (fresh_frames n)) (λ k l.
-    ap (λ z. nat_le z last) (get_zero n k) ∙ zero_least last) in
-    e ∙ length-replicate n 0
-  where
-    zero_least : (k : ℕ) → nat_le 0 k ≡ true
-    zero_least k = grind (arith, nat_tests)
 
 -- no reference of another kind stands
 IsLocalOne : Option Ref → Type 0
@@ -134,89 +116,98 @@ module _ (c : Config) (last turns : ℕ) (one : c.threads ≡ 1) (some_turns : t
   first_pairing : Pairing
   first_pairing = record { handle = λ i. record { kind = Local; serial = 0; index = 0; owner = 0 }; object = λ o. o }
 
-  opening_fits : Fits c last first_pairing (first_world memory) (now (opening_moment c last))
-  opening_fits = record {
-    numbers = [];
-    numbered = refl;
-    each = refl;
-    locals = [];
-    framed = refl;
-    own = λ i l. absurd (omega arith);
-    stands = λ i l. absurd (omega arith);
-    count = sum_zero (c.objects + 1) (λ o. 0) (λ o. refl);
-    all_objects = refl;
-    no_zero = refl;
-    present = λ o l. absurd (omega arith);
-    places = (let free = all_free c.locals last in omega arith);
-    given = length-replicate c.locals 0;
+  opening_fits : (k : ℕ) → k ≤ last
+      → Fits c last k first_pairing (first_world memory) (now (opening_moment c last))
+  opening_fits k le = record {
+    locals = record {
+      framed = one_frame no_local no_frame;
+      own = λ i l. absurd (omega arith);
+      past = λ i l. absurd (omega arith);
+      once = λ i j l m. absurd (omega arith);
+      stands = λ i l. absurd (omega arith);
+      sound = fresh_are_sound c.locals;
+      few = λ p. let none = get_zero c.locals p in omega arith;
+      given = length-replicate c.locals 0;
+    };
+    objects = record {
+      count = sum_zero (c.objects + 1) (λ o. 0) (λ o. refl);
+      all_objects = refl;
+      no_zero = refl;
+      present = λ o l. absurd (omega arith);
+      apart = λ o p l m. absurd (omega arith);
+    };
     slots = λ h. refl;
     unused = refl;
     unused_then = refl;
   }
 
   -- what is told of commands is what was printed
-  record IsTold (commands : List Command) (text : List ℕ) (new : ThreadState) (place : Place) : Type 0 where
+  record IsTold (k : ℕ) (commands : List Command) (text : List ℕ) (new : ThreadState) (place : Place)
+      (words : Words) : Type 0 where
     pub pairing : Pairing
-    pub stands : Stands c last pairing (told_from c 3 commands (first_told memory)).world new place
-        (told_from c 3 commands (first_told memory)).place
+    pub stands : Stands c last k pairing (told_from c 3 commands (first_told memory)).world new place
+        (told_from c 3 commands (first_told memory)).place words (told_from c 3 commands (first_told memory)).words
     pub text_is : text ≡ (told_from c 3 commands (first_told memory)).text
 
   -- what is so of it
-  record TellsSo (t : Told) (text : List ℕ) (new : ThreadState) (place : Place) : Type 0 where
+  record TellsSo (k : ℕ) (t : Told) (text : List ℕ) (new : ThreadState) (place : Place) (words : Words) : Type 0 where
     pub pairing : Pairing
-    pub stands : Stands c last pairing t.world new place t.place
+    pub stands : Stands c last k pairing t.world new place t.place words t.words
     pub text_is : text ≡ t.text
 
-  tells_so : (t : Told) (line : ℕ) (x : Command) (answer : Result Reply Fault) (text : List ℕ) (new : ThreadState)
-      (place : Place) → text ≡ t.text
-      → Stepped c last x new place t.place answer (meaning_at c t.place t.words t.place.objects x t.world)
-      → TellsSo (told_after c line x t) (text ++ printed line x answer) new (place_after x answer place)
-  tells_so t line x answer text new place is stepped = go (meaning_at c t.place t.words t.place.objects x t.world)
-      stepped
+  tells_so : (k : ℕ) (t : Told) (line : ℕ) (x : Command) (answer : Result Reply Fault) (text : List ℕ)
+      (new : ThreadState) (place : Place) (words : Words) → text ≡ t.text
+      → Stepped c last k x new place t.place words t.words answer
+      (meaning_at c t.place t.words t.place.objects x t.world)
+      → TellsSo k (told_after c line x t) (text ++ printed line x answer) new (place_after x answer place)
+      (words_after place.names x answer words)
+  tells_so k t line x answer text new place words is stepped =
+      go (meaning_at c t.place t.words t.place.objects x t.world) stepped
     where
-      go : (r : Result Reply Fault × World) → Stepped c last x new place t.place answer r
-          → TellsSo (tells line x t r) (text ++ printed line x answer) new (place_after x answer place)
-      go (k, v) s = record {
+      go : (r : Result Reply Fault × World) → Stepped c last k x new place t.place words t.words answer r
+          → TellsSo k (tells line x t r) (text ++ printed line x answer) new (place_after x answer place)
+          (words_after place.names x answer words)
+      go (b, v) s = record {
         pairing = s.pairing;
         stands = s.stands;
         text_is = ap (λ z. z ++ printed line x answer) is ∙ ap (λ z. t.text ++ z) (s.text line);
       }
 
-  all_told : (commands : List Command) (text : List ℕ) (new : ThreadState) (place : Place) (words : Words)
-      (e : Explains said_alone turns 3 (opening_moment c last) commands text new place words) → AnswersAlone e
-      → AllByRecursion IsCovered commands → IsAlone new.pass → AllByRecursion IsUnbarred new.pass.seen
-      → IsTold commands text new place
-  all_told commands text new place words nothing answers firsts alone all = record {
+  all_told : (k : ℕ) → k ≤ last → (commands : List Command) (text : List ℕ) (new : ThreadState) (place : Place)
+      (words : Words) (e : Explains said_alone turns 3 (opening_moment c last) commands text new place words)
+      → AnswersAlone e → AllByRecursion IsCovered commands → IsAlone new.pass → AllByRecursion IsUnbarred new.pass.seen
+      → IsTold k commands text new place words
+  all_told k le commands text new place words nothing answers firsts alone all = record {
     pairing = first_pairing;
     stands = record {
       pass = record { config = refl; last_is = refl; thread = refl };
-      fits = opening_fits;
+      fits = opening_fits k le;
       names = λ n. subst (λ (o : Option Binding). BindingFits first_pairing (first_world memory) (or_nothing o)
           (or_nothing o))
           (sym (get-empty name_order n)) tt;
       outside = refl;
       outside_then = refl;
+      words = tt;
     };
     text_is = refl;
   }
-  all_told commands text new place words
+  all_told k le commands text new place words
       (then {before = before} {text = lines} {mid = mid} {place = stood} {words = had} x answer done did said) answers
       firsts
       alone all =
       let first = (all_back IsCovered before (x ∷ []) firsts).0 in
       let y = place_alone turns stood x mid new answer alone did in
-      let i = all_told before lines mid stood had done answers.0 (all_front IsCovered before (x ∷ []) firsts)
+      let i = all_told k le before lines mid stood had done answers.0 (all_front IsCovered before (x ∷ []) firsts)
       (led_alone y alone) (all_prefix IsUnbarred mid.pass.seen new.pass.seen y.begins all) in
       let t = told_from c 3 before (first_told memory) in
-      let stepped = step c last turns some_turns some_threads small few i.pairing t.world mid new stood t.place
-      i.stands alone
-      all x t.words answer first did answers.1 in
-      let so = tells_so t (3 + length before) x answer lines new stood i.text_is stepped in
+      let stepped = step c last turns some_turns some_threads small few k i.pairing t.world mid new stood t.place
+      had t.words i.stands alone all x answer first did said answers.1 in
+      let so = tells_so k t (3 + length before) x answer lines new stood had i.text_is stepped in
       let whole = told_snoc c 3 before x (first_told memory) in
       record {
         pairing = so.pairing;
-        stands = subst (λ (z : Told). Stands c last so.pairing z.world new (place_after x answer stood) z.place)
-            (sym whole) so.stands;
+        stands = subst (λ (z : Told). Stands c last k so.pairing z.world new (place_after x answer stood) z.place
+            (words_after stood.names x answer had) z.words) (sym whole) so.stands;
         text_is = so.text_is ∙ ap (λ (z : Told). z.text) (sym whole);
       }
 
@@ -227,8 +218,8 @@ module _ (c : Config) (last turns : ℕ) (one : c.threads ≡ 1) (some_turns : t
       → SameTables (state told.pass.seen) (state left.pass.seen)
   freed_tables told left f is pass alone all =
       let d = made_once plainly free_alone turns told left f.answer alone some_turns f.tries in
-      let made = call_made c last (λ k. 0) (λ k l t s. calls.free_locals) told left f.answer pass alone all
-      (subst (λ z. IfErr z (IsSo c last (state left.pass.seen))) (sym is) tt) d in
+      let made = call_made c last (λ k l t s. calls.free_locals) told left f.answer pass alone all
+      (subst (λ z. IfErr z (IsSo c last (state left.pass.seen))) (sym is) tt) 0 d.0 in
       let i = stayed c last 0 freeing (now told) (now left) f.answer made in
       let acts : (i.made).acts ≡ drop_all (all_refs told.frames) = ((i.made).is).0 in
       let keep = drops_keep (act_after (state told.pass.seen) 0 (Gate Enter)) (all_refs told.frames) in
@@ -247,18 +238,18 @@ module _ (c : Config) (last turns : ℕ) (one : c.threads ≡ 1) (some_turns : t
   no_slots k s none = sum_zero c.slots _ (λ i. sum_zero (last + 1) _ (λ n.
       ap (λ r. bit (is_there r)) (none (record { kind = k; serial = n; index = i; owner = 0 }))))
 
-  ends_so : (P : Pairing) (w : World) (m : Moment) (s : State) → Fits c last P w m → SameTables m.state s
+  ends_so : (k : ℕ) (P : Pairing) (w : World) (m : Moment) (s : State) → Fits c last k P w m → SameTables m.state s
       → summary c last s ≡ summary_of w
-  ends_so P w m s f same =
+  ends_so k P w m s f same =
       let none : (h : Handle) → s.refs h ≡ Stale = λ h. ap (λ r. r h) same.refs ∙ f.slots h in
       let locals : (i : ℕ) → i < length w.refs → IsLocalOne (standing_at w.refs i) =
-      λ i l. local_one P (length w.objects) (standing_at w.refs i) (object_of m.frames (P.handle i)) (f.stands i l) in
+      λ i l. local_one P (length w.objects) (standing_at w.refs i) (object_of m.frames (P.handle i)) (f.locals.stands i l) in
       same_summary (references c last Global s) (references c last Weak s) (count_below (c.objects + 1) (λ o. is_some
       (s.objects o)))
       s.used (refs_of Global w) (refs_of Weak w) (standing w.objects) w.used
       (no_slots Global s none ∙ sym (none_of Global refl w.refs locals))
       (no_slots Weak s none ∙ sym (none_of Weak refl w.refs locals))
-      (ap (λ t. count_below (c.objects + 1) (λ o. is_some (t o))) same.objects ∙ (f.count ∙ sym f.all_objects))
+      (ap (λ t. count_below (c.objects + 1) (λ o. is_some (t o))) same.objects ∙ (f.objects.count ∙ sym f.objects.all_objects))
       (same.used ∙ (f.unused ∙ sym f.unused_then))
 
   pub run_means : (part : ThreadPart) (text : List ℕ) → AllByRecursion IsCovered part.commands
@@ -278,14 +269,14 @@ module _ (c : Config) (last turns : ℕ) (one : c.threads ≡ 1) (some_turns : t
       let told_alone = was_alone y alone in
       let told_all = all_prefix IsUnbarred r.told.pass.seen r.left.pass.seen y.begins all in
       let g = given_up_alone x.place.objects x.done r.told (Ok tt) told_alone x.ended in
-      let i = all_told part.commands r.lines x.done x.place x.words x.explains r.answers firsts (led_alone g told_alone)
+      let i = all_told 0 (omega arith) part.commands r.lines x.done x.place x.words x.explains r.answers firsts (led_alone g told_alone)
       (all_prefix IsUnbarred x.done.pass.seen r.told.pass.seen g.begins told_all) in
       let t = told_from c 3 part.commands (first_told memory) in
       let still : r.told ≡ x.done =
       (subst (λ os. giving_up_all os x.done (Ok tt) r.told) i.stands.outside x.ended).1 in
       let same = freed_tables r.told r.left r.freed (r.freed_all some_turns)
       (subst (λ (m : ThreadState). IsPass c last m.pass) (sym still) i.stands.pass) alone all in
-      let end = ends_so i.pairing t.world (now x.done) (state r.left.pass.seen) i.stands.fits
+      let end = ends_so 0 i.pairing t.world (now x.done) (state r.left.pass.seen) i.stands.fits
       (subst (λ (m : ThreadState). SameTables (state m.pass.seen) (state r.left.pass.seen)) still same) in
       let seen_is : state r.seen ≡ state r.left.pass.seen = ap (λ (p : PassView). state p.seen) (sym r.saw) in
       r.text_is ∙ (ap (λ l. heading part.name ++ l ++ ending (summary c last (state r.seen))) i.text_is
