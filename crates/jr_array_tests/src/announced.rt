@@ -9,7 +9,7 @@ use crate::overtaken::{Before, Overtaken};
 use crate::plans::{Neighbour, PLANS, Plan};
 use jr_env::Env;
 use jr_model::Summary;
-use jr_rule::{Cells, StepsOver};
+use jr_rule::{Parts, StepsOver};
 use jr_steps::Steps;
 use jr_weak::{Collected, Marker};
 use jr_word::{Config, Fault, Handle};
@@ -121,7 +121,7 @@ fn finds_it_open<S: Steps>(
 }
 
 /// Another thread closes the gate between the look at it and the announcement, and opens it later.
-pub(crate) fn is_closed_between<C: Cells<P>, P: Copy, U: Steps>(
+pub(crate) fn is_closed_between<C: Parts<P>, P: Copy, U: Steps>(
     rt: &impl Abort,
     alloc: Global,
     env: &mut Env<StepsOver<Overtaken<C, U>, P>>,

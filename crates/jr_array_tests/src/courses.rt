@@ -10,7 +10,7 @@ use crate::plans::{Neighbour, with_plans};
 use jr_env::Env;
 use jr_fixtures::{LAST, next_env, next_steps};
 use jr_model::Summary;
-use jr_rule::{Cells, Pass, Room, RoomSteps, StepsOver};
+use jr_rule::{Parts, Pass, Room, RoomSteps, StepsOver};
 use jr_steps::Steps;
 use jr_weak::Collected;
 use jr_word::{Config, Fault};
@@ -57,7 +57,7 @@ fn others<'a>(
 }
 
 /// Shows it over an env in which nothing was done.
-fn shows<C: Cells<P>, P: Copy, U: Steps>(
+fn shows<C: Parts<P>, P: Copy, U: Steps>(
     rt: &impl Abort,
     alloc: Global,
     env: &mut Env<StepsOver<Overtaken<C, U>, P>>,
@@ -72,7 +72,7 @@ fn shows<C: Cells<P>, P: Copy, U: Steps>(
 }
 
 /// Shows it over an env of a thread that the others overtake.
-fn shows_overtaken<C: Cells<P> + Drop, P: Copy, U: Steps + Drop>(
+fn shows_overtaken<C: Parts<P> + Drop, P: Copy, U: Steps + Drop>(
     rt: &impl Abort,
     alloc: Global,
     steps: StepsOver<C, P>,

@@ -6,9 +6,9 @@ use crate::envs::refuses;
 use crate::plans::Planned;
 use jr_env::Env;
 use jr_model::Summary;
-use jr_rule::{Cells, StepKind, StepsOver};
+use jr_rule::{Cells, Parts, StepKind, StepsOver};
 use jr_steps::Steps;
-use jr_word::{Config, Fault, GateWord, Handle};
+use jr_word::{Config, Elem, Fault, GateWord, Handle, HeaderParts};
 use std::process::Abort;
 use std::test::Fail;
 
@@ -159,6 +159,19 @@ impl<P: Copy, C: Cells<P>, U: Steps> Cells<P> for Overtaken<C, U> {
     }
 
     ghost sound = { λ s place at. C.sound s.cells place at };
+}
+
+impl<P: Copy, C: Parts<P>, U: Steps> Parts<P> for Overtaken<C, U> {
+    fn load_part<E: Elem>(
+        &mut self,
+        place: P,
+        object: u16,
+        header: HeaderParts,
+        start: u32,
+        elements: &mut [E],
+    ) {
+        self.cells.load_part(place, object, header, start, elements);
+    }
 }
 
 /// The steps of a thread, with others that overtake it.

@@ -1,6 +1,6 @@
 -- What a step owes at a place and with words that are named
 -- otherwise, and what it told makes of the thread that took it.
-use Rattle.std.proofs.Common.{◌≡◌, ◌<◌, ◌≤◌, ℕ, List, sym, subst, eqb, arith, Bool}
+use Rattle.std.proofs.Common.{◌≡◌, ◌<◌, ◌≤◌, ◌+◌, ℕ, List, sym, subst, eqb, arith, Bool}
 use Rattle.std.proofs.Common.{false, ◌++◌, map, refl, ap, ◌∙◌, true, [], ◌∷◌}
 use prog.Atomic.{either}
 use Rattle.jr_word.specs.declared.config.Config.{Config}
@@ -17,7 +17,10 @@ use mathlib.Core.Logic.{∥∥₁_map}
 use Rattle.jr_model.specs.declared.event.Role.{Role}
 use Rattle.jr_model.specs.History.{by, IsLegal, role_of, role_from, state}
 use Rattle.jr_model.proofs.Stays.{role_did}
+use Rattle.jr_word.specs.declared.header.HeaderParts.{HeaderParts}
+use Rattle.jr_model.specs.declared.event.Role.TheVariants.{Within}
 use Rattle.jr_steps.specs.Knowing.{Took, TookWith, Goes, view, anything, fresh_from, HasNoLocals, IsOf, Standing}
+use Rattle.jr_steps.specs.Knowing.{KnowsHeader, ReadsInTurn, SawPart}
 use Rattle.jr_steps.proofs.StepFacts.{goes_did}
 use Rattle.jr_rule.specs.declared.cells.Cells.{Ghosts}
 use Rattle.jr_rule.specs.declared.over.StepsOver.{StepsOver}
@@ -25,8 +28,9 @@ use Rattle.jr_rule.specs.Cells.{Sight, IsAmong, AreItsActs, AreSoundWords, May}
 use Rattle.jr_rule.specs.Cells.{IsOwed, HasStepped, InRole, IsStanding, stands_at}
 use Rattle.jr_rule.specs.CellLaws.{among_of}
 use Rattle.jr_rule.specs.Over.{facts_over as facts}
+use Rattle.jr_rule.specs.Parts.{facts_within}
 use Rattle.std.specs.List.{AllByRecursion}
-use Rattle.jr_model.specs.declared.event.Act.TheVariants.{LocalPut, LocalDrop}
+use Rattle.jr_model.specs.declared.event.Act.TheVariants.{LocalPut, LocalDrop, Read}
 use Rattle.jr_model.proofs.Agreement.{spares_places, places_did, all_spared}
 
 -- who is fresh afterwards was so, and has stored no local
@@ -213,3 +217,58 @@ pub its_acts : {z : Sight} {r : Role} {met : Known → Type 0} {told : Known →
     {acts : List Act} {shows : Known → Known → Type 0} → Reads z r met told n (λ k. acts) shows
     → AreItsActs z (InRole r met) told n acts
 its_acts reads k k' done h m t = (reads.read k k' done h m.0 m.1 t).0
+
+-- WHAT A THREAD WITHIN KNOWS of the words it knows of them, whether it is fresh or not
+stands_so : (z : Sight) {r r' : Role} {f f' : Bool} → r ≡ r' → (k : Known) → IsOf (stands_at z r f) k
+    → IsOf (stands_at z r' f') k
+stands_so z same k is = record {
+  config = is.config;
+  last = is.last;
+  thread = is.thread;
+  role = is.role ∙ same;
+  legal = is.legal;
+}
+
+pub known_within : (z : Sight) {role : Role} {fresh : Bool} {met : Known → Type 0} → role ≡ Within
+    → ∥ ((k : Known) × (z.knows k × IsOf (stands_at z role fresh) k) × met k) ∥₁
+    → ∥ ((k : Known) × (z.knows k × IsOf (stands_at z Within false) k) × met k) ∥₁
+known_within z is may = ∥∥₁_map may (λ k. (k.0, (k.1.0, stands_so z is k.0 k.1.1), k.2))
+
+-- who has no local reference has none behind elements that were read
+none_read : (o i : ℕ) (vs : List ℕ) (k k' : Known) → ReadsInTurn o i vs k k' → HasNoLocals k → HasNoLocals k'
+none_read o i [] k k' r none = subst HasNoLocals (sym r) none
+none_read o i (v ∷ vs) k k' r none =
+    none_read o (i + 1) vs r.0 k' r.3 (no_locals_next k r.0 (Read o i v ∷ []) true r.1 refl (λ e. none))
+
+-- A PART THAT WAS READ of the words was read by the steps over them
+module _ {C P : Type 0} {G : Ghosts C P} {V : Type 0} (old new : StepsOver C P G) (is : old.role ≡ Within)
+    {o start : ℕ} {h : HeaderParts} {taken : ℕ → V} {values : List V}
+    (t : SawPart (facts_within G.sight) old.cells new.cells o h start taken values) where
+  pub part_over : new.role ≡ old.role → new.fresh ≡ old.fresh → new.hint ≡ old.hint
+      → SawPart facts old new o h start taken values
+  part_over role_is fresh_is hint_is = record {
+    words = t.words;
+    are = t.are;
+    stands_is = λ i. record (t.stands_is i) { role = role_is i; fresh = fresh_is i };
+    hint_is = hint_is;
+    leads = λ k s m.
+        let x = t.leads k (s.0, stands_so (G.sight old.cells) is k s.1) m in
+        (x.0, (x.1.0, stands_so (G.sight new.cells) (sym is ∙ sym role_is) x.0 x.1.1), x.2, x.3);
+  }
+
+-- and the thread stands as it must
+pub part_standing : {C V : Type 0} (sight : C → Sight) {a b : C} {o start : ℕ} {h : HeaderParts} {taken : ℕ → V}
+    {values : List V} → SawPart (facts_within sight) a b o h start taken values → AreSoundWords (sight b)
+    → {role : Role} {fresh : Bool} {hint : ℕ} → role ≡ Within → IsStanding (sight a) role fresh hint
+    → ∥ ((k : Known) × ((sight a).knows k × IsOf (stands_at (sight a) role fresh) k) × KnowsHeader o h k) ∥₁
+    → IsStanding (sight b) role fresh hint
+part_standing sight {a} {b} {o} {start} t sound {role} {fresh} {hint} is s may = record {
+  some = ∥∥₁_map may (λ k.
+      let x = t.leads k.0 (k.1.0, stands_so (sight a) is k.0 k.1.1) k.2 in
+      (x.0, (x.1.0, stands_so (sight b) (sym is) x.0 x.1.1)));
+  unused = λ f k' among p. ∥∥₁_elim may (hlevel props) (λ k.
+      let x = t.leads k.0 (k.1.0, stands_so (sight a) is k.0 k.1.1) k.2 in
+      let none = none_read o start t.words k.0 x.0 x.2 (s.unused f k.0 (among_of (sight a) role fresh k.0 k.1)) in
+      sound.locals x.0 k' (among_of (sight b) Within false x.0 x.1) among none p);
+  below = subst (λ (c : Config). hint < c.slots) (ap (λ (x : Standing). x.config) (sym t.stands_is)) s.below;
+}

@@ -11,6 +11,7 @@ pub mod OwnedSites
 pub mod OwnedLaws
 pub mod Notes
 pub mod Over
+pub mod Parts
 pub mod Slots
 pub mod RowHistories
 pub mod Parting

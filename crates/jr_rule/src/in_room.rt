@@ -2,11 +2,12 @@
 use crate::cells::{Cells, StepKind};
 use crate::over::StepsOver;
 use crate::over_room::RoomSteps;
+use crate::parts::Parts;
 use crate::pass::Pass;
 use crate::room::Room;
 use crate::row::RoomCells;
 use crate::site::{Site, ThreadNumber};
-use jr_word::Config;
+use jr_word::{Config, Elem, HeaderParts};
 use std::alloc::AllocError;
 use std::marker::PhantomData;
 
@@ -96,6 +97,20 @@ impl<'r, const LAST: u32, Q: Site, T: ThreadNumber> Cells<InRoom<'r, LAST, Q, T>
     }
 
     ghost sound = { λ s place at. thread_sound at };
+}
+
+impl<'r, const LAST: u32, Q: Site, T: ThreadNumber> Parts<InRoom<'r, LAST, Q, T>> for RoomCells {
+    #[inline(always)]
+    fn load_part<E: Elem>(
+        &mut self,
+        place: InRoom<'r, LAST, Q, T>,
+        object: u16,
+        header: HeaderParts,
+        start: u32,
+        elements: &mut [E],
+    ) {
+        Parts::<&Room<LAST>>::load_part(self, place.room, object, header, start, elements);
+    }
 }
 
 impl<'r, const LAST: u32, Q: Site, T: ThreadNumber> StepsOver<RoomCells, InRoom<'r, LAST, Q, T>> {

@@ -10,10 +10,11 @@ use crate::cells::{Cells, StepKind};
 use crate::note::Note;
 use crate::over::StepsOver;
 use crate::owned_cells::OwnedCells;
+use crate::parts::Parts;
 use crate::pinned_note::PinnedNote;
 use crate::site::{NoteOf, Site};
 use crate::steps_in::StepsIn;
-use jr_word::Config;
+use jr_word::{Config, Elem, HeaderParts};
 use std::alloc::AllocError;
 use std::marker::PhantomData;
 
@@ -93,6 +94,20 @@ impl<const LAST: u32, Q: Site> Cells<OfSite<Q>> for OwnedCells<LAST> {
     }
 
     ghost sound = { λ s place at. owned_sound at };
+}
+
+impl<const LAST: u32, Q: Site> Parts<OfSite<Q>> for OwnedCells<LAST> {
+    #[inline(always)]
+    fn load_part<E: Elem>(
+        &mut self,
+        _place: OfSite<Q>,
+        object: u16,
+        header: HeaderParts,
+        start: u32,
+        elements: &mut [E],
+    ) {
+        Parts::<()>::load_part(self, (), object, header, start, elements);
+    }
 }
 
 impl<const LAST: u32, Q: Site> StepsIn<Q> for StepsOver<OwnedCells<LAST>, OfSite<Q>> {

@@ -3,6 +3,7 @@ ghost use Rattle.std.specs.Prelude.{◌≡◌};
 ghost use Rattle.jr_rule.specs.Cells.{IsStanding};
 
 use crate::cells::{Cells, add, element_at, exchange, header_at, load, store, take};
+use crate::parts::Parts;
 use crate::words::{
     GATE, TOP, all_counted, freed_slot, is_closed, local_at, local_parts, reference, slot_at,
     top_word,
@@ -33,14 +34,10 @@ pub struct StepsOver<C: Cells<P>, P: Copy> {
 }
 
 impl<C: Cells<P>, P: Copy> StepsOver<C, P> {
+    ghost use Rattle.std.specs.Prelude.{[], ◌∷◌};
     ghost use Rattle.jr_steps.specs.Acts.{act_of_gate_load, GateLoadFits};
-    ghost use Rattle.jr_rule.specs.Over.{LooksSo};
-    ghost use Rattle.std.specs.Prelude.{◌<◌, ◌≤◌, ◌+◌, [], ◌∷◌, length};
-    ghost use Rattle.jr_model.specs.declared.event.Act.TheVariants.{Read};
-    ghost use Rattle.jr_model.specs.declared.event.Role.TheVariants.{Within};
-    ghost use Rattle.jr_steps.specs.Knowing.{anything, MayKnow, KnowsHeader, SawPart, ShowsGate, Took, keeps};
-    ghost use Rattle.jr_rule.specs.Image.{element_at as place_of_element};
-    ghost use Rattle.jr_rule.specs.Over.{facts_over, ReadsTo, ReadsRest};
+    ghost use Rattle.jr_steps.specs.Knowing.{anything, ShowsGate, Took, keeps};
+    ghost use Rattle.jr_rule.specs.Over.{facts_over, LooksSo};
 
     /// Loads the gate, which counts as what it is named.
     pub(crate) fn look(&mut self, name: GateLoad) -> GateParts
@@ -52,123 +49,9 @@ impl<C: Cells<P>, P: Copy> StepsOver<C, P> {
         let found = load::<C, P, Brand, (GateLoad, Role)>(&mut self.cells, self.place, GATE, about);
         GateWord::parts(found).unwrap()
     }
-
-    /// Loads an element of an object whose header the pass knows, at its place in the row.
-    #[inline(always)]
-    fn see_element_at(
-        &mut self,
-        there: P,
-        object: u16,
-        header: HeaderParts,
-        index: u32,
-        at: usize,
-    ) -> u64
-        requires role { self.old.role ≡ Within }
-        requires index { index < header.length }
-        requires known { MayKnow facts_over self.old (KnowsHeader object header) }
-        requires there { there ≡ self.old.place }
-        requires place { at ≡ place_of_element (C.sight self.old.cells).first.config (header.place + index) }
-        ensures there { there ≡ self.new.place }
-        ensures step { Took facts_over self.old self.new (Read object index result ∷ []) (KnowsHeader object header) keeps }
-    {
-        let about = (object, header, index);
-        load::<C, P, Brand, (u16, HeaderParts, u32)>(&mut self.cells, there, at, about)
-    }
-
-    /// Loads four elements of a part into their places in the slice.
-    #[inline(always)]
-    fn see_four<E: Elem>(
-        &mut self,
-        there: P,
-        object: u16,
-        header: HeaderParts,
-        start: u32,
-        at: usize,
-        elements: &mut [E],
-        index: usize,
-    )
-        requires role { self.old.role ≡ Within }
-        requires part { start + length elements.old ≤ header.length }
-        requires index { index + 4 ≤ length elements.old }
-        requires known { MayKnow facts_over self.old (KnowsHeader object header) }
-        requires there { there ≡ self.old.place }
-        requires place { at ≡ place_of_element (C.sight self.old.cells).first.config 0 + header.place + start + index }
-        ensures config { (C.sight self.new.cells).first.config ≡ (C.sight self.old.cells).first.config }
-        ensures role { self.new.role ≡ Within }
-        ensures size { length elements.new ≡ length elements.old }
-        ensures known { MayKnow facts_over self.new (KnowsHeader object header) }
-        ensures there { there ≡ self.new.place }
-        ensures step { ReadsTo object header start E.element_of index (index + 4) self.old self.new elements.old elements.new }
-    {
-        // (all four before the first is stored, so that over plain words one load of two words may do for two)
-        let part = start + index as u32;
-        let first = self.see_element_at(there, object, header, part, at);
-        let second = self.see_element_at(there, object, header, part + 1, at + 1);
-        let third = self.see_element_at(there, object, header, part + 2, at + 2);
-        let fourth = self.see_element_at(there, object, header, part + 3, at + 3);
-        elements[index] = E::of_word(first);
-        elements[index + 1] = E::of_word(second);
-        elements[index + 2] = E::of_word(third);
-        elements[index + 3] = E::of_word(fourth);
-    }
-
-    /// Loads one element of a part into its place in the slice.
-    #[inline(always)]
-    fn see_into<E: Elem>(
-        &mut self,
-        there: P,
-        object: u16,
-        header: HeaderParts,
-        start: u32,
-        at: usize,
-        elements: &mut [E],
-        index: usize,
-    )
-        requires role { self.old.role ≡ Within }
-        requires part { start + length elements.old ≤ header.length }
-        requires index { index < length elements.old }
-        requires known { MayKnow facts_over self.old (KnowsHeader object header) }
-        requires there { there ≡ self.old.place }
-        requires place { at ≡ place_of_element (C.sight self.old.cells).first.config 0 + header.place + start + index }
-        ensures config { (C.sight self.new.cells).first.config ≡ (C.sight self.old.cells).first.config }
-        ensures role { self.new.role ≡ Within }
-        ensures size { length elements.new ≡ length elements.old }
-        ensures known { MayKnow facts_over self.new (KnowsHeader object header) }
-        ensures there { there ≡ self.new.place }
-        ensures step { ReadsTo object header start E.element_of index (index + 1) self.old self.new elements.old elements.new }
-    {
-        let word = self.see_element_at(there, object, header, start + index as u32, at);
-        elements[index] = E::of_word(word);
-    }
-
-    /// Loads the elements of a part from one on, to its end.
-    #[inline(always)]
-    fn see_rest<E: Elem>(
-        &mut self,
-        there: P,
-        object: u16,
-        header: HeaderParts,
-        start: u32,
-        first: usize,
-        elements: &mut [E],
-        done: usize,
-    )
-        requires role { self.old.role ≡ Within }
-        requires part { start + length elements.old ≤ header.length }
-        requires done { done ≤ length elements.old }
-        requires known { MayKnow facts_over self.old (KnowsHeader object header) }
-        requires there { there ≡ self.old.place }
-        requires place { first ≡ place_of_element (C.sight self.old.cells).first.config 0 + header.place + start }
-        ensures size { length elements.new ≡ length elements.old }
-        ensures steps { ReadsRest object header start E.element_of done self.old self.new elements.old elements.new }
-    {
-        for index in done..elements.len() {
-            self.see_into(there, object, header, start, first + index, elements, index);
-        }
-    }
 }
 
-impl<C: Cells<P>, P: Copy> Steps for StepsOver<C, P> {
+impl<C: Parts<P>, P: Copy> Steps for StepsOver<C, P> {
     ghost use Rattle.std.specs.Prelude.{◌≢◌, ◌⊎◌, ◌<◌, [], ◌∷◌};
     ghost use Rattle.jr_word.specs.declared.handle.RefKind.TheVariants.{Local, Weak};
     ghost use Rattle.jr_model.specs.declared.event.Act.TheVariants.{Gate, Clear};
@@ -450,8 +333,8 @@ impl<C: Cells<P>, P: Copy> Steps for StepsOver<C, P> {
 
     fn see_element(&mut self, object: u16, header: HeaderParts, index: u32) -> u64 {
         let at = element_at::<C, P>(&self.cells, self.place, header.place + index);
-        let there = self.place;
-        self.see_element_at(there, object, header, index, at)
+        let about = (object, header, index);
+        load::<C, P, Brand, (u16, HeaderParts, u32)>(&mut self.cells, self.place, at, about)
     }
 
     #[inline(always)]
@@ -462,23 +345,8 @@ impl<C: Cells<P>, P: Copy> Steps for StepsOver<C, P> {
         start: u32,
         elements: &mut [E],
     ) {
-        let there = self.place;
-        let first = self.cells.elements(there) + header.place as usize + start as usize;
-        for eight in 0..elements.len() / 8 {
-            let index = eight * 8;
-            self.see_four(there, object, header, start, first + index, elements, index);
-            self.see_four(
-                there,
-                object,
-                header,
-                start,
-                first + index + 4,
-                elements,
-                index + 4,
-            );
-        }
-        let done = elements.len() / 8 * 8;
-        self.see_rest(there, object, header, start, first, elements, done);
+        self.cells
+            .load_part(self.place, object, header, start, elements);
     }
 
     fn put_element(&mut self, object: u16, header: HeaderParts, index: u32, word: u64) {

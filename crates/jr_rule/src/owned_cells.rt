@@ -1,8 +1,9 @@
 //! The words of a room, for a thread that owns the room together with others.
 use crate::cells::{Cells, StepKind};
+use crate::parts::Parts;
 use crate::room::Room;
 use crate::row::RoomCells;
-use jr_word::Config;
+use jr_word::{Config, Elem, HeaderParts};
 use std::sync::Arc;
 
 /// A seat, and the room that it is of.
@@ -71,4 +72,20 @@ impl<const LAST: u32> Cells<()> for OwnedCells<LAST> {
     }
 
     ghost sound = { λ s place at. seat_sound at };
+}
+
+impl<const LAST: u32> Parts<()> for OwnedCells<LAST> {
+    #[inline(always)]
+    fn load_part<E: Elem>(
+        &mut self,
+        _place: (),
+        object: u16,
+        header: HeaderParts,
+        start: u32,
+        elements: &mut [E],
+    ) {
+        // (the room once for all elements: by the cells it would be looked for anew behind each barrier)
+        let room = &*self.room;
+        Parts::<&Room<LAST>>::load_part(&mut self.cells, room, object, header, start, elements);
+    }
 }

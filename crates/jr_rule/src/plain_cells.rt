@@ -3,8 +3,9 @@ ghost use Rattle.std.specs.Prelude.{◌≡◌, ◌<◌, ◌^◌, vec_len, slice_
 ghost use Rattle.jr_word.specs.Config.{in_limits, IsLimited, row_words};
 
 use crate::cells::{Cells, StepKind};
+use crate::parts::{Parts, load_each};
 use crate::words::{first_element, first_header};
-use jr_word::Config;
+use jr_word::{Config, Elem, HeaderParts};
 
 /// The words of a row, which thread 0 alone has, with `LAST` as the last serial.
 #[derive(Drop)]
@@ -90,4 +91,18 @@ impl<const LAST: u32> Cells<()> for PlainCells<LAST> {
     }
 
     ghost sound = { λ s place at. words_sound s.config LAST s.words.items s.limits s.limited s.few };
+}
+
+impl<const LAST: u32> Parts<()> for PlainCells<LAST> {
+    #[inline(always)]
+    fn load_part<E: Elem>(
+        &mut self,
+        place: (),
+        object: u16,
+        header: HeaderParts,
+        start: u32,
+        elements: &mut [E],
+    ) {
+        load_each(self, place, object, header, start, elements);
+    }
 }

@@ -40,6 +40,7 @@ ghost use Rattle.jr_rule.specs.Rule.{crowd_of, HasCounted, IsAlone, IsCrowd, IsN
 
 use crate::cells::{Cells, StepKind};
 use crate::closing::ClosedWords;
+use crate::parts::{Parts, load_each};
 use crate::pass::Pass;
 use crate::room::Room;
 use crate::rule::{
@@ -49,7 +50,7 @@ use crate::summing::summary;
 use crate::words::{GATE, all_counted, first_element, first_header};
 use atomic_table::{Seat, Table};
 use jr_model::{Role, Summary};
-use jr_word::{Config, GateWord};
+use jr_word::{Config, Elem, GateWord, HeaderParts};
 use std::alloc::{AllocError, Global};
 
 /// One row of atomic words, which the holders of its passes share.
@@ -420,4 +421,18 @@ impl<'a, const LAST: u32> Cells<&'a Room<LAST>> for RoomCells {
     }
 
     ghost sound = { λ s place at. seat_sound at };
+}
+
+impl<'a, const LAST: u32> Parts<&'a Room<LAST>> for RoomCells {
+    #[inline(always)]
+    fn load_part<E: Elem>(
+        &mut self,
+        place: &'a Room<LAST>,
+        object: u16,
+        header: HeaderParts,
+        start: u32,
+        elements: &mut [E],
+    ) {
+        load_each(self, place, object, header, start, elements);
+    }
 }

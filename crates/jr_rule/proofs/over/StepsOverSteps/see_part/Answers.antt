@@ -1,42 +1,20 @@
-use Rattle.std.proofs.Common.{◌≡◌, ◌+◌, ◌*◌, ◌/◌, length, ℕ, take, subst, refl, ◌∙◌, arith}
-use Rattle.jr_steps.specs.Knowing.{SawPart}
-use Rattle.jr_steps.proofs.PartFacts.{saw_nothing}
-use Rattle.jr_rule.specs.Over.{facts_over}
+use Rattle.std.proofs.Common.{refl}
+use Rattle.jr_rule.proofs.StepTaken.{known_within, part_over, part_standing}
 use Rattle.jr_rule.proofs.over.StepsOverSteps.see_part.Goals as goal
 
-pub loop-eight-init : goal.loop-eight-init
-loop-eight-init g c = (
-  refl,
-  c.requires.role,
-  refl,
-  c.requires.known,
-  refl,
-  saw_nothing g.E.Elem.element_of c.args.object c.args.header c.args.start c.args.self.now,
-)
+pub load_part-requires-clause-known : goal.load_part-requires-clause-known
+load_part-requires-clause-known g c =
+    let s = c.args.self.now in known_within (g.C.Cells.sight s.cells) c.requires.role c.requires.known
 
-pub loop-eight-preserved : goal.loop-eight-preserved
-loop-eight-preserved g c =
-    let v = c.loop-eight.invariant in
-    let i : ℕ = c.loop-eight.eight * 8 in
-    let x0 = c.see_four.ensures in
-    let x1 = c.see_four-in-loop-eight.ensures in
-    let eight : i + 4 + 4 ≡ (c.loop-eight.eight + 1) * 8 = omega arith in
-    let first = c.args.self.now in
-    let s1 = x1.step first (x0.step first v.5) in (
-      x1.config ∙ (x0.config ∙ v.0),
-      x1.role,
-      x1.size ∙ (x0.size ∙ v.2),
-      x1.known,
-      x1.there,
-      subst (λ n. SawPart facts_over first c.see_four-in-loop-eight.new.self c.args.object c.args.header c.args.start
-          g.E.Elem.element_of (take n c.see_four-in-loop-eight.new.elements)) eight s1,
-    )
+pub invariant_of-self : goal.invariant_of-self
+invariant_of-self g c =
+    let s = c.args.self.now in
+    let t = c.load_part.ensures in
+    record {
+      at = t.there;
+      stands = part_standing g.C.Cells.sight t.steps (g.met.C.Cells.sound c.load_part.new.self s.place t.there)
+          c.requires.role s.stands c.requires.known;
+    }
 
 pub returns-clause-steps : goal.returns-clause-steps
-returns-clause-steps g c =
-    let first = c.args.self.now in
-    let v = c.loop-eight.invariant in
-    let ends : c.loop-eight.eight * 8 ≡ length c.loop-eight.elements / 8 * 8 = (let same = c.loop-eight.auto.elements in
-    let a = c.loop-eight.auto.eight-end in let b = c.loop-eight-test.false in omega arith) in
-    c.see_rest.ensures.steps first (subst (λ n. SawPart facts_over first c.loop-eight.self c.args.object c.args.header
-    c.args.start g.E.Elem.element_of (take n c.loop-eight.elements)) ends v.5)
+returns-clause-steps g c = part_over c.args.self.now _ c.requires.role c.load_part.ensures.steps refl refl refl

@@ -2,7 +2,7 @@ use Rattle.jr_model.specs.declared.event.Role.TheVariants.{Within}
 use Rattle.jr_steps.specs.Knowing.{KnowsHeader}
 use Rattle.jr_rule.proofs.Told.{SawElement}
 use Rattle.jr_rule.specs.Cells.{InRole}
-use Rattle.jr_rule.proofs.over.StepsOver.see_element_at.Given as goal
+use Rattle.jr_rule.proofs.parts.see_one.Given as goal
 
 abbrev pub ghosts-load : goal.ghosts-load
 ghosts-load g a =
