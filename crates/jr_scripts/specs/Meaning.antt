@@ -1,5 +1,6 @@
 -- WHAT A SCRIPT OF ONE THREAD MEANS: its text, by a machine that has no handles, slots, places or object numbers
-use Rattle.std.specs.Prelude.{◌≡◌, ◌≢◌, ◌<◌, ◌≤◌, ◌^◌, ◌+◌, ◌-◌, ◌==◌, ◌&&◌, ℕ, ℤ, zero, suc, Bool, true, false, cond, not}
+use Rattle.std.specs.Prelude.{◌≡◌, ◌≢◌, ◌<◌, ◌≤◌, ◌^◌, ◌+◌, ◌-◌, ◌==◌, ◌&&◌, ℕ, ℤ, zero, suc, Bool, true, false, cond}
+use Rattle.std.specs.Prelude.{not}
 use Rattle.std.specs.Prelude.{nat_lt, nat_le}
 use Rattle.std.specs.Prelude.{Option, Some, None, is_some, Result, Ok, Err, List, [], ◌∷◌, ◌++◌, map, length, replicate}
 use Rattle.std.specs.Prelude.{drop, slice_index, slice_index_or, slice_set}
@@ -614,11 +615,12 @@ gives_up _ = false
 abbrev pub IsCovered : Command → Type 0
 IsCovered (commands.Make v n) = Unit {0}
 IsCovered (commands.MakeFrom make_from.Local n r) = Unit {0}
+IsCovered (commands.MakeFrom make_from.Pop n r) = Unit {0}
 IsCovered (commands.On on.Type r) = Unit {0}
 IsCovered (commands.On on.Drop r) = Unit {0}
 IsCovered (commands.OnBoth v q r) = Unit {0}
 IsCovered (commands.OnName v n) = Unit {0}
-IsCovered (commands.WithCount with_count.Ensure n) = Unit {0}
+IsCovered (commands.WithCount v n) = Unit {0}
 IsCovered _ = ⊥
 
 -- THE TEXT OF A RUN IS WHAT ITS SCRIPT MEANS, where there are turns, serials have 32 bits, all commands are covered,

@@ -19,7 +19,8 @@ use Rattle.jr_model.specs.declared.frames.TheConstants.{FRAMES}
 use Rattle.jr_model.specs.Maps.{update}
 use Rattle.jr_model.specs.State.{Handle, same_handle, same_kind}
 use Rattle.jr_model.specs.Steps.{act_after}
-use Rattle.jr_model.specs.Frames.{Frames, IsAdded, adds, all_refs, is_held, object_of, object_where, pushed, without_local}
+use Rattle.jr_model.specs.Frames.{Frames, IsAdded, adds, all_refs, is_held, object_of, object_where, pushed}
+use Rattle.jr_model.specs.Frames.{without_local}
 use Rattle.jr_model.specs.Calls.{◌>>=◌, ◌>>◌, done}
 use Rattle.jr_model.specs.Checks.{Word, Nothing, Malformed, Parts, is_local, is_out_of_bounds, is_foreign, is_malformed}
 use Rattle.jr_model.specs.Checks.{is_of_kind, kind_number, same_object, type_local}
@@ -34,7 +35,8 @@ use Rattle.jr_scripts.specs.Meaning as meaning
 use Rattle.jr_scripts.proofs.LoneRun.MadeCalls.{Moment, Made, moment, moment_is, stepped, still}
 use Rattle.jr_scripts.proofs.LoneRun.MeaningCounts.{few_after, found_before, found_last, given_long, past_here}
 use Rattle.jr_scripts.proofs.LoneRun.MeaningCounts.{bit_most, serial_most}
-use Rattle.jr_scripts.proofs.LoneRun.MeaningFrames.{Pairing, AreFrames, frames_later, frames_less, frames_long, frames_put}
+use Rattle.jr_scripts.proofs.LoneRun.MeaningFrames.{Pairing, AreFrames, frames_later, frames_less, frames_long}
+use Rattle.jr_scripts.proofs.LoneRun.MeaningFrames.{frames_put}
 use Rattle.jr_scripts.proofs.LoneRun.MeaningFrames.{frames_pushed}
 use Rattle.jr_scripts.proofs.LoneRun.MeaningFits.{Later, RefFits, IsOwn, LocalsFit, Fits, Fitting, SameAnswer, IsDone}
 use Rattle.jr_scripts.proofs.LoneRun.MeaningFits.{IsSame, Outcome, Means, unmoved, test_means, done_means, cond_means}
@@ -148,7 +150,8 @@ module _ (c : Config) (last k : ℕ) where
       past_then = by_age (λ i. IsPast ((ref_named h).handle i) n.frames)
           (λ i small. subst (λ g. IsPast g n.frames) (sym (ref_before h i small))
           (past_move last 0 (P.handle i) m.frames (adds the_ref a) (f.locals.past i small)))
-          (subst (λ g. IsPast g n.frames) (sym (ref_here h)) (past_here last m.frames n.frames the_ref f.locals.sound a))
+          (subst (λ g. IsPast g n.frames) (sym (ref_here h))
+          (past_here last m.frames n.frames the_ref f.locals.sound a))
 
       once_then : (i j : ℕ) → i < length with_ref.refs → j < length with_ref.refs
           → (ref_named h).handle i ≡ (ref_named h).handle j → i ≡ j
@@ -299,27 +302,31 @@ module _ (c : Config) (last k : ℕ) where
   sound P w m Malformed (suc i) some f fits = absurd fits
   sound P w m (Parts h) zero some f fits = absurd fits
 
+  -- what is found, in a world that stays
+  abbrev pub FoundFits : World → Fitting (Option ℕ) (Option ℕ)
+  FoundFits w Q v x y = OptionFits Q v x y × (v ≡ w)
+
   found_fits : (P : Pairing) (w : World) (r : Option Ref) (l : Option ℕ) → RefFits P (length w.objects) r l
-      → SameAnswer (OptionFits P w) (local_answer l) (object_in r)
-  found_fits P w (Some r) (Some p) fits = subst (λ z. SameAnswer (OptionFits P w) (Ok (Some p)) (Ok z)) (sym fits.2)
-      (fits.3, fits.4)
+      → SameAnswer (FoundFits w P w) (local_answer l) (object_in r)
+  found_fits P w (Some r) (Some p) fits = subst (λ z. SameAnswer (FoundFits w P w) (Ok (Some p)) (Ok z)) (sym fits.2)
+      ((fits.3, fits.4), refl)
   found_fits P w None None fits = refl
   found_fits P w (Some r) None fits = absurd fits
   found_fits P w None (Some p) fits = absurd fits
 
   pub looked_means : (P : Pairing) (w : World) (a : Word) (g : ℕ) → WordFits P w a g
-      → Means c last k k OptionFits P w (looked a) (meaning.object g)
-  looked_means P w Nothing zero fits = done_means c last {V = OptionFits} None None tt
+      → Means c last k k (FoundFits w) P w (looked a) (meaning.object g)
+  looked_means P w Nothing zero fits = done_means c last {V = FoundFits w} None None (tt, refl)
   looked_means P w (Parts h) (suc i) fits = known_means c last (λ m f. cond_means c last (is_local h) _
       (local_is h (subst (IsOwn c last) (sym fits.1) (f.locals.own i fits.0))) here)
     where
-      here : Means c last k k OptionFits P w
+      here : Means c last k k (FoundFits w) P w
           (λ old. Rattle.jr_model.specs.Parts.local_object (object_of old h) old) (meaning.object (suc i))
       here = record {
-        outcome = λ m n x f r. unmoved c last {V = OptionFits} m n x (local_answer (object_of m.frames h))
+        outcome = λ m n x f r. unmoved c last {V = FoundFits w} m n x (local_answer (object_of m.frames h))
             (object_in (standing_at w.refs i)) f (still c last 0 {m = m} {n = n} r.acts (r.is).0 r.leads (r.is).2)
             (r.is).1
-            (subst (λ q. SameAnswer (OptionFits P w) (local_answer (object_of m.frames q))
+            (subst (λ q. SameAnswer (FoundFits w P w) (local_answer (object_of m.frames q))
             (object_in (standing_at w.refs i))) (sym fits.1)
             (found_fits P w (standing_at w.refs i) (object_of m.frames (P.handle i)) (f.locals.stands i fits.0)));
       }
@@ -329,7 +336,7 @@ module _ (c : Config) (last k : ℕ) where
   looked_means P w (Parts h) zero fits = absurd fits
 
   pub resolved_means : (P : Pairing) (w : World) (a : Word) (g : ℕ) → 1 ≤ c.threads → WordFits P w a g
-      → Means c last k k OptionFits P w (references.resolved c last 0 a) (meaning.object g)
+      → Means c last k k (FoundFits w) P w (references.resolved c last 0 a) (meaning.object g)
   resolved_means P w a g some fits = known_means c last (λ m f.
       let s = sound P w m a g some f fits in
       pass_means c last (is_malformed a) fault.Stale s.formed
@@ -341,7 +348,7 @@ module _ (c : Config) (last k : ℕ) where
       → Means c last k k MaybeFits P w (references.new_local_ref c last 0 a)
       (λ z. Rattle.jr_scripts.specs.Meaning.goes_on (meaning.new_local c) (meaning.object g z))
   local_means P w a g some fits = entered_means c last (bind_means c last (resolved_means P w a g some fits)
-      (λ Q v later x y same. new_local_means Q v x y same))
+      (λ Q v later x y same. new_local_means Q v x y same.0))
 
   -- ISSAMEOBJECT
 
@@ -378,7 +385,7 @@ module _ (c : Config) (last k : ℕ) where
       (bind_means c last (looked_means P w a g one) (λ Q v later x x' same.
       bind_means c last (looked_means Q v b h (word_later later b h two)) (λ R u later' y y' same'.
       known_means c last (λ n i. done_means c last {V = SameFits} (x, y) (same_object x' y')
-      (same_fits R u n i x y x' y' (option_later later' x x' same) same')))))))))))
+      (same_fits R u n i x y x' y' (option_later later' x x' same.0) same'.0)))))))))))
 
   pub same_means : (P : Pairing) (w : World) (a b : Word) (g h : ℕ) → 1 ≤ c.threads → WordFits P w a g
       → WordFits P w b h
@@ -524,10 +531,13 @@ module _ (c : Config) (last k : ℕ) where
                 subst (RefFits P (length w.objects) (standing_at w.refs j)) (sym same) (f.locals.stands j below)
 
     drop_means : (h : Handle) → h ≡ P.handle i → Means c last (suc k) k (IsDone {A = Unit {0}} {B = Unit {0}}) P w
-        (drop_local h) (λ v. (Ok tt, record v {
-          refs = slice_set v.refs i None;
-          frames = map (filter (λ j. not (j == i))) v.frames;
-        }))
+        (drop_local h) (λ v. (
+          Ok tt,
+          record v {
+            refs = slice_set v.refs i None;
+            frames = map (filter (λ j. not (j == i))) v.frames;
+          },
+        ))
     drop_means h is = record {
       outcome = λ m n x f r.
           let state_is = stepped c last 0 m n r.acts (LocalDrop h.index) (r.is).0 r.leads in

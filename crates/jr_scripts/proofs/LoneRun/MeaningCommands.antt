@@ -1,5 +1,6 @@
 -- What a lone thread's commands mean, each from a moment that is as the world.
-use Rattle.std.proofs.Common.{◌≡◌, ◌≢◌, inl, inr, ℕ, zero, suc, ◌<◌, ◌≤◌, ◌^◌, Bool, true, false, Option, Some, None, List, []}
+use Rattle.std.proofs.Common.{◌≡◌, ◌≢◌, inl, inr, ℕ, zero, suc, ◌<◌, ◌≤◌, ◌^◌, Bool, true, false, Option, Some, None}
+use Rattle.std.proofs.Common.{List, []}
 use Rattle.std.proofs.Common.{length, map, MatchOption, Result, Ok, Err, IfErr, refl, sym, ap, subst, ◌∙◌, arith}
 use Rattle.std.proofs.lemmas.List.{append-nil}
 use Rattle.std.specs.List.{AllByRecursion}
@@ -22,7 +23,7 @@ use Rattle.jr_model.proofs.Stays.{sees_its_own_acts}
 use Rattle.jr_frames.specs.Reading.{IsReadAs}
 use Rattle.jr_gate.specs.Performing.{IsMade, ThreadState}
 use Rattle.jr_env.specs.Deeds.{Deed, call_by, call_on, call_on_both, decided, delete_local_ref, done}
-use Rattle.jr_env.specs.Deeds.{ensure_local_capacity}
+use Rattle.jr_env.specs.Deeds.{ensure_local_capacity, pop_local_frame, push_local_frame}
 use Rattle.jr_env.specs.Deeds.{get_object_ref_type, is_same_object, new_local_ref, new_plain, packed, packed_if, ◌>>=◌}
 use Rattle.jr_syntax.specs.declared.name.Reference.{Reference}
 use Rattle.jr_syntax.specs.declared.name.Reference.TheVariants as refers
@@ -39,7 +40,8 @@ use Rattle.jr_scripts.specs.declared.reply.Reply.TheVariants as replies
 use Rattle.jr_scripts.specs.declared.binding.Binding.{Binding}
 use Rattle.jr_scripts.specs.declared.binding.Binding.TheVariants as bound
 use Rattle.jr_scripts.specs.Names.{Names, binding, reference_in, referent, wanted, with_name, word_posted}
-use Rattle.jr_scripts.specs.Commands.{HasLearned, awaited, deed, deleted_as, deleted_of, deletion, makes_reference, tried, type_of}
+use Rattle.jr_scripts.specs.Commands.{HasLearned, awaited, deed, deleted_as, deleted_of, deletion, makes_reference}
+use Rattle.jr_scripts.specs.Commands.{tried, type_of}
 use Rattle.jr_scripts.specs.RegionCommands.{deed_at, deed_within}
 use Rattle.jr_scripts.specs.Places.{Place, by_region, objects_after, place_after}
 use Rattle.jr_scripts.specs.Posting.{IsAnswered, Words, reply_to_wait, said_alone, word_under, words_after, words_with}
@@ -47,7 +49,8 @@ use Rattle.jr_scripts.specs.Text.{names_after, printed, reference_made, says}
 use Rattle.jr_scripts.specs.AloneAnswers.{IsAloneFault, IsCommandFault, IsFaultOutside, IsFaultWithin}
 use Rattle.jr_scripts.specs.Runs.{IsUnbarred}
 use Rattle.jr_scripts.proofs.AloneCalls.{IsAlone, LeadsAlone}
-use Rattle.jr_scripts.proofs.AloneDeeds.{delete_local_alone, ensure_alone, local_ref_alone, plain_alone, same_alone, type_alone}
+use Rattle.jr_scripts.proofs.AloneDeeds.{delete_local_alone, ensure_alone, pop_alone, push_alone}
+use Rattle.jr_scripts.proofs.AloneDeeds.{local_ref_alone, plain_alone, same_alone, type_alone}
 use Rattle.jr_scripts.proofs.Uncontended.{Asked}
 use Rattle.jr_scripts.specs.Meaning.{IsCovered, World, Meaning, gives_up, goes_on, reply_made, type_named, meaning_at}
 use Rattle.jr_scripts.specs.Meaning as meaning
@@ -56,10 +59,13 @@ use Rattle.jr_scripts.proofs.LoneRun.MeaningFrames.{Pairing}
 use Rattle.jr_scripts.proofs.LoneRun.MeaningFits.{Later, Fits, Fitting, IsDone, IsSame, Means, Outcome, fits_less}
 use Rattle.jr_scripts.proofs.LoneRun.MeaningFits.{later_self}
 use Rattle.jr_scripts.proofs.LoneRun.MeaningParts.{room_means}
-use Rattle.jr_scripts.proofs.LoneRun.MeaningCalls.{MaybeFits, NewFits, WordFits, delete_means, local_means, plain_means, same_means}
+use Rattle.jr_scripts.proofs.LoneRun.MeaningCalls.{MaybeFits, NewFits, WordFits, delete_means, local_means}
+use Rattle.jr_scripts.proofs.LoneRun.MeaningCalls.{plain_means, same_means}
 use Rattle.jr_scripts.proofs.LoneRun.MeaningCalls.{new_maybe, type_means}
+use Rattle.jr_scripts.proofs.LoneRun.MeaningScopes.{pop_means, push_means}
 use Rattle.jr_scripts.proofs.LoneRun.MeaningDeeds.{IsPass, NamesFit, BindingFits, HandleFits, MaybeWord, WordsFit}
-use Rattle.jr_scripts.proofs.LoneRun.MeaningDeeds.{after_decided, call_made, formed, formed_both, made_once, names_later}
+use Rattle.jr_scripts.proofs.LoneRun.MeaningDeeds.{after_decided, call_made, formed, formed_both, made_once}
+use Rattle.jr_scripts.proofs.LoneRun.MeaningDeeds.{names_later}
 use Rattle.jr_scripts.proofs.LoneRun.MeaningDeeds.{names_set_fit, now, own_handle, posted_fits, read_fits, was_formed}
 use Rattle.jr_scripts.proofs.LoneRun.MeaningDeeds.{word_under_fits, words_later, words_with_fit}
 
@@ -266,8 +272,8 @@ module _ (c : Config) (last : ℕ) where
             → Steps (goes_on (λ z v. (Ok (form' z), v)) r)
         same_after form form' same keeps keeps' quiet (Ok y) (Ok z, v) i is =
             let o = i.outcome in
-            kept_step o.pairing v (Ok (form y)) (Ok (form' z)) (record { later = o.later; pass = i.pass; fits = o.fits })
-            is (keeps y) (keeps' z) (λ line. ap (λ a. says x a) (same o.pairing v y z o.answers))
+            kept_step o.pairing v (Ok (form y)) (Ok (form' z))
+            (record { later = o.later; pass = i.pass; fits = o.fits }) is (keeps y) (keeps' z) (λ line. ap (λ a. says x a) (same o.pairing v y z o.answers))
         same_after form form' same keeps keeps' quiet (Err e) (Err d, v) i is =
             let o = i.outcome in
             kept_step o.pairing v (Err e) (Err d) (record { later = o.later; pass = i.pass; fits = o.fits }) is
@@ -287,7 +293,8 @@ module _ (c : Config) (last : ℕ) where
         makes_after n sets silent quiet (Ok (Some h)) (Ok (suc z), v) i is =
             let o = i.outcome in
             made_step n o.pairing v (Some (packed h)) (Some (record { 0 = suc z }))
-            (record { later = o.later; pass = i.pass; fits = o.fits }) is sets (silent (packed h) (record { 0 = suc z }))
+            (record { later = o.later; pass = i.pass; fits = o.fits }) is sets
+            (silent (packed h) (record { 0 = suc z }))
             ((o.answers).0, ap handle_word (o.answers).1)
         makes_after n sets silent quiet (Err e) (Err d, v) i is =
             let o = i.outcome in
@@ -327,7 +334,8 @@ module _ (c : Config) (last : ℕ) where
       -- PLAIN
 
       some_once : (once : Result Handle Fault) (r : Result ℕ Fault × World)
-          → Outcome c last k NewFits P w once r (now new) → Outcome c last k MaybeFits P w (formed Some once) r (now new)
+          → Outcome c last k NewFits P w once r (now new)
+          → Outcome c last k MaybeFits P w (formed Some once) r (now new)
       some_once (Ok h) (Ok n, v) o = record {
         pairing = o.pairing;
         later = o.later;
@@ -359,7 +367,8 @@ module _ (c : Config) (last : ℕ) where
           f.is ∙ (ap (formed (λ h. replies.Made (Some h))) g.is
           ∙ formed_both (λ h. replies.Made (Some h)) packed g.once) in
           let i = made_call x answer fault {V = NewFits} (λ h. replies.Made (Some (packed h))) old.pass.config.objects
-          (λ z l t y. references.new_plain z l t) (meaning.made c Plain []) g.once (λ z. even one (plain_means c last j P w))
+          (λ z l t y. references.new_plain z l t) (meaning.made c Plain []) g.once
+          (λ z. even one (plain_means c last j P w))
           (g.did).0 is in
           makes_after x answer n (λ h names os ws. (refl, refl, refl)) (λ h g. refl) (λ e names os ws.
           (refl, refl, refl)) (formed Some g.once) (meaning.made c Plain [] w)
@@ -467,6 +476,59 @@ module _ (c : Config) (last : ℕ) where
           same_after x answer {V = IsDone {A = Unit {0}} {B = Unit {0}}} (λ u. replies.Done) (λ u. replies.Done)
           (λ Q z y y' e. refl) (λ y names os ws. (refl, refl, refl)) (λ y names os ws. (refl, refl, refl))
           (λ e names os ws. (refl, refl, refl)) f.once (meaning.room_for c n w) i f.is
+
+      -- PUSH
+
+      push_step : j ≡ k → (n : ℕ) (answer : Result Reply Fault)
+          → IfErr answer (IsCommandFault turns p.names (commands.WithCount with_count.Push n) new.pass new.frames)
+          → deed turns p.names (commands.WithCount with_count.Push n) old answer new
+          → Steps (commands.WithCount with_count.Push n) answer
+          (meaning.outside c q.names told (commands.WithCount with_count.Push n) w)
+      push_step one n answer fault d =
+          let x = commands.WithCount with_count.Push n in
+          let f = was_formed (λ u. replies.Done) (tried turns (push_local_frame n)) old new answer d in
+          let once = made_once (p.names, x) (λ z. push_alone z p.names n) turns old new f.once alone some_turns f.did in
+          let i = made_call x answer fault {V = IsDone {A = Unit {0}} {B = Unit {0}}} (λ u. replies.Done) 0
+          (λ z l m y. references.push_local_frame z l m n) (meaning.push c n) f.once
+          (λ z. even one (push_means c last j P w n)) once.0 f.is in
+          same_after x answer {V = IsDone {A = Unit {0}} {B = Unit {0}}} (λ u. replies.Done) (λ u. replies.Done)
+          (λ Q z y y' e. refl) (λ y names os ws. (refl, refl, refl)) (λ y names os ws. (refl, refl, refl))
+          (λ e names os ws. (refl, refl, refl)) f.once (meaning.push c n w) i f.is
+
+      -- POP
+
+      module _ (spent : j ≡ suc k) (n : List ℕ) (r : Reference) (answer : Result Reply Fault)
+          (fault : IfErr answer (IsCommandFault turns p.names (commands.MakeFrom make_from.Pop n r) new.pass
+          new.frames))
+        where
+          pop_found : (h g : HandleWord) → HandleFits P w h.0 g.0
+              → makes_reference turns (pop_local_frame h.0) old answer new
+              → Steps (commands.MakeFrom make_from.Pop n r) answer
+              (meaning.made_from c q.names told make_from.Pop g.0 w)
+          pop_found h g same d =
+              let x = commands.MakeFrom make_from.Pop n r in
+              let f = was_formed (λ z. replies.Made z) (tried turns (pop_local_frame h.0)) old new answer d in
+              let once = made_once (p.names, x) (λ z. pop_alone z p.names n r h.0) turns old new f.once alone some_turns
+              f.did in
+              let y = was_formed packed_if (call_on h.0 (λ z l t u a. references.pop_local_frame z l t a)) old new f.once
+              once in
+              let is : answer ≡ formed (λ z. replies.Made (packed_if z)) y.once =
+              f.is ∙ (ap (formed (λ z. replies.Made z)) y.is ∙ formed_both (λ z. replies.Made z) packed_if y.once) in
+              let i = word_call x answer fault {V = MaybeFits} (λ z. replies.Made (packed_if z))
+              (λ z l t u a. references.pop_local_frame z l t a) (meaning.pop c g.0) y.once h.0 g.0 same
+              (λ a z word. subst (λ l. Means c last l k MaybeFits P w (references.pop_local_frame c last 0 a)
+              (meaning.pop c g.0)) (sym spent) (pop_means c last k P w a g.0 some word)) y.did is in
+              makes_after x answer n (λ z names os ws. (refl, refl, refl)) (λ z v. refl) (λ e names os ws.
+              (refl, refl, refl)) y.once (meaning.pop c g.0 w) i is
+
+          pop_step : BindingFits P w (referent p.names r) (referent q.names r)
+              → deed turns p.names (commands.MakeFrom make_from.Pop n r) old answer new
+              → Steps (commands.MakeFrom make_from.Pop n r) answer
+              (meaning.outside c q.names told (commands.MakeFrom make_from.Pop n r) w)
+          pop_step fits d =
+              wanted_step (commands.MakeFrom make_from.Pop n r) answer (omega arith)
+              (λ h. makes_reference turns (pop_local_frame h.0)) (meaning.made_from c q.names told make_from.Pop)
+              (referent p.names r) (referent q.names r) fits (λ e names os ws. (refl, refl, refl)) d pop_found
 
       -- DROP
 
@@ -664,6 +726,8 @@ module _ (c : Config) (last : ℕ) where
       one_step (commands.Make make.Wait n) one answer covered d said fault = wait_step one n answer said d
       one_step (commands.MakeFrom make_from.Local n r) one answer covered d said fault =
           local_step one n r answer fault (referent_fits r) d
+      one_step (commands.MakeFrom make_from.Pop n r) one answer covered d said fault =
+          pop_step one n r answer fault (referent_fits r) d
       one_step (commands.On on.Type r) one answer covered d said fault =
           type_step one r answer fault (referent p.names r) (referent q.names r) (referent_fits r) d
       one_step (commands.On on.Drop r) one answer covered d said fault =
@@ -671,6 +735,7 @@ module _ (c : Config) (last : ℕ) where
       one_step (commands.OnBoth on_both.Same r t) one answer covered d said fault =
           same_step one r t answer fault (referent_fits r) (referent_fits t) d
       one_step (commands.OnName on_name.Post n) one answer covered d said fault = post_step one n answer d
+      one_step (commands.WithCount with_count.Push n) one answer covered d said fault = push_step one n answer fault d
       one_step (commands.WithCount with_count.Ensure n) one answer covered d said fault =
           ensure_step one n answer fault d
       one_step x one answer covered d said fault = absurd covered

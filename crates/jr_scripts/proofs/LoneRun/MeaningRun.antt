@@ -53,6 +53,7 @@ use Rattle.jr_scripts.specs.Meaning.{text_of_part, first_world}
 use Rattle.jr_scripts.proofs.LoneRun.MadeCalls.{Moment, IsSo, stayed}
 use Rattle.jr_scripts.proofs.LoneRun.MeaningFrames.{Pairing, no_frame, no_local, one_frame}
 use Rattle.jr_scripts.proofs.LoneRun.MeaningFits.{Fits, RefFits}
+use Rattle.jr_scripts.proofs.LoneRun.MeaningScopes.{SameTables, drops_keep}
 use Rattle.jr_scripts.proofs.LoneRun.MeaningDeeds.{BindingFits, IsPass, call_made, made_once, now}
 use Rattle.jr_scripts.proofs.LoneRun.MeaningCommands.{Stands, Stepped, left_before, left_then, step}
 
@@ -106,18 +107,6 @@ unfolding IsLocalOne
 local_one P n None l fits = tt
 local_one P n (Some r) (Some p) fits = fits.0
 local_one P n (Some r) None fits = absurd fits
-
--- references that are freed change no other table
-record SameTables (s s' : State) : Type 0 where
-  pub objects : s'.objects ≡ s.objects
-  pub refs : s'.refs ≡ s.refs
-  pub used : s'.used ≡ s.used
-
-drops_keep : (s : State) (rs : List LocalRef) → SameTables s (state_from s (map (by 0) (drop_all rs)))
-drops_keep s [] = record { objects = refl; refs = refl; used = refl }
-drops_keep s (r ∷ rs) =
-    let rest = drops_keep (act_after s 0 (LocalDrop r.handle.index)) rs in
-    record { objects = rest.objects; refs = rest.refs; used = rest.used }
 
 same_summary : (g w l u g' w' l' u' : ℕ) → g ≡ g' → w ≡ w' → l ≡ l' → u ≡ u'
     → ◌≡◌ {A = Summary} (record { globals = g; weaks = w; live = l; used = u })
@@ -189,7 +178,8 @@ module _ (c : Config) (last turns : ℕ) (one : c.threads ≡ 1) (some_turns : t
         text_is = ap (λ z. z ++ printed line x answer) is ∙ ap (λ z. t.text ++ z) (s.text line);
       }
 
-  all_told : (k : ℕ) (commands : List Command) → how_many gives_up commands + k ≤ last → (text : List ℕ) (new : ThreadState) (place : Place)
+  all_told : (k : ℕ) (commands : List Command) → how_many gives_up commands + k ≤ last
+      → (text : List ℕ) (new : ThreadState) (place : Place)
       (words : Words) (e : Explains said_alone turns 3 (opening_moment c last) commands text new place words)
       → AnswersAlone e → AllByRecursion IsCovered commands → IsAlone new.pass → AllByRecursion IsUnbarred new.pass.seen
       → IsTold k commands text new place words
@@ -214,7 +204,8 @@ module _ (c : Config) (last turns : ℕ) (one : c.threads ≡ 1) (some_turns : t
       let first = (all_back IsCovered before (x ∷ []) firsts).0 in
       let y = place_alone turns stood x mid new answer alone did in
       let i = all_told (left_before x k) before (let less : how_many gives_up (before ++ x ∷ []) + k
-      ≡ how_many gives_up before + left_before x k = given_up_before x k before in omega arith) lines mid stood had done answers.0 (all_front IsCovered before (x ∷ []) firsts)
+      ≡ how_many gives_up before + left_before x k = given_up_before x k before in omega arith) lines mid stood had done
+      answers.0 (all_front IsCovered before (x ∷ []) firsts)
       (led_alone y alone) (all_prefix IsUnbarred mid.pass.seen new.pass.seen y.begins all) in
       let t = told_from c 3 before (first_told memory) in
       let stepped = step c last turns some_turns some_threads small few k x i.pairing t.world mid new stood t.place
@@ -260,13 +251,15 @@ module _ (c : Config) (last turns : ℕ) (one : c.threads ≡ 1) (some_turns : t
   ends_so k P w m s f same =
       let none : (h : Handle) → s.refs h ≡ Stale = λ h. ap (λ r. r h) same.refs ∙ f.slots h in
       let locals : (i : ℕ) → i < length w.refs → IsLocalOne (standing_at w.refs i) =
-      λ i l. local_one P (length w.objects) (standing_at w.refs i) (object_of m.frames (P.handle i)) (f.locals.stands i l) in
+      λ i l. local_one P (length w.objects) (standing_at w.refs i) (object_of m.frames (P.handle i))
+      (f.locals.stands i l) in
       same_summary (references c last Global s) (references c last Weak s) (count_below (c.objects + 1) (λ o. is_some
       (s.objects o)))
       s.used (refs_of Global w) (refs_of Weak w) (standing w.objects) w.used
       (no_slots Global s none ∙ sym (none_of Global refl w.refs locals))
       (no_slots Weak s none ∙ sym (none_of Weak refl w.refs locals))
-      (ap (λ t. count_below (c.objects + 1) (λ o. is_some (t o))) same.objects ∙ (f.objects.count ∙ sym f.objects.all_objects))
+      (ap (λ t. count_below (c.objects + 1) (λ o. is_some (t o))) same.objects
+      ∙ (f.objects.count ∙ sym f.objects.all_objects))
       (same.used ∙ (f.unused ∙ sym f.unused_then))
 
   pub run_means : (part : ThreadPart) (text : List ℕ) → how_many gives_up part.commands ≤ last
@@ -287,7 +280,8 @@ module _ (c : Config) (last turns : ℕ) (one : c.threads ≡ 1) (some_turns : t
       let told_alone = was_alone y alone in
       let told_all = all_prefix IsUnbarred r.told.pass.seen r.left.pass.seen y.begins all in
       let g = given_up_alone x.place.objects x.done r.told (Ok tt) told_alone x.ended in
-      let i = all_told 0 part.commands (omega arith) r.lines x.done x.place x.words x.explains r.answers firsts (led_alone g told_alone)
+      let i = all_told 0 part.commands (omega arith) r.lines x.done x.place x.words x.explains r.answers firsts
+      (led_alone g told_alone)
       (all_prefix IsUnbarred x.done.pass.seen r.told.pass.seen g.begins told_all) in
       let t = told_from c 3 part.commands (first_told memory) in
       let still : r.told ≡ x.done =
