@@ -271,7 +271,8 @@ module _ (turns : ℕ) (names : Names) where
   push_alone n =
       apart_alone turns _ (λ c last t. references.push_local_frame c last t n) (λ c last t. push_refused c last t n)
 
-  pub ensure_alone : (n : ℕ) → LeadsAlone turns (names, commands.WithCount with_count.Ensure n) (ensure_local_capacity n)
+  pub ensure_alone : (n : ℕ)
+      → LeadsAlone turns (names, commands.WithCount with_count.Ensure n) (ensure_local_capacity n)
   ensure_alone n = apart_alone turns _ (λ c last t. references.ensure_local_capacity c last t n) (λ c last t.
       ensure_refused c last t n)
 

@@ -5,6 +5,7 @@ pub mod MeaningFits
 pub mod MeaningCounts
 pub mod MeaningParts
 pub mod MeaningCalls
+pub mod MeaningScopes
 pub mod MeaningDeeds
 pub mod MeaningCommands
 pub mod MeaningRun

@@ -1,5 +1,6 @@
 -- WHAT A SCRIPT OF ONE THREAD MEANS: its text, by a machine that has no handles, slots, places or object numbers
-use Rattle.std.specs.Prelude.{◌≡◌, ◌≢◌, ◌<◌, ◌^◌, ◌+◌, ◌-◌, ◌==◌, ◌&&◌, ℕ, ℤ, zero, suc, Bool, true, false, cond, not}
+use Rattle.std.specs.Prelude.{◌≡◌, ◌≢◌, ◌<◌, ◌≤◌, ◌^◌, ◌+◌, ◌-◌, ◌==◌, ◌&&◌, ℕ, ℤ, zero, suc, Bool, true, false, cond}
+use Rattle.std.specs.Prelude.{not}
 use Rattle.std.specs.Prelude.{nat_lt, nat_le}
 use Rattle.std.specs.Prelude.{Option, Some, None, is_some, Result, Ok, Err, List, [], ◌∷◌, ◌++◌, map, length, replicate}
 use Rattle.std.specs.Prelude.{drop, slice_index, slice_index_or, slice_set}
@@ -604,17 +605,26 @@ abbrev pub text_of_part : List Bool → Config → ThreadPart → List ℕ
 text_of_part memory c part = heading part.name ++ (told_from c 3 part.commands (first_told memory)).text
     ++ ending (summary_of (told_from c 3 part.commands (first_told memory)).world)
 
+-- a command that gives up references
+abbrev pub gives_up : Command → Bool
+gives_up (commands.On on.Drop r) = true
+gives_up (commands.MakeFrom make_from.Pop n r) = true
+gives_up _ = false
+
 -- the commands of which it is proved so far that they print what they mean
 abbrev pub IsCovered : Command → Type 0
 IsCovered (commands.Make v n) = Unit {0}
 IsCovered (commands.MakeFrom make_from.Local n r) = Unit {0}
+IsCovered (commands.MakeFrom make_from.Pop n r) = Unit {0}
 IsCovered (commands.On on.Type r) = Unit {0}
+IsCovered (commands.On on.Drop r) = Unit {0}
 IsCovered (commands.OnBoth v q r) = Unit {0}
 IsCovered (commands.OnName v n) = Unit {0}
-IsCovered (commands.WithCount with_count.Ensure n) = Unit {0}
+IsCovered (commands.WithCount v n) = Unit {0}
 IsCovered _ = ⊥
 
--- THE TEXT OF A RUN IS WHAT ITS SCRIPT MEANS, where there are turns, serials have 32 bits, and all commands are covered
+-- THE TEXT OF A RUN IS WHAT ITS SCRIPT MEANS, where there are turns, serials have 32 bits, all commands are covered,
+-- and fewer of them give up references than there are serials
 abbrev pub MeansText : ℕ → ℕ → Config → ThreadPart → List ℕ → Type 0
-MeansText turns last c part text = turns ≢ 0 → last < 2 ^ 32 → AllByRecursion IsCovered part.commands
-    → (memory : List Bool) × (text ≡ text_of_part memory c part)
+MeansText turns last c part text = turns ≢ 0 → last < 2 ^ 32 → how_many gives_up part.commands ≤ last
+    → AllByRecursion IsCovered part.commands → (memory : List Bool) × (text ≡ text_of_part memory c part)

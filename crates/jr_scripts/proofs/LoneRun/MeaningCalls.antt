@@ -1,6 +1,6 @@
 -- What a lone thread's calls of local references mean.
 use Rattle.std.proofs.Common.{◌≡◌, ◌≢◌, inl, inr, ℕ, zero, suc, ◌<◌, ◌≤◌, ◌+◌, ◌==◌, ◌||◌, Bool, true, false}
-use Rattle.std.proofs.Common.{not, nat_eq, nat_lt, nat_le, Option, Some, None, IsSome, List, [], ◌∷◌, ◌++◌}
+use Rattle.std.proofs.Common.{not, cond, nat_eq, nat_lt, nat_le, Option, Some, None, IsSome, List, [], ◌∷◌, ◌++◌}
 use Rattle.std.proofs.Common.{length, map, slice_index, slice_set, Result, Ok, Err, refl, sym, ap, subst, ◌∙◌, arith}
 use Rattle.std.proofs.Common.{get_or-set_other, get_or-set_same}
 use Rattle.std.specs.Prelude.{slice_index_or}
@@ -19,11 +19,12 @@ use Rattle.jr_model.specs.declared.frames.TheConstants.{FRAMES}
 use Rattle.jr_model.specs.Maps.{update}
 use Rattle.jr_model.specs.State.{Handle, same_handle, same_kind}
 use Rattle.jr_model.specs.Steps.{act_after}
-use Rattle.jr_model.specs.Frames.{Frames, IsAdded, adds, all_refs, is_held, object_of, object_where, pushed, without_local}
+use Rattle.jr_model.specs.Frames.{Frames, IsAdded, adds, all_refs, is_held, object_of, object_where, pushed}
+use Rattle.jr_model.specs.Frames.{without_local}
 use Rattle.jr_model.specs.Calls.{◌>>=◌, ◌>>◌, done}
 use Rattle.jr_model.specs.Checks.{Word, Nothing, Malformed, Parts, is_local, is_out_of_bounds, is_foreign, is_malformed}
 use Rattle.jr_model.specs.Checks.{is_of_kind, kind_number, same_object, type_local}
-use Rattle.jr_model.specs.Parts.{drop_local, frame_left, local_answer, looked, new_frame}
+use Rattle.jr_model.specs.Parts.{delete_local_at, drop_local, frame_left, local_answer, looked, new_frame}
 use Rattle.jr_model.specs.References as references
 use Rattle.jr_model.proofs.Agreement.{added_sound, deleted_refs, deleted_sound, joined_push, other_than, pushed_sound}
 use Rattle.jr_model.proofs.Gone.{taken_is_gone}
@@ -33,13 +34,15 @@ use Rattle.jr_scripts.specs.Meaning.{World, Ref, Meaning, object_in, refused_if,
 use Rattle.jr_scripts.specs.Meaning as meaning
 use Rattle.jr_scripts.proofs.LoneRun.MadeCalls.{Moment, Made, moment, moment_is, stepped, still}
 use Rattle.jr_scripts.proofs.LoneRun.MeaningCounts.{few_after, found_before, found_last, given_long, past_here}
-use Rattle.jr_scripts.proofs.LoneRun.MeaningCounts.{serial_most}
-use Rattle.jr_scripts.proofs.LoneRun.MeaningFrames.{Pairing, AreFrames, frames_later, frames_less, frames_long, frames_put}
+use Rattle.jr_scripts.proofs.LoneRun.MeaningCounts.{bit_most, serial_most}
+use Rattle.jr_scripts.proofs.LoneRun.MeaningFrames.{Pairing, AreFrames, frames_later, frames_less, frames_long}
+use Rattle.jr_scripts.proofs.LoneRun.MeaningFrames.{frames_put}
 use Rattle.jr_scripts.proofs.LoneRun.MeaningFrames.{frames_pushed}
 use Rattle.jr_scripts.proofs.LoneRun.MeaningFits.{Later, RefFits, IsOwn, LocalsFit, Fits, Fitting, SameAnswer, IsDone}
 use Rattle.jr_scripts.proofs.LoneRun.MeaningFits.{IsSame, Outcome, Means, unmoved, test_means, done_means, cond_means}
 use Rattle.jr_scripts.proofs.LoneRun.MeaningFits.{bind_means, bind_spends, else_means, entered_means, form_means}
-use Rattle.jr_scripts.proofs.LoneRun.MeaningFits.{known_means, later_self, pass_means}
+use Rattle.jr_scripts.proofs.LoneRun.MeaningFits.{fits_less, known_means, later_self, pass_means}
+use Rattle.jr_model.proofs.Counts.{bit}
 use Rattle.jr_scripts.proofs.LoneRun.MeaningParts.{ObjectFits, OptionFits, object_later, option_later, object_means}
 use Rattle.jr_scripts.proofs.LoneRun.MeaningParts.{ref_later, reserve_means, room_means}
 
@@ -147,7 +150,8 @@ module _ (c : Config) (last k : ℕ) where
       past_then = by_age (λ i. IsPast ((ref_named h).handle i) n.frames)
           (λ i small. subst (λ g. IsPast g n.frames) (sym (ref_before h i small))
           (past_move last 0 (P.handle i) m.frames (adds the_ref a) (f.locals.past i small)))
-          (subst (λ g. IsPast g n.frames) (sym (ref_here h)) (past_here last m.frames n.frames the_ref f.locals.sound a))
+          (subst (λ g. IsPast g n.frames) (sym (ref_here h))
+          (past_here last m.frames n.frames the_ref f.locals.sound a))
 
       once_then : (i j : ℕ) → i < length with_ref.refs → j < length with_ref.refs
           → (ref_named h).handle i ≡ (ref_named h).handle j → i ≡ j
@@ -270,13 +274,13 @@ module _ (c : Config) (last k : ℕ) where
   local_is h own = ap (λ z. same_kind Local z) own.kind
 
   -- a word that is handed in is a reference of the thread, or NULL
-  record IsSound (a : Word) : Type 0 where
+  pub record IsSound (a : Word) : Type 0 where
     pub formed : is_malformed a ≡ false
     pub within : is_out_of_bounds c a ≡ false
     pub mine : is_foreign 0 a ≡ false
     pub kept : is_of_kind Local a ≡ true
 
-  sound : (P : Pairing) (w : World) (m : Moment) (a : Word) (g : ℕ) → 1 ≤ c.threads → Fits c last k P w m
+  pub sound : (P : Pairing) (w : World) (m : Moment) (a : Word) (g : ℕ) → 1 ≤ c.threads → Fits c last k P w m
       → WordFits P w a g → IsSound a
   sound P w m Nothing zero some f fits = record { formed = refl; within = refl; mine = refl; kept = refl }
   sound P w m (Parts h) (suc i) some f fits =
@@ -298,27 +302,31 @@ module _ (c : Config) (last k : ℕ) where
   sound P w m Malformed (suc i) some f fits = absurd fits
   sound P w m (Parts h) zero some f fits = absurd fits
 
+  -- what is found, in a world that stays
+  abbrev pub FoundFits : World → Fitting (Option ℕ) (Option ℕ)
+  FoundFits w Q v x y = OptionFits Q v x y × (v ≡ w)
+
   found_fits : (P : Pairing) (w : World) (r : Option Ref) (l : Option ℕ) → RefFits P (length w.objects) r l
-      → SameAnswer (OptionFits P w) (local_answer l) (object_in r)
-  found_fits P w (Some r) (Some p) fits = subst (λ z. SameAnswer (OptionFits P w) (Ok (Some p)) (Ok z)) (sym fits.2)
-      (fits.3, fits.4)
+      → SameAnswer (FoundFits w P w) (local_answer l) (object_in r)
+  found_fits P w (Some r) (Some p) fits = subst (λ z. SameAnswer (FoundFits w P w) (Ok (Some p)) (Ok z)) (sym fits.2)
+      ((fits.3, fits.4), refl)
   found_fits P w None None fits = refl
   found_fits P w (Some r) None fits = absurd fits
   found_fits P w None (Some p) fits = absurd fits
 
   pub looked_means : (P : Pairing) (w : World) (a : Word) (g : ℕ) → WordFits P w a g
-      → Means c last k k OptionFits P w (looked a) (meaning.object g)
-  looked_means P w Nothing zero fits = done_means c last {V = OptionFits} None None tt
+      → Means c last k k (FoundFits w) P w (looked a) (meaning.object g)
+  looked_means P w Nothing zero fits = done_means c last {V = FoundFits w} None None (tt, refl)
   looked_means P w (Parts h) (suc i) fits = known_means c last (λ m f. cond_means c last (is_local h) _
       (local_is h (subst (IsOwn c last) (sym fits.1) (f.locals.own i fits.0))) here)
     where
-      here : Means c last k k OptionFits P w
+      here : Means c last k k (FoundFits w) P w
           (λ old. Rattle.jr_model.specs.Parts.local_object (object_of old h) old) (meaning.object (suc i))
       here = record {
-        outcome = λ m n x f r. unmoved c last {V = OptionFits} m n x (local_answer (object_of m.frames h))
+        outcome = λ m n x f r. unmoved c last {V = FoundFits w} m n x (local_answer (object_of m.frames h))
             (object_in (standing_at w.refs i)) f (still c last 0 {m = m} {n = n} r.acts (r.is).0 r.leads (r.is).2)
             (r.is).1
-            (subst (λ q. SameAnswer (OptionFits P w) (local_answer (object_of m.frames q))
+            (subst (λ q. SameAnswer (FoundFits w P w) (local_answer (object_of m.frames q))
             (object_in (standing_at w.refs i))) (sym fits.1)
             (found_fits P w (standing_at w.refs i) (object_of m.frames (P.handle i)) (f.locals.stands i fits.0)));
       }
@@ -328,7 +336,7 @@ module _ (c : Config) (last k : ℕ) where
   looked_means P w (Parts h) zero fits = absurd fits
 
   pub resolved_means : (P : Pairing) (w : World) (a : Word) (g : ℕ) → 1 ≤ c.threads → WordFits P w a g
-      → Means c last k k OptionFits P w (references.resolved c last 0 a) (meaning.object g)
+      → Means c last k k (FoundFits w) P w (references.resolved c last 0 a) (meaning.object g)
   resolved_means P w a g some fits = known_means c last (λ m f.
       let s = sound P w m a g some f fits in
       pass_means c last (is_malformed a) fault.Stale s.formed
@@ -340,7 +348,7 @@ module _ (c : Config) (last k : ℕ) where
       → Means c last k k MaybeFits P w (references.new_local_ref c last 0 a)
       (λ z. Rattle.jr_scripts.specs.Meaning.goes_on (meaning.new_local c) (meaning.object g z))
   local_means P w a g some fits = entered_means c last (bind_means c last (resolved_means P w a g some fits)
-      (λ Q v later x y same. new_local_means Q v x y same))
+      (λ Q v later x y same. new_local_means Q v x y same.0))
 
   -- ISSAMEOBJECT
 
@@ -377,7 +385,7 @@ module _ (c : Config) (last k : ℕ) where
       (bind_means c last (looked_means P w a g one) (λ Q v later x x' same.
       bind_means c last (looked_means Q v b h (word_later later b h two)) (λ R u later' y y' same'.
       known_means c last (λ n i. done_means c last {V = SameFits} (x, y) (same_object x' y')
-      (same_fits R u n i x y x' y' (option_later later' x x' same) same')))))))))))
+      (same_fits R u n i x y x' y' (option_later later' x x' same.0) same'.0)))))))))))
 
   pub same_means : (P : Pairing) (w : World) (a b : Word) (g h : ℕ) → 1 ≤ c.threads → WordFits P w a g
       → WordFits P w b h
@@ -416,3 +424,162 @@ module _ (c : Config) (last k : ℕ) where
   type_means P w Malformed zero some fits = absurd fits
   type_means P w Malformed (suc i) some fits = absurd fits
   type_means P w (Parts h) zero some fits = absurd fits
+
+-- A LOCAL REFERENCE IS GIVEN UP
+
+module _ (c : Config) (last k : ℕ) where
+  -- without one reference: its number stands for nothing
+  pub left_at : {A : Type 0} (xs : List (Option A)) (i j : ℕ) (Q : Option A → Type 0) → (i ≡ j → Q None)
+      → (i ≢ j → Q (standing_at xs j)) → i < length xs → Q (standing_at (slice_set xs i None) j)
+  left_at xs i j Q gone stays small = go (i == j) refl
+    where
+      go : (b : Bool) → (i == j) ≡ b → Q (standing_at (slice_set xs i None) j)
+      go true e =
+          let same : i ≡ j = eq_true i j e in
+          let here : standing_at (slice_set xs i None) j ≡ None =
+          ap (λ z. standing_at (slice_set xs i None) z) (sym same) ∙ get_or-set_same xs i None None small in
+          subst Q (sym here) (gone same)
+      go false e =
+          let other : i ≢ j = eq_false i j e in
+          subst Q (sym (get_or-set_other xs i j None None (λ z. other (sym z)))) (stays other)
+
+  -- what is found of another handle stays
+  found_others : (h g : Handle) → h ≢ g → (rs : List LocalRef)
+      → object_where (λ r. same_handle r.handle g) (filter (other_than h) rs)
+      ≡ object_where (λ r. same_handle r.handle g) rs
+  found_others h g ne [] = refl
+  found_others h g ne (r ∷ rs) = go (same_handle r.handle h) refl (same_handle r.handle g) refl (found_others h g ne rs)
+    where
+      go : (b : Bool) → same_handle r.handle h ≡ b → (d : Bool) → same_handle r.handle g ≡ d
+          → object_where (λ r. same_handle r.handle g) (filter (other_than h) rs)
+          ≡ object_where (λ r. same_handle r.handle g) rs
+          → object_where (λ r. same_handle r.handle g) (cond (not b) (r ∷ filter (other_than h) rs)
+          (filter (other_than h) rs))
+          ≡ cond d (Some r.object) (object_where (λ r. same_handle r.handle g) rs)
+      go true e true f rest = absurd (ne (sym (handle_true r.handle h e) ∙ handle_true r.handle g f))
+      go true e false f rest = rest
+      go false e true f rest = rw f refl
+      go false e false f rest = rw f rest
+
+  module _ (P : Pairing) (w : World) (i : ℕ) (small : i < length w.refs) where
+    abbrev without_ref : World
+    without_ref = record w {
+      refs = slice_set w.refs i None;
+      frames = map (filter (λ j. not (j == i))) w.frames;
+    }
+
+    as_long : length without_ref.refs ≡ length w.refs
+    as_long = length-set w.refs i None
+
+    less_state : (m : Moment) → Fits c last (suc k) P w m → Fits c last k P without_ref
+        (moment (act_after m.state 0 (LocalDrop (P.handle i).index)) (without_local m.frames (P.handle i)))
+    less_state m f =
+        let l = f.locals in
+        record {
+          locals = record {
+            framed = frames_later (λ j below. refl) (let long = as_long in omega arith)
+                (frames_less P l.once i small l.framed);
+            own = λ j below. l.own j (let long = as_long in omega arith);
+            past = λ j below. l.past j (let long = as_long in omega arith);
+            once = λ j n below below'. l.once j n (let long = as_long in omega arith) (let long = as_long in
+                omega arith);
+            stands = λ j below. stands j (let long = as_long in omega arith);
+            sound = deleted_sound m.frames (P.handle i) l.sound;
+            few = λ p. few p;
+            given = l.given;
+          };
+          objects = record {
+            count = f.objects.count;
+            all_objects = f.objects.all_objects;
+            no_zero = f.objects.no_zero;
+            present = f.objects.present;
+            apart = f.objects.apart;
+          };
+          slots = f.slots;
+          unused = f.unused;
+          unused_then = f.unused_then;
+        }
+      where
+        few : (p : ℕ) → slice_index m.frames.given p + k
+            ≤ last + bit (is_held (all_refs (without_local m.frames (P.handle i))) p)
+        few p =
+            let was : slice_index m.frames.given p + suc k ≤ last + bit (is_held (all_refs m.frames) p) =
+            f.locals.few p in
+            let most : bit (is_held (all_refs m.frames) p) ≤ 1 = bit_most (is_held (all_refs m.frames) p) in
+            omega arith
+
+        stands : (j : ℕ) → j < length w.refs → RefFits P (length w.objects) (standing_at (slice_set w.refs i None) j)
+            (object_of (without_local m.frames (P.handle i)) (P.handle j))
+        stands j below = left_at w.refs i j (λ r. RefFits P (length w.objects) r
+            (object_of (without_local m.frames (P.handle i)) (P.handle j))) gone stays small
+          where
+            gone : i ≡ j → RefFits P (length w.objects) None
+                (object_of (without_local m.frames (P.handle i)) (P.handle j))
+            gone same = subst (λ z. RefFits P (length w.objects) None
+                (object_of (without_local m.frames (P.handle i)) (P.handle z))) same
+                (subst (RefFits P (length w.objects) None)
+                (sym (taken_is_gone m.frames (P.handle i) f.locals.sound).0) tt)
+
+            stays : i ≢ j → RefFits P (length w.objects) (standing_at w.refs j)
+                (object_of (without_local m.frames (P.handle i)) (P.handle j))
+            stays other =
+                let apart : P.handle i ≢ P.handle j = λ z. other (f.locals.once i j small below z) in
+                let same : object_of (without_local m.frames (P.handle i)) (P.handle j)
+                ≡ object_of m.frames (P.handle j) =
+                ap (object_where (λ r. same_handle r.handle (P.handle j))) (deleted_refs m.frames (P.handle i)
+                f.locals.sound) ∙ found_others (P.handle i) (P.handle j) apart (all_refs m.frames) in
+                subst (RefFits P (length w.objects) (standing_at w.refs j)) (sym same) (f.locals.stands j below)
+
+    drop_means : (h : Handle) → h ≡ P.handle i → Means c last (suc k) k (IsDone {A = Unit {0}} {B = Unit {0}}) P w
+        (drop_local h) (λ v. (
+          Ok tt,
+          record v {
+            refs = slice_set v.refs i None;
+            frames = map (filter (λ j. not (j == i))) v.frames;
+          },
+        ))
+    drop_means h is = record {
+      outcome = λ m n x f r.
+          let state_is = stepped c last 0 m n r.acts (LocalDrop h.index) (r.is).0 r.leads in
+          record {
+            pairing = P;
+            later = record {
+              handles = λ j l. refl;
+              objects = λ q l. refl;
+              refs_grow = (let long = as_long in omega arith);
+              objects_grow = omega arith;
+            };
+            fits = subst (Fits c last k P without_ref) (sym (moment_is n.state (act_after m.state 0
+                (LocalDrop (P.handle i).index)) n.frames (without_local m.frames (P.handle i))
+                (state_is ∙ ap (λ (g : Handle). act_after m.state 0 (LocalDrop g.index)) is)
+                ((r.is).2 ∙ ap (without_local m.frames) is))) (less_state m f);
+            answers = subst (λ z. SameAnswer (IsDone {A = Unit {0}} {B = Unit {0}} P without_ref) z (Ok tt))
+                (sym (r.is).1) tt;
+          };
+    }
+
+  -- DELETELOCALREF
+  pub delete_means : (P : Pairing) (w : World) (a : Word) (g : ℕ) → 1 ≤ c.threads → WordFits P w a g
+      → Means c last (suc k) k (IsDone {A = Unit {0}} {B = Unit {0}}) P w (references.delete_local_ref c last 0 a)
+      (meaning.delete g)
+  delete_means P w a g some fits = entered_means c last (known_means c last (λ m f.
+      let s = sound c last (suc k) P w m a g some f fits in
+      pass_means c last (is_malformed a) fault.Stale s.formed
+      (pass_means c last (not (is_of_kind Local a)) WrongKind (ap not s.kept)
+      (pass_means c last (is_out_of_bounds c a) fault.Stale s.within
+      (pass_means c last (is_foreign 0 a) Foreign s.mine (here a g fits))))))
+    where
+      here : (a : Word) (g : ℕ) → WordFits P w a g → Means c last (suc k) k (IsDone {A = Unit {0}} {B = Unit {0}}) P w
+          (delete_local_at a) (meaning.delete g)
+      here Nothing zero fits = record {
+        outcome = λ m n x f r. unmoved c last {V = IsDone {A = Unit {0}} {B = Unit {0}}} m n x (Ok tt) (Ok tt)
+            (fits_less (omega arith) f) (still c last 0 {m = m} {n = n} r.acts (r.is).0 r.leads (r.is).2) (r.is).1 tt;
+      }
+      here (Parts h) (suc i) fits = bind_spends c last (suc k) (suc k) k (omega arith)
+          (looked_means c last (suc k) P w (Parts h) (suc i) fits) (λ Q v later x y same.
+          let word = word_later later (Parts h) (suc i) fits in
+          drop_means Q v i word.0 h word.1)
+      here Nothing (suc i) fits = absurd fits
+      here Malformed zero fits = absurd fits
+      here Malformed (suc i) fits = absurd fits
+      here (Parts h) zero fits = absurd fits

@@ -1,5 +1,6 @@
 -- What a lone thread's commands mean, each from a moment that is as the world.
-use Rattle.std.proofs.Common.{◌≡◌, ◌≢◌, inl, inr, ℕ, zero, suc, ◌<◌, ◌≤◌, ◌^◌, Bool, Option, Some, None, List, []}
+use Rattle.std.proofs.Common.{◌≡◌, ◌≢◌, inl, inr, ℕ, zero, suc, ◌<◌, ◌≤◌, ◌^◌, Bool, true, false, Option, Some, None}
+use Rattle.std.proofs.Common.{List, []}
 use Rattle.std.proofs.Common.{length, map, MatchOption, Result, Ok, Err, IfErr, refl, sym, ap, subst, ◌∙◌, arith}
 use Rattle.std.proofs.lemmas.List.{append-nil}
 use Rattle.std.specs.List.{AllByRecursion}
@@ -7,20 +8,22 @@ use Rattle.jr_word.specs.declared.config.Config.{Config}
 use Rattle.jr_word.specs.declared.fault.Fault.{Fault}
 use Rattle.jr_word.specs.declared.fault.Fault.TheVariants.{RowFull, ObjectsFull, Stale, Turns}
 use Rattle.jr_word.specs.declared.handle.Handle.{Handle as HandleWord}
+use Rattle.jr_word.specs.declared.handle.RefKind.TheVariants.{Local}
 use Rattle.jr_word.specs.declared.kind.Kind.TheVariants.{Plain}
 use Rattle.jr_word.specs.Handle.{handle_word, IsHandle}
 use Rattle.jr_model.specs.declared.event.Act.{Act}
-use Rattle.jr_model.specs.State.{Handle, State}
+use Rattle.jr_model.specs.State.{Handle, State, same_kind}
 use Rattle.jr_model.specs.History.{History, PassView, Did, state}
 use Rattle.jr_model.specs.Frames.{Frames}
 use Rattle.jr_model.specs.Calls.{Call}
-use Rattle.jr_model.specs.Checks.{Word}
+use Rattle.jr_model.specs.Checks.{Word, Nothing, Malformed, Parts, is_of_kind}
 use Rattle.jr_model.specs.References as references
 use Rattle.jr_model.proofs.Histories.{state_append}
 use Rattle.jr_model.proofs.Stays.{sees_its_own_acts}
 use Rattle.jr_frames.specs.Reading.{IsReadAs}
 use Rattle.jr_gate.specs.Performing.{IsMade, ThreadState}
-use Rattle.jr_env.specs.Deeds.{Deed, call_by, call_on, call_on_both, decided, done, ensure_local_capacity}
+use Rattle.jr_env.specs.Deeds.{Deed, call_by, call_on, call_on_both, decided, delete_local_ref, done}
+use Rattle.jr_env.specs.Deeds.{ensure_local_capacity, pop_local_frame, push_local_frame}
 use Rattle.jr_env.specs.Deeds.{get_object_ref_type, is_same_object, new_local_ref, new_plain, packed, packed_if, ◌>>=◌}
 use Rattle.jr_syntax.specs.declared.name.Reference.{Reference}
 use Rattle.jr_syntax.specs.declared.name.Reference.TheVariants as refers
@@ -37,7 +40,8 @@ use Rattle.jr_scripts.specs.declared.reply.Reply.TheVariants as replies
 use Rattle.jr_scripts.specs.declared.binding.Binding.{Binding}
 use Rattle.jr_scripts.specs.declared.binding.Binding.TheVariants as bound
 use Rattle.jr_scripts.specs.Names.{Names, binding, reference_in, referent, wanted, with_name, word_posted}
-use Rattle.jr_scripts.specs.Commands.{HasLearned, awaited, deed, makes_reference, tried, type_of}
+use Rattle.jr_scripts.specs.Commands.{HasLearned, awaited, deed, deleted_as, deleted_of, deletion, makes_reference}
+use Rattle.jr_scripts.specs.Commands.{tried, type_of}
 use Rattle.jr_scripts.specs.RegionCommands.{deed_at, deed_within}
 use Rattle.jr_scripts.specs.Places.{Place, by_region, objects_after, place_after}
 use Rattle.jr_scripts.specs.Posting.{IsAnswered, Words, reply_to_wait, said_alone, word_under, words_after, words_with}
@@ -45,19 +49,23 @@ use Rattle.jr_scripts.specs.Text.{names_after, printed, reference_made, says}
 use Rattle.jr_scripts.specs.AloneAnswers.{IsAloneFault, IsCommandFault, IsFaultOutside, IsFaultWithin}
 use Rattle.jr_scripts.specs.Runs.{IsUnbarred}
 use Rattle.jr_scripts.proofs.AloneCalls.{IsAlone, LeadsAlone}
-use Rattle.jr_scripts.proofs.AloneDeeds.{ensure_alone, local_ref_alone, plain_alone, same_alone, type_alone}
+use Rattle.jr_scripts.proofs.AloneDeeds.{delete_local_alone, ensure_alone, pop_alone, push_alone}
+use Rattle.jr_scripts.proofs.AloneDeeds.{local_ref_alone, plain_alone, same_alone, type_alone}
 use Rattle.jr_scripts.proofs.Uncontended.{Asked}
-use Rattle.jr_scripts.specs.Meaning.{IsCovered, World, Meaning, goes_on, reply_made, type_named, meaning_at}
+use Rattle.jr_scripts.specs.Meaning.{IsCovered, World, Meaning, gives_up, goes_on, reply_made, type_named, meaning_at}
 use Rattle.jr_scripts.specs.Meaning as meaning
 use Rattle.jr_scripts.proofs.LoneRun.MadeCalls.{IsSo, moment_is}
 use Rattle.jr_scripts.proofs.LoneRun.MeaningFrames.{Pairing}
 use Rattle.jr_scripts.proofs.LoneRun.MeaningFits.{Later, Fits, Fitting, IsDone, IsSame, Means, Outcome, fits_less}
 use Rattle.jr_scripts.proofs.LoneRun.MeaningFits.{later_self}
 use Rattle.jr_scripts.proofs.LoneRun.MeaningParts.{room_means}
-use Rattle.jr_scripts.proofs.LoneRun.MeaningCalls.{MaybeFits, NewFits, WordFits, local_means, plain_means, same_means}
+use Rattle.jr_scripts.proofs.LoneRun.MeaningCalls.{MaybeFits, NewFits, WordFits, delete_means, local_means}
+use Rattle.jr_scripts.proofs.LoneRun.MeaningCalls.{plain_means, same_means}
 use Rattle.jr_scripts.proofs.LoneRun.MeaningCalls.{new_maybe, type_means}
+use Rattle.jr_scripts.proofs.LoneRun.MeaningScopes.{pop_means, push_means}
 use Rattle.jr_scripts.proofs.LoneRun.MeaningDeeds.{IsPass, NamesFit, BindingFits, HandleFits, MaybeWord, WordsFit}
-use Rattle.jr_scripts.proofs.LoneRun.MeaningDeeds.{after_decided, call_made, formed, formed_both, made_once, names_later}
+use Rattle.jr_scripts.proofs.LoneRun.MeaningDeeds.{after_decided, call_made, formed, formed_both, made_once}
+use Rattle.jr_scripts.proofs.LoneRun.MeaningDeeds.{names_later}
 use Rattle.jr_scripts.proofs.LoneRun.MeaningDeeds.{names_set_fit, now, own_handle, posted_fits, read_fits, was_formed}
 use Rattle.jr_scripts.proofs.LoneRun.MeaningDeeds.{word_under_fits, words_later, words_with_fit}
 
@@ -98,6 +106,14 @@ Sets x n = (h : Option HandleWord) (names : Names) (objects : List ℕ) (words :
 -- and prints nothing of a reference
 abbrev pub IsSilent : Command → Type 0
 IsSilent x = (h g : HandleWord) → says x (replies.Made (Some h)) ≡ says x (replies.Made (Some g))
+
+-- how often references may be given up before a command, where they may so often behind it
+abbrev pub left_then : Bool → ℕ → ℕ
+left_then true k = suc k
+left_then false k = k
+
+abbrev pub left_before : Command → ℕ → ℕ
+left_before x k = left_then (gives_up x) k
 
 module _ (c : Config) (last : ℕ) where
   -- THE THREAD STANDS as in the world, with names for the same and the same words, and outside a region
@@ -256,8 +272,8 @@ module _ (c : Config) (last : ℕ) where
             → Steps (goes_on (λ z v. (Ok (form' z), v)) r)
         same_after form form' same keeps keeps' quiet (Ok y) (Ok z, v) i is =
             let o = i.outcome in
-            kept_step o.pairing v (Ok (form y)) (Ok (form' z)) (record { later = o.later; pass = i.pass; fits = o.fits })
-            is (keeps y) (keeps' z) (λ line. ap (λ a. says x a) (same o.pairing v y z o.answers))
+            kept_step o.pairing v (Ok (form y)) (Ok (form' z))
+            (record { later = o.later; pass = i.pass; fits = o.fits }) is (keeps y) (keeps' z) (λ line. ap (λ a. says x a) (same o.pairing v y z o.answers))
         same_after form form' same keeps keeps' quiet (Err e) (Err d, v) i is =
             let o = i.outcome in
             kept_step o.pairing v (Err e) (Err d) (record { later = o.later; pass = i.pass; fits = o.fits }) is
@@ -277,7 +293,8 @@ module _ (c : Config) (last : ℕ) where
         makes_after n sets silent quiet (Ok (Some h)) (Ok (suc z), v) i is =
             let o = i.outcome in
             made_step n o.pairing v (Some (packed h)) (Some (record { 0 = suc z }))
-            (record { later = o.later; pass = i.pass; fits = o.fits }) is sets (silent (packed h) (record { 0 = suc z }))
+            (record { later = o.later; pass = i.pass; fits = o.fits }) is sets
+            (silent (packed h) (record { 0 = suc z }))
             ((o.answers).0, ap handle_word (o.answers).1)
         makes_after n sets silent quiet (Err e) (Err d, v) i is =
             let o = i.outcome in
@@ -317,7 +334,8 @@ module _ (c : Config) (last : ℕ) where
       -- PLAIN
 
       some_once : (once : Result Handle Fault) (r : Result ℕ Fault × World)
-          → Outcome c last k NewFits P w once r (now new) → Outcome c last k MaybeFits P w (formed Some once) r (now new)
+          → Outcome c last k NewFits P w once r (now new)
+          → Outcome c last k MaybeFits P w (formed Some once) r (now new)
       some_once (Ok h) (Ok n, v) o = record {
         pairing = o.pairing;
         later = o.later;
@@ -349,7 +367,8 @@ module _ (c : Config) (last : ℕ) where
           f.is ∙ (ap (formed (λ h. replies.Made (Some h))) g.is
           ∙ formed_both (λ h. replies.Made (Some h)) packed g.once) in
           let i = made_call x answer fault {V = NewFits} (λ h. replies.Made (Some (packed h))) old.pass.config.objects
-          (λ z l t y. references.new_plain z l t) (meaning.made c Plain []) g.once (λ z. even one (plain_means c last j P w))
+          (λ z l t y. references.new_plain z l t) (meaning.made c Plain []) g.once
+          (λ z. even one (plain_means c last j P w))
           (g.did).0 is in
           makes_after x answer n (λ h names os ws. (refl, refl, refl)) (λ h g. refl) (λ e names os ws.
           (refl, refl, refl)) (formed Some g.once) (meaning.made c Plain [] w)
@@ -457,6 +476,116 @@ module _ (c : Config) (last : ℕ) where
           same_after x answer {V = IsDone {A = Unit {0}} {B = Unit {0}}} (λ u. replies.Done) (λ u. replies.Done)
           (λ Q z y y' e. refl) (λ y names os ws. (refl, refl, refl)) (λ y names os ws. (refl, refl, refl))
           (λ e names os ws. (refl, refl, refl)) f.once (meaning.room_for c n w) i f.is
+
+      -- PUSH
+
+      push_step : j ≡ k → (n : ℕ) (answer : Result Reply Fault)
+          → IfErr answer (IsCommandFault turns p.names (commands.WithCount with_count.Push n) new.pass new.frames)
+          → deed turns p.names (commands.WithCount with_count.Push n) old answer new
+          → Steps (commands.WithCount with_count.Push n) answer
+          (meaning.outside c q.names told (commands.WithCount with_count.Push n) w)
+      push_step one n answer fault d =
+          let x = commands.WithCount with_count.Push n in
+          let f = was_formed (λ u. replies.Done) (tried turns (push_local_frame n)) old new answer d in
+          let once = made_once (p.names, x) (λ z. push_alone z p.names n) turns old new f.once alone some_turns f.did in
+          let i = made_call x answer fault {V = IsDone {A = Unit {0}} {B = Unit {0}}} (λ u. replies.Done) 0
+          (λ z l m y. references.push_local_frame z l m n) (meaning.push c n) f.once
+          (λ z. even one (push_means c last j P w n)) once.0 f.is in
+          same_after x answer {V = IsDone {A = Unit {0}} {B = Unit {0}}} (λ u. replies.Done) (λ u. replies.Done)
+          (λ Q z y y' e. refl) (λ y names os ws. (refl, refl, refl)) (λ y names os ws. (refl, refl, refl))
+          (λ e names os ws. (refl, refl, refl)) f.once (meaning.push c n w) i f.is
+
+      -- POP
+
+      module _ (spent : j ≡ suc k) (n : List ℕ) (r : Reference) (answer : Result Reply Fault)
+          (fault : IfErr answer (IsCommandFault turns p.names (commands.MakeFrom make_from.Pop n r) new.pass
+          new.frames))
+        where
+          pop_found : (h g : HandleWord) → HandleFits P w h.0 g.0
+              → makes_reference turns (pop_local_frame h.0) old answer new
+              → Steps (commands.MakeFrom make_from.Pop n r) answer
+              (meaning.made_from c q.names told make_from.Pop g.0 w)
+          pop_found h g same d =
+              let x = commands.MakeFrom make_from.Pop n r in
+              let f = was_formed (λ z. replies.Made z) (tried turns (pop_local_frame h.0)) old new answer d in
+              let once = made_once (p.names, x) (λ z. pop_alone z p.names n r h.0) turns old new f.once alone some_turns
+              f.did in
+              let y = was_formed packed_if (call_on h.0 (λ z l t u a. references.pop_local_frame z l t a)) old new f.once
+              once in
+              let is : answer ≡ formed (λ z. replies.Made (packed_if z)) y.once =
+              f.is ∙ (ap (formed (λ z. replies.Made z)) y.is ∙ formed_both (λ z. replies.Made z) packed_if y.once) in
+              let i = word_call x answer fault {V = MaybeFits} (λ z. replies.Made (packed_if z))
+              (λ z l t u a. references.pop_local_frame z l t a) (meaning.pop c g.0) y.once h.0 g.0 same
+              (λ a z word. subst (λ l. Means c last l k MaybeFits P w (references.pop_local_frame c last 0 a)
+              (meaning.pop c g.0)) (sym spent) (pop_means c last k P w a g.0 some word)) y.did is in
+              makes_after x answer n (λ z names os ws. (refl, refl, refl)) (λ z v. refl) (λ e names os ws.
+              (refl, refl, refl)) y.once (meaning.pop c g.0 w) i is
+
+          pop_step : BindingFits P w (referent p.names r) (referent q.names r)
+              → deed turns p.names (commands.MakeFrom make_from.Pop n r) old answer new
+              → Steps (commands.MakeFrom make_from.Pop n r) answer
+              (meaning.outside c q.names told (commands.MakeFrom make_from.Pop n r) w)
+          pop_step fits d =
+              wanted_step (commands.MakeFrom make_from.Pop n r) answer (omega arith)
+              (λ h. makes_reference turns (pop_local_frame h.0)) (meaning.made_from c q.names told make_from.Pop)
+              (referent p.names r) (referent q.names r) fits (λ e names os ws. (refl, refl, refl)) d pop_found
+
+      -- DROP
+
+      -- a word that is handed in is deleted as a local reference
+      deleted_local : (word : ℕ) (a : Word) (g : ℕ) (once : Result (Unit {0}) Fault) → WordFits P w a g
+          → deleted_as turns word a old once new → tried turns (delete_local_ref word) old once new
+      deleted_local word Nothing zero once fits d = d
+      deleted_local word (Parts h) (suc i) once fits d =
+          subst (λ z. deleted_of turns z word old once new)
+          (ap (λ (z : Handle). z.kind) fits.1 ∙ (s.fits.locals.own i fits.0).kind) d
+      deleted_local word Nothing (suc i) once fits d = absurd fits
+      deleted_local word Malformed zero once fits d = absurd fits
+      deleted_local word Malformed (suc i) once fits d = absurd fits
+      deleted_local word (Parts h) zero once fits d = absurd fits
+
+      is_local_word : (a : Word) (g : ℕ) → WordFits P w a g → is_of_kind Local a ≡ true
+      is_local_word Nothing zero fits = refl
+      is_local_word (Parts h) (suc i) fits =
+          ap (λ z. same_kind Local z) (ap (λ (z : Handle). z.kind) fits.1 ∙ (s.fits.locals.own i fits.0).kind)
+      is_local_word Nothing (suc i) fits = absurd fits
+      is_local_word Malformed zero fits = absurd fits
+      is_local_word Malformed (suc i) fits = absurd fits
+      is_local_word (Parts h) zero fits = absurd fits
+
+      module _ (spent : j ≡ suc k) (r : Reference) (answer : Result Reply Fault)
+          (fault : IfErr answer (IsCommandFault turns p.names (commands.On on.Drop r) new.pass new.frames)) where
+        abbrev drop_meant : ℕ → Meaning Reply
+        drop_meant n z = goes_on (λ u v. (Ok replies.Done, v)) (meaning.delete n z)
+
+        drop_found : (h g : HandleWord) → HandleFits P w h.0 g.0
+            → (deletion turns h.0 >>= (λ u. done replies.Done)) old answer new
+            → Steps (commands.On on.Drop r) answer (drop_meant g.0 w)
+        drop_found h g same d =
+            let x = commands.On on.Drop r in
+            let command : Asked = (p.names, x) in
+            let f = was_formed (λ u. replies.Done) (deletion turns h.0) old new answer d in
+            let a = (f.did).0 in
+            let word = read_fits P w h.0 g.0 a handles (f.did).1 same in
+            let once = made_once command (λ z. delete_local_alone z command h.0 (λ b reads. is_local_word b g.0
+            (read_fits P w h.0 g.0 b handles reads same))) turns old new f.once alone some_turns
+            (deleted_local h.0 a g.0 f.once word (f.did).2) in
+            let i = word_call x answer fault {V = IsDone {A = Unit {0}} {B = Unit {0}}} (λ u. replies.Done)
+            (λ z l t u b. references.delete_local_ref z l t b) (meaning.delete g.0) f.once h.0 g.0 same
+            (λ b z word'. subst (λ n. Means c last n k (IsDone {A = Unit {0}} {B = Unit {0}}) P w
+            (references.delete_local_ref c last 0 b) (meaning.delete g.0)) (sym spent)
+            (delete_means c last k P w b g.0 some word')) once f.is in
+            same_after x answer {V = IsDone {A = Unit {0}} {B = Unit {0}}} (λ u. replies.Done) (λ u. replies.Done)
+            (λ Q z y y' e. refl) (λ y names os ws. (refl, refl, refl)) (λ y names os ws. (refl, refl, refl))
+            (λ e names os ws. (refl, refl, refl)) f.once (meaning.delete g.0 w) i f.is
+
+        drop_step : BindingFits P w (referent p.names r) (referent q.names r)
+            → deed turns p.names (commands.On on.Drop r) old answer new
+            → Steps (commands.On on.Drop r) answer (meaning.outside c q.names told (commands.On on.Drop r) w)
+        drop_step fits d =
+            wanted_step (commands.On on.Drop r) answer (omega arith)
+            (λ h. deletion turns h.0 >>= (λ u. done replies.Done)) (λ n. drop_meant n) (referent p.names r)
+            (referent q.names r) fits (λ e names os ws. (refl, refl, refl)) d drop_found
 
       -- TYPE
 
@@ -589,23 +718,27 @@ module _ (c : Config) (last : ℕ) where
       referent_fits refers.Null = refl
       referent_fits (refers.Named n) = s.names n
 
-      -- a command that gives up no reference
-      even_step : j ≡ k → (x : Command) (answer : Result Reply Fault) → IsCovered x → deed turns p.names x old answer new
-          → said_alone p.names had x old.pass.seen answer new.pass.seen
+      one_step : (x : Command) → j ≡ left_before x k → (answer : Result Reply Fault) → IsCovered x
+          → deed turns p.names x old answer new → said_alone p.names had x old.pass.seen answer new.pass.seen
           → IfErr answer (IsFaultOutside turns p.names x new.pass new.frames)
           → Steps x answer (meaning.outside c q.names told x w)
-      even_step one (commands.Make make.Plain n) answer covered d said fault = plain_step one n answer fault d
-      even_step one (commands.Make make.Wait n) answer covered d said fault = wait_step one n answer said d
-      even_step one (commands.MakeFrom make_from.Local n r) answer covered d said fault =
+      one_step (commands.Make make.Plain n) one answer covered d said fault = plain_step one n answer fault d
+      one_step (commands.Make make.Wait n) one answer covered d said fault = wait_step one n answer said d
+      one_step (commands.MakeFrom make_from.Local n r) one answer covered d said fault =
           local_step one n r answer fault (referent_fits r) d
-      even_step one (commands.On on.Type r) answer covered d said fault =
+      one_step (commands.MakeFrom make_from.Pop n r) one answer covered d said fault =
+          pop_step one n r answer fault (referent_fits r) d
+      one_step (commands.On on.Type r) one answer covered d said fault =
           type_step one r answer fault (referent p.names r) (referent q.names r) (referent_fits r) d
-      even_step one (commands.OnBoth on_both.Same r t) answer covered d said fault =
+      one_step (commands.On on.Drop r) one answer covered d said fault =
+          drop_step one r answer fault (referent_fits r) d
+      one_step (commands.OnBoth on_both.Same r t) one answer covered d said fault =
           same_step one r t answer fault (referent_fits r) (referent_fits t) d
-      even_step one (commands.OnName on_name.Post n) answer covered d said fault = post_step one n answer d
-      even_step one (commands.WithCount with_count.Ensure n) answer covered d said fault =
+      one_step (commands.OnName on_name.Post n) one answer covered d said fault = post_step one n answer d
+      one_step (commands.WithCount with_count.Push n) one answer covered d said fault = push_step one n answer fault d
+      one_step (commands.WithCount with_count.Ensure n) one answer covered d said fault =
           ensure_step one n answer fault d
-      even_step one x answer covered d said fault = absurd covered
+      one_step x one answer covered d said fault = absurd covered
 
       at_place : (x : Command) (answer : Result Reply Fault) → Steps x answer (meaning.outside c q.names told x w)
           → Steps x answer (meaning_at c q told q.objects x w)
@@ -613,14 +746,14 @@ module _ (c : Config) (last : ℕ) where
           subst (λ os. Steps x answer (meaning_at c q told os x w)) (sym s.outside_then) steps
 
     -- ONE COMMAND, as it means
-    pub step : (k : ℕ) (P : Pairing) (w : World) (old new : ThreadState) (p q : Place) (had told : Words)
-        (s : Stands k P w old p q had told) → IsAlone new.pass → AllByRecursion IsUnbarred new.pass.seen
-        → (x : Command) (answer : Result Reply Fault) → IsCovered x → deed_at turns p x old answer new
-        → said_alone p.names had x old.pass.seen answer new.pass.seen
+    pub step : (k : ℕ) (x : Command) (P : Pairing) (w : World) (old new : ThreadState) (p q : Place)
+        (had told : Words) (s : Stands (left_before x k) P w old p q had told) → IsAlone new.pass
+        → AllByRecursion IsUnbarred new.pass.seen → (answer : Result Reply Fault) → IsCovered x
+        → deed_at turns p x old answer new → said_alone p.names had x old.pass.seen answer new.pass.seen
         → IfErr answer (IsAloneFault turns p x new.pass new.frames)
         → Stepped k x new p q had told answer (meaning_at c q told q.objects x w)
-    step k P w old new p q had told s alone all x answer covered d said fault =
-        at_place k k P w old new p q had told s alone all x answer
-        (even_step k k P w old new p q had told s alone all refl x answer covered
-        (deed_outside k k P w old new p q had told s alone all x answer d) said
-        (fault_outside k k P w old new p q had told s alone all x answer fault))
+    step k x P w old new p q had told s alone all answer covered d said fault =
+        at_place (left_before x k) k P w old new p q had told s alone all x answer
+        (one_step (left_before x k) k P w old new p q had told s alone all x refl answer covered
+        (deed_outside (left_before x k) k P w old new p q had told s alone all x answer d) said
+        (fault_outside (left_before x k) k P w old new p q had told s alone all x answer fault))

@@ -18,7 +18,7 @@ use Rattle.jr_scripts.specs.Meaning.{standing}
 
 -- NUMBERS OF OBJECTS
 
-bit_most : (b : Bool) → bit b ≤ 1
+pub bit_most : (b : Bool) → bit b ≤ 1
 bit_most true = omega arith
 bit_most false = omega arith
 

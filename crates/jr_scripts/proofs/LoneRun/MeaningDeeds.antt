@@ -1,6 +1,7 @@
 -- What a lone thread's deeds mean.
 use Rattle.std.proofs.Common.{◌≡◌, ◌≢◌, inl, inr, ℕ, zero, suc, ◌<◌, ◌≤◌, ◌^◌, Bool, true, false, cond, Option, Some}
-use Rattle.std.proofs.Common.{None, is_some, List, [], ◌∷◌, ◌++◌, map, length, Result, Ok, Err, IfErr, refl, sym, ap, subst, ◌∙◌, arith}
+use Rattle.std.proofs.Common.{None, is_some, List, [], ◌∷◌, ◌++◌, map, length, Result, Ok, Err, IfErr, refl, sym, ap}
+use Rattle.std.proofs.Common.{subst, ◌∙◌, arith}
 use Rattle.std.proofs.lemmas.Grind.{common_steps}
 use Rattle.std.specs.List.{AllByRecursion}
 use Rattle.std.specs.FinMap.{get, get-insert}

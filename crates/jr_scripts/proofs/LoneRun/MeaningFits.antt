@@ -1,5 +1,6 @@
 -- When a lone thread's moment is as the world of what its script means.
-use Rattle.std.proofs.Common.{◌≡◌, inl, inr, ℕ, suc, ◌<◌, ◌≤◌, ◌+◌, Bool, true, false, cond, Option, Some, None, is_some}
+use Rattle.std.proofs.Common.{◌≡◌, inl, inr, ℕ, suc, ◌<◌, ◌≤◌, ◌+◌, Bool, true, false, cond, Option, Some, None}
+use Rattle.std.proofs.Common.{is_some}
 use Rattle.std.proofs.Common.{List, [], ◌∷◌, length, slice_index, Result, Ok, Err, IsSome, refl, sym, ap}
 use Rattle.std.proofs.Common.{subst, ◌∙◌, arith}
 use Rattle.jr_word.specs.declared.config.Config.{Config}
@@ -172,8 +173,8 @@ module _ (c : Config) (last : ℕ) where
         → Outcome k V P w x (q w) n
 
   -- ONE CALL AND THEN ANOTHER
-  pub bind_spends : {A B A' B' : Type 0} {V : Fitting A A'} {U : Fitting B B'} {P : Pairing} {w : World} {first : Call A}
-      {first' : Meaning A'} {next : A → Call B} {next' : A' → Meaning B'} (i j k : ℕ) → k ≤ j
+  pub bind_spends : {A B A' B' : Type 0} {V : Fitting A A'} {U : Fitting B B'} {P : Pairing} {w : World}
+      {first : Call A} {first' : Meaning A'} {next : A → Call B} {next' : A' → Meaning B'} (i j k : ℕ) → k ≤ j
       → Means i j V P w first first'
       → ((Q : Pairing) (v : World) → Later P w Q v → (x : A) (y : A') → V Q v x y
       → Means j k U Q v (next x) (next' y))

@@ -8,7 +8,8 @@ use Rattle.std.proofs.lemmas.Bool.Decides.{nat_tests}
 use Rattle.jr_model.specs.declared.frames.LocalRef.{LocalRef}
 use Rattle.jr_model.specs.Maps.{sum_below, count_below}
 use Rattle.jr_model.specs.State.{Handle, same_handle}
-use Rattle.jr_model.specs.Frames.{Frames, HaveOwnPlaces, AreSound, all_refs, free_places, frames_before, is_free, is_held}
+use Rattle.jr_model.specs.Frames.{Frames, HaveOwnPlaces, AreSound, all_refs, free_places, frames_before, is_free}
+use Rattle.jr_model.specs.Frames.{is_held}
 use Rattle.jr_model.specs.Frames.{joined, last_frame, with_last}
 use Rattle.jr_model.proofs.Agreement.{joined_before, other_than}
 use Rattle.jr_model.proofs.Counts.{bit, count_all_false, sum_at, sum_split}
@@ -100,7 +101,7 @@ module _ {P : Pairing} {n : ℕ} (i : ℕ) (r : LocalRef) (small : i < n) (same 
 module _ (P : Pairing) {n : ℕ} (once : (i j : ℕ) → i < n → j < n → P.handle i ≡ P.handle j → i ≡ j) (i : ℕ)
     (small : i < n) where
   -- the reference is meant by the number, or both are others
-  same_test : (r : LocalRef) (j : ℕ) → j < n → r.handle ≡ P.handle j → (j == i) ≡ same_handle r.handle (P.handle i)
+  pub same_test : (r : LocalRef) (j : ℕ) → j < n → r.handle ≡ P.handle j → (j == i) ≡ same_handle r.handle (P.handle i)
   same_test r j below is = go (j == i) refl (same_handle r.handle (P.handle i)) refl
     where
       go : (b : Bool) → (j == i) ≡ b → (d : Bool) → same_handle r.handle (P.handle i) ≡ d → b ≡ d

@@ -69,6 +69,11 @@ module _ (c : Config) (last k : ℕ) where
       let all : free_places last m.frames + length (all_refs m.frames) ≡ c.locals = free_and_held f.locals in
       omega arith
 
+  -- there is no room for so many more
+  pub room_lacks : {P : Pairing} {w : World} {m : Moment} (n : ℕ) → Fits c last k P w m
+      → nat_lt (free_places last m.frames) n ≡ nat_lt c.locals (held w + n)
+  room_lacks {w = w} {m = m} n f = both_lack (free_places last m.frames) (held w) c.locals n (places_taken f)
+
   pub room_means : {P : Pairing} {w : World} (n : ℕ)
       → Means c last k k (IsDone {A = Unit {0}} {B = Unit {0}}) P w (references.room_for c last 0 n)
       (meaning.room_for c n)
@@ -78,10 +83,8 @@ module _ (c : Config) (last k : ℕ) where
           → Made c last 0 (references.room_for c last 0 n) m x m'
           → Outcome c last k (IsDone {A = Unit {0}} {B = Unit {0}}) P w x (meaning.room_for c n w) m'
       outcome m m' x f r =
-          let same : nat_lt (free_places last m.frames) n ≡ nat_lt c.locals (held w + n) =
-          both_lack (free_places last m.frames) (held w) c.locals n (places_taken f) in
           (test_means c last (nat_lt (free_places last m.frames) n) (nat_lt c.locals
-          (held w + n)) LocalsFull same).outcome
+          (held w + n)) LocalsFull (room_lacks n f)).outcome
           m m' x f (record {
             acts = r.acts;
             is = r.is;

@@ -46,15 +46,16 @@ use Rattle.jr_scripts.proofs.AloneParts.{tries_alone, was_alone}
 use Rattle.jr_scripts.proofs.AloneAnswers.{all_map, given_up_alone, place_alone}
 use Rattle.jr_scripts.proofs.AloneWithin.{led_alone}
 use Rattle.jr_scripts.proofs.FreedAlone.{free_alone, plainly}
-use Rattle.jr_scripts.specs.Meaning.{IsCovered, MeansText, World, Ref, Told, how_many, first_told, is_ref_of}
+use Rattle.jr_scripts.specs.Meaning.{IsCovered, MeansText, World, Ref, Told, gives_up, how_many, first_told, is_ref_of}
 use Rattle.jr_scripts.specs.Meaning.{meaning_at}
 use Rattle.jr_scripts.specs.Meaning.{refs_of, standing, standing_at, summary_of, tells, told_after, told_from}
 use Rattle.jr_scripts.specs.Meaning.{text_of_part, first_world}
 use Rattle.jr_scripts.proofs.LoneRun.MadeCalls.{Moment, IsSo, stayed}
 use Rattle.jr_scripts.proofs.LoneRun.MeaningFrames.{Pairing, no_frame, no_local, one_frame}
 use Rattle.jr_scripts.proofs.LoneRun.MeaningFits.{Fits, RefFits}
+use Rattle.jr_scripts.proofs.LoneRun.MeaningScopes.{SameTables, drops_keep}
 use Rattle.jr_scripts.proofs.LoneRun.MeaningDeeds.{BindingFits, IsPass, call_made, made_once, now}
-use Rattle.jr_scripts.proofs.LoneRun.MeaningCommands.{Stands, Stepped, step}
+use Rattle.jr_scripts.proofs.LoneRun.MeaningCommands.{Stands, Stepped, left_before, left_then, step}
 
 -- ONE COMMAND MORE
 told_snoc : (c : Config) (line : ℕ) (before : List Command) (x : Command) (t : Told)
@@ -64,6 +65,22 @@ told_snoc c line (y ∷ ys) x t = told_snoc c (line + 1) ys x (told_after c line
     ∙ ap (λ k. told_after c k x (told_from c (line + 1) ys (told_after c line y t))) (omega arith)
 
 -- COUNTS
+
+-- so often references are given up by commands, and by those before the last
+given_up_before : (x : Command) (k : ℕ) (xs : List Command)
+    → how_many gives_up (xs ++ x ∷ []) + k ≡ how_many gives_up xs + left_before x k
+given_up_before x k [] = go (gives_up x)
+  where
+    go : (b : Bool) → length (cond b (x ∷ []) []) + k ≡ 0 + left_then b k
+    go true = omega arith
+    go false = refl
+given_up_before x k (y ∷ ys) = go (gives_up y) (given_up_before x k ys)
+  where
+    go : (b : Bool) → how_many gives_up (ys ++ x ∷ []) + k ≡ how_many gives_up ys + left_before x k
+        → length (cond b (y ∷ filter gives_up (ys ++ x ∷ [])) (filter gives_up (ys ++ x ∷ []))) + k
+        ≡ length (cond b (y ∷ filter gives_up ys) (filter gives_up ys)) + left_before x k
+    go true rest = omega arith
+    go false rest = rest
 
 get_zero : (n p : ℕ) → ◌≡◌ {A = ℕ} (get_or (replicate n 0) p 0) 0
 get_zero zero p = refl
@@ -90,18 +107,6 @@ unfolding IsLocalOne
 local_one P n None l fits = tt
 local_one P n (Some r) (Some p) fits = fits.0
 local_one P n (Some r) None fits = absurd fits
-
--- references that are freed change no other table
-record SameTables (s s' : State) : Type 0 where
-  pub objects : s'.objects ≡ s.objects
-  pub refs : s'.refs ≡ s.refs
-  pub used : s'.used ≡ s.used
-
-drops_keep : (s : State) (rs : List LocalRef) → SameTables s (state_from s (map (by 0) (drop_all rs)))
-drops_keep s [] = record { objects = refl; refs = refl; used = refl }
-drops_keep s (r ∷ rs) =
-    let rest = drops_keep (act_after s 0 (LocalDrop r.handle.index)) rs in
-    record { objects = rest.objects; refs = rest.refs; used = rest.used }
 
 same_summary : (g w l u g' w' l' u' : ℕ) → g ≡ g' → w ≡ w' → l ≡ l' → u ≡ u'
     → ◌≡◌ {A = Summary} (record { globals = g; weaks = w; live = l; used = u })
@@ -173,15 +178,16 @@ module _ (c : Config) (last turns : ℕ) (one : c.threads ≡ 1) (some_turns : t
         text_is = ap (λ z. z ++ printed line x answer) is ∙ ap (λ z. t.text ++ z) (s.text line);
       }
 
-  all_told : (k : ℕ) → k ≤ last → (commands : List Command) (text : List ℕ) (new : ThreadState) (place : Place)
+  all_told : (k : ℕ) (commands : List Command) → how_many gives_up commands + k ≤ last
+      → (text : List ℕ) (new : ThreadState) (place : Place)
       (words : Words) (e : Explains said_alone turns 3 (opening_moment c last) commands text new place words)
       → AnswersAlone e → AllByRecursion IsCovered commands → IsAlone new.pass → AllByRecursion IsUnbarred new.pass.seen
       → IsTold k commands text new place words
-  all_told k le commands text new place words nothing answers firsts alone all = record {
+  all_told k commands le text new place words nothing answers firsts alone all = record {
     pairing = first_pairing;
     stands = record {
       pass = record { config = refl; last_is = refl; thread = refl };
-      fits = opening_fits k le;
+      fits = opening_fits k (omega arith);
       names = λ n. subst (λ (o : Option Binding). BindingFits first_pairing (first_world memory) (or_nothing o)
           (or_nothing o))
           (sym (get-empty name_order n)) tt;
@@ -191,17 +197,19 @@ module _ (c : Config) (last turns : ℕ) (one : c.threads ≡ 1) (some_turns : t
     };
     text_is = refl;
   }
-  all_told k le commands text new place words
+  all_told k commands le text new place words
       (then {before = before} {text = lines} {mid = mid} {place = stood} {words = had} x answer done did said) answers
       firsts
       alone all =
       let first = (all_back IsCovered before (x ∷ []) firsts).0 in
       let y = place_alone turns stood x mid new answer alone did in
-      let i = all_told k le before lines mid stood had done answers.0 (all_front IsCovered before (x ∷ []) firsts)
+      let i = all_told (left_before x k) before (let less : how_many gives_up (before ++ x ∷ []) + k
+      ≡ how_many gives_up before + left_before x k = given_up_before x k before in omega arith) lines mid stood had done
+      answers.0 (all_front IsCovered before (x ∷ []) firsts)
       (led_alone y alone) (all_prefix IsUnbarred mid.pass.seen new.pass.seen y.begins all) in
       let t = told_from c 3 before (first_told memory) in
-      let stepped = step c last turns some_turns some_threads small few k i.pairing t.world mid new stood t.place
-      had t.words i.stands alone all x answer first did said answers.1 in
+      let stepped = step c last turns some_turns some_threads small few k x i.pairing t.world mid new stood t.place
+      had t.words i.stands alone all answer first did said answers.1 in
       let so = tells_so k t (3 + length before) x answer lines new stood had i.text_is stepped in
       let whole = told_snoc c 3 before x (first_told memory) in
       record {
@@ -243,19 +251,22 @@ module _ (c : Config) (last turns : ℕ) (one : c.threads ≡ 1) (some_turns : t
   ends_so k P w m s f same =
       let none : (h : Handle) → s.refs h ≡ Stale = λ h. ap (λ r. r h) same.refs ∙ f.slots h in
       let locals : (i : ℕ) → i < length w.refs → IsLocalOne (standing_at w.refs i) =
-      λ i l. local_one P (length w.objects) (standing_at w.refs i) (object_of m.frames (P.handle i)) (f.locals.stands i l) in
+      λ i l. local_one P (length w.objects) (standing_at w.refs i) (object_of m.frames (P.handle i))
+      (f.locals.stands i l) in
       same_summary (references c last Global s) (references c last Weak s) (count_below (c.objects + 1) (λ o. is_some
       (s.objects o)))
       s.used (refs_of Global w) (refs_of Weak w) (standing w.objects) w.used
       (no_slots Global s none ∙ sym (none_of Global refl w.refs locals))
       (no_slots Weak s none ∙ sym (none_of Weak refl w.refs locals))
-      (ap (λ t. count_below (c.objects + 1) (λ o. is_some (t o))) same.objects ∙ (f.objects.count ∙ sym f.objects.all_objects))
+      (ap (λ t. count_below (c.objects + 1) (λ o. is_some (t o))) same.objects
+      ∙ (f.objects.count ∙ sym f.objects.all_objects))
       (same.used ∙ (f.unused ∙ sym f.unused_then))
 
-  pub run_means : (part : ThreadPart) (text : List ℕ) → AllByRecursion IsCovered part.commands
+  pub run_means : (part : ThreadPart) (text : List ℕ) → how_many gives_up part.commands ≤ last
+      → AllByRecursion IsCovered part.commands
       → IsRun turns last c part text
       → text ≡ text_of_part memory c part
-  run_means part text firsts r =
+  run_means part text within firsts r =
       let x = r.explained in
       let all : AllByRecursion IsUnbarred r.left.pass.seen = subst (λ (p : PassView). AllByRecursion IsUnbarred
       p.seen) (sym r.saw) r.alone in
@@ -269,7 +280,8 @@ module _ (c : Config) (last turns : ℕ) (one : c.threads ≡ 1) (some_turns : t
       let told_alone = was_alone y alone in
       let told_all = all_prefix IsUnbarred r.told.pass.seen r.left.pass.seen y.begins all in
       let g = given_up_alone x.place.objects x.done r.told (Ok tt) told_alone x.ended in
-      let i = all_told 0 (omega arith) part.commands r.lines x.done x.place x.words x.explains r.answers firsts (led_alone g told_alone)
+      let i = all_told 0 part.commands (omega arith) r.lines x.done x.place x.words x.explains r.answers firsts
+      (led_alone g told_alone)
       (all_prefix IsUnbarred x.done.pass.seen r.told.pass.seen g.begins told_all) in
       let t = told_from c 3 part.commands (first_told memory) in
       let still : r.told ≡ x.done =
@@ -285,6 +297,6 @@ module _ (c : Config) (last turns : ℕ) (one : c.threads ≡ 1) (some_turns : t
 -- so is the text of any run
 pub meant : (turns last : ℕ) (c : Config) (part : ThreadPart) (text : List ℕ) → c.threads ≡ 1 → in_limits c ≡ true
     → IsRun turns last c part text → MeansText turns last c part text
-meant turns last c part text one limits r some few covered =
+meant turns last c part text one limits r some few within covered =
     let most : c.locals ≤ 4096 = (limited c limits).locals.1 in
-    ([], run_means c last turns one some most few [] part text covered r)
+    ([], run_means c last turns one some most few [] part text within covered r)

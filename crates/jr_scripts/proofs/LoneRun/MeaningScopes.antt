@@ -1,0 +1,349 @@
+-- What a lone thread's calls of frames mean.
+use Rattle.std.proofs.Common.{◌≡◌, ◌≢◌, ◌⊎◌, inl, inr, ℕ, suc, ◌<◌, ◌≤◌, ◌+◌, ◌==◌, ◌&&◌, Bool, true, false, cond}
+use Rattle.std.proofs.Common.{nat_lt, nat_le, Option, Some, None, IsSome, is_some, List, [], ◌∷◌, ◌++◌, length, map}
+use Rattle.std.proofs.Common.{slice_index, slice_set, Result, Ok, Err, refl, sym, ap, subst, ◌∙◌, arith}
+use Rattle.std.proofs.Common.{get_or-set_other, get_or-set_same}
+use Rattle.std.proofs.lemmas.List.{length-set}
+use Rattle.std.proofs.lemmas.Bool.Decides.{nat_tests}
+use Rattle.jr_word.specs.declared.config.Config.{Config}
+use Rattle.jr_word.specs.declared.fault.Fault.{Fault}
+use Rattle.jr_word.specs.declared.fault.Fault.TheVariants.{LocalsFull, NoFrame}
+use Rattle.jr_model.specs.declared.event.Act.TheVariants.{LocalDrop}
+use Rattle.jr_model.specs.declared.frames.LocalRef.{LocalRef}
+use Rattle.jr_model.specs.declared.frames.TheConstants.{FRAMES}
+use Rattle.jr_model.specs.State.{Handle, State, same_handle}
+use Rattle.jr_model.specs.Steps.{act_after}
+use Rattle.jr_model.specs.Frames.{Frames, all_refs, drop_all, frames_before, free_places, is_held, joined, last_frame}
+use Rattle.jr_model.specs.Frames.{object_of, object_where, popped, pushed}
+use Rattle.jr_model.specs.History.{by, state_from}
+use Rattle.jr_model.specs.Calls.{Call, ◌>>=◌, ◌>>◌, refuse_if}
+use Rattle.jr_model.specs.Checks.{Word}
+use Rattle.jr_model.specs.Parts.{new_frame, take_frame}
+use Rattle.jr_model.specs.References as references
+use Rattle.jr_model.proofs.Agreement.{joined_before, joined_push, popped_sound, pushed_sound}
+use Rattle.jr_model.proofs.Counts.{bit}
+use Rattle.jr_model.proofs.Gone.{taken_is_gone}
+use Rattle.jr_model.proofs.Updates.{eq_true, eq_false, eq_other, eq_self}
+use Rattle.jr_scripts.specs.Places.{all_but_last}
+use Rattle.jr_scripts.specs.Meaning.{World, Ref, Meaning, goes_on, held, newest_frame, refused_if, standing_at, without}
+use Rattle.jr_scripts.specs.Meaning as meaning
+use Rattle.jr_scripts.proofs.LoneRun.MadeCalls.{Moment, Made, WasMadeOf, moment, moment_is, split, still}
+use Rattle.jr_scripts.proofs.LoneRun.MeaningCounts.{bit_most}
+use Rattle.jr_scripts.proofs.LoneRun.MeaningFrames.{Pairing, AreLocals, no_local, one_local, all_places, frames_all}
+use Rattle.jr_scripts.proofs.LoneRun.MeaningFrames.{frames_later, frames_long, frames_popped, frames_pushed}
+use Rattle.jr_scripts.proofs.LoneRun.MeaningFrames.{newest_fits, newest_held, same_test}
+use Rattle.jr_scripts.proofs.LoneRun.MeaningFits.{RefFits, LocalsFit, ObjectsFit, Fits, Fitting, SameAnswer, IsDone}
+use Rattle.jr_scripts.proofs.LoneRun.MeaningFits.{Outcome, Means, bind_spends, entered_means, fits_less, unmoved}
+use Rattle.jr_scripts.proofs.LoneRun.MeaningParts.{OptionFits, option_later, room_lacks}
+use Rattle.jr_scripts.proofs.LoneRun.MeaningCalls.{MaybeFits, WordFits, new_local_means, resolved_means}
+
+-- REFERENCES THAT ARE FREED change no other table
+pub record SameTables (s s' : State) : Type 0 where
+  pub objects : s'.objects ≡ s.objects
+  pub refs : s'.refs ≡ s.refs
+  pub used : s'.used ≡ s.used
+
+pub drops_keep : (s : State) (rs : List LocalRef) → SameTables s (state_from s (map (by 0) (drop_all rs)))
+drops_keep s [] = record { objects = refl; refs = refl; used = refl }
+drops_keep s (r ∷ rs) =
+    let rest = drops_keep (act_after s 0 (LocalDrop r.handle.index)) rs in
+    record { objects = rest.objects; refs = rest.refs; used = rest.used }
+
+-- FRAMES
+
+-- a frame more holds no more
+more_held : (f : Frames) (p : ℕ) → is_held (all_refs (pushed f)) p ≡ is_held (all_refs f) p
+more_held f p = ap (λ rs. is_held rs p) (joined_push f.frames)
+
+module _ (c : Config) (last k : ℕ) where
+  -- a test of the frames, which the world tells too
+  pub guard_means : {A B : Type 0} {V : Fitting A B} {P : Pairing} {w : World} {p : Call A} {q : Meaning B} {j : ℕ}
+      (test : Frames → Bool) (test' : World → Bool) (e : Fault) → k ≤ j
+      → ((m : Moment) → Fits c last j P w m → test m.frames ≡ test' w)
+      → (test' w ≡ false → Means c last j k V P w p q)
+      → Means c last j k V P w ((λ old. refuse_if (test old) e old) >> p)
+      (λ z. goes_on (λ u. q) (refused_if (test' z) e, z))
+  guard_means {A} {B} {V} {P} {w} {p} {q} {j} test test' e le same means = record {
+    outcome = λ m n x f r. go m n x f (split c last 0 (λ old. refuse_if (test old) e old) (λ u. p) m n x r)
+        (test' w) refl;
+  }
+    where
+      known : (m mid : Moment) (y : Result (Unit {0}) Fault) (b : Bool) → test m.frames ≡ b
+          → (r : Made c last 0 (λ old. refuse_if (test old) e old) m y mid)
+          → refuse_if b e m.frames r.acts y mid.frames
+      known m mid y b is r = subst (λ z. refuse_if z e m.frames r.acts y mid.frames) is r.is
+
+      go : (m n : Moment) (x : Result A Fault) → Fits c last j P w m
+          → WasMadeOf c last 0 (λ old. refuse_if (test old) e old) (λ u. p) m x n → (b : Bool) → test' w ≡ b
+          → Outcome c last k V P w x (goes_on (λ u. q) (refused_if b e, w)) n
+      go m n x f (inl d) false is =
+          let one = known m d.1 (Ok d.0) false (same m f ∙ is) d.2 in
+          let still_so : d.1 ≡ m = still c last 0 {m = m} {n = d.1} (d.2).acts one.0 (d.2).leads one.2 in
+          (means is).outcome m n x f (subst (λ z. Made c last 0 p z x n) still_so d.3)
+      go m n x f (inl d) true is = absurd (let one = known m d.1 (Ok d.0) true (same m f ∙ is) d.2 in
+          let bad = one.1 in cc)
+      go m n x f (inr d) false is = absurd (let one = known m n (Err d.0) false (same m f ∙ is) d.2 in
+          let bad = one.1 in cc)
+      go m n x f (inr d) true is =
+          let one = known m n (Err d.0) true (same m f ∙ is) d.2 in
+          let still_so : n ≡ m = still c last 0 {m = m} {n = n} (d.2).acts one.0 (d.2).leads one.2 in
+          let refused : ◌≡◌ {A = Fault} d.0 e = (let err = one.1 in cc) in
+          unmoved c last {V = V} m n x (Err e) (Err e) (fits_less le f) still_so
+          (d.1 ∙ ap (λ (z : Fault). Err z) refused) refl
+
+  -- one more frame
+  frame_means : (P : Pairing) (w : World) → nat_le FRAMES (length w.frames) ≡ false
+      → Means c last k k (IsDone {A = Unit {0}} {B = Unit {0}}) P w new_frame
+      (λ v. (Ok tt, record v { frames = v.frames ++ [] ∷ [] }))
+  frame_means P w few = record {
+    outcome = λ m n x f r. record {
+      pairing = P;
+      later = record {
+        handles = λ j l. refl;
+        objects = λ q l. refl;
+        refs_grow = omega arith;
+        objects_grow = omega arith;
+      };
+      fits = subst (Fits c last k P (record w { frames = w.frames ++ [] ∷ [] })) (sym (moment_is n.state m.state
+          n.frames (pushed m.frames) (r.leads ∙ ap (λ l. state_from m.state (map (by 0) l)) (r.is).0) (r.is).2))
+          (pushed_state m f);
+      answers = subst (λ z. SameAnswer (IsDone {A = Unit {0}} {B = Unit {0}} P
+          (record w { frames = w.frames ++ [] ∷ [] })) z (Ok tt)) (sym (r.is).1) tt;
+    };
+  }
+    where
+      pushed_state : (m : Moment) → Fits c last k P w m
+          → Fits c last k P (record w { frames = w.frames ++ [] ∷ [] }) (moment m.state (pushed m.frames))
+      pushed_state m f =
+          let l = f.locals in
+          let long : length w.frames ≡ length m.frames.frames = frames_long l.framed in
+          let fewer : length m.frames.frames < FRAMES = grind (arith, nat_tests) in
+          record {
+            locals = record {
+              framed = frames_pushed l.framed;
+              own = l.own;
+              past = l.past;
+              once = l.once;
+              stands = λ i small. subst (RefFits P (length w.objects) (standing_at w.refs i))
+                  (sym (ap (object_where (λ r. same_handle r.handle (P.handle i))) (joined_push m.frames.frames)))
+                  (l.stands i small);
+              sound = pushed_sound m.frames l.sound fewer;
+              few = λ p. subst (λ b. slice_index m.frames.given p + k ≤ last + bit b) (sym (more_held m.frames p))
+                  (l.few p);
+              given = l.given;
+            };
+            objects = f.objects;
+            slots = f.slots;
+            unused = f.unused;
+            unused_then = f.unused_then;
+          }
+
+  -- PUSHLOCALFRAME
+  pub push_means : (P : Pairing) (w : World) (n : ℕ)
+      → Means c last k k (IsDone {A = Unit {0}} {B = Unit {0}}) P w (references.push_local_frame c last 0 n)
+      (meaning.push c n)
+  push_means P w n = guard_means {V = IsDone {A = Unit {0}} {B = Unit {0}}} (λ f. nat_le FRAMES (length f.frames))
+      (λ v. nat_le FRAMES (length v.frames)) LocalsFull (omega arith)
+      (λ m f. ap (λ z. nat_le FRAMES z) (sym (frames_long f.locals.framed)))
+      (λ few. guard_means {V = IsDone {A = Unit {0}} {B = Unit {0}}} (λ f. nat_lt (free_places last f) n)
+      (λ v. nat_lt c.locals (held v + n)) LocalsFull (omega arith)
+      (λ m f. room_lacks c last k n f) (λ room. frame_means P w few))
+
+-- THE LAST FRAME GOES
+
+-- the world without the last frame and its references
+abbrev pub taken : World → World
+taken w = record w { refs = without (newest_frame w.frames) w.refs; frames = all_but_last w.frames }
+
+pub without_long : (is : List ℕ) (refs : List (Option Ref)) → length (without is refs) ≡ length refs
+without_long [] refs = refl
+without_long (i ∷ is) refs = without_long is (slice_set refs i None) ∙ length-set refs i None
+
+where_front : (p : LocalRef → Bool) (xs ys : List LocalRef) → object_where p ys ≡ None
+    → object_where p (xs ++ ys) ≡ object_where p xs
+where_front p [] ys none = none
+where_front p (x ∷ xs) ys none = ap (λ z. cond (p x) (Some x.object) z) (where_front p xs ys none)
+
+-- a number is one of those that go, and its handle is found among theirs; or neither
+abbrev IsLeft : Pairing → ℕ → List ℕ → List LocalRef → List (Option Ref) → Type 0
+IsLeft P j is rs refs = ((standing_at (without is refs) j ≡ None)
+    × IsSome (object_where (λ r. same_handle r.handle (P.handle j)) rs))
+    ⊎ ((standing_at (without is refs) j ≡ standing_at refs j)
+    × (object_where (λ r. same_handle r.handle (P.handle j)) rs ≡ None))
+
+module _ (P : Pairing) (n : ℕ) (once : (i j : ℕ) → i < n → j < n → P.handle i ≡ P.handle j → i ≡ j) (j : ℕ)
+    (small : j < n) where
+  left_of : {is : List ℕ} {rs : List LocalRef} → AreLocals P n is rs → (refs : List (Option Ref)) → length refs ≡ n
+      → IsLeft P j is rs refs
+  left_of no_local refs long = inr (refl, refl)
+  left_of (one_local {i = i} {is = is} {r = r} {rs = rs} below same rest) refs long =
+      go (i == j) refl (sym (same_test P once j small r i below same))
+      (left_of rest (slice_set refs i None) (length-set refs i None ∙ long))
+    where
+      go : (b : Bool) → (i == j) ≡ b → same_handle r.handle (P.handle j) ≡ (i == j)
+          → IsLeft P j is rs (slice_set refs i None) → IsLeft P j (i ∷ is) (r ∷ rs) refs
+      go true e f (inl x) = inl (
+        x.0,
+        subst (λ b. IsSome (cond b (Some r.object)
+            (object_where (λ r. same_handle r.handle (P.handle j)) rs))) (sym (f ∙ e)) refl,
+      )
+      go true e f (inr x) =
+          let here : standing_at (slice_set refs i None) j ≡ None =
+          ap (λ z. standing_at (slice_set refs i None) z) (sym (eq_true i j e))
+          ∙ get_or-set_same refs i None None (omega arith) in
+          inl (
+            x.0 ∙ here,
+            subst (λ b. IsSome (cond b (Some r.object)
+                (object_where (λ r. same_handle r.handle (P.handle j)) rs))) (sym (f ∙ e)) refl,
+          )
+      go false e f (inl x) = inl (
+        x.0,
+        subst (λ b. IsSome (cond b (Some r.object)
+            (object_where (λ r. same_handle r.handle (P.handle j)) rs))) (sym (f ∙ e)) x.1,
+      )
+      go false e f (inr x) =
+          let other : i ≢ j = eq_false i j e in
+          inr (
+            x.0 ∙ get_or-set_other refs i j None None (λ z. other (sym z)),
+            ap (λ b. cond b (Some r.object) (object_where (λ r. same_handle r.handle (P.handle j)) rs)) (f ∙ e) ∙ x.1,
+          )
+
+-- no place is left once those of a frame are free, where as many are held beside them as there are
+both_full : (free rest newest all places : ℕ) → free + rest ≡ places → all ≡ rest + newest
+    → (free == 0) ≡ (all == newest + places)
+both_full free rest newest all places one two = go (free == 0) refl
+  where
+    go : (b : Bool) → (free == 0) ≡ b → b ≡ (all == newest + places)
+    go true e =
+        let none : free ≡ 0 = eq_true free 0 e in
+        let is : all ≡ newest + places = omega arith in
+        sym (ap (λ z. z == newest + places) is ∙ eq_self (newest + places))
+    go false e = sym (eq_other all (newest + places) (λ z. eq_false free 0 e (omega arith)))
+
+module _ (c : Config) (last k : ℕ) where
+  module _ (P : Pairing) (w : World) (two : nat_lt (length w.frames) 2 ≡ false) where
+    two_frames : (m : Moment) → Fits c last (suc k) P w m → 2 ≤ length m.frames.frames
+    two_frames m f =
+        let long : length w.frames ≡ length m.frames.frames = frames_long f.locals.framed in
+        let most : 2 ≤ length w.frames = grind (arith, nat_tests) in
+        omega arith
+
+    as_many : length (taken w).refs ≡ length w.refs
+    as_many = without_long (newest_frame w.frames) w.refs
+
+    popped_few : (m : Moment) → Fits c last (suc k) P w m → (p : ℕ) → slice_index m.frames.given p + k ≤ last
+    popped_few m f p =
+        let was : slice_index m.frames.given p + suc k ≤ last + bit (is_held (all_refs m.frames) p) =
+        f.locals.few p in
+        let most : bit (is_held (all_refs m.frames) p) ≤ 1 = bit_most (is_held (all_refs m.frames) p) in
+        omega arith
+
+    -- no place is left for a result
+    after_lacks : (m : Moment) → Fits c last (suc k) P w m
+        → (free_places last (popped m.frames) == 0) ≡ (held w == length (newest_frame w.frames) + c.locals)
+    after_lacks m f =
+        let l = f.locals in
+        let free : free_places last (popped m.frames) + length (joined (frames_before m.frames.frames)) ≡ c.locals =
+        all_places last (popped m.frames) (popped_sound m.frames l.sound (two_frames m f))
+        (λ p none. let few = popped_few m f p in omega arith)
+        (frames_all (λ r. r.handle.index < length m.frames.given) (λ r i small is. within r i small is)
+        (frames_popped l.framed)) ∙ l.given in
+        both_full (free_places last (popped m.frames)) (length (joined (frames_before m.frames.frames)))
+        (length (newest_frame w.frames)) (held w) c.locals free (newest_held l.framed)
+      where
+        within : (r : LocalRef) (i : ℕ) → i < length w.refs → r.handle ≡ P.handle i
+            → r.handle.index < length m.frames.given
+        within r i small is =
+            let place : (P.handle i).index < c.locals = (f.locals.own i small).place in
+            let here : r.handle.index ≡ (P.handle i).index = ap (λ (h : Handle). h.index) is in
+            let long : length m.frames.given ≡ c.locals = f.locals.given in
+            omega arith
+
+    popped_locals : (m : Moment) → Fits c last (suc k) P w m
+        → LocalsFit c last k P (length w.objects) (taken w).refs (taken w).frames (popped m.frames)
+    popped_locals m f =
+        let l = f.locals in
+        record {
+          framed = frames_later (λ j below. refl) (let long = as_many in omega arith) (frames_popped l.framed);
+          own = λ j below. l.own j (let long = as_many in omega arith);
+          past = λ j below. l.past j (let long = as_many in omega arith);
+          once = λ j n below below'. l.once j n (let long = as_many in omega arith)
+              (let long = as_many in omega arith);
+          stands = λ j below. stands j (let long = as_many in omega arith);
+          sound = popped_sound m.frames l.sound (two_frames m f);
+          few = λ p. let few = popped_few m f p in omega arith;
+          given = l.given;
+        }
+      where
+        stands : (j : ℕ) → j < length w.refs → RefFits P (length w.objects)
+            (standing_at (without (newest_frame w.frames) w.refs) j) (object_of (popped m.frames) (P.handle j))
+        stands j below = go (left_of P (length w.refs) f.locals.once j below (newest_fits f.locals.framed) w.refs refl)
+          where
+            go : IsLeft P j (newest_frame w.frames) (last_frame m.frames.frames) w.refs → RefFits P (length w.objects)
+                (standing_at (without (newest_frame w.frames) w.refs) j) (object_of (popped m.frames) (P.handle j))
+            go (inl x) = subst (λ z. RefFits P (length w.objects) z (object_of (popped m.frames) (P.handle j)))
+                (sym x.0) (subst (RefFits P (length w.objects) None)
+                (sym ((taken_is_gone m.frames (P.handle j) f.locals.sound).1 x.1)) tt)
+            go (inr x) =
+                let same : object_of m.frames (P.handle j) ≡ object_of (popped m.frames) (P.handle j) =
+                ap (object_where (λ r. same_handle r.handle (P.handle j))) (joined_before m.frames.frames)
+                ∙ where_front (λ r. same_handle r.handle (P.handle j)) (joined (frames_before m.frames.frames))
+                (last_frame m.frames.frames) x.1 in
+                subst (λ z. RefFits P (length w.objects) z (object_of (popped m.frames) (P.handle j))) (sym x.0)
+                (subst (RefFits P (length w.objects) (standing_at w.refs j)) same (f.locals.stands j below))
+
+    take_means : Means c last (suc k) k (IsDone {A = Unit {0}} {B = Unit {0}}) P w take_frame (λ v. (Ok tt, taken v))
+    take_means = record {
+      outcome = λ m n x f r.
+          let tables : SameTables m.state n.state =
+          subst (SameTables m.state) (sym (r.leads ∙ ap (λ l. state_from m.state (map (by 0) l)) (r.is).0))
+          (drops_keep m.state (last_frame m.frames.frames)) in
+          record {
+            pairing = P;
+            later = record {
+              handles = λ j l. refl;
+              objects = λ q l. refl;
+              refs_grow = (let long = as_many in omega arith);
+              objects_grow = omega arith;
+            };
+            fits = record {
+              locals = subst (LocalsFit c last k P (length w.objects) (taken w).refs (taken w).frames)
+                  (sym (r.is).2) (popped_locals m f);
+              objects = subst (ObjectsFit c P w.objects) (sym tables.objects) f.objects;
+              slots = λ h. ap (λ t. t h) tables.refs ∙ f.slots h;
+              unused = tables.used ∙ f.unused;
+              unused_then = f.unused_then;
+            };
+            answers = subst (λ z. SameAnswer (IsDone {A = Unit {0}} {B = Unit {0}} P (taken w)) z (Ok tt))
+                (sym (r.is).1) tt;
+          };
+    }
+
+    -- the frame goes, and its result is referred to from the one before
+    take_and_add : (x y : Option ℕ) → OptionFits P w x y
+        → Means c last (suc k) k MaybeFits P w (take_frame >> references.new_local c last 0 x)
+        (λ v. goes_on {A = Unit {0}} (λ u. meaning.new_local c y) (Ok tt, taken v))
+    take_and_add x y fits = bind_spends c last (suc k) k k (omega arith) take_means (λ Q v later u u' _.
+        new_local_means c last k Q v x y (option_later later x y fits))
+
+    popping_means : (x y : Option ℕ) → OptionFits P w x y
+        → Means c last (suc k) k MaybeFits P w (references.popping c last 0 x)
+        (λ z. goes_on (λ u v. goes_on {A = Unit {0}} (λ u'. meaning.new_local c y) (Ok tt, taken v))
+        (refused_if (is_some y && (held z == length (newest_frame z.frames) + c.locals)) LocalsFull, z))
+    popping_means None None fits = guard_means c last k {V = MaybeFits} (λ f. false) (λ v. false) LocalsFull
+        (omega arith) (λ m f. refl) (λ free. take_and_add None None fits)
+    popping_means (Some p) (Some o) fits = guard_means c last k {V = MaybeFits}
+        (λ f. free_places last (popped f) == 0) (λ z. held z == length (newest_frame z.frames) + c.locals) LocalsFull
+        (omega arith) (λ m f. after_lacks m f) (λ free. take_and_add (Some p) (Some o) fits)
+    popping_means None (Some o) fits = absurd fits
+    popping_means (Some p) None fits = absurd fits
+
+  -- POPLOCALFRAME
+  pub pop_means : (P : Pairing) (w : World) (a : Word) (g : ℕ) → 1 ≤ c.threads → WordFits P w a g
+      → Means c last (suc k) k MaybeFits P w (references.pop_local_frame c last 0 a) (meaning.pop c g)
+  pop_means P w a g some fits = entered_means c last (guard_means c last k {V = MaybeFits}
+      (λ f. nat_lt (length f.frames) 2) (λ v. nat_lt (length v.frames) 2) NoFrame (omega arith)
+      (λ m f. ap (λ z. nat_lt z 2) (sym (frames_long f.locals.framed))) (λ two.
+      bind_spends c last (suc k) (suc k) k (omega arith) (resolved_means c last (suc k) P w a g some fits)
+      (λ Q v later x y same. popping_means Q v (ap (λ (z : World). nat_lt (length z.frames) 2) same.1 ∙ two) x y
+      same.0)))
