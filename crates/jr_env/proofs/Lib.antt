@@ -7,6 +7,7 @@ pub mod NewArray
 pub mod Removing
 pub mod Carrying
 pub mod EnvCalls
+pub mod ExplainedWords
 pub mod MadeAgain
 pub mod FrameCalls
 pub mod ObjectLooks

@@ -10,6 +10,7 @@ pub mod Scopes
 pub mod Texts
 pub mod Works
 pub mod StayDeeds
+pub mod Words
 pub mod LentStays
 pub mod InStays
 pub mod StayLevels

@@ -5,6 +5,7 @@ mod collecting;
 mod copies;
 mod counting;
 mod critical_regions;
+mod explaining;
 mod frames;
 mod making;
 mod meeting;
@@ -16,6 +17,7 @@ mod texts;
 mod upgrades;
 
 pub use array_parts::SetArrayRegion;
+pub use explaining::Explain;
 pub use frames::{EnsureLocalCapacity, FreeLocals, PopLocalFrame, PushLocalFrame};
 pub use making::{NewArray, NewObjectArray, NewPlain, NewString};
 pub use objects::{

@@ -17,6 +17,7 @@ mod works;
 pub use critical_region::Region;
 pub use env::Env;
 pub use env_call::EnvCall;
+pub use jr_frames::Explanation;
 pub use patience::{Patience, with_patience};
 pub use retrying::{is_made_again, is_short_of_room};
 pub use scope::{LocalFrames, Unscoped, with_local_frame, with_local_frame_returning};

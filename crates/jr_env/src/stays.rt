@@ -2,6 +2,7 @@
 
 mod array_parts;
 mod copies;
+mod explaining;
 mod frames;
 mod levels;
 mod making;

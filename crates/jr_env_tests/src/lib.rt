@@ -4,6 +4,8 @@
 #[cfg(test)]
 mod again;
 #[cfg(test)]
+mod explained;
+#[cfg(test)]
 mod frames;
 #[cfg(test)]
 mod handles;

@@ -1,6 +1,7 @@
 //! What is tried of an env over plain words, in one function that makes the env: one that a test makes itself is dear to prove.
 
 use crate::again::is_made_behind;
+use crate::explained::are_explained;
 use crate::frames::frees_all;
 use crate::handles::{place_gives_more, slot_gives_more};
 use crate::references::{are_deleted_by_kind, goes_round};
@@ -18,6 +19,8 @@ use std::test::Fail;
 pub(crate) enum Case {
     /// References of another kind than is deleted.
     ByKind,
+    /// What words are told to be.
+    Explained,
     /// Searches for a free slot.
     Round,
     /// Local references that are freed.
@@ -41,6 +44,7 @@ fn try_case<S: Steps>(
 ) -> Result<(), Fail> {
     match case {
         Case::ByKind => are_deleted_by_kind(rt, env),
+        Case::Explained => are_explained(rt, alloc, env),
         Case::Round => goes_round(rt, env),
         Case::Frees => frees_all(rt, env),
         Case::Slot => slot_gives_more(rt, env),

@@ -131,6 +131,11 @@ fn references_of_another_kind(rt: HostRuntime) -> Result<(), Fail> {
     try_plain(&rt, rt.alloc(), TWO, Case::ByKind)
 }
 
+#[test]
+fn each_word_is_told_what_it_is(rt: HostRuntime) -> Result<(), Fail> {
+    try_plain(&rt, rt.alloc(), TWO, Case::Explained)
+}
+
 /// The steps, handed back by a refusal of an env.
 fn refused<S: Steps + Drop>(rt: &impl Abort, env: Result<Env<S>, (S, Fault)>) -> Result<S, Fail> {
     match env {

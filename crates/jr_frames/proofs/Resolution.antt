@@ -1,6 +1,7 @@
 -- References are resolved, and their types are told.
 pub mod Telling
 pub mod ToldWords
+pub mod OneExplanation
 use Rattle.std.proofs.Common.{◌≡◌, ◌≢◌, ◌⊎◌, inl, inr, ℕ, Bool, true, false, ◌||◌, cond, Option, Some}
 use Rattle.std.proofs.Common.{None, IfSome, [], ◌∷◌, Result, Ok, Err, refl, sym, ap, subst, ◌∙◌}
 use Rattle.jr_word.specs.declared.config.Config.{Config}

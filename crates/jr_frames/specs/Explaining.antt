@@ -81,6 +81,11 @@ pub data IsExplained (c : Config) (thread : ℕ) (f : Frames) (s : State) : Word
   own : {h : Handle} {e : Explanation} → is_out_of_bounds c (Parts h) ≡ false
       → is_foreign thread (Parts h) ≡ false → SaysOfHandle f s h e → IsExplained c thread f s (Parts h) e
 
+-- A WORD IS ONE THING: in one state no two explanations of it are so
+abbrev pub IsOneThing : Type 0
+IsOneThing = (c : Config) (thread : ℕ) (f : Frames) (s : State) (a : Word) (e d : Explanation)
+    → IsExplained c thread f s a e → IsExplained c thread f s a d → e ≡ d
+
 -- WHEN IT WAS SO
 
 -- the look that a word needs: at a global or weak handle that lies in the room, with what it finds

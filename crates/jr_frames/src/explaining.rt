@@ -26,13 +26,8 @@ pub enum Explanation {
     Outside,
     /// A local handle of another thread of the room.
     Foreign,
-    /// A handle whose reference stands.
-    Standing {
-        /// Of which kind the reference is.
-        kind: RefKind,
-        /// The kind of its object, none where the reference is cleared.
-        object: Option<Kind>,
-    },
+    /// A handle whose reference stands: of which kind that is, and of which kind its object, none where it is cleared.
+    Standing { kind: RefKind, object: Option<Kind> },
     /// A global or weak handle under whose serial a reference of the other kind stands.
     OtherKind,
     /// A handle whose serial was given, to a reference that was deleted. No slot keeps whether that was a global or a weak one.

@@ -1,6 +1,7 @@
 //! What holds of whole runs of calls.
 ghost use Rattle.jr_frames.specs.Popping.{PopBegins, PopGoesOn, PopEnds};
 ghost use Rattle.jr_frames.specs.Freeing.{FreeBegins, FreeGoesOn, FreeTurns, FreeEmpties, EmptyIsPopped, FreeEnds};
+ghost use Rattle.jr_frames.specs.Explaining.{IsOneThing};
 
 /// Who deletes the oldest reference of the newest frame until none is left, and then takes that frame away, does what the machine's pop does: each reference of the frame is dropped once, the oldest first, and the frames before it are left.
 pub fn taking_the_oldest_is_a_pop()
@@ -17,4 +18,9 @@ pub fn taking_the_oldest_of_each_frame_frees_all()
     ensures empties { FreeEmpties }
     ensures popped { EmptyIsPopped }
     ensures ends { FreeEnds }
+{}
+
+/// A word is one thing: whatever it is, in one state no two explanations of it are so.
+pub fn a_word_is_one_thing()
+    ensures { IsOneThing }
 {}

@@ -20,7 +20,9 @@ pub use finding::find;
 pub use frames::Frames;
 pub use free::free_all;
 pub use held::Held;
-pub use laws::{taking_the_oldest_is_a_pop, taking_the_oldest_of_each_frame_frees_all};
+pub use laws::{
+    a_word_is_one_thing, taking_the_oldest_is_a_pop, taking_the_oldest_of_each_frame_frees_all,
+};
 pub use local::{delete_local, new_local};
 pub use pop::pop_frame;
 pub use reference::{Reference, lies_outside, names_kind};

@@ -1,0 +1,42 @@
+-- What is told of a word that native code hands in, from one moment of its pass and frames to another.
+use Rattle.std.specs.Prelude.{ℕ, IfOk, Result}
+use Rattle.jr_word.specs.declared.fault.Fault.{Fault}
+use Rattle.jr_model.specs.Calls.{entered}
+use Rattle.jr_model.specs.Checks.{Word}
+use Rattle.jr_steps.specs.declared.steps.Steps.{Ghosts}
+use Rattle.jr_gate.specs.Performing.{ThreadState}
+use Rattle.jr_frames.specs.declared.explaining.Explanation.{Explanation}
+use Rattle.jr_frames.specs.declared.held.Held.{Held}
+use Rattle.jr_frames.specs.Explaining.{IsExplained, WasSeen, glance}
+use Rattle.jr_frames.specs.Reading.{IsReadAs}
+use Rattle.jr_env.specs.Deeds.{Deed, DoesOutside, call_by}
+use Rattle.jr_env.specs.StayDeeds.{within_by}
+
+-- the explanation of the word was so at its one look, or at a moment in between where the word needs none
+abbrev pub WasExplained : Word → ThreadState → Explanation → ThreadState → Type 0
+WasExplained a old e new = WasSeen old.pass.config a
+    (λ s. IsExplained old.pass.config old.pass.thread old.frames s a e) old.pass new.pass
+
+-- a word was explained by a call: its entry, its one look, if it needs one, and its exit;
+-- and it took one operation more at the most
+abbrev pub explained_by_call : Word → Deed Explanation
+explained_by_call a old answer new = call_by (λ c. 1) (λ c last t s. entered (glance c a)) old answer new
+    × IfOk answer (λ e. WasExplained a old e new)
+
+-- the same in a stay, without an entry and an exit
+abbrev pub explained_in_stay : Word → Deed Explanation
+explained_in_stay a old answer new = within_by (λ c. 1) (λ c last t s. glance c a) old answer new
+    × IfOk answer (λ e. WasExplained a old e new)
+
+-- WHAT A WORD IS, that native code hands in
+abbrev pub explain : ℕ → Deed Explanation
+explain w old answer new = (a : Word) × IsReadAs w a × explained_by_call a old answer new
+
+-- the same in a stay
+abbrev pub explaining : ℕ → Deed Explanation
+explaining w old answer new = (a : Word) × IsReadAs w a × explained_in_stay a old answer new
+
+-- THE WORD WAS EXPLAINED over what a thread holds, by a call of its own, with this answer
+abbrev pub ExplainsOver : {S : Type 0} {G : Ghosts S} → Held S G → Held S G → Word → Result Explanation Fault → Type 0
+ExplainsOver {G = G} old new a answer =
+    DoesOutside G.facts old.steps new.steps old.frames.frames new.frames.frames (explained_by_call a) answer
