@@ -143,19 +143,19 @@ module _ (turns : ℕ) (command : Asked) where
 
   -- THE CALLS THAT MAKE ARRAYS AND STRINGS
   module _ (full : (last : ℕ) (f : Frames) → free_places last f ≡ 0 → LacksRoom last command.1 f) where
-    array_alone : (k : Kind) (n : ℕ) → MayLack command n → LeadsAlone turns command (new_array k n)
+    pub array_alone : (k : Kind) (n : ℕ) → MayLack command n → LeadsAlone turns command (new_array k n)
     array_alone k n lacks = answered_alone turns command _ (call_alone turns command (making_steps n)
         (λ c last t s. references.made c last t k (replicate n 0)) (λ c last t s one first. made_uncontended s command c
         last t one first (full last) k (replicate n 0) (subst (MayLack command) (sym (length-replicate n 0)) lacks))
         (λ c last t s. refusals_change_nothing c last t s _ (CallOf.new_array k n)))
 
-    filled_alone : (n w : ℕ) → MayLack command n → LeadsAlone turns command (new_object_array n w)
+    pub filled_alone : (n w : ℕ) → MayLack command n → LeadsAlone turns command (new_object_array n w)
     filled_alone n w lacks = answered_alone turns command _
         (on_alone turns command (making_steps n) w (λ c last t s a. references.array_making c last t n a)
         (λ c last t s a reads one first. array_making_uncontended s command c last t one first (full last) n a lacks)
         (λ c last t s a. refusals_change_nothing c last t s _ (CallOf.new_object_array n a)))
 
-    text_alone : (units : List ℕ) → MayLack command (length units) → LeadsAlone turns command (new_string units)
+    pub text_alone : (units : List ℕ) → MayLack command (length units) → LeadsAlone turns command (new_string units)
     text_alone units lacks = answered_alone turns command _
         (call_alone turns command (making_steps (length units)) (λ c last t s. references.made c last t Text units)
         (λ c last t s one first. made_uncontended s command c last t one first (full last) Text units lacks)

@@ -7,6 +7,7 @@ pub mod MeaningParts
 pub mod MeaningCalls
 pub mod MeaningScopes
 pub mod MeaningDeeds
+pub mod MeaningStands
 pub mod MeaningCommands
 pub mod MeaningRun
 use Rattle.std.proofs.Common.{◌≡◌, ℕ, Option, List, [], ◌∷◌}

@@ -621,6 +621,9 @@ IsCovered (commands.On on.Drop r) = Unit {0}
 IsCovered (commands.OnBoth v q r) = Unit {0}
 IsCovered (commands.OnName v n) = Unit {0}
 IsCovered (commands.WithCount v n) = Unit {0}
+IsCovered (commands.MakeSized v n len) = Unit {0}
+IsCovered (commands.MakeFilled v n len r) = Unit {0}
+IsCovered (commands.MakeText v n units) = Unit {0}
 IsCovered _ = ⊥
 
 -- THE TEXT OF A RUN IS WHAT ITS SCRIPT MEANS, where there are turns, serials have 32 bits, all commands are covered,

@@ -1,50 +1,45 @@
 -- What a lone thread's calls of local references mean.
-use Rattle.std.proofs.Common.{◌≡◌, ◌≢◌, inl, inr, ℕ, zero, suc, ◌<◌, ◌≤◌, ◌+◌, ◌==◌, ◌||◌, Bool, true, false}
-use Rattle.std.proofs.Common.{not, cond, nat_eq, nat_lt, nat_le, Option, Some, None, IsSome, List, [], ◌∷◌, ◌++◌}
-use Rattle.std.proofs.Common.{length, map, slice_index, slice_set, Result, Ok, Err, refl, sym, ap, subst, ◌∙◌, arith}
-use Rattle.std.proofs.Common.{get_or-set_other, get_or-set_same}
+use Rattle.std.proofs.Common.{◌≡◌, ◌≢◌, ℕ, zero, suc, ◌<◌, ◌≤◌, ◌+◌, ◌==◌, ◌||◌, Bool, true, false, not, cond, nat_eq}
+use Rattle.std.proofs.Common.{nat_lt, Option, Some, None, List, [], ◌∷◌, ◌++◌, length, map, slice_index, slice_set}
+use Rattle.std.proofs.Common.{Ok, refl, sym, ap, subst, ◌∙◌, arith, get_or-set_other, get_or-set_same, replicate}
 use Rattle.std.specs.Prelude.{slice_index_or}
 use Rattle.std.specs.List.{filter}
-use Rattle.std.proofs.lemmas.List.{length-append, length-set}
+use Rattle.std.proofs.lemmas.List.{length-append, length-replicate, length-set}
 use Rattle.std.proofs.lemmas.Bool.Decides.{nat_tests}
 use Rattle.jr_word.specs.declared.config.Config.{Config}
-use Rattle.jr_word.specs.declared.fault.Fault.{Fault}
-use Rattle.jr_word.specs.declared.fault.Fault.TheVariants.{Foreign, LocalsFull, WrongKind}
+use Rattle.jr_word.specs.declared.fault.Fault.TheVariants.{Foreign, WrongKind}
 use Rattle.jr_word.specs.declared.fault.Fault.TheVariants as fault
 use Rattle.jr_word.specs.declared.handle.RefKind.TheVariants.{Local}
-use Rattle.jr_word.specs.declared.kind.Kind.TheVariants.{Plain}
+use Rattle.jr_word.specs.declared.kind.Kind.{Kind}
+use Rattle.jr_word.specs.declared.kind.Kind.TheVariants.{Plain, Objects, Text}
 use Rattle.jr_model.specs.declared.event.Act.TheVariants.{LocalPut, LocalDrop}
 use Rattle.jr_model.specs.declared.frames.LocalRef.{LocalRef}
-use Rattle.jr_model.specs.declared.frames.TheConstants.{FRAMES}
 use Rattle.jr_model.specs.Maps.{update}
 use Rattle.jr_model.specs.State.{Handle, same_handle, same_kind}
 use Rattle.jr_model.specs.Steps.{act_after}
-use Rattle.jr_model.specs.Frames.{Frames, IsAdded, adds, all_refs, is_held, object_of, object_where, pushed}
-use Rattle.jr_model.specs.Frames.{without_local}
-use Rattle.jr_model.specs.Calls.{◌>>=◌, ◌>>◌, done}
-use Rattle.jr_model.specs.Checks.{Word, Nothing, Malformed, Parts, is_local, is_out_of_bounds, is_foreign, is_malformed}
-use Rattle.jr_model.specs.Checks.{is_of_kind, kind_number, same_object, type_local}
-use Rattle.jr_model.specs.Parts.{delete_local_at, drop_local, frame_left, local_answer, looked, new_frame}
+use Rattle.jr_model.specs.Frames.{Frames, IsAdded, adds, all_refs, is_held, object_of, object_where, without_local}
+use Rattle.jr_model.specs.Calls.{done}
+use Rattle.jr_model.specs.Checks.{Word, Nothing, Malformed, Parts, is_local, is_out_of_bounds, is_foreign}
+use Rattle.jr_model.specs.Checks.{is_malformed, element_word, is_of_kind, kind_number, same_object, type_local}
+use Rattle.jr_model.specs.Parts.{delete_local_at, drop_local, local_answer, looked}
 use Rattle.jr_model.specs.References as references
-use Rattle.jr_model.proofs.Agreement.{added_sound, deleted_refs, deleted_sound, joined_push, other_than, pushed_sound}
+use Rattle.jr_model.proofs.Agreement.{added_sound, deleted_refs, deleted_sound, other_than}
 use Rattle.jr_model.proofs.Gone.{taken_is_gone}
 use Rattle.jr_model.proofs.Locals.{IsPast, past_move, past_not_new}
 use Rattle.jr_model.proofs.Updates.{at_number, at_number_self, eq_true, eq_false, eq_other, eq_self, handle_true}
-use Rattle.jr_scripts.specs.Meaning.{World, Ref, Meaning, object_in, refused_if, standing_at, type_in, put_last}
+use Rattle.jr_scripts.specs.Meaning.{World, Ref, element_to, goes_on, object_in, standing_at, type_in, put_last}
 use Rattle.jr_scripts.specs.Meaning as meaning
-use Rattle.jr_scripts.proofs.LoneRun.MadeCalls.{Moment, Made, moment, moment_is, stepped, still}
+use Rattle.jr_scripts.proofs.LoneRun.MadeCalls.{Moment, moment, moment_is, stepped, still}
 use Rattle.jr_scripts.proofs.LoneRun.MeaningCounts.{few_after, found_before, found_last, given_long, past_here}
 use Rattle.jr_scripts.proofs.LoneRun.MeaningCounts.{bit_most, serial_most}
-use Rattle.jr_scripts.proofs.LoneRun.MeaningFrames.{Pairing, AreFrames, frames_later, frames_less, frames_long}
-use Rattle.jr_scripts.proofs.LoneRun.MeaningFrames.{frames_put}
-use Rattle.jr_scripts.proofs.LoneRun.MeaningFrames.{frames_pushed}
-use Rattle.jr_scripts.proofs.LoneRun.MeaningFits.{Later, RefFits, IsOwn, LocalsFit, Fits, Fitting, SameAnswer, IsDone}
-use Rattle.jr_scripts.proofs.LoneRun.MeaningFits.{IsSame, Outcome, Means, unmoved, test_means, done_means, cond_means}
-use Rattle.jr_scripts.proofs.LoneRun.MeaningFits.{bind_means, bind_spends, else_means, entered_means, form_means}
-use Rattle.jr_scripts.proofs.LoneRun.MeaningFits.{fits_less, known_means, later_self, pass_means}
+use Rattle.jr_scripts.proofs.LoneRun.MeaningFrames.{Pairing, AreFrames, frames_later, frames_less, frames_put}
+use Rattle.jr_scripts.proofs.LoneRun.MeaningFits.{Later, RefFits, IsOwn, Fits, Fitting, SameAnswer, IsDone, IsSame}
+use Rattle.jr_scripts.proofs.LoneRun.MeaningFits.{Means, unmoved, done_means, cond_means, bind_means, bind_spends}
+use Rattle.jr_scripts.proofs.LoneRun.MeaningFits.{else_means, entered_means, form_means, fits_less, known_means}
+use Rattle.jr_scripts.proofs.LoneRun.MeaningFits.{pass_means}
 use Rattle.jr_model.proofs.Counts.{bit}
 use Rattle.jr_scripts.proofs.LoneRun.MeaningParts.{ObjectFits, OptionFits, object_later, option_later, object_means}
-use Rattle.jr_scripts.proofs.LoneRun.MeaningParts.{ref_later, reserve_means, room_means}
+use Rattle.jr_scripts.proofs.LoneRun.MeaningParts.{ref_later, reserve_as_many, room_means}
 
 -- WORDS AND ANSWERS
 
@@ -220,8 +215,8 @@ module _ (c : Config) (last k : ℕ) where
               apart = f.objects.apart;
             };
             slots = f.slots;
-            unused = f.unused;
-            unused_then = f.unused_then;
+            used = f.used;
+            space = f.space;
           }
 
     pub added_means : Means c last k k NewFits P w (references.added c last 0 p) (meaning.added o)
@@ -262,11 +257,26 @@ module _ (c : Config) (last k : ℕ) where
   new_local_means P w (Some p) None fits = absurd fits
 
   -- NEWPLAIN
+  -- a new object of these words, where as many are meant, and a local reference to it
+  made_means : (P : Pairing) (w : World) (kind : Kind) (ws ws' : List ℕ) → length ws ≡ length ws'
+      → Means c last k k NewFits P w (references.made c last 0 kind ws) (meaning.made c kind ws')
+  made_means P w kind ws ws' long = bind_means c last (room_means c last k {P = P} {w = w} 1) (λ Q v e x y _.
+      bind_means c last (reserve_as_many c last k Q v (length ws) (length ws') long) (λ R u e' x' y' _.
+      bind_means c last (object_means c last k kind R u ws ws') (λ S z e'' p o named. added_means S z o p named)))
+
   pub plain_means : (P : Pairing) (w : World) → Means c last k k NewFits P w (references.new_plain c last 0)
       (meaning.made c Plain [])
-  plain_means P w = entered_means c last (bind_means c last (room_means c last k {P = P} {w = w} 1) (λ Q v e x y _.
-      bind_means c last (reserve_means c last k Q v) (λ R u e' x' y' _.
-      bind_means c last (object_means c last k Plain R u []) (λ S z e'' p o named. added_means S z o p named))))
+  plain_means P w = entered_means c last (made_means P w Plain [] [] refl)
+
+  -- NEWBOOLEANARRAY and its like
+  pub array_means : (P : Pairing) (w : World) (kind : Kind) (n : ℕ)
+      → Means c last k k NewFits P w (references.new_array c last 0 kind n) (meaning.made c kind (replicate n 0))
+  array_means P w kind n = entered_means c last (made_means P w kind (replicate n 0) (replicate n 0) refl)
+
+  -- NEWSTRING
+  pub string_means : (P : Pairing) (w : World) (units : List ℕ)
+      → Means c last k k NewFits P w (references.new_string c last 0 units) (meaning.made c Text units)
+  string_means P w units = entered_means c last (made_means P w Text units units refl)
 
   -- WHAT IS HANDED IN
 
@@ -343,10 +353,18 @@ module _ (c : Config) (last k : ℕ) where
       (pass_means c last (is_out_of_bounds c a) fault.Stale s.within
       (pass_means c last (is_foreign 0 a) Foreign s.mine (looked_means P w a g fits))))
 
+  -- NEWOBJECTARRAY
+  pub filled_means : (P : Pairing) (w : World) (n : ℕ) (a : Word) (g : ℕ) → 1 ≤ c.threads → WordFits P w a g
+      → Means c last k k NewFits P w (references.new_object_array c last 0 n a)
+      (λ z. goes_on (λ o. meaning.made c Objects (replicate n (element_to o))) (meaning.object g z))
+  filled_means P w n a g some fits = entered_means c last (bind_means c last (resolved_means P w a g some fits)
+      (λ Q v later x y same. made_means Q v Objects (replicate n (element_word x)) (replicate n (element_to y))
+      (length-replicate n (element_word x) ∙ sym (length-replicate n (element_to y)))))
+
   -- NEWLOCALREF
   pub local_means : (P : Pairing) (w : World) (a : Word) (g : ℕ) → 1 ≤ c.threads → WordFits P w a g
       → Means c last k k MaybeFits P w (references.new_local_ref c last 0 a)
-      (λ z. Rattle.jr_scripts.specs.Meaning.goes_on (meaning.new_local c) (meaning.object g z))
+      (λ z. goes_on (meaning.new_local c) (meaning.object g z))
   local_means P w a g some fits = entered_means c last (bind_means c last (resolved_means P w a g some fits)
       (λ Q v later x y same. new_local_means Q v x y same.0))
 
@@ -496,8 +514,8 @@ module _ (c : Config) (last k : ℕ) where
             apart = f.objects.apart;
           };
           slots = f.slots;
-          unused = f.unused;
-          unused_then = f.unused_then;
+          used = f.used;
+          space = f.space;
         }
       where
         few : (p : ℕ) → slice_index m.frames.given p + k

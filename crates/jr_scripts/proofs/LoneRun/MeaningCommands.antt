@@ -1,35 +1,43 @@
 -- What a lone thread's commands mean, each from a moment that is as the world.
-use Rattle.std.proofs.Common.{◌≡◌, ◌≢◌, inl, inr, ℕ, zero, suc, ◌<◌, ◌≤◌, ◌^◌, Bool, true, false, Option, Some, None}
-use Rattle.std.proofs.Common.{List, []}
-use Rattle.std.proofs.Common.{length, map, MatchOption, Result, Ok, Err, IfErr, refl, sym, ap, subst, ◌∙◌, arith}
+use Rattle.std.proofs.Common.{◌≡◌, ◌≢◌, inl, inr, ℕ, zero, suc, ◌<◌, ◌≤◌, ◌^◌, Bool, true, Option, Some, None, List}
+use Rattle.std.proofs.Common.{[], length, Result, Ok, Err, IfErr, refl, sym, ap, subst, ◌∙◌, arith, replicate}
 use Rattle.std.proofs.lemmas.List.{append-nil}
 use Rattle.std.specs.List.{AllByRecursion}
 use Rattle.jr_word.specs.declared.config.Config.{Config}
 use Rattle.jr_word.specs.declared.fault.Fault.{Fault}
-use Rattle.jr_word.specs.declared.fault.Fault.TheVariants.{RowFull, ObjectsFull, Stale, Turns}
+use Rattle.jr_word.specs.declared.fault.Fault.TheVariants.{Stale, Turns}
 use Rattle.jr_word.specs.declared.handle.Handle.{Handle as HandleWord}
 use Rattle.jr_word.specs.declared.handle.RefKind.TheVariants.{Local}
-use Rattle.jr_word.specs.declared.kind.Kind.TheVariants.{Plain}
+use Rattle.jr_word.specs.declared.kind.Kind.TheVariants.{Plain, Objects, Text}
 use Rattle.jr_word.specs.Handle.{handle_word, IsHandle}
-use Rattle.jr_model.specs.declared.event.Act.{Act}
 use Rattle.jr_model.specs.State.{Handle, State, same_kind}
-use Rattle.jr_model.specs.History.{History, PassView, Did, state}
-use Rattle.jr_model.specs.Frames.{Frames}
+use Rattle.jr_model.specs.History.{state}
 use Rattle.jr_model.specs.Calls.{Call}
 use Rattle.jr_model.specs.Checks.{Word, Nothing, Malformed, Parts, is_of_kind}
 use Rattle.jr_model.specs.References as references
-use Rattle.jr_model.proofs.Histories.{state_append}
 use Rattle.jr_model.proofs.Stays.{sees_its_own_acts}
-use Rattle.jr_frames.specs.Reading.{IsReadAs}
 use Rattle.jr_gate.specs.Performing.{IsMade, ThreadState}
-use Rattle.jr_env.specs.Deeds.{Deed, call_by, call_on, call_on_both, decided, delete_local_ref, done}
-use Rattle.jr_env.specs.Deeds.{ensure_local_capacity, pop_local_frame, push_local_frame}
-use Rattle.jr_env.specs.Deeds.{get_object_ref_type, is_same_object, new_local_ref, new_plain, packed, packed_if, ◌>>=◌}
+use Rattle.jr_env.specs.Deeds.{Deed, call_by, call_on, decided, delete_local_ref, done, ensure_local_capacity}
+use Rattle.jr_env.specs.Deeds.{pop_local_frame, push_local_frame, get_object_ref_type, is_same_object, new_local_ref}
+use Rattle.jr_env.specs.Deeds.{new_plain, packed, packed_if, ◌>>=◌, answered_by, call_on_by, making_steps}
+use Rattle.jr_env.specs.Deeds.{new_object_array}
 use Rattle.jr_syntax.specs.declared.name.Reference.{Reference}
 use Rattle.jr_syntax.specs.declared.name.Reference.TheVariants as refers
 use Rattle.jr_syntax.specs.declared.command.Command.{Command}
 use Rattle.jr_syntax.specs.declared.command.Command.TheVariants as commands
 use Rattle.jr_syntax.specs.declared.verb.Make.TheVariants as make
+use Rattle.jr_syntax.specs.declared.verb.MakeFilled.{MakeFilled}
+use Rattle.jr_syntax.specs.declared.verb.MakeSized.{MakeSized}
+use Rattle.jr_syntax.specs.declared.verb.MakeText.{MakeText}
+use Rattle.jr_scripts.specs.Commands.{kind_made, makes_new, HasLearned, awaited, deed, deleted_as, deleted_of}
+use Rattle.jr_scripts.specs.Commands.{deletion, makes_reference, tried, type_of}
+use Rattle.jr_scripts.proofs.AloneDeeds.{array_alone, filled_alone, text_alone, delete_local_alone, ensure_alone}
+use Rattle.jr_scripts.proofs.AloneDeeds.{pop_alone, push_alone, local_ref_alone, plain_alone, same_alone, type_alone}
+use Rattle.jr_scripts.specs.Meaning.{element_to, IsCovered, World, Meaning, goes_on, reply_made, type_named}
+use Rattle.jr_scripts.specs.Meaning.{meaning_at}
+use Rattle.jr_scripts.proofs.LoneRun.MeaningCalls.{array_means, filled_means, string_means, MaybeFits, NewFits}
+use Rattle.jr_scripts.proofs.LoneRun.MeaningCalls.{WordFits, delete_means, local_means, plain_means, same_means}
+use Rattle.jr_scripts.proofs.LoneRun.MeaningCalls.{new_maybe, type_means}
 use Rattle.jr_syntax.specs.declared.verb.MakeFrom.TheVariants as make_from
 use Rattle.jr_syntax.specs.declared.verb.On.TheVariants as on
 use Rattle.jr_syntax.specs.declared.verb.OnBoth.TheVariants as on_both
@@ -39,104 +47,35 @@ use Rattle.jr_scripts.specs.declared.reply.Reply.{Reply}
 use Rattle.jr_scripts.specs.declared.reply.Reply.TheVariants as replies
 use Rattle.jr_scripts.specs.declared.binding.Binding.{Binding}
 use Rattle.jr_scripts.specs.declared.binding.Binding.TheVariants as bound
-use Rattle.jr_scripts.specs.Names.{Names, binding, reference_in, referent, wanted, with_name, word_posted}
-use Rattle.jr_scripts.specs.Commands.{HasLearned, awaited, deed, deleted_as, deleted_of, deletion, makes_reference}
-use Rattle.jr_scripts.specs.Commands.{tried, type_of}
+use Rattle.jr_scripts.specs.Names.{binding, reference_in, referent, wanted, with_name, word_posted}
 use Rattle.jr_scripts.specs.RegionCommands.{deed_at, deed_within}
-use Rattle.jr_scripts.specs.Places.{Place, by_region, objects_after, place_after}
-use Rattle.jr_scripts.specs.Posting.{IsAnswered, Words, reply_to_wait, said_alone, word_under, words_after, words_with}
+use Rattle.jr_scripts.specs.Places.{Place, by_region, objects_after}
+use Rattle.jr_scripts.specs.Posting.{IsAnswered, Words, reply_to_wait, said_alone, word_under, words_after}
 use Rattle.jr_scripts.specs.Text.{names_after, printed, reference_made, says}
 use Rattle.jr_scripts.specs.AloneAnswers.{IsAloneFault, IsCommandFault, IsFaultOutside, IsFaultWithin}
 use Rattle.jr_scripts.specs.Runs.{IsUnbarred}
 use Rattle.jr_scripts.proofs.AloneCalls.{IsAlone, LeadsAlone}
-use Rattle.jr_scripts.proofs.AloneDeeds.{delete_local_alone, ensure_alone, pop_alone, push_alone}
-use Rattle.jr_scripts.proofs.AloneDeeds.{local_ref_alone, plain_alone, same_alone, type_alone}
 use Rattle.jr_scripts.proofs.Uncontended.{Asked}
-use Rattle.jr_scripts.specs.Meaning.{IsCovered, World, Meaning, gives_up, goes_on, reply_made, type_named, meaning_at}
 use Rattle.jr_scripts.specs.Meaning as meaning
 use Rattle.jr_scripts.proofs.LoneRun.MadeCalls.{IsSo, moment_is}
 use Rattle.jr_scripts.proofs.LoneRun.MeaningFrames.{Pairing}
 use Rattle.jr_scripts.proofs.LoneRun.MeaningFits.{Later, Fits, Fitting, IsDone, IsSame, Means, Outcome, fits_less}
 use Rattle.jr_scripts.proofs.LoneRun.MeaningFits.{later_self}
 use Rattle.jr_scripts.proofs.LoneRun.MeaningParts.{room_means}
-use Rattle.jr_scripts.proofs.LoneRun.MeaningCalls.{MaybeFits, NewFits, WordFits, delete_means, local_means}
-use Rattle.jr_scripts.proofs.LoneRun.MeaningCalls.{plain_means, same_means}
-use Rattle.jr_scripts.proofs.LoneRun.MeaningCalls.{new_maybe, type_means}
 use Rattle.jr_scripts.proofs.LoneRun.MeaningScopes.{pop_means, push_means}
 use Rattle.jr_scripts.proofs.LoneRun.MeaningDeeds.{IsPass, NamesFit, BindingFits, HandleFits, MaybeWord, WordsFit}
 use Rattle.jr_scripts.proofs.LoneRun.MeaningDeeds.{after_decided, call_made, formed, formed_both, made_once}
-use Rattle.jr_scripts.proofs.LoneRun.MeaningDeeds.{names_later}
-use Rattle.jr_scripts.proofs.LoneRun.MeaningDeeds.{names_set_fit, now, own_handle, posted_fits, read_fits, was_formed}
-use Rattle.jr_scripts.proofs.LoneRun.MeaningDeeds.{word_under_fits, words_later, words_with_fit}
-
--- a pass later on
-pub pass_later : (c : Config) (last : ℕ) (old new : PassView) (acts : List Act) → Did old new acts → IsPass c last old
-    → IsPass c last new
-pass_later c last old new acts d p =
-    record { config = d.config ∙ p.config; last_is = d.last ∙ p.last_is; thread = d.thread ∙ p.thread }
-
--- what a refusal of a command says of the room is so
-so_of : (turns : ℕ) (names : Names) (x : Command) (p : PassView) (f : Frames) (e : Fault)
-    → IsCommandFault turns names x p f e → IsSo p.config p.last (state p.seen) e
-so_of turns names x p f RowFull h = h
-so_of turns names x p f ObjectsFull h = h
-so_of turns names x p f _ h = tt
-
-err_map : {A : Type 0} {F G : Fault → Type 0} (r : Result A Fault) → ((e : Fault) → F e → G e) → IfErr r F → IfErr r G
-err_map (Ok x) k h = tt
-err_map (Err e) k h = k e h
-
-err_formed : {A B : Type 0} (F : Fault → Type 0) (form : A → B) (r : Result A Fault) → IfErr (formed form r) F
-    → IfErr r F
-err_formed F form (Ok x) h = tt
-err_formed F form (Err e) h = h
-
--- a command with this answer sets no name, changes no level, and says and hears nothing
-abbrev pub Keeps : Command → Result Reply Fault → Type 0
-Keeps x a = (names : Names) (objects : List ℕ) (words : Words)
-    → (names_after x a names ≡ names) × (objects_after x a objects ≡ objects) × (words_after names x a words ≡ words)
-
--- one that makes something sets this name alone
-abbrev pub Sets : Command → List ℕ → Type 0
-Sets x n = (h : Option HandleWord) (names : Names) (objects : List ℕ) (words : Words)
-    → (names_after x (Ok (replies.Made h)) names ≡ with_name names n (bound.Reference (reference_made h)))
-    × (objects_after x (Ok (replies.Made h)) objects ≡ objects)
-    × (words_after names x (Ok (replies.Made h)) words ≡ words)
-
--- and prints nothing of a reference
-abbrev pub IsSilent : Command → Type 0
-IsSilent x = (h g : HandleWord) → says x (replies.Made (Some h)) ≡ says x (replies.Made (Some g))
-
--- how often references may be given up before a command, where they may so often behind it
-abbrev pub left_then : Bool → ℕ → ℕ
-left_then true k = suc k
-left_then false k = k
-
-abbrev pub left_before : Command → ℕ → ℕ
-left_before x k = left_then (gives_up x) k
+use Rattle.jr_scripts.proofs.LoneRun.MeaningDeeds.{names_later, names_set_fit, now, own_handle, posted_fits}
+use Rattle.jr_scripts.proofs.LoneRun.MeaningDeeds.{read_fits, was_formed, word_under_fits, words_later}
+use Rattle.jr_scripts.proofs.LoneRun.MeaningDeeds.{words_with_fit}
+use Rattle.jr_scripts.proofs.LoneRun.MeaningStands.{Keeps, Sets, IsSilent, Stands, Stepped, err_formed, err_map}
+use Rattle.jr_scripts.proofs.LoneRun.MeaningStands.{left_before, pass_later, so_of}
 
 module _ (c : Config) (last : ℕ) where
-  -- THE THREAD STANDS as in the world, with names for the same and the same words, and outside a region
-  pub record Stands (k : ℕ) (P : Pairing) (w : World) (m : ThreadState) (p q : Place) (had told : Words) : Type 0 where
-    pub pass : IsPass c last m.pass
-    pub fits : Fits c last k P w (now m)
-    pub names : NamesFit P w p.names q.names
-    pub outside : p.objects ≡ []
-    pub outside_then : q.objects ≡ []
-    pub words : WordsFit P w had told
-
-  -- THE COMMAND WAS DONE as it means: it printed the same, and the thread stands as in the world then
-  pub record Stepped (k : ℕ) (x : Command) (new : ThreadState) (p q : Place) (had told : Words)
-      (answer : Result Reply Fault) (r : Result Reply Fault × World) : Type 0 where
-    pub pairing : Pairing
-    pub stands : Stands k pairing r.1 new (place_after x answer p) (place_after x r.0 q)
-        (words_after p.names x answer had) (words_after q.names x r.0 told)
-    pub text : (line : ℕ) → printed line x answer ≡ printed line x r.0
-
   module _ (turns : ℕ) (some_turns : turns ≢ 0) (some : 1 ≤ c.threads) (small : c.locals ≤ 4096)
       (few : last < 2 ^ 32) where
     module _ (j k : ℕ) (P : Pairing) (w : World) (old new : ThreadState) (p q : Place) (had told : Words)
-        (s : Stands j P w old p q had told) (alone : IsAlone new.pass)
+        (s : Stands c last j P w old p q had told) (alone : IsAlone new.pass)
         (all : AllByRecursion IsUnbarred new.pass.seen) where
       -- what a refusal says of the room is so at the end
       so_then : (x : Command) (answer : Result Reply Fault) → IsPass c last new.pass
@@ -153,7 +92,7 @@ module _ (c : Config) (last : ℕ) where
       module _ (x : Command) (answer : Result Reply Fault) where
         -- this is what comes of it
         abbrev Steps : Result Reply Fault × World → Type 0
-        Steps r = Stepped k x new p q had told answer r
+        Steps r = Stepped c last k x new p q had told answer r
 
         -- where the moment is as a later world
         record IsThen (Q : Pairing) (v : World) : Type 0 where
@@ -165,7 +104,7 @@ module _ (c : Config) (last : ℕ) where
         kept_step : (Q : Pairing) (v : World) (a b : Result Reply Fault) → IsThen Q v → answer ≡ a → Keeps x a
             → Keeps x b → ((line : ℕ) → printed line x a ≡ printed line x b) → Steps (b, v)
         kept_step Q v a b i is keeps keeps' text =
-            subst (λ z. Stepped k x new p q had told z (b, v)) (sym is) (record {
+            subst (λ z. Stepped c last k x new p q had told z (b, v)) (sym is) (record {
               pairing = Q;
               stands = record {
                 pass = i.pass;
@@ -193,7 +132,7 @@ module _ (c : Config) (last : ℕ) where
             → answer ≡ Ok (replies.Made h) → Sets x n → says x (replies.Made h) ≡ says x (replies.Made g)
             → HandleFits Q v (reference_made h).0 (reference_made g).0 → Steps (Ok (replies.Made g), v)
         made_step n Q v h g i is sets text fits =
-            subst (λ z. Stepped k x new p q had told z (Ok (replies.Made g), v)) (sym is) (record {
+            subst (λ z. Stepped c last k x new p q had told z (Ok (replies.Made g), v)) (sym is) (record {
               pairing = Q;
               stands = record {
                 pass = i.pass;
@@ -273,7 +212,8 @@ module _ (c : Config) (last : ℕ) where
         same_after form form' same keeps keeps' quiet (Ok y) (Ok z, v) i is =
             let o = i.outcome in
             kept_step o.pairing v (Ok (form y)) (Ok (form' z))
-            (record { later = o.later; pass = i.pass; fits = o.fits }) is (keeps y) (keeps' z) (λ line. ap (λ a. says x a) (same o.pairing v y z o.answers))
+            (record { later = o.later; pass = i.pass; fits = o.fits }) is (keeps y) (keeps' z)
+            (λ line. ap (λ a. says x a) (same o.pairing v y z o.answers))
         same_after form form' same keeps keeps' quiet (Err e) (Err d, v) i is =
             let o = i.outcome in
             kept_step o.pairing v (Err e) (Err d) (record { later = o.later; pass = i.pass; fits = o.fits }) is
@@ -351,29 +291,112 @@ module _ (c : Config) (last : ℕ) where
       some_once (Ok h) (Err d, v) o = absurd o.answers
       some_once (Err e) (Ok n, v) o = absurd o.answers
 
+      -- a command that makes an object by a call
+      new_step : (x : Command) (n : List ℕ) (answer : Result Reply Fault) → Sets x n → IsSilent x
+          → ((e : Fault) → Keeps x (Err e)) → (call : Deed Handle) (meant : Meaning ℕ)
+          → ((once : Result Handle Fault) → call old once new
+          → answer ≡ formed (λ h. replies.Made (Some (packed h))) once → CallMeant x answer NewFits once (meant w))
+          → ((z : ℕ) → LeadsAlone z (p.names, x) (answered_by packed call))
+          → makes_new turns (answered_by packed call) old answer new
+          → Steps x answer (goes_on (λ z v. (Ok (reply_made z), v)) (meant w))
+      new_step x n answer sets silent quiet call meant called led d =
+          let f = was_formed (λ h. replies.Made (Some h)) (tried turns (answered_by packed call)) old new answer d in
+          let once = made_once (p.names, x) led turns old new f.once alone some_turns f.did in
+          let g = was_formed packed call old new f.once once in
+          let is : answer ≡ formed (λ h. replies.Made (Some (packed h))) g.once =
+          f.is ∙ (ap (formed (λ h. replies.Made (Some h))) g.is
+          ∙ formed_both (λ h. replies.Made (Some h)) packed g.once) in
+          let i = called g.once g.did is in
+          makes_after x answer n sets silent quiet (formed Some g.once) (meant w)
+          (record { pass = i.pass; outcome = some_once g.once (meant w) i.outcome })
+          (is ∙ sym (formed_both (λ h. replies.Made (packed_if h)) Some g.once))
+
       plain_step : j ≡ k → (n : List ℕ) (answer : Result Reply Fault)
           → IfErr answer (IsCommandFault turns p.names (commands.Make make.Plain n) new.pass new.frames)
           → deed turns p.names (commands.Make make.Plain n) old answer new
           → Steps (commands.Make make.Plain n) answer (meaning.outside c q.names told (commands.Make make.Plain n) w)
       plain_step one n answer fault d =
           let x = commands.Make make.Plain n in
-          let command : Asked = (p.names, x) in
-          let f = was_formed (λ h. replies.Made (Some h)) (tried turns new_plain) old new answer d in
-          let once = made_once command (λ z. plain_alone z command (λ l g none. none)) turns old new f.once alone
-          some_turns f.did in
-          let g = was_formed packed (call_by (λ z. z.objects) (λ z l t y. references.new_plain z l t)) old new
-          f.once once in
-          let is : answer ≡ formed (λ h. replies.Made (Some (packed h))) g.once =
-          f.is ∙ (ap (formed (λ h. replies.Made (Some h))) g.is
-          ∙ formed_both (λ h. replies.Made (Some h)) packed g.once) in
-          let i = made_call x answer fault {V = NewFits} (λ h. replies.Made (Some (packed h))) old.pass.config.objects
-          (λ z l t y. references.new_plain z l t) (meaning.made c Plain []) g.once
-          (λ z. even one (plain_means c last j P w))
-          (g.did).0 is in
-          makes_after x answer n (λ h names os ws. (refl, refl, refl)) (λ h g. refl) (λ e names os ws.
-          (refl, refl, refl)) (formed Some g.once) (meaning.made c Plain [] w)
-          (record { pass = i.pass; outcome = some_once g.once (meaning.made c Plain [] w) i.outcome })
-          (is ∙ sym (formed_both (λ h. replies.Made (packed_if h)) Some g.once))
+          new_step x n answer (λ h names os ws. (refl, refl, refl)) (λ h g. refl) (λ e names os ws. (refl, refl, refl))
+          (call_by (λ z. z.objects) (λ z l t y. references.new_plain z l t)) (meaning.made c Plain [])
+          (λ once d' is. made_call x answer fault {V = NewFits} (λ h. replies.Made (Some (packed h)))
+          old.pass.config.objects (λ z l t y. references.new_plain z l t) (meaning.made c Plain []) once
+          (λ z. even one (plain_means c last j P w)) d'.0 is) (λ z. plain_alone z (p.names, x) (λ l g none. none)) d
+
+      -- THE ARRAYS
+
+      sized_step : j ≡ k → (v : MakeSized) (n : List ℕ) (len : ℕ) (answer : Result Reply Fault)
+          → IfErr answer (IsCommandFault turns p.names (commands.MakeSized v n len) new.pass new.frames)
+          → deed turns p.names (commands.MakeSized v n len) old answer new
+          → Steps (commands.MakeSized v n len) answer
+          (meaning.outside c q.names told (commands.MakeSized v n len) w)
+      sized_step one v n len answer fault d =
+          let x = commands.MakeSized v n len in
+          new_step x n answer (λ h names os ws. (refl, refl, refl)) (λ h g. refl) (λ e names os ws. (refl, refl, refl))
+          (call_by (making_steps len) (λ z l t y. references.new_array z l t (kind_made v) len))
+          (meaning.made c (kind_made v) (replicate len 0))
+          (λ once d' is. made_call x answer fault {V = NewFits} (λ h. replies.Made (Some (packed h)))
+          (making_steps len old.pass.config) (λ z l t y. references.new_array z l t (kind_made v) len)
+          (meaning.made c (kind_made v) (replicate len 0)) once
+          (λ z. even one (array_means c last j P w (kind_made v) len)) d'.0 is)
+          (λ z. array_alone z (p.names, x) (λ l g none. none) (kind_made v) len (λ used l y short. short)) d
+
+      -- STRING
+
+      text_step : j ≡ k → (v : MakeText) (n : List ℕ) (units : List ℕ) (answer : Result Reply Fault)
+          → IfErr answer (IsCommandFault turns p.names (commands.MakeText v n units) new.pass new.frames)
+          → deed turns p.names (commands.MakeText v n units) old answer new
+          → Steps (commands.MakeText v n units) answer
+          (meaning.outside c q.names told (commands.MakeText v n units) w)
+      text_step one v n units answer fault d =
+          let x = commands.MakeText v n units in
+          new_step x n answer (λ h names os ws. (refl, refl, refl)) (λ h g. refl) (λ e names os ws. (refl, refl, refl))
+          (call_by (making_steps (length units)) (λ z l t y. references.new_string z l t units))
+          (meaning.made c Text units)
+          (λ once d' is. made_call x answer fault {V = NewFits} (λ h. replies.Made (Some (packed h)))
+          (making_steps (length units) old.pass.config) (λ z l t y. references.new_string z l t units)
+          (meaning.made c Text units) once (λ z. even one (string_means c last j P w units)) d'.0 is)
+          (λ z. text_alone z (p.names, x) (λ l g none. none) units (λ used l y short. short)) d
+
+      -- OBJS
+
+      filled_step : j ≡ k → (v : MakeFilled) (n : List ℕ) (len : ℕ) (r : Reference) (answer : Result Reply Fault)
+          → IfErr answer (IsCommandFault turns p.names (commands.MakeFilled v n len r) new.pass new.frames)
+          → BindingFits P w (referent p.names r) (referent q.names r)
+          → deed turns p.names (commands.MakeFilled v n len r) old answer new
+          → Steps (commands.MakeFilled v n len r) answer
+          (meaning.outside c q.names told (commands.MakeFilled v n len r) w)
+      filled_step one v n len r answer fault fits d =
+          subst (λ z. Steps (commands.MakeFilled v n len r) answer z) (in_turn (λ m z. filled m z)
+          (goes_on (λ h z. (Ok h.0, z)) (wanted (referent q.names r), w)))
+          (wanted_step (commands.MakeFilled v n len r) answer (at_most one)
+          (λ h. makes_new turns (new_object_array len h.0))
+          (λ m z. goes_on (λ t u. (Ok (reply_made t), u)) (filled m z)) (referent p.names r) (referent q.names r)
+          fits (λ e names os ws. (refl, refl, refl)) d found)
+        where
+          filled : ℕ → Meaning ℕ
+          filled m z = goes_on (λ o. meaning.made c Objects (replicate len (element_to o))) (meaning.object m z)
+
+          in_turn : (f : ℕ → Meaning ℕ) (y : Result ℕ Fault × World)
+              → goes_on (λ m z. goes_on (λ t u. (Ok (reply_made t), u)) (f m z)) y
+              ≡ goes_on (λ t u. (Ok (reply_made t), u)) (goes_on f y)
+          in_turn f (Ok m, z) = refl
+          in_turn f (Err e, z) = refl
+
+          found : (h g : HandleWord) → HandleFits P w h.0 g.0
+              → makes_new turns (new_object_array len h.0) old answer new
+              → Steps (commands.MakeFilled v n len r) answer
+              (goes_on (λ t u. (Ok (reply_made t), u)) (filled g.0 w))
+          found h g same d' =
+              let x = commands.MakeFilled v n len r in
+              new_step x n answer (λ z names os ws. (refl, refl, refl)) (λ z y. refl)
+              (λ e names os ws. (refl, refl, refl))
+              (call_on_by (making_steps len) h.0 (λ z l t y a. references.new_object_array z l t len a)) (filled g.0)
+              (λ once d'' is. made_call x answer fault {V = NewFits} (λ z. replies.Made (Some (packed z)))
+              (making_steps len old.pass.config) (λ z l t y. references.new_object_array z l t len d''.0) (filled g.0)
+              once (λ z. even one (filled_means c last j P w len d''.0 g.0 some
+              (read_fits P w h.0 g.0 d''.0 handles d''.1 same))) (d''.2).0 is)
+              (λ z. filled_alone z (p.names, x) (λ l y none. none) len h.0 (λ used l y short. short)) d'
 
       -- LOCAL
 
@@ -510,7 +533,8 @@ module _ (c : Config) (last : ℕ) where
               let f = was_formed (λ z. replies.Made z) (tried turns (pop_local_frame h.0)) old new answer d in
               let once = made_once (p.names, x) (λ z. pop_alone z p.names n r h.0) turns old new f.once alone some_turns
               f.did in
-              let y = was_formed packed_if (call_on h.0 (λ z l t u a. references.pop_local_frame z l t a)) old new f.once
+              let y = was_formed packed_if (call_on h.0 (λ z l t u a. references.pop_local_frame z l t a)) old new
+              f.once
               once in
               let is : answer ≡ formed (λ z. replies.Made (packed_if z)) y.once =
               f.is ∙ (ap (formed (λ z. replies.Made z)) y.is ∙ formed_both (λ z. replies.Made z) packed_if y.once) in
@@ -630,7 +654,7 @@ module _ (c : Config) (last : ℕ) where
       post_step one n answer d =
           let x = commands.OnName on_name.Post n in
           let i = nothing_then x answer d.1 (at_most one) in
-          subst (λ z. Stepped k x new p q had told z (Ok replies.Done, w)) (sym d.0) (record {
+          subst (λ z. Stepped c last k x new p q had told z (Ok replies.Done, w)) (sym d.0) (record {
             pairing = P;
             stands = record {
               pass = i.pass;
@@ -683,7 +707,7 @@ module _ (c : Config) (last : ℕ) where
           go None None same is = kept_step (commands.Make make.Wait n) answer P w (Err Turns) (Err Turns) i is
               (λ names os ws. (refl, refl, refl)) (λ names os ws. (refl, refl, refl)) (λ line. refl)
           go (Some a) (Some b) same is =
-              subst (λ z. Stepped k (commands.Make make.Wait n) new p q had told z
+              subst (λ z. Stepped c last k (commands.Make make.Wait n) new p q had told z
               (Ok (replies.Made (Some (record { 0 = b }))), w)) (sym is) (record {
                 pairing = P;
                 stands = record {
@@ -734,6 +758,10 @@ module _ (c : Config) (last : ℕ) where
           drop_step one r answer fault (referent_fits r) d
       one_step (commands.OnBoth on_both.Same r t) one answer covered d said fault =
           same_step one r t answer fault (referent_fits r) (referent_fits t) d
+      one_step (commands.MakeSized v n len) one answer covered d said fault = sized_step one v n len answer fault d
+      one_step (commands.MakeText v n units) one answer covered d said fault = text_step one v n units answer fault d
+      one_step (commands.MakeFilled v n len r) one answer covered d said fault =
+          filled_step one v n len r answer fault (referent_fits r) d
       one_step (commands.OnName on_name.Post n) one answer covered d said fault = post_step one n answer d
       one_step (commands.WithCount with_count.Push n) one answer covered d said fault = push_step one n answer fault d
       one_step (commands.WithCount with_count.Ensure n) one answer covered d said fault =
@@ -747,11 +775,11 @@ module _ (c : Config) (last : ℕ) where
 
     -- ONE COMMAND, as it means
     pub step : (k : ℕ) (x : Command) (P : Pairing) (w : World) (old new : ThreadState) (p q : Place)
-        (had told : Words) (s : Stands (left_before x k) P w old p q had told) → IsAlone new.pass
+        (had told : Words) (s : Stands c last (left_before x k) P w old p q had told) → IsAlone new.pass
         → AllByRecursion IsUnbarred new.pass.seen → (answer : Result Reply Fault) → IsCovered x
         → deed_at turns p x old answer new → said_alone p.names had x old.pass.seen answer new.pass.seen
         → IfErr answer (IsAloneFault turns p x new.pass new.frames)
-        → Stepped k x new p q had told answer (meaning_at c q told q.objects x w)
+        → Stepped c last k x new p q had told answer (meaning_at c q told q.objects x w)
     step k x P w old new p q had told s alone all answer covered d said fault =
         at_place (left_before x k) k P w old new p q had told s alone all x answer
         (one_step (left_before x k) k P w old new p q had told s alone all x refl answer covered

@@ -1,8 +1,7 @@
 -- What is counted in a room and in the world of what a script means.
-use Rattle.std.proofs.Common.{◌≡◌, ◌≢◌, ◌⊎◌, inl, inr, ℕ, zero, suc, ◌<◌, ◌≤◌, ◌+◌, ◌==◌, ◌&&◌, Bool, true, false, cond}
-use Rattle.std.proofs.Common.{not, nat_eq, nat_lt, nat_le, Option, Some, None, IsSome, is_some, List, [], ◌∷◌, ◌++◌}
-use Rattle.std.proofs.Common.{length, slice_index, slice_set, refl, sym, ap, subst, ◌∙◌, arith}
-use Rattle.std.proofs.Common.{get_or-set_other, get_or-set_same}
+use Rattle.std.proofs.Common.{◌≡◌, ◌≢◌, ℕ, zero, suc, ◌<◌, ◌≤◌, ◌+◌, ◌==◌, ◌&&◌, Bool, true, false, cond, not, nat_eq}
+use Rattle.std.proofs.Common.{nat_le, Option, Some, None, is_some, List, [], ◌∷◌, ◌++◌, length, slice_index}
+use Rattle.std.proofs.Common.{slice_set, refl, sym, ap, subst, ◌∙◌, arith, get_or-set_other, get_or-set_same}
 use Rattle.std.proofs.lemmas.List.{length-set}
 use Rattle.std.proofs.lemmas.Bool.Decides.{nat_tests}
 use Rattle.jr_model.specs.declared.frames.LocalRef.{LocalRef}

@@ -1,8 +1,6 @@
 -- When a lone thread's moment is as the world of what its script means.
-use Rattle.std.proofs.Common.{◌≡◌, inl, inr, ℕ, suc, ◌<◌, ◌≤◌, ◌+◌, Bool, true, false, cond, Option, Some, None}
-use Rattle.std.proofs.Common.{is_some}
-use Rattle.std.proofs.Common.{List, [], ◌∷◌, length, slice_index, Result, Ok, Err, IsSome, refl, sym, ap}
-use Rattle.std.proofs.Common.{subst, ◌∙◌, arith}
+use Rattle.std.proofs.Common.{◌≡◌, inl, inr, ℕ, ◌<◌, ◌≤◌, ◌+◌, Bool, true, false, cond, Option, Some, None, is_some}
+use Rattle.std.proofs.Common.{List, length, slice_index, Result, Ok, Err, IsSome, refl, sym, ap, subst, ◌∙◌, arith}
 use Rattle.jr_word.specs.declared.config.Config.{Config}
 use Rattle.jr_word.specs.declared.fault.Fault.{Fault}
 use Rattle.jr_word.specs.declared.handle.RefKind.TheVariants.{Local}
@@ -18,7 +16,7 @@ use Rattle.jr_model.proofs.Counts.{bit}
 use Rattle.jr_model.proofs.Locals.{IsPast}
 use Rattle.jr_scripts.specs.Meaning.{World, Ref, Meaning, goes_on, standing, standing_at, refused_if}
 use Rattle.jr_scripts.proofs.LoneRun.MadeCalls.{Moment, Made, WasMadeOf, split, still, gone, stayed}
-use Rattle.jr_scripts.proofs.LoneRun.MeaningFrames.{Pairing, AreFrames, all_places, frames_all, frames_later}
+use Rattle.jr_scripts.proofs.LoneRun.MeaningFrames.{Pairing, AreFrames, all_places, frames_all}
 
 -- a later pairing means the same by the numbers that were there, of which none goes
 pub record Later (P : Pairing) (w : World) (Q : Pairing) (v : World) : Type 0 where
@@ -84,8 +82,8 @@ pub record Fits (c : Config) (last k : ℕ) (P : Pairing) (w : World) (m : Momen
   pub locals : LocalsFit c last k P (length w.objects) w.refs w.frames m.frames
   pub objects : ObjectsFit c P w.objects m.state.objects
   pub slots : (h : Handle) → m.state.refs h ≡ Stale
-  pub unused : m.state.used ≡ 0
-  pub unused_then : w.used ≡ 0
+  pub used : m.state.used ≡ w.used
+  pub space : w.used ≤ c.words
 
 pub gone_fits : {c : Config} {last k : ℕ} {P : Pairing} {w : World} (m : Moment) (t : ℕ) (a : GateAct)
     → Fits c last k P w m → Fits c last k P w (gone c last t m a)
@@ -93,8 +91,8 @@ gone_fits m t a f = record {
   locals = f.locals;
   objects = f.objects;
   slots = f.slots;
-  unused = f.unused;
-  unused_then = f.unused_then;
+  used = f.used;
+  space = f.space;
 }
 
 -- fewer are given up
@@ -115,8 +113,8 @@ fits_less le f =
       };
       objects = f.objects;
       slots = f.slots;
-      unused = f.unused;
-      unused_then = f.unused_then;
+      used = f.used;
+      space = f.space;
     }
 
 -- as many places are free as no local reference has

@@ -1,6 +1,6 @@
 -- Frames of local references beside those of what a script means, which are lists of numbers.
-use Rattle.std.proofs.Common.{◌≡◌, ◌≢◌, ℕ, zero, suc, ◌<◌, ◌≤◌, ◌+◌, ◌==◌, ◌&&◌, Bool, true, false, cond, not}
-use Rattle.std.proofs.Common.{nat_le, List, [], ◌∷◌, ◌++◌, map, length, slice_index, refl, sym, ap, subst, ◌∙◌, arith}
+use Rattle.std.proofs.Common.{◌≡◌, ◌≢◌, ℕ, zero, suc, ◌<◌, ◌≤◌, ◌+◌, ◌==◌, ◌&&◌, Bool, true, false, cond, not, nat_le}
+use Rattle.std.proofs.Common.{List, [], ◌∷◌, ◌++◌, map, length, slice_index, refl, sym, ap, ◌∙◌, arith}
 use Rattle.std.specs.List.{AllByRecursion, filter, sum_by}
 use Rattle.std.proofs.lemmas.List.{length-append}
 use Rattle.std.proofs.lemmas.List.Sums.{sum_by-cons}
@@ -9,8 +9,7 @@ use Rattle.jr_model.specs.declared.frames.LocalRef.{LocalRef}
 use Rattle.jr_model.specs.Maps.{sum_below, count_below}
 use Rattle.jr_model.specs.State.{Handle, same_handle}
 use Rattle.jr_model.specs.Frames.{Frames, HaveOwnPlaces, AreSound, all_refs, free_places, frames_before, is_free}
-use Rattle.jr_model.specs.Frames.{is_held}
-use Rattle.jr_model.specs.Frames.{joined, last_frame, with_last}
+use Rattle.jr_model.specs.Frames.{is_held, joined, last_frame, with_last}
 use Rattle.jr_model.proofs.Agreement.{joined_before, other_than}
 use Rattle.jr_model.proofs.Counts.{bit, count_all_false, sum_at, sum_split}
 use Rattle.jr_model.proofs.Updates.{eq_other, eq_self, eq_true, eq_false, handle_self, handle_true}

@@ -1,27 +1,28 @@
 -- What the parts of a lone thread's calls mean: room, objects, and words of array space.
 use Rattle.std.proofs.Common.{◌≡◌, ◌≢◌, ◌⊎◌, ⊎_elim, inl, inr, ℕ, zero, suc, ◌<◌, ◌≤◌, ◌+◌, ◌==◌, Bool, true, false}
-use Rattle.std.proofs.Common.{nat_eq, nat_lt, Option, Some, None, IsSome, is_some, List, [], ◌∷◌, ◌++◌, length}
+use Rattle.std.proofs.Common.{nat_eq, nat_lt, Option, Some, None, IsSome, is_some, List, [], ◌∷◌, ◌++◌, length, map}
 use Rattle.std.proofs.Common.{Result, Ok, Err, refl, sym, ap, subst, ◌∙◌, arith}
 use Rattle.std.proofs.lemmas.Bool.{cases_lt}
 use Rattle.std.proofs.lemmas.List.{length-append}
 use Rattle.std.proofs.lemmas.Bool.Decides.{nat_tests}
 use Rattle.jr_word.specs.declared.config.Config.{Config}
 use Rattle.jr_word.specs.declared.fault.Fault.{Fault}
-use Rattle.jr_word.specs.declared.fault.Fault.TheVariants.{LocalsFull, ObjectsFull}
+use Rattle.jr_word.specs.declared.fault.Fault.TheVariants.{LocalsFull, ObjectsFull, SpaceFull}
 use Rattle.jr_word.specs.declared.kind.Kind.{Kind}
-use Rattle.jr_model.specs.declared.event.Act.TheVariants.{New}
+use Rattle.jr_model.specs.declared.event.Act.{Act}
+use Rattle.jr_model.specs.declared.event.Act.TheVariants.{New, Reserve, ReserveFull, ReserveLost}
 use Rattle.jr_model.specs.Maps.{update}
-use Rattle.jr_model.specs.State.{Contents, EachPresent}
+use Rattle.jr_model.specs.State.{Contents, State, EachPresent}
 use Rattle.jr_model.specs.Steps.{act_after}
 use Rattle.jr_model.specs.Frames.{all_refs, free_places, object_of}
-use Rattle.jr_model.specs.Calls.{done}
-use Rattle.jr_model.specs.History.{by, IsLegalFrom}
-use Rattle.jr_model.specs.Parts.{publish}
+use Rattle.jr_model.specs.Calls.{Call}
+use Rattle.jr_model.specs.History.{by, state_from, IsLegalFrom}
+use Rattle.jr_model.specs.Parts.{publish, reserve}
 use Rattle.jr_model.specs.References as references
 use Rattle.jr_model.proofs.Updates.{at_number, at_number_self, eq_self}
 use Rattle.jr_scripts.specs.Meaning.{World, Ref, Meaning, goes_on, standing, standing_at, refused_if, held}
 use Rattle.jr_scripts.specs.Meaning as meaning
-use Rattle.jr_scripts.proofs.LoneRun.MadeCalls.{Moment, Made, moment, moment_is, stepped, still}
+use Rattle.jr_scripts.proofs.LoneRun.MadeCalls.{Moment, AreUnopposed, Made, moment, moment_is, stepped, still}
 use Rattle.jr_scripts.proofs.LoneRun.MeaningCounts.{count_most, count_full, count_more, standing_more}
 use Rattle.jr_scripts.proofs.LoneRun.MeaningFrames.{Pairing, frames_held, frames_later}
 use Rattle.jr_scripts.proofs.LoneRun.MeaningFits.{Later, RefFits, Fits, Fitting, SameAnswer, IsDone, Outcome, Means}
@@ -113,11 +114,8 @@ module _ (c : Config) (last k : ℕ) where
     one_longer : (ws : List ℕ) → length (with_object ws).objects ≡ length w.objects + 1
     one_longer ws = length-append w.objects (Some (record { kind = kind; words = ws }) ∷ [])
 
-    module _ (ws : List ℕ) (o : ℕ) (m : Moment) (f : Fits c last k P w m) (least : 1 ≤ o) (most : o ≤ c.objects)
+    module _ (ws ws' : List ℕ) (o : ℕ) (m : Moment) (f : Fits c last k P w m) (least : 1 ≤ o) (most : o ≤ c.objects)
         (none : m.state.objects o ≡ None) where
-      the_new : Contents
-      the_new = record { kind = kind; words = ws }
-
       -- no number that was there means the new object
       another : (p : ℕ) → p < length w.objects → P.object p ≢ o
       another p small is =
@@ -125,10 +123,10 @@ module _ (c : Config) (last k : ℕ) where
           let here : IsSome (m.state.objects o) = subst (λ z. IsSome (m.state.objects z)) is there in
           let bad = subst (λ z. IsSome z) none here in cc)
 
-      apart_then : (p q : ℕ) → p < length (with_object ws).objects → q < length (with_object ws).objects
+      apart_then : (p q : ℕ) → p < length (with_object ws').objects → q < length (with_object ws').objects
           → (object_named o).object p ≡ (object_named o).object q → p ≡ q
       apart_then p q small small' is =
-          let long : length (with_object ws).objects ≡ length w.objects + 1 = one_longer ws in
+          let long : length (with_object ws').objects ≡ length w.objects + 1 = one_longer ws' in
           ⊎_elim (λ (old : p < length w.objects). ⊎_elim
           (λ (old' : q < length w.objects). f.objects.apart p q old old'
           (sym (object_before o p old) ∙ (is ∙ object_before o q old')))
@@ -142,11 +140,11 @@ module _ (c : Config) (last k : ℕ) where
           (cases_lt q (length w.objects)))
           (cases_lt p (length w.objects))
         where
-          at_last : (p : ℕ) → p < length (with_object ws).objects → length w.objects ≤ p → p ≡ length w.objects
+          at_last : (p : ℕ) → p < length (with_object ws').objects → length w.objects ≤ p → p ≡ length w.objects
           at_last p small new =
-              let long : length (with_object ws).objects ≡ length w.objects + 1 = one_longer ws in omega arith
+              let long : length (with_object ws').objects ≡ length w.objects + 1 = one_longer ws' in omega arith
 
-      present_then : (p : ℕ) → p < length (with_object ws).objects
+      present_then : (p : ℕ) → p < length (with_object ws').objects
           → IsSome (update nat_eq m.state.objects o (Some (record { kind = kind; words = ws }))
           ((object_named o).object p))
       present_then p small = at_number (λ q. IsSome (update nat_eq m.state.objects o (Some
@@ -156,9 +154,9 @@ module _ (c : Config) (last k : ℕ) where
           (λ ne. absurd (ne refl)))
           (λ ne. at_number (λ y. IsSome y) m.state.objects o (P.object p) (Some (record { kind = kind; words = ws }))
           (λ e'. refl)
-          (λ ne'. f.objects.present p (let long = one_longer ws in omega arith)))
+          (λ ne'. f.objects.present p (let long = one_longer ws' in omega arith)))
 
-      object_fits : Fits c last k (object_named o) (with_object ws)
+      object_fits : Fits c last k (object_named o) (with_object ws')
           (moment (act_after m.state 0 (New o kind ws)) m.frames)
       object_fits =
           let l = f.locals in
@@ -169,8 +167,8 @@ module _ (c : Config) (last k : ℕ) where
               own = l.own;
               past = l.past;
               once = l.once;
-              stands = λ i small. ref_later P (object_named o) (length w.objects) (length (with_object ws).objects)
-                  (standing_at w.refs i) (object_of m.frames (P.handle i)) (let long = one_longer ws in omega arith)
+              stands = λ i small. ref_later P (object_named o) (length w.objects) (length (with_object ws').objects)
+                  (standing_at w.refs i) (object_of m.frames (P.handle i)) (let long = one_longer ws' in omega arith)
                   (object_before o) (l.stands i small);
               sound = l.sound;
               few = l.few;
@@ -178,17 +176,17 @@ module _ (c : Config) (last k : ℕ) where
             };
             objects = record {
               count = count_more (c.objects + 1) m.state.objects o (record { kind = kind; words = ws }) (omega arith)
-                  none ∙ (ap (λ n. n + 1) old.count ∙ sym (one_longer ws));
-              all_objects = standing_more w.objects (record { kind = kind; words = ws })
-                  ∙ (ap (λ n. n + 1) old.all_objects ∙ sym (one_longer ws));
+                  none ∙ (ap (λ n. n + 1) old.count ∙ sym (one_longer ws'));
+              all_objects = standing_more w.objects (record { kind = kind; words = ws' })
+                  ∙ (ap (λ n. n + 1) old.all_objects ∙ sym (one_longer ws'));
               no_zero = at_number (λ y. y ≡ None) m.state.objects o 0 (Some (record { kind = kind; words = ws }))
                   (λ e. absurd (omega arith)) (λ ne. old.no_zero);
               present = present_then;
               apart = apart_then;
             };
             slots = f.slots;
-            unused = f.unused;
-            unused_then = f.unused_then;
+            used = f.used;
+            space = f.space;
           }
 
     -- the room has as many objects as it may, and so has the world
@@ -214,17 +212,14 @@ module _ (c : Config) (last k : ℕ) where
         let less : standing w.objects < c.objects = omega arith in
         grind (arith, nat_tests)
 
-    pub object_means : (ws : List ℕ) → Means c last k k ObjectFits P w (publish kind ws)
-        (meaning.new_object c kind ws)
-    object_means ws = record { outcome = λ m n x f r. go m n x f r r.is (standing w.objects == c.objects) refl }
+    pub object_means : (ws ws' : List ℕ) → Means c last k k ObjectFits P w (publish kind ws)
+        (meaning.new_object c kind ws')
+    object_means ws ws' = record { outcome = λ m n x f r. go m n x f r r.is (standing w.objects == c.objects) refl }
       where
         Rest : Unit {0} → Meaning ℕ
         Rest u v = (
           Ok (length v.objects),
-          record v {
-            objects = v.objects ++ Some
-                (record { kind = kind; words = ws }) ∷ [];
-          },
+          record v { objects = v.objects ++ Some (record { kind = kind; words = ws' }) ∷ [] },
         )
 
         made : (m n : Moment) (x : Result ℕ Fault) → Fits c last k P w m
@@ -233,7 +228,7 @@ module _ (c : Config) (last k : ℕ) where
             → (1 ≤ o) × (o ≤ c.objects) × (m.state.objects o ≡ None)
         made m n x f r o is ok same =
             let l : IsLegalFrom c last m.state (by 0 (New o kind ws) ∷ []) =
-            subst (λ acts. IsLegalFrom c last m.state (Rattle.std.proofs.Common.map (by 0) acts)) is r.legal in
+            subst (λ acts. IsLegalFrom c last m.state (map (by 0) acts)) is r.legal in
             let needs = l.0.1 in
             (needs.1, needs.2, needs.3)
 
@@ -246,7 +241,7 @@ module _ (c : Config) (last k : ℕ) where
         go m n x f r (inl d) false e =
             let o = d.0 in
             let i = made m n x f r o d.1 d.2 d.3 in
-            let long = one_longer ws in
+            let long = one_longer ws' in
             record {
               pairing = object_named o;
               later = record {
@@ -256,11 +251,11 @@ module _ (c : Config) (last k : ℕ) where
                 objects_grow
                     = omega arith;
               };
-              fits = subst (Fits c last k (object_named o) (with_object ws))
+              fits = subst (Fits c last k (object_named o) (with_object ws'))
                   (sym (moment_is n.state (act_after m.state 0 (New o kind ws)) n.frames m.frames
                   (stepped c last 0 m n r.acts (New o kind ws) d.1 r.leads) d.3))
-                  (object_fits ws o m f i.0 i.1 i.2);
-              answers = subst (λ z. SameAnswer (ObjectFits (object_named o) (with_object ws)) z (Ok
+                  (object_fits ws ws' o m f i.0 i.1 i.2);
+              answers = subst (λ z. SameAnswer (ObjectFits (object_named o) (with_object ws')) z (Ok
                   (length w.objects))) (sym d.2) ((omega arith), object_here o);
             }
         go m n x f r (inr d) true e =
@@ -273,43 +268,102 @@ module _ (c : Config) (last k : ℕ) where
             let same = still c last 0 {m = m} {n = n} r.acts d.0 r.leads d.2 in
             let is = full_then m f (subst (λ (z : Moment). EachPresent c z.state) same so) in cc)
 
-  -- NO WORDS ARE ASKED FOR
-  pub reserve_means : (P : Pairing) (w : World)
-      → Means c last k k (IsDone {A = Unit {0}} {B = Unit {0}}) P w (done tt) (meaning.reserve c 0)
-  reserve_means P w = record { outcome = λ m n x f r. go m n x f r (nat_lt c.words (w.used + 0)) refl }
-    where
-      Rest : Unit {0} → Meaning (Unit {0})
-      Rest u v = (Ok tt, record v { used = w.used + 0 })
+  -- WORDS OF ARRAY SPACE
+  module _ (P : Pairing) (w : World) where
+    abbrev with_words : ℕ → World
+    with_words n = record w { used = w.used + n }
 
-      fits_still : (m : Moment) → Fits c last k P w m → Fits c last k P (record w { used = w.used + 0 }) m
-      fits_still m f = record {
-        locals = f.locals;
-        objects = f.objects;
-        slots = f.slots;
-        unused = f.unused;
-        unused_then = (let none = f.unused_then in omega arith);
-      }
+    abbrev Rest : ℕ → Unit {0} → Meaning (Unit {0})
+    Rest n u v = (Ok tt, record v { used = w.used + n })
 
-      go : (m n : Moment) (x : Result (Unit {0}) Fault) → Fits c last k P w m → Made c last 0 (done tt) m x n
-          → (b : Bool) → nat_lt c.words (w.used + 0) ≡ b
-          → Outcome c last k (IsDone {A = Unit {0}} {B = Unit {0}}) P w x (goes_on Rest (
-            refused_if b
-                (Rattle.jr_word.specs.declared.fault.Fault.TheVariants.SpaceFull w.used),
-            w,
-          )) n
-      go m n x f r true e = absurd (let none = f.unused_then in let no' : nat_lt c.words (w.used + 0) ≡ false = grind
-          (arith, nat_tests) in cc)
-      go m n x f r false e = record {
-        pairing = P;
-        later = record {
-          handles = λ i l. refl;
-          objects = λ o l. refl;
-          refs_grow = omega arith;
-          objects_grow = omega
-              arith;
-        };
-        fits = subst (Fits c last k P (record w { used = w.used + 0 })) (sym (still c last 0 {m = m} {n = n} r.acts
-            (r.is).0 r.leads (r.is).2)) (fits_still m f);
-        answers = subst (λ z. SameAnswer (IsDone {A = Unit {0}} {B = Unit {0}} P (record w { used = w.used + 0 })) z
-            (Ok tt)) (sym (r.is).1) tt;
-      }
+    -- so many words are used more
+    reserved : (m m' : Moment) (x : Result (Unit {0}) Fault) (n : ℕ) → Fits c last k P w m
+        → m'.state ≡ record m.state { used = m.state.used + n } → m'.frames ≡ m.frames → x ≡ Ok tt
+        → w.used + n ≤ c.words
+        → Outcome c last k (IsDone {A = Unit {0}} {B = Unit {0}}) P w x (Ok tt, with_words n) m'
+    reserved m m' x n f state_is frames_are is within = record {
+      pairing = P;
+      later = record {
+        handles = λ i l. refl;
+        objects = λ o l. refl;
+        refs_grow = omega arith;
+        objects_grow = omega arith;
+      };
+      fits = subst (Fits c last k P (with_words n)) (sym (moment_is m'.state
+          (record m.state { used = m.state.used + n }) m'.frames m.frames state_is frames_are)) (record {
+            locals = f.locals;
+            objects = record {
+              count = f.objects.count;
+              all_objects = f.objects.all_objects;
+              no_zero = f.objects.no_zero;
+              present = f.objects.present;
+              apart = f.objects.apart;
+            };
+            slots = f.slots;
+            used = ap (λ u. u + n) f.used;
+            space = within;
+          });
+      answers = subst (λ z. SameAnswer (IsDone {A = Unit {0}} {B = Unit {0}} P (with_words n)) z (Ok tt)) (sym is) tt;
+    }
+
+    no_more : (m : Moment) → Fits c last k P w m → nat_lt c.words (w.used + 0) ≡ true → ⊥
+    no_more m f e = let fit = f.space in
+        let none : nat_lt c.words (w.used + 0) ≡ false = grind (arith, nat_tests) in absurd cc
+
+    one_legal : (call : Call (Unit {0})) (m m' : Moment) (x : Result (Unit {0}) Fault) (a : Act)
+        → (r : Made c last 0 call m x m') → r.acts ≡ a ∷ [] → IsLegalFrom c last m.state (by 0 a ∷ [])
+    one_legal call m m' x a r is = subst (λ acts. IsLegalFrom c last m.state (map (by 0) acts)) is r.legal
+
+    go : (n : ℕ) (m m' : Moment) (x : Result (Unit {0}) Fault) → Fits c last k P w m
+        → (r : Made c last 0 (reserve n) m x m') → reserve n m.frames r.acts x m'.frames → (b : Bool)
+        → nat_lt c.words (w.used + n) ≡ b
+        → Outcome c last k (IsDone {A = Unit {0}} {B = Unit {0}}) P w x
+        (goes_on (Rest n) (refused_if b (SpaceFull w.used), w)) m'
+    go zero m m' x f r is true e = absurd (no_more m f e)
+    go zero m m' x f r is false e = reserved m m' x 0 f (r.leads ∙ (ap (λ l. state_from m.state (map (by 0) l)) is.0
+        ∙ none_used m.state)) is.2 is.1 (let fit = f.space in omega arith)
+      where
+        none_used : (s : State) → s ≡ record s { used = s.used + 0 }
+        none_used s = ap (λ u. record s { used = u }) (omega arith)
+    go (suc n) m m' x f r (inl d) b e =
+        let l = one_legal (reserve (suc n)) m m' x (Reserve (suc n)) r d.0 in
+        let fit : m.state.used + suc n ≤ c.words = (l.0.1).1 in
+        let used : m.state.used ≡ w.used = f.used in
+        let within : w.used + suc n ≤ c.words = omega arith in
+        let free : nat_lt c.words (w.used + suc n) ≡ false = grind (arith, nat_tests) in
+        subst (λ z. Outcome c last k (IsDone {A = Unit {0}} {B = Unit {0}}) P w x
+        (goes_on (Rest (suc n)) (refused_if z (SpaceFull w.used), w)) m') (sym free ∙ e)
+        (reserved m m' x (suc n) f (stepped c last 0 m m' r.acts (Reserve (suc n)) d.0 r.leads) d.2 d.1 within)
+    go (suc n) m m' x f r (inr (inl (inl d))) b e =
+        let y = d.5.0 in
+        let acts : r.acts ≡ ReserveFull (suc n) y ∷ [] =
+        d.4 ∙ (ap (λ l. l ++ d.3) d.5.1 ∙ ap (λ l. ReserveFull (suc n) y ∷ l) d.6.0) in
+        let l = one_legal (reserve (suc n)) m m' x (ReserveFull (suc n) y) r acts in
+        let short : c.words < y + suc n = (l.0.1).2 in
+        let found : y ≡ m.state.used = (l.0.1).1 in
+        let used : m.state.used ≡ w.used = f.used in
+        let told : d.0 ≡ y = (let same = d.5.2 in cc) in
+        let lacks : nat_lt c.words (w.used + suc n) ≡ true = grind (arith, nat_tests) in
+        subst (λ z. Outcome c last k (IsDone {A = Unit {0}} {B = Unit {0}}) P w x
+        (goes_on (Rest (suc n)) (refused_if z (SpaceFull w.used), w)) m') (sym lacks ∙ e)
+        (unmoved c last {V = IsDone {A = Unit {0}} {B = Unit {0}}} m m' x (Err (SpaceFull w.used))
+        (Err (SpaceFull w.used)) f (moment_is m'.state m.state m'.frames m.frames
+        (stepped c last 0 m m' r.acts (ReserveFull (suc n) y) acts r.leads) (d.6.2 ∙ d.5.3))
+        (d.6.1 ∙ ap (λ u. Err (SpaceFull u)) (told ∙ (found ∙ used))) refl)
+    go (suc n) m m' x f r (inr (inl (inr d))) b e = absurd (let bad = d.2.2 in cc)
+    go (suc n) m m' x f r (inr (inr (inl d))) b e = absurd
+        (let front : d.2 ≡ ReserveLost (suc n) d.5.0.0 d.5.0.1 ∷ [] = d.5.1 in
+        let acts : r.acts ≡ ReserveLost (suc n) d.5.0.0 d.5.0.1 ∷ d.3 = d.4 ∙ ap (λ l. l ++ d.3) front in
+        let free = subst AreUnopposed acts r.unopposed in
+        let bad = free.0 in cc)
+    go (suc n) m m' x f r (inr (inr (inr d))) b e = absurd (let bad = d.2.2 in cc)
+
+    reserve_means : (n : ℕ)
+        → Means c last k k (IsDone {A = Unit {0}} {B = Unit {0}}) P w (reserve n) (meaning.reserve c n)
+    reserve_means n = record { outcome = λ m m' x f r. go n m m' x f r r.is (nat_lt c.words (w.used + n)) refl }
+
+    -- of as many words
+    pub reserve_as_many : (n n' : ℕ) → n ≡ n'
+        → Means c last k k (IsDone {A = Unit {0}} {B = Unit {0}}) P w (reserve n) (meaning.reserve c n')
+    reserve_as_many n n' same = subst (λ z. Means c last k k (IsDone {A = Unit {0}} {B = Unit {0}}) P w (reserve n)
+        (meaning.reserve c z)) same (reserve_means n)

@@ -1,9 +1,8 @@
 -- The text of a run is what its script means.
 use Rattle.std.proofs.Common.{◌≡◌, ◌≢◌, ℕ, zero, suc, ◌<◌, ◌≤◌, ◌+◌, ◌^◌, Bool, true, false, cond, Option, Some, None}
-use Rattle.std.proofs.Common.{is_some, List, [], ◌∷◌, ◌++◌, map, length, replicate, get_or, nat_le, Result, Ok, IfErr}
-use Rattle.std.proofs.Common.{refl, sym, ap, subst, ◌∙◌, arith}
+use Rattle.std.proofs.Common.{is_some, List, [], ◌∷◌, ◌++◌, map, length, replicate, get_or, Result, Ok, IfErr, refl}
+use Rattle.std.proofs.Common.{sym, ap, subst, ◌∙◌, arith}
 use Rattle.std.proofs.lemmas.List.{length-replicate}
-use Rattle.std.proofs.lemmas.Bool.Decides.{nat_tests}
 use Rattle.std.specs.FinMap.{get-empty}
 use Rattle.std.specs.List.{AllByRecursion, filter}
 use Rattle.jr_word.specs.declared.config.Config.{Config}
@@ -12,15 +11,14 @@ use Rattle.jr_word.specs.declared.handle.RefKind.{RefKind}
 use Rattle.jr_word.specs.declared.handle.RefKind.TheVariants.{Local, Global, Weak}
 use Rattle.jr_word.specs.Config.{in_limits}
 use Rattle.jr_word.proofs.Limits.{limited}
-use Rattle.jr_model.specs.declared.event.Act.TheVariants.{Gate, LocalDrop}
+use Rattle.jr_model.specs.declared.event.Act.TheVariants.{Gate}
 use Rattle.jr_model.specs.declared.event.GateAct.TheVariants.{Enter, Leave}
 use Rattle.jr_model.specs.declared.event.Found.TheVariants.{Stale}
-use Rattle.jr_model.specs.declared.frames.LocalRef.{LocalRef}
 use Rattle.jr_model.specs.declared.summary.Summary.{Summary}
-use Rattle.jr_model.specs.Maps.{count_below, sum_below}
+use Rattle.jr_model.specs.Maps.{count_below}
 use Rattle.jr_model.specs.State.{Handle, State, is_there, references, same_kind, summary}
 use Rattle.jr_model.specs.Steps.{act_after}
-use Rattle.jr_model.specs.Frames.{all_refs, drop_all, fresh_frames, free_places, is_free, object_of}
+use Rattle.jr_model.specs.Frames.{all_refs, drop_all, object_of}
 use Rattle.jr_model.specs.History.{PassView, by, state, state_from}
 use Rattle.jr_model.specs.References.{freeing}
 use Rattle.jr_model.specs.References as calls
@@ -46,16 +44,16 @@ use Rattle.jr_scripts.proofs.AloneParts.{tries_alone, was_alone}
 use Rattle.jr_scripts.proofs.AloneAnswers.{all_map, given_up_alone, place_alone}
 use Rattle.jr_scripts.proofs.AloneWithin.{led_alone}
 use Rattle.jr_scripts.proofs.FreedAlone.{free_alone, plainly}
-use Rattle.jr_scripts.specs.Meaning.{IsCovered, MeansText, World, Ref, Told, gives_up, how_many, first_told, is_ref_of}
-use Rattle.jr_scripts.specs.Meaning.{meaning_at}
-use Rattle.jr_scripts.specs.Meaning.{refs_of, standing, standing_at, summary_of, tells, told_after, told_from}
-use Rattle.jr_scripts.specs.Meaning.{text_of_part, first_world}
+use Rattle.jr_scripts.specs.Meaning.{IsCovered, MeansText, World, Ref, Told, gives_up, how_many, first_told}
+use Rattle.jr_scripts.specs.Meaning.{is_ref_of, meaning_at, refs_of, standing, standing_at, summary_of, tells}
+use Rattle.jr_scripts.specs.Meaning.{told_after, told_from, text_of_part, first_world}
 use Rattle.jr_scripts.proofs.LoneRun.MadeCalls.{Moment, IsSo, stayed}
 use Rattle.jr_scripts.proofs.LoneRun.MeaningFrames.{Pairing, no_frame, no_local, one_frame}
 use Rattle.jr_scripts.proofs.LoneRun.MeaningFits.{Fits, RefFits}
 use Rattle.jr_scripts.proofs.LoneRun.MeaningScopes.{SameTables, drops_keep}
 use Rattle.jr_scripts.proofs.LoneRun.MeaningDeeds.{BindingFits, IsPass, call_made, made_once, now}
-use Rattle.jr_scripts.proofs.LoneRun.MeaningCommands.{Stands, Stepped, left_before, left_then, step}
+use Rattle.jr_scripts.proofs.LoneRun.MeaningCommands.{step}
+use Rattle.jr_scripts.proofs.LoneRun.MeaningStands.{Stands, Stepped, left_before, left_then}
 
 -- ONE COMMAND MORE
 told_snoc : (c : Config) (line : ℕ) (before : List Command) (x : Command) (t : Told)
@@ -142,8 +140,8 @@ module _ (c : Config) (last turns : ℕ) (one : c.threads ≡ 1) (some_turns : t
       apart = λ o p l m. absurd (omega arith);
     };
     slots = λ h. refl;
-    unused = refl;
-    unused_then = refl;
+    used = refl;
+    space = omega arith;
   }
 
   -- what is told of commands is what was printed
@@ -260,7 +258,7 @@ module _ (c : Config) (last turns : ℕ) (one : c.threads ≡ 1) (some_turns : t
       (no_slots Weak s none ∙ sym (none_of Weak refl w.refs locals))
       (ap (λ t. count_below (c.objects + 1) (λ o. is_some (t o))) same.objects
       ∙ (f.objects.count ∙ sym f.objects.all_objects))
-      (same.used ∙ (f.unused ∙ sym f.unused_then))
+      (same.used ∙ f.used)
 
   pub run_means : (part : ThreadPart) (text : List ℕ) → how_many gives_up part.commands ≤ last
       → AllByRecursion IsCovered part.commands

@@ -16,7 +16,7 @@ use Rattle.jr_model.specs.Steps.{act_after}
 use Rattle.jr_model.specs.Frames.{Frames, all_refs, drop_all, frames_before, free_places, is_held, joined, last_frame}
 use Rattle.jr_model.specs.Frames.{object_of, object_where, popped, pushed}
 use Rattle.jr_model.specs.History.{by, state_from}
-use Rattle.jr_model.specs.Calls.{Call, ◌>>=◌, ◌>>◌, refuse_if}
+use Rattle.jr_model.specs.Calls.{Call, ◌>>◌, refuse_if}
 use Rattle.jr_model.specs.Checks.{Word}
 use Rattle.jr_model.specs.Parts.{new_frame, take_frame}
 use Rattle.jr_model.specs.References as references
@@ -25,7 +25,8 @@ use Rattle.jr_model.proofs.Counts.{bit}
 use Rattle.jr_model.proofs.Gone.{taken_is_gone}
 use Rattle.jr_model.proofs.Updates.{eq_true, eq_false, eq_other, eq_self}
 use Rattle.jr_scripts.specs.Places.{all_but_last}
-use Rattle.jr_scripts.specs.Meaning.{World, Ref, Meaning, goes_on, held, newest_frame, refused_if, standing_at, without}
+use Rattle.jr_scripts.specs.Meaning.{World, Ref, Meaning, goes_on, held, newest_frame, refused_if, standing_at}
+use Rattle.jr_scripts.specs.Meaning.{without}
 use Rattle.jr_scripts.specs.Meaning as meaning
 use Rattle.jr_scripts.proofs.LoneRun.MadeCalls.{Moment, Made, WasMadeOf, moment, moment_is, split, still}
 use Rattle.jr_scripts.proofs.LoneRun.MeaningCounts.{bit_most}
@@ -134,8 +135,8 @@ module _ (c : Config) (last k : ℕ) where
             };
             objects = f.objects;
             slots = f.slots;
-            unused = f.unused;
-            unused_then = f.unused_then;
+            used = f.used;
+            space = f.space;
           }
 
   -- PUSHLOCALFRAME
@@ -311,8 +312,8 @@ module _ (c : Config) (last k : ℕ) where
                   (sym (r.is).2) (popped_locals m f);
               objects = subst (ObjectsFit c P w.objects) (sym tables.objects) f.objects;
               slots = λ h. ap (λ t. t h) tables.refs ∙ f.slots h;
-              unused = tables.used ∙ f.unused;
-              unused_then = f.unused_then;
+              used = tables.used ∙ f.used;
+              space = f.space;
             };
             answers = subst (λ z. SameAnswer (IsDone {A = Unit {0}} {B = Unit {0}} P (taken w)) z (Ok tt))
                 (sym (r.is).1) tt;

@@ -1,0 +1,90 @@
+-- How a lone thread stands beside what its script means, before a command and behind it.
+use Rattle.std.proofs.Common.{◌≡◌, ℕ, suc, Bool, true, false, Option, Some, List, [], Result, Ok, Err, IfErr, ◌∙◌}
+use Rattle.jr_word.specs.declared.config.Config.{Config}
+use Rattle.jr_word.specs.declared.fault.Fault.{Fault}
+use Rattle.jr_word.specs.declared.fault.Fault.TheVariants.{RowFull, ObjectsFull}
+use Rattle.jr_word.specs.declared.handle.Handle.{Handle as HandleWord}
+use Rattle.jr_model.specs.declared.event.Act.{Act}
+use Rattle.jr_model.specs.History.{PassView, Did, state}
+use Rattle.jr_model.specs.Frames.{Frames}
+use Rattle.jr_gate.specs.Performing.{ThreadState}
+use Rattle.jr_syntax.specs.declared.name.Reference.{Reference}
+use Rattle.jr_syntax.specs.declared.command.Command.{Command}
+use Rattle.jr_scripts.specs.declared.reply.Reply.{Reply}
+use Rattle.jr_scripts.specs.declared.reply.Reply.TheVariants as replies
+use Rattle.jr_scripts.specs.declared.binding.Binding.TheVariants as bound
+use Rattle.jr_scripts.specs.Names.{Names, with_name}
+use Rattle.jr_scripts.specs.Places.{Place, objects_after, place_after}
+use Rattle.jr_scripts.specs.Posting.{Words, words_after}
+use Rattle.jr_scripts.specs.Text.{names_after, printed, reference_made, says}
+use Rattle.jr_scripts.specs.AloneAnswers.{IsCommandFault}
+use Rattle.jr_scripts.specs.Meaning.{World, gives_up}
+use Rattle.jr_scripts.proofs.LoneRun.MadeCalls.{IsSo}
+use Rattle.jr_scripts.proofs.LoneRun.MeaningFrames.{Pairing}
+use Rattle.jr_scripts.proofs.LoneRun.MeaningFits.{Fits}
+use Rattle.jr_scripts.proofs.LoneRun.MeaningDeeds.{IsPass, NamesFit, WordsFit, formed, now}
+
+-- a pass later on
+pub pass_later : (c : Config) (last : ℕ) (old new : PassView) (acts : List Act) → Did old new acts → IsPass c last old
+    → IsPass c last new
+pass_later c last old new acts d p =
+    record { config = d.config ∙ p.config; last_is = d.last ∙ p.last_is; thread = d.thread ∙ p.thread }
+
+-- what a refusal of a command says of the room is so
+pub so_of : (turns : ℕ) (names : Names) (x : Command) (p : PassView) (f : Frames) (e : Fault)
+    → IsCommandFault turns names x p f e → IsSo p.config p.last (state p.seen) e
+so_of turns names x p f RowFull h = h
+so_of turns names x p f ObjectsFull h = h
+so_of turns names x p f _ h = tt
+
+pub err_map : {A : Type 0} {F G : Fault → Type 0} (r : Result A Fault) → ((e : Fault) → F e → G e)
+    → IfErr r F → IfErr r G
+err_map (Ok x) k h = tt
+err_map (Err e) k h = k e h
+
+pub err_formed : {A B : Type 0} (F : Fault → Type 0) (form : A → B) (r : Result A Fault) → IfErr (formed form r) F
+    → IfErr r F
+err_formed F form (Ok x) h = tt
+err_formed F form (Err e) h = h
+
+-- a command with this answer sets no name, changes no level, and says and hears nothing
+abbrev pub Keeps : Command → Result Reply Fault → Type 0
+Keeps x a = (names : Names) (objects : List ℕ) (words : Words)
+    → (names_after x a names ≡ names) × (objects_after x a objects ≡ objects) × (words_after names x a words ≡ words)
+
+-- one that makes something sets this name alone
+abbrev pub Sets : Command → List ℕ → Type 0
+Sets x n = (h : Option HandleWord) (names : Names) (objects : List ℕ) (words : Words)
+    → (names_after x (Ok (replies.Made h)) names ≡ with_name names n (bound.Reference (reference_made h)))
+    × (objects_after x (Ok (replies.Made h)) objects ≡ objects)
+    × (words_after names x (Ok (replies.Made h)) words ≡ words)
+
+-- and prints nothing of a reference
+abbrev pub IsSilent : Command → Type 0
+IsSilent x = (h g : HandleWord) → says x (replies.Made (Some h)) ≡ says x (replies.Made (Some g))
+
+-- how often references may be given up before a command, where they may so often behind it
+abbrev pub left_then : Bool → ℕ → ℕ
+left_then true k = suc k
+left_then false k = k
+
+abbrev pub left_before : Command → ℕ → ℕ
+left_before x k = left_then (gives_up x) k
+
+module _ (c : Config) (last : ℕ) where
+  -- THE THREAD STANDS as in the world, with names for the same and the same words, and outside a region
+  pub record Stands (k : ℕ) (P : Pairing) (w : World) (m : ThreadState) (p q : Place) (had told : Words) : Type 0 where
+    pub pass : IsPass c last m.pass
+    pub fits : Fits c last k P w (now m)
+    pub names : NamesFit P w p.names q.names
+    pub outside : p.objects ≡ []
+    pub outside_then : q.objects ≡ []
+    pub words : WordsFit P w had told
+
+  -- THE COMMAND WAS DONE as it means: it printed the same, and the thread stands as in the world then
+  pub record Stepped (k : ℕ) (x : Command) (new : ThreadState) (p q : Place) (had told : Words)
+      (answer : Result Reply Fault) (r : Result Reply Fault × World) : Type 0 where
+    pub pairing : Pairing
+    pub stands : Stands k pairing r.1 new (place_after x answer p) (place_after x r.0 q)
+        (words_after p.names x answer had) (words_after q.names x r.0 told)
+    pub text : (line : ℕ) → printed line x answer ≡ printed line x r.0
