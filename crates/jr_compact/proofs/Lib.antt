@@ -1,5 +1,4 @@
 pub mod Slides
-pub mod OneArray
 pub mod Listed
 pub mod Noted
 pub mod Together

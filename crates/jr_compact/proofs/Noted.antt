@@ -17,6 +17,7 @@ use Rattle.jr_model.specs.Maps.{sum_below}
 use Rattle.jr_model.specs.History.{IsLegal}
 use Rattle.jr_model.specs.State.{Contents, State, HaveSameTables, length_of, present_words}
 use Rattle.jr_model.proofs.InRoom.{in_room}
+use Rattle.jr_model.proofs.Updates.{eq_self}
 use Rattle.jr_steps.specs.declared.known.Known.{Known}
 use Rattle.jr_steps.specs.declared.known.Holdings.{Holdings}
 use Rattle.jr_steps.specs.Holdings.{header_in}
@@ -31,11 +32,13 @@ use Rattle.jr_compact.specs.Counting.{SawWithin}
 use Rattle.jr_compact.specs.Noting.{placed_of, numbers_of, noted_words, IsNoted, AreNoted}
 use Rattle.jr_compact.proofs.Counting.{within_none, within_more, within_most}
 use Rattle.jr_compact.proofs.Listed.{sum_listed, distinct_filter, sum_filter, sum_map, in_filter}
-use Rattle.jr_compact.proofs.OneArray.{knows_now}
 
 -- the object is present and has elements
 abbrev pub has_words : State → ℕ → Bool
 has_words s o = not (length_of (s.objects o) == 0)
+
+knows_now : (o : ℕ) (h : HeaderParts) (hs : Option HeaderParts) → cond (o == o) (Some h) hs ≡ Some h
+knows_now o h hs = ap (λ b. cond b (Some h) hs) (eq_self o)
 
 -- the entry is of an object that was present with so many elements, and its header is known
 pub record IsEntry (k k' : Known) (e : PlacedObject) : Type 0 where

@@ -35,32 +35,6 @@ module _ {S : Type 0} {facts : S → Facts} (fits : AreOf facts) (o : ℕ) (h : 
     known_still : (k k' : Known) → CanSlide o h place k → IsSlidTo o place i k k' → KnowsHeader o h k'
     known_still k k' can s = ap (λ (g : Holdings). header_in o g.headers) s.others ∙ can.known
 
-    -- an element that is still to be moved stands where its header says
-    pub later_there : (j : ℕ) → i ≤ j → j < h.length → MayKnow facts a (CanSlide o h place)
-        → MayKnow facts b (IsThere o h j)
-    later_there j m l may = ∥∥₁_map may (λ k. let x = p.did k.0 k.1 k.2 in
-        (x.0, x.1, there_left o j place i h x.0 (known_still k.0 x.0 k.2 x.3) l (x.3).done m))
-
-    -- and a look at it changes nothing
-    pub slid_looked : {c : S} {v : ℕ} (j : ℕ) → i ≤ j → j < h.length
-        → Took facts b c [] (IsThere o h j) (λ j' k. ShowsElement o j v k × keeps j' k)
-        → SlidTo facts o h place a c (most + 1) i
-    slid_looked j m l looked = record {
-      stands_is = looked.stands_is ∙ p.stands_is;
-      hint_is = looked.hint_is ∙ p.hint_is;
-      did = λ k s can.
-          let x = p.did k s can in
-          let y = looked.goes x.0 x.1 (there_left o j place i h x.0 (known_still k x.0 can x.3) l (x.3).done m) in (
-            y.0,
-            y.1,
-            within_more x.2 y.2,
-            record {
-              done = subst (λ (g : Holdings). HasDone g.moving o place i) (sym y.3.1) (x.3).done;
-              others = ap (λ g. with_move g None) y.3.1 ∙ (x.3).others;
-            },
-          );
-    }
-
     -- no more than a greater number of steps
     pub slid_within : (n : ℕ) → most ≤ n → SlidTo facts o h place a b n i
     slid_within n few = record {

@@ -106,7 +106,7 @@ module _ {S : Type 0} {facts : S → Facts} where
         (x.0, x.1, holds_did k.0 x.0 t.frames (act ∷ []) (goes_did x.2) (spares, tt) k.2));
   }
 
-  -- a step that stores no local word leaves the thread ready in its new role, where it leaves the pass as fresh as it was
+  -- a step that stores no local word, and leaves the pass as fresh as it was, leaves the thread ready in its new role
   pub ready_stepped : {a b : S} {t : Table} {role : Role} {shows : Known → Known → Type 0} (act : Act)
       → spares_places act ≡ true → ((f : Bool) → fresh_after f act ≡ f) → StandsReady facts role a t
       → Took facts a b (act ∷ []) anything shows → StandsReady facts (role_after role act) b t
@@ -150,4 +150,5 @@ module _ {S : Type 0} {facts : S → Facts} where
       → Leads facts a b met (λ k k'. IsMade 0 (thread_state (facts a) k f) (thread_state (facts b) k' f) leave (Ok tt))
       (λ j k. lets_go j k × Holds f k)
   exit_made f holds =
-      one_act f refl (λ n i. refl) holds (λ p q s. ran_act f (Gate Leave) (λ out. absurd cc) (λ out. stepped_last s) s.did)
+      one_act f refl (λ n i. refl) holds
+      (λ p q s. ran_act f (Gate Leave) (λ out. absurd cc) (λ out. stepped_last s) s.did)

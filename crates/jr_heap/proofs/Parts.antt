@@ -129,13 +129,6 @@ pub left_holds : (o : ℕ) (h : HeaderParts) (j k : Known) → LeavesObject o h 
 left_holds o h j k l x = record { known = ap (λ (g : Holdings). header_in o g.headers) l.1 ∙ x.known; shown = l.0 }
 
 module _ {S : Type 0} {facts : S → Facts} (fits : AreOf facts) (o : ℕ) (h : HeaderParts) where
-  pub part_nothing : (a : S) → PartDone facts o h [] 0 a a
-  part_nothing a = record {
-    stands_is = refl;
-    hint_is = refl;
-    did = λ k s m. (k, s, did_nothing (view k) (fits a k s).legal, ((m.shown, refl), no_step k));
-  }
-
   pub part_more : {a b c : S} (acts : List Act) (n : ℕ) (x : Act) {met : Known → Type 0} → x ≢ Gate Leave
       → (facts a).stands.role ≡ Within → standing_after (facts b).stands (x ∷ []) ≡ (facts b).stands
       → ((k : Known) → HoldsHeader o h k → met k)
@@ -161,16 +154,6 @@ module _ {S : Type 0} {facts : S → Facts} (fits : AreOf facts) (o : ℕ) (h : 
       → MayKnow facts b (HoldsHeader o h)
   part_may may p = ∥∥₁_map may (λ k. let x = p.did k.0 k.1 k.2 in (x.0, x.1, left_holds o h k.0 x.0 x.3.0 k.2))
 
-  -- the word that a step read has the bits of the kind
-  pub part_below : {a b c : S} {acts : List Act} {n : ℕ} (k : Kind) (i v : ℕ) → is_read_as k h.kind ≡ true
-      → (facts a).stands.role ≡ Within → MayKnow facts a (HoldsHeader o h) → PartDone facts o h acts n a b
-      → Took facts b c (Read o i v ∷ []) (KnowsHeader o h) keeps → v < word_limit k
-  part_below {a} {b} k i v e w may p t = ∥∥₁_elim (part_may may p) (hlevel props) (λ z.
-      let g = t.goes z.0 z.1 z.2.known in
-      let role = (fits b z.0 z.1).role ∙ (ap (λ (s : Standing). s.role) p.stands_is ∙ w) in
-      let x = object_later z.0 g.0 (Read o i v ∷ []) (goes_did g.2) role ((λ e. cc), tt) o h z.2.shown in
-      read_below (state_of g.0) k h.kind v e (read_word o i v h g.2 x))
-
   module _ {E : Type 0} (f : E → ℕ) (start i at : ℕ) (es : List E) (x : E) (v : ℕ) (inside : i < length es)
       (place : at ≡ start + i) where
     pub part_write_more : {a b c : S} → (facts a).stands.role ≡ Within → x ≡ get_or es i x → v ≡ f x
@@ -183,27 +166,6 @@ module _ {S : Type 0} {facts : S → Facts} (fits : AreOf facts) (o : ℕ) (h : 
         (λ k m. (m.known, named k)) p t)
 
   module _ {E : Type 0} (f : E → ℕ) (start i n : ℕ) (es : List E) (end : i ≡ n) (size : length es ≡ n) where
-    pub part_read : {a b : S} → (facts a).stands.role ≡ Within
-        → PartDone facts o h (read_acts o start (map f (take i es))) i a b
-        → Called facts a b (HoldsHeader o h) (λ j k. read o start n) (Ok (map f es)) (by_steps n (LeavesObject o h))
-    part_read {a} {b} w p = called_by p.hint_is (λ k s m.
-        let vs = map f es in
-        let at_end = subst (λ m. PartDone facts o h (read_acts o start (map f (take m es))) m a b) end p in
-        let all : PartDone facts o h (read_acts o start vs) n a b =
-        subst (λ xs. PartDone facts o h (read_acts o start xs) n a b) (whole f n es size) at_end in
-        let x = all.did k s m in (
-          x.0,
-          x.1,
-          read_acts o start vs,
-          record {
-            did = x.2;
-            is = λ g. (vs, length-map es f ∙ size, refl, refl, refl);
-            window = window_within (read_acts o start vs) x.2 ((fits a k s).role ∙ w) (read_within o start vs);
-            grounds = tt;
-            shows = x.3;
-          },
-        ))
-
     pub part_written : {a b : S} → (facts a).stands.role ≡ Within
         → PartDone facts o h (write_acts o start (map f (take i es))) i a b
         → Called facts a b (HoldsHeader o h) (λ j k. write o start (map f es)) (Ok tt) (by_steps n (LeavesObject o h))

@@ -16,7 +16,8 @@ use Rattle.jr_model.specs.Checks.{Word, is_array, is_primitive, is_text, Nothing
 use Rattle.jr_model.specs.References.{new_array, delete_reference}
 use Rattle.jr_model.specs.References.{room_for, resolved, resolved_both, comparison, creation, made}
 use Rattle.jr_model.specs.References.{get_object_ref_type, pop_local_frame}
-use Rattle.jr_model.specs.Objects.{length_reading, get_array_length, nest_array, nest_string, elements_get, elements_set}
+use Rattle.jr_model.specs.Objects.{length_reading, get_array_length, nest_array, nest_string}
+use Rattle.jr_model.specs.Objects.{elements_get, elements_set}
 use Rattle.jr_model.specs.Parts.{looked, not_null, reserve}
 use Rattle.jr_model.specs.Calls.{Call, ◌>>=◌, ◌>>◌, decided, done, refuse, refuse_if, some_act, entered, for_object}
 use Rattle.jr_model.specs.State.{Contents, opening}

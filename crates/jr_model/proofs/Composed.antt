@@ -228,5 +228,6 @@ opened_gives {A} {Whole = Whole} {Worse = Worse} {work = work} good bad barred p
         subst (λ l. Whole old l new) (sym r.1.0) (good old new r.0 (p.goes old new r.0 x r.1.1))
 
     fails : (old new : Frames) (acts : List Act) (e : Fault) → opened work old acts (Err e) new → Worse old acts e new
-    fails old new acts e r = (entered_gives {Whole = λ f xs g. Unit {0}} {Worse = Worse} (λ f g xs q. tt) bad barred p).fails old new acts e
+    fails old new acts e r =
+        (entered_gives {Whole = λ f xs g. Unit {0}} {Worse = Worse} (λ f g xs q. tt) bad barred p).fails old new acts e
         (⊎_elim (λ x. inl x) (λ x. inr (x.0, x.1.0, x.1.1)) r)

@@ -332,33 +332,3 @@ module _ (c : Config) (last : ℕ) where
         subst (λ z. KeepsReached c (state before) z used) (sym (state_append before (by t (Gate Shut) ∷ inside)))
             (keeps c last t (state before) s swept inside cleared dropped used w both.1.1 own whole),
       )
-
--- a collection that a thread did lies in what it has seen
-pub collection_in : {old new : PassView} (cleared : List Handle) (dropped : List ℕ) (used : ℕ)
-    → Did old new (collection_acts cleared dropped used) → CollectionIn old new cleared dropped used
-collection_in {old} {new} cleared dropped used d =
-    let t = old.thread in
-    let f = first_act t (Gate Shut) (sweeping_acts cleared dropped used ++ Gate Reopen ∷ []) d.begins.0
-    (mine_did (collection_acts cleared dropped used) d) in
-    let k = own_cut t (sweeping_acts cleared dropped used) (Gate Reopen) [] f.since f.rest in
-    record {
-      before = old.seen ++ f.before;
-      inside = k.before;
-      rest = k.since;
-      from = (f.before, refl);
-      parts = sym d.begins.1
-          ∙ (ap (λ l. old.seen ++ l) f.parts
-          ∙ (sym (append_assoc old.seen f.before (by t (Gate Shut) ∷ f.since))
-          ∙ (ap (λ l. (old.seen ++ f.before) ++ by t (Gate Shut) ∷ l) k.parts
-          ∙ sym (append_assoc (old.seen ++ f.before) (by t (Gate Shut) ∷ k.before) (by t (Gate Reopen) ∷ k.since)))));
-      own = k.first;
-    }
-
--- a collection that a thread did and that left nothing out is exact
-pub collects_exactly : {old new : PassView} {cleared : List Handle} {dropped : List ℕ} {used : ℕ}
-    (k : Collects old new cleared dropped used)
-    → IsExact (state k.place.before) cleared dropped × KeepsReached old.config (state k.place.before)
-    (state (k.place.before ++ by old.thread (Gate Shut) ∷ k.place.inside)) used
-collects_exactly {old} {cleared} {dropped} {used} k =
-    collection_is_exact old.config old.last old.thread k.place.before k.place.inside k.place.rest cleared dropped used
-    (subst (IsLegal old.config old.last) k.place.parts k.did.legal) k.place.own k.whole

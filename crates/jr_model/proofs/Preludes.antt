@@ -143,14 +143,6 @@ module _ {asked : ℕ} where
 
   -- FRAMES
 
-  pub left_prelude : IsPrelude asked frame_left
-  left_prelude = framed_gives (λ old. refuse_if (nat_le FRAMES (length old.frames)) LocalsFull) (λ f.
-      check (nat_le FRAMES (length f.frames)) LocalsFull refl)
-
-  pub to_pop_prelude : IsPrelude asked frame_to_pop
-  to_pop_prelude = framed_gives (λ old. refuse_if (nat_lt (length old.frames) 2) NoFrame) (λ f.
-      check (nat_lt (length f.frames) 2) NoFrame refl)
-
   module _ (c : Config) (last thread : ℕ) where
     pub resolved_prelude : (a : Word) → IsPrelude asked (resolved c last thread a)
     resolved_prelude a = bind_prelude (check _ _ refl) (λ x.

@@ -36,10 +36,7 @@ left_role r counts = ⊎_elim
 
 pub left_fresh : (r : Role) (f : Bool) → f ≡ fresh_after f (act_of_exit r)
 left_fresh Outside f = refl
-left_fresh Within f = refl
-left_fresh Knocking f = refl
-left_fresh Announcing f = refl
-left_fresh Collecting f = refl
+left_fresh _ f = refl
 
 -- a load of the gate changes no role
 pub gate_load_role : (name : GateLoad) (p : GateParts) (r : Role) → r ≡ role_after r (act_of_gate_load name p)

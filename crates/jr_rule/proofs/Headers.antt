@@ -14,14 +14,7 @@ use Rattle.jr_steps.specs.Knowing.{state_of, words_for, IsFilled}
 
 pub kind_some : (k : Kind) → 1 ≤ kind_code k
 kind_some Plain = omega arith
-kind_some Boolean = omega arith
-kind_some Byte = omega arith
-kind_some Char = omega arith
-kind_some Short = omega arith
-kind_some Int = omega arith
-kind_some Long = omega arith
-kind_some Objects = omega arith
-kind_some Text = omega arith
+kind_some _ = omega arith
 
 -- a header is 0 where no object is present
 pub header_none : (x : Option Contents) (w : ℕ) → IsHeaderOf x w → w ≡ 0 → x ≡ None

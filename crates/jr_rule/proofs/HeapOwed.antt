@@ -45,17 +45,10 @@ use Rattle.jr_rule.proofs.Told.{SawTop, ClaimedTop, SawElement, PutElement, PutO
 
 -- a word of a kind is one without a choice: an element of an object array is 0, or else an object's number
 word_is : (s : State) (kind : Kind) (v : ℕ) → ∥ IsWord s kind v ∥₁ → IsWord s kind v
-word_is s Plain v h = ∥∥₁_elim h (hlevel props) (λ z. z)
-word_is s Boolean v h = ∥∥₁_elim h (hlevel props) (λ z. z)
-word_is s Byte v h = ∥∥₁_elim h (hlevel props) (λ z. z)
-word_is s Char v h = ∥∥₁_elim h (hlevel props) (λ z. z)
-word_is s Short v h = ∥∥₁_elim h (hlevel props) (λ z. z)
-word_is s Int v h = ∥∥₁_elim h (hlevel props) (λ z. z)
-word_is s Long v h = ∥∥₁_elim h (hlevel props) (λ z. z)
-word_is s Text v h = ∥∥₁_elim h (hlevel props) (λ z. z)
 word_is s Objects v h = dite (ℕ_discrete v 0)
     (λ e. inl e)
     (λ ne. inr (∥∥₁_elim h (hlevel props) (λ z. ⊎_elim (λ e. absurd (ne e)) (λ p. p) z)))
+word_is s _ v h = ∥∥₁_elim h (hlevel props) (λ z. z)
 
 module _ (k : Known) where
   -- a load of a header, by a thread within or one that collects

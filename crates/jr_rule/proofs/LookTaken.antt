@@ -6,6 +6,8 @@ use Rattle.jr_word.specs.declared.config.Config.{Config}
 use Rattle.jr_model.specs.declared.event.Act.{Act}
 use Rattle.jr_model.specs.History.{role_from}
 use Rattle.jr_steps.specs.Knowing.{Goes, Took, anything, fresh_from, keeps}
+use Rattle.jr_rule.specs.declared.cells.Cells.{Ghosts}
+use Rattle.jr_rule.specs.declared.over.StepsOver.{StepsOver}
 use Rattle.jr_rule.specs.declared.room.Room.{Room}
 use Rattle.jr_rule.specs.declared.owned_cells.OwnedCells.{OwnedCells}
 use Rattle.jr_rule.specs.declared.row.RoomCells.{RoomCells}
@@ -19,6 +21,17 @@ use Rattle.jr_rule.specs.Sites.{IsAtThread, IsSeatedIn}
 use Rattle.jr_rule.proofs.SeatStepped.{seat_stepped, seat_went}
 use Rattle.jr_rule.proofs.StepTaken.{Leaves, Reads, may_any, leads_next, leaves, standing_next, its_acts}
 use Rattle.jr_rule.proofs.Told.{plainly}
+
+-- an owner's steps are made of what a pass is made of
+abbrev pub owner_over : {LAST : ℕ} {P : Type 0} {G : Ghosts (OwnedCells LAST) P} → StepsOver (OwnedCells LAST) P G
+    → Holder
+owner_over s = record {
+  seat = s.cells.cells.seat;
+  thread = s.cells.cells.thread;
+  role = s.role;
+  fresh = s.fresh;
+  hint = s.hint;
+}
 
 -- the cells that the holder stepped by are these afterwards; the acts change neither its role nor whether it is fresh
 module _ {acts : List Act} (h : Holder) (x : RoomCells) (table : x.seat.table_id ≡ h.seat.table_id)

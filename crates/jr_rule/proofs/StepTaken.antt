@@ -1,5 +1,6 @@
 -- What a step owes at a place and with words that are named
 -- otherwise, and what it told makes of the thread that took it.
+pub mod AtPlaces
 use Rattle.std.proofs.Common.{◌≡◌, ◌<◌, ◌≤◌, ◌+◌, ℕ, List, sym, subst, eqb, arith, Bool}
 use Rattle.std.proofs.Common.{false, ◌++◌, map, refl, ap, ◌∙◌, true, [], ◌∷◌}
 use prog.Atomic.{either}

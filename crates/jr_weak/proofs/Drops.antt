@@ -1,5 +1,5 @@
 -- Objects are dropped, number by number.
-use Rattle.std.proofs.Common.{◌≡◌, ⊎_elim, inl, inr, ◌+◌, ◌<◌, ◌≤◌, ℕ, Bool, true, false}
+use Rattle.std.proofs.Common.{option_to_list, ◌≡◌, ⊎_elim, inl, inr, ◌+◌, ◌<◌, ◌≤◌, ℕ, Bool, true, false}
 use Rattle.std.proofs.Common.{Option, Some, None, IsSome, List, [], ◌∷◌, ◌++◌}
 use Rattle.std.proofs.Common.{cond, refl, sym, ap, subst, ◌∙◌, arith, nat_eq, ne_eqb}
 use mathlib.Core.Logic.{dite, ∥∥₁_map}
@@ -21,7 +21,7 @@ use Rattle.jr_steps.specs.Knowing.{Facts, Standing, AreOf, MayKnow, Took, anythi
 use Rattle.jr_steps.proofs.CollectorFacts.{same_tables}
 use Rattle.jr_steps.proofs.StepFacts.{goes_did}
 use Rattle.jr_weak.specs.Marks.{IsMarked}
-use Rattle.jr_weak.specs.Sweeping.{listed, MayDrop, NumberIsSwept, SweepsNumber}
+use Rattle.jr_weak.specs.Sweeping.{MayDrop, NumberIsSwept, SweepsNumber}
 use Rattle.jr_weak.specs.Sweeping.{AreCleared, AreDropped, DropsUnreached}
 use Rattle.jr_weak.proofs.Kept.{DroppedFrom, dropped_from, exactly_same, exactly_dropped}
 use Rattle.jr_weak.proofs.Leading.{reached_on, reached_present}
@@ -207,7 +207,7 @@ module _ (marks : List Bool) where
 
   -- one number more
   drops_turn : (i : ℕ) (l : List ℕ) (one : Option ℕ) (j k k' : Known) → AreCleared marks j → DroppedTo marks i l j k
-      → NumberIsSwept marks (i + 1) one k k' → DroppedTo marks (i + 1) (l ++ listed one) j k'
+      → NumberIsSwept marks (i + 1) one k k' → DroppedTo marks (i + 1) (l ++ option_to_list one) j k'
   drops_turn i l one j k k' m was z = record {
     may = z.may;
     ahead = λ r l. z.others r (λ e. absurd (omega arith)) ∙ was.ahead r (omega arith);

@@ -20,9 +20,6 @@ use Rattle.jr_weak.specs.Marks.{IsMarked, IsSound, with_mark}
 use Rattle.jr_weak.specs.Marking.{IsMarking, MarkedTo}
 use Rattle.jr_weak.proofs.Queues.{marked_here, marked_more, marked_less}
 
-pub same_tables_self : (s : State) → HaveSameTables s s
-same_tables_self s = record { refs = refl; given = refl; locals = refl; objects = refl; used = refl }
-
 -- what is reached is so in the same tables
 pub reached_on : {s s' : State} → HaveSameTables s s' → (o : ℕ) → IsReached s o → IsReached s' o
 reached_on {s} {s'} same o r = reached_mono s s' (record {

@@ -2,7 +2,6 @@
 use Rattle.std.proofs.Common.{◌⊎◌, ⊎_elim, inl, inr, ◌↔◌, nat_eq, take, replicate, Contains, ne_eqb, ◌≡◌, ◌≢◌, ◌+◌}
 use Rattle.std.proofs.Common.{◌<◌, ◌≤◌, ℕ, zero, suc, Bool, true, false, List, [], ◌∷◌, length, get_or, slice_set}
 use Rattle.std.proofs.Common.{refl, sym, ap, subst, ◌∙◌, arith, length-set, get_or-set_same, get_or-set_other}
-use lib.Seq.{set-get_or}
 use Rattle.std.specs.List.{IsDistinct}
 use Rattle.std.proofs.lemmas.List.{get_or-take, get_or-replicate, length-replicate, length-take-le}
 use Rattle.std.proofs.lemmas.Map.Keys.{IsDistinct-from_apart}
@@ -105,12 +104,6 @@ same_default (m ∷ ms) (suc i) b d l = same_default ms i b d (omega arith)
 pub not_marked : (ms : List Bool) (o at : ℕ) (b : Bool) → at ≡ o → o < length ms → b ≡ get_or ms at b → b ≡ false
     → get_or ms o false ≡ false
 not_marked ms o at b e l is n = same_default ms o false b l ∙ (ap (λ z. get_or ms z b) (sym e) ∙ (sym is ∙ n))
-
--- a mark that stands is set again
-pub marked_again : (ms : List Bool) (o at : ℕ) (b : Bool) → at ≡ o → o < length ms → b ≡ get_or ms at b → b ≡ true
-    → ms ≡ slice_set ms o true
-marked_again ms o at b e l is n =
-    sym (ap (λ z. slice_set ms o z) (sym n ∙ (is ∙ ap (λ z. get_or ms z b) e)) ∙ set-get_or ms o b)
 
 -- a marked object has a mark
 pub marked_few : (ms : List Bool) (o : ℕ) → IsMarked ms o → o < length ms

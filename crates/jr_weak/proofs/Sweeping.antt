@@ -1,5 +1,5 @@
 -- How a sweep goes on: place by place, where at the most one thing is taken.
-use Rattle.std.proofs.Common.{◌≡◌, ◌+◌, ◌<◌, ◌≤◌, ℕ, Bool, false, cond, Option, Some, None, is_some}
+use Rattle.std.proofs.Common.{option_to_list, ◌≡◌, ◌+◌, ◌<◌, ◌≤◌, ℕ, Bool, false, cond, Option, Some, None, is_some}
 use Rattle.std.proofs.Common.{List, [], ◌∷◌, ◌++◌, length, map, Contains, refl, sym, ap, subst, ◌∙◌, arith}
 use Rattle.std.specs.List.{AllByRecursion, IsDistinct}
 use Rattle.std.proofs.lemmas.List.{append-nil, map-append, length-append}
@@ -12,7 +12,7 @@ use Rattle.jr_model.proofs.Stays.{did_nothing, did_then}
 use Rattle.jr_steps.specs.declared.known.Known.{Known}
 use Rattle.jr_steps.specs.Knowing.{Facts, AreOf, MayKnow, Went, view}
 use Rattle.jr_compact.specs.Counting.{TakesWithin}
-use Rattle.jr_weak.specs.Sweeping.{listed, Sweeps}
+use Rattle.jr_weak.specs.Sweeping.{Sweeps}
 
 all_more : {X : Type 0} (P : X → Type 0) (xs : List X) (x : X) → AllByRecursion P xs → P x
     → AllByRecursion P (xs ++ x ∷ [])
@@ -51,7 +51,7 @@ taken_none {same = same} =
 pub taken_next : {X : Type 0} {at : X → ℕ} {same : X → X → Bool} {IsTo : X → Type 0} {n : ℕ} {taken : List X}
     → ((x y : X) → at x < at y → same x y ≡ false) → (one : Option X) → TakenTo at same IsTo n taken
     → ((x : X) → at x ≡ n + 1 → IsTo x → one ≡ Some x) → ((x : X) → one ≡ Some x → IsTo x × (at x ≡ n + 1))
-    → TakenTo at same IsTo (n + 1) (taken ++ listed one)
+    → TakenTo at same IsTo (n + 1) (taken ++ option_to_list one)
 taken_next {at = at} {same = same} {IsTo = IsTo} {n = n} {taken = taken} apart None was all only =
     subst (TakenTo at same IsTo (n + 1)) (sym (append-nil taken)) (record {
       all = λ x low high to. dite (ℕ_discrete (at x) (n + 1)) (λ e. absurd (let bad = all x e to in cc))
@@ -74,7 +74,7 @@ taken_next {at = at} {same = same} {IsTo = IsTo} {n = n} {taken = taken} apart (
           (all_weaker (λ x. at x ≤ n) (λ x. same x g ≡ false) taken (λ x l. apart x g (omega arith)) was.low);
     }
 
-long : {X : Type 0} (one : Option X) (did : Bool) → is_some one ≡ did → length (listed one) ≡ cond did 1 0
+long : {X : Type 0} (one : Option X) (did : Bool) → is_some one ≡ did → length (option_to_list one) ≡ cond did 1 0
 long None did is = ap (λ b. cond b 1 0) is
 long (Some x) did is = ap (λ b. cond b 1 0) is
 
@@ -108,13 +108,13 @@ module _ {X S : Type 0} {facts : S → Facts} {act : X → Act} {met : Known →
   pub sweeps_next : {can : Known → Type 0} {shows : Option X → Known → Known → Type 0} {a b c : S} {n : ℕ} (i : ℕ)
       (did : Bool) → ((l : List X) (j k : Known) → past i l j k → can k)
       → ((l : List X) (one : Option X) (j k k' : Known) → met j → past i l j k → shows one k k'
-      → past (i + 1) (l ++ listed one) j k')
+      → past (i + 1) (l ++ option_to_list one) j k')
       → SweepsTo facts act met past i a b n → Sweeps facts act can shows b c did
       → SweepsTo facts act met past (i + 1) a c (n + cond did 1 0)
   sweeps_next {n = n} i did gives turn p q = record {
-    taken = p.taken ++ listed q.taken;
-    counted = length-append p.taken (listed q.taken)
-        ∙ (ap (λ m. m + length (listed q.taken)) p.counted ∙ ap (λ m. n + m) (long q.taken did q.counted));
+    taken = p.taken ++ option_to_list q.taken;
+    counted = length-append p.taken (option_to_list q.taken)
+        ∙ (ap (λ m. m + length (option_to_list q.taken)) p.counted ∙ ap (λ m. n + m) (long q.taken did q.counted));
     went = record {
       stands_is = q.went.stands_is ∙ p.went.stands_is;
       hint_is = q.went.hint_is ∙ p.went.hint_is;
@@ -124,8 +124,8 @@ module _ {X S : Type 0} {facts : S → Facts} {act : X → Act} {met : Known →
             y.0,
             y.1,
             (
-              subst (Did (view k) (view y.0)) (sym (map-append act p.taken (listed q.taken)))
-                  (did_then (map act p.taken) (map act (listed q.taken)) x.2.0 y.2.0),
+              subst (Did (view k) (view y.0)) (sym (map-append act p.taken (option_to_list q.taken)))
+                  (did_then (map act p.taken) (map act (option_to_list q.taken)) x.2.0 y.2.0),
               let some = x.2.1 in let two = y.2.1 in omega arith,
             ),
             turn p.taken q.taken k x.0 y.0 m x.3 y.3,

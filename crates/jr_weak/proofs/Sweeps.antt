@@ -1,5 +1,5 @@
 -- Weak references are cleared, slot by slot.
-use Rattle.std.proofs.Common.{◌≡◌, ◌≢◌, ◌+◌, ◌<◌, ◌≤◌, ℕ, Bool, true, false, Option, Some, None}
+use Rattle.std.proofs.Common.{option_to_list, ◌≡◌, ◌≢◌, ◌+◌, ◌<◌, ◌≤◌, ℕ, Bool, true, false, Option, Some, None}
 use Rattle.std.proofs.Common.{List, [], ◌∷◌, ◌++◌, cond, refl, sym, ap, subst, ◌∙◌, arith}
 use mathlib.Core.Logic.{dite, ∥∥₁_map}
 use native.Mathlib.Decide.{ℕ_discrete}
@@ -26,7 +26,7 @@ use Rattle.jr_steps.proofs.CollectorFacts.{same_tables}
 use Rattle.jr_steps.proofs.StepFacts.{goes_did}
 use Rattle.jr_weak.specs.Marks.{IsMarked, weak_in}
 use Rattle.jr_weak.specs.Marking.{IsMarkedNow}
-use Rattle.jr_weak.specs.Sweeping.{listed, SlotIsSwept, SweepsSlot, ClearsUnreached}
+use Rattle.jr_weak.specs.Sweeping.{SlotIsSwept, SweepsSlot, ClearsUnreached}
 use Rattle.jr_weak.proofs.Kept.{ClearedFrom, cleared_from, exactly_same, exactly_cleared}
 use Rattle.jr_weak.proofs.Leading.{closed_on, reached_on}
 use Rattle.jr_weak.proofs.RootMarks.{alone_is}
@@ -234,7 +234,7 @@ module _ (marks : List Bool) where
 
   -- one slot more
   clears_turn : (i : ℕ) (l : List Handle) (one : Option Handle) (j k k' : Known) → IsMarkedNow marks j
-      → ClearedTo marks i l j k → SlotIsSwept marks i one k k' → ClearedTo marks (i + 1) (l ++ listed one) j k'
+      → ClearedTo marks i l j k → SlotIsSwept marks i one k k' → ClearedTo marks (i + 1) (l ++ option_to_list one) j k'
   clears_turn i l one j k k' m was z = record {
     marked = z.marked;
     objects = z.objects ∙ was.objects;

@@ -1,5 +1,5 @@
 -- What clearing and dropping show.
-use Rattle.std.specs.Prelude.{◌≡◌, ◌≢◌, ℕ, Bool, Option, Some, None, is_some, List, [], ◌∷◌, length, map, nat_eq}
+use Rattle.std.specs.Prelude.{◌≡◌, ◌≢◌, ℕ, Bool, Option, Some, is_some, option_to_list, List, length, map, nat_eq}
 use Rattle.std.specs.List.{AllByRecursion, Contains, IsDistinct}
 use Rattle.jr_word.specs.declared.handle.RefKind.TheVariants.{Weak}
 use Rattle.jr_model.specs.declared.event.Found.TheVariants.{Object}
@@ -45,11 +45,6 @@ pub record MayDrop (marks : List Bool) (k : Known) : Type 0 where
   pub named : (h : Handle) (o : ℕ) → h.kind ≡ Weak → (state_of k).refs h ≡ Object o → IsMarked marks o
   pub settled : IsSettled k
 
--- what there is, as a list
-abbrev pub listed : {X : Type 0} → Option X → List X
-listed None = []
-listed (Some x) = x ∷ []
-
 -- the slot of an index was looked at, and its reference cleared if it was to be
 pub record SlotIsSwept (marks : List Bool) (i : ℕ) (cleared : Option Handle) (j k : Known) : Type 0 where
   pub marked : IsMarkedNow marks k
@@ -75,7 +70,7 @@ module _ {S : Type 0} (facts : S → Facts) where
     pub taken : Option X
     pub counted : is_some taken ≡ did
     pub went : Went facts old new (facts old).stands met
-        (λ j k. Did (view j) (view k) (map act (listed taken)) × TakesWithin 2 j k) (shows taken)
+        (λ j k. Did (view j) (view k) (map act (option_to_list taken)) × TakesWithin 2 j k) (shows taken)
 
   -- a slot was swept, and something was cleared or not
   abbrev pub SweepsSlot : List Bool → ℕ → S → S → Bool → Type 0

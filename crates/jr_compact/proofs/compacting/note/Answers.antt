@@ -1,4 +1,5 @@
-use Rattle.std.proofs.Common.{◌≤◌, ◌<◌, ◌+◌, ◌++◌, ◌∙◌, ap, sym, subst, subst₂, take}
+use Rattle.std.proofs.Common.{◌≤◌, ◌<◌, ◌+◌, ◌++◌, ◌∙◌, List, ap, sym, subst, take}
+use Rattle.jr_compact.specs.declared.placed.PlacedObject.{PlacedObject}
 use Rattle.std.proofs.Common.{length, arith, rules, append-nil, option_to_list}
 use Rattle.std.proofs.lemmas.List.{take_more_set}
 use Rattle.jr_steps.specs.Knowing.{Standing}
@@ -51,6 +52,10 @@ overflow_add-count g c =
 pub loop-object-preserved : goal.loop-object-preserved
 loop-object-preserved g c =
     let below = c.loop-object.invariant.0 in
+    let noted = take c.loop-object.count c.loop-object.noted in
+    let Noted : List PlacedObject → Type 0 = λ es. SawWithin g.S.Steps.facts (λ j. c.loop-object.object-index + 1)
+    c.args.steps.now c.scan_header-header.new.self (CanCompact c.args.present.now)
+    (IsNotedTo c.args.present.now (c.loop-object.object-index + 1) es) in
     let more = noted_more g.met.S.Steps.fits c.args.present.now c.loop-object.invariant.1 0 c.scan_header-header.result
     c.loop-object-test.true c.requires.role c.scan_header-header.ensures in
     elim c.match-of.branch [
@@ -58,29 +63,17 @@ loop-object-preserved g c =
           let test = c.loop-object-test.true in
           let room = c.requires.room in
           let long = c.loop-object.auto.noted in
-          let count = w.count-is in
-          let entry = sym c.of.ensures ∙ w.in-Some.is in (
+          let count = w.count-is in (
             (omega arith),
-            subst₂ (λ n es. SawWithin g.S.Steps.facts (λ j. c.loop-object.object-index + 1) c.args.steps.now
-                c.scan_header-header.new.self (CanCompact c.args.present.now) (IsNotedTo c.args.present.now
-                (c.loop-object.object-index + 1) (take n es))) (sym w.count-is) (sym w.noted-is)
-                (subst (λ es. SawWithin g.S.Steps.facts (λ j. c.loop-object.object-index + 1) c.args.steps.now
-                c.scan_header-header.new.self (CanCompact c.args.present.now)
-                (IsNotedTo c.args.present.now (c.loop-object.object-index + 1) es))
-                (ap (λ r. take c.loop-object.count c.loop-object.noted ++ option_to_list r) entry
-                ∙ sym (take_more_set c.loop-object.noted c.loop-object.count w.in-Some.entry (omega arith))) more),
+            subst Noted (ap (λ r. noted ++ option_to_list r) (sym c.of.ensures ∙ w.in-Some.is)
+                ∙ (sym (take_more_set c.loop-object.noted c.loop-object.count w.in-Some.entry (omega arith))
+                ∙ (λ i. take (sym w.count-is i) (sym w.noted-is i)))) more,
           )
       | in_default w ↦
           let count = w.count-is in (
             (omega arith),
-            subst₂ (λ n es. SawWithin g.S.Steps.facts (λ j. c.loop-object.object-index + 1) c.args.steps.now
-                c.scan_header-header.new.self (CanCompact c.args.present.now) (IsNotedTo c.args.present.now
-                (c.loop-object.object-index + 1) (take n es))) (sym w.count-is) (sym w.noted-is)
-                (subst (λ es. SawWithin g.S.Steps.facts (λ j. c.loop-object.object-index + 1) c.args.steps.now
-                c.scan_header-header.new.self (CanCompact c.args.present.now)
-                (IsNotedTo c.args.present.now (c.loop-object.object-index + 1) es))
-                (ap (λ r. take c.loop-object.count c.loop-object.noted ++ option_to_list r)
-                (sym c.of.ensures ∙ w.in_default.is) ∙ append-nil (take c.loop-object.count c.loop-object.noted)) more),
+            subst Noted (ap (λ r. noted ++ option_to_list r) (sym c.of.ensures ∙ w.in_default.is)
+                ∙ (append-nil noted ∙ (λ i. take (sym w.count-is i) (sym w.noted-is i)))) more,
           )
     ]
 

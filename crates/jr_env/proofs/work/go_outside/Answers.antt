@@ -27,7 +27,8 @@ returns-clause-one g c =
 
 pub returns-clause-next : goal.returns-clause-next
 returns-clause-next g c =
-    let ready : StandsReady g.S.Steps.facts Outside c.leave.new.steps c.args.held.now.frames = ready_left {role = Within}
-    (record { role_is = c.requires.stay.1; spent = c.requires.ready.spent; own = c.args.held.now.own })
-    c.leave.ensures in
-    can_call ready
+    let ready : StandsReady g.S.Steps.facts Within c.args.held.now.steps c.args.held.now.frames =
+    record { role_is = c.requires.stay.1; spent = c.requires.ready.spent; own = c.args.held.now.own } in
+    let left : StandsReady g.S.Steps.facts Outside c.leave.new.steps c.args.held.now.frames =
+    ready_left ready c.leave.ensures in
+    can_call left

@@ -1,36 +1,21 @@
 use Rattle.std.proofs.Common.{◌≡◌, refl, rules, subst}
 use Rattle.std.specs.Arc.{arc_value}
-use Rattle.jr_rule.specs.Passes.{Holder}
 use Rattle.jr_rule.specs.Sites.{IsSeatedIn}
-use Rattle.jr_rule.proofs.LookTaken.{look_stands, look_took, owned_next}
+use Rattle.jr_rule.proofs.LookTaken.{look_stands, look_took, owner_over, owned_next}
 use Rattle.jr_rule.proofs.of_site.StepsOverOwnedCellsOfSiteStepsIn.learn.Goals as goal
 
 pub invariant_of-self : goal.invariant_of-self
 invariant_of-self g c =
     let s = c.args.self.now in
-    let h : Holder = record {
-      seat = s.cells.cells.seat;
-      thread = s.cells.cells.thread;
-      role = s.role;
-      fresh = s.fresh;
-      hint = s.hint;
-    } in
     let is : c.deref.result.now ≡ arc_value s.cells.room = search rules in
     record {
       at = owned_next s.at (subst (IsSeatedIn c.learn.new.self) is c.learn.ensures.there) c.learn.ensures.same.1;
-      stands = look_stands h c.learn.new.self c.learn.ensures.same.1 c.learn.ensures.looked refl refl
+      stands = look_stands (owner_over s) c.learn.new.self c.learn.ensures.same.1 c.learn.ensures.looked refl refl
           c.learn.ensures.there s.stands;
     }
 
 pub returns-clause-step : goal.returns-clause-step
 returns-clause-step g c =
-    let s = c.args.self.now in
-    let h : Holder = record {
-      seat = s.cells.cells.seat;
-      thread = s.cells.cells.thread;
-      role = s.role;
-      fresh = s.fresh;
-      hint = s.hint;
-    } in
-    let took = look_took h c.learn.new.self c.learn.ensures.same.1 c.learn.ensures.looked refl refl in
+    let took =
+    look_took (owner_over c.args.self.now) c.learn.new.self c.learn.ensures.same.1 c.learn.ensures.looked refl refl in
     record { stands_is = took.stands_is; hint_is = took.hint_is; goes = took.goes }

@@ -1,11 +1,11 @@
-use Rattle.std.proofs.Common.{◌≡◌, ◌≤◌, refl, sym, ap, subst, ◌∙◌, ◌==◌}
-use Rattle.jr_word.specs.declared.config.Config.{Config}
+use Rattle.std.proofs.Common.{refl, sym, ap, ◌∙◌, ◌==◌}
 use Rattle.jr_steps.specs.Knowing.{words_for}
 use Rattle.jr_rule.specs.Image.{header_at}
 use Rattle.jr_rule.proofs.ActEffects.{publishing_role, publishing_fresh}
 use Rattle.jr_rule.proofs.HeapOwed.{publishes_header}
 use Rattle.jr_rule.proofs.Told.{publishing, Published}
-use Rattle.jr_rule.proofs.StepTaken.{exchange_at, header_in, may_in, owed, leaves, standing_next, took_with}
+use Rattle.jr_rule.proofs.StepTaken.{exchange_at, may_in, leaves, standing_next, took_with}
+use Rattle.jr_rule.proofs.StepTaken.AtPlaces.{header_owed}
 use Rattle.jr_rule.proofs.over.StepsOverSteps.claim_header.Goals as goal
 
 pub exchange-found-requires-clause-owed : goal.exchange-found-requires-clause-owed
@@ -14,13 +14,10 @@ exchange-found-requires-clause-owed g c =
     let h = c.args.header in
     let z = g.C.Cells.sight s.cells in
     let o = c.args.object in
-    let here : c.header_at-at.result ≡ header_at z.first.config o =
-    c.header_at-at.ensures ∙ ap (header_at z.first.config) c.from.ensures in
-    owed (header_in z.first.config o here c.requires.number.0 c.requires.number.1)
-    (may_in (g.C.Cells.sight s.cells) c.requires.role c.requires.filled) (λ k among role m.
-    let at : header_at k.config o ≡ c.header_at-at.result = ap (λ x. header_at x o) among.config ∙ sym here in
-    exchange_at k (Published o h k) at refl (sym c.pack-new.ensures) (publishes_header k role o h c.requires.number.0
-    (subst (λ (x : Config). o ≤ x.objects) (sym among.config) c.requires.number.1) c.requires.header m))
+    header_owed o (c.header_at-at.ensures ∙ ap (header_at z.first.config) c.from.ensures) c.requires.number
+    (may_in z c.requires.role c.requires.filled)
+    (λ k role few m. exchange_at k (Published o h k) refl refl (sym c.pack-new.ensures)
+    (publishes_header k role o h c.requires.number.0 few c.requires.header m))
 
 pub invariant_of-self : goal.invariant_of-self
 invariant_of-self g c =

@@ -1,10 +1,10 @@
-use Rattle.std.proofs.Common.{◌≡◌, ◌+◌, refl, sym, ap, ◌∙◌, arith}
-use Rattle.jr_rule.specs.Image.{element_at}
+use Rattle.std.proofs.Common.{◌+◌, refl, arith}
 use Rattle.jr_rule.proofs.CollectOwed.{moves_element}
 use Rattle.jr_rule.proofs.FromMayKnow.{move_few, move_is}
-use Rattle.jr_rule.proofs.Told.{plainly, Moved}
-use Rattle.jr_rule.proofs.StepTaken.{store_at, element_in, may_in, owed, leaves, standing_next, took}
+use Rattle.jr_rule.proofs.Told.{plainly}
+use Rattle.jr_rule.proofs.StepTaken.{may_in, leaves, standing_next, took}
 use Rattle.jr_rule.specs.Over.{facts_over as facts}
+use Rattle.jr_rule.proofs.StepTaken.AtPlaces.{element_owed}
 use Rattle.jr_rule.proofs.over.StepsOverSteps.move_element.Goals as goal
 
 pub overflow_add-place : goal.overflow_add-place
@@ -21,16 +21,11 @@ element_at-at-requires-clause-index g c = let s = c.args.self.now in
 pub store-requires-clause-owed : goal.store-requires-clause-owed
 store-requires-clause-owed g c =
     let s = c.args.self.now in
-    let z = g.C.Cells.sight s.cells in
-    let x = c.args.place + c.args.index in
-    let here : c.element_at-at.result ≡ element_at z.first.config x = c.element_at-at.ensures in
-    owed (element_in z.first.config x here
-    (move_few facts (λ s k h. h.1) s c.args.object c.args.header c.args.place c.args.index c.args.word c.requires.can))
-    (may_in (g.C.Cells.sight s.cells) c.requires.role c.requires.can) (λ k among role m.
-    let at : element_at k.config x ≡ c.element_at-at.result = ap (λ y. element_at y x) (among.config) ∙ sym here in
-    store_at k (Moved c.args.object c.args.place c.args.index k) at refl
-    (moves_element k role c.args.object c.args.header c.args.place c.args.index c.args.word c.requires.index
-    (move_is k c.args.object c.args.header c.args.place c.args.index c.args.word m)))
+    element_owed (c.args.place + c.args.index) c.element_at-at.ensures
+    (move_few facts (λ s k h. h.1) s c.args.object c.args.header c.args.place c.args.index c.args.word c.requires.can)
+    (may_in (g.C.Cells.sight s.cells) c.requires.role c.requires.can)
+    (λ k role m. moves_element k role c.args.object c.args.header c.args.place c.args.index c.args.word
+    c.requires.index (move_is k c.args.object c.args.header c.args.place c.args.index c.args.word m))
 
 pub invariant_of-self : goal.invariant_of-self
 invariant_of-self g c =

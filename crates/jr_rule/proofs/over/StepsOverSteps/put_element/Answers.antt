@@ -1,12 +1,12 @@
-use Rattle.std.proofs.Common.{◌≡◌, ◌+◌, refl, sym, ap, ◌∙◌, arith}
-use Rattle.jr_rule.specs.Image.{element_at}
+use Rattle.std.proofs.Common.{◌+◌, refl, arith}
 use Rattle.jr_rule.proofs.HeapOwed.{puts_element}
 use mathlib.Core.Logic.{∥∥₁_map}
 use Rattle.std.proofs.Math.Logic.{∥∥₁_elim}
 use Rattle.std.proofs.Props.{props}
 use Rattle.jr_rule.proofs.FromMayKnow.{known_few}
-use Rattle.jr_rule.proofs.Told.{plainly, PutElement}
-use Rattle.jr_rule.proofs.StepTaken.{store_at, element_in, may_in, owed, leaves, standing_next, took}
+use Rattle.jr_rule.proofs.Told.{plainly}
+use Rattle.jr_rule.proofs.StepTaken.{may_in, leaves, standing_next, took}
+use Rattle.jr_rule.proofs.StepTaken.AtPlaces.{element_owed}
 use Rattle.jr_rule.proofs.over.StepsOverSteps.put_element.Goals as goal
 
 pub overflow_add-header : goal.overflow_add-header
@@ -24,16 +24,13 @@ element_at-at-requires-clause-index g c = let s = c.args.self.now in known_few
 pub store-requires-clause-owed : goal.store-requires-clause-owed
 store-requires-clause-owed g c =
     let s = c.args.self.now in
-    let z = g.C.Cells.sight s.cells in
-    let x = c.args.header.place + c.args.index in
-    let here : c.element_at-at.result ≡ element_at z.first.config x = c.element_at-at.ensures in
-    owed (element_in z.first.config x here (known_few (g.met.C.Cells.sound s.cells s.place s.at)
+    element_owed (c.args.header.place + c.args.index) c.element_at-at.ensures
+    (known_few (g.met.C.Cells.sound s.cells s.place s.at)
     (may_in (g.C.Cells.sight s.cells) c.requires.role c.requires.known) c.args.object c.args.header c.args.index (λ k h.
-    h.0) c.requires.index)) (may_in (g.C.Cells.sight s.cells) c.requires.role c.requires.known) (λ k among role m.
-    let at : element_at k.config x ≡ c.element_at-at.result = ap (λ y. element_at y x) (among.config) ∙ sym here in
-    store_at k (PutElement c.args.object c.args.index c.args.word k) at refl
-    (puts_element k role c.args.object c.args.header (∥∥₁_elim m (hlevel props) (λ q. q.0)) c.args.index
-    c.requires.index c.args.word c.requires.kind (∥∥₁_map m (λ q. q.1))))
+    h.0) c.requires.index)
+    (may_in (g.C.Cells.sight s.cells) c.requires.role c.requires.known)
+    (λ k role m. puts_element k role c.args.object c.args.header (∥∥₁_elim m (hlevel props) (λ q. q.0)) c.args.index
+    c.requires.index c.args.word c.requires.kind (∥∥₁_map m (λ q. q.1)))
 
 pub invariant_of-self : goal.invariant_of-self
 invariant_of-self g c =

@@ -1,11 +1,11 @@
-use Rattle.std.proofs.Common.{◌≡◌, ◌+◌, refl, sym, ap, ◌∙◌, arith}
-use Rattle.jr_rule.specs.Image.{element_at}
+use Rattle.std.proofs.Common.{◌+◌, refl, arith}
 use Rattle.jr_rule.proofs.HeapOwed.{puts_own}
 use Rattle.std.proofs.Math.Logic.{∥∥₁_elim}
 use Rattle.std.proofs.Props.{props}
 use Rattle.jr_rule.proofs.FromMayKnow.{own_few}
-use Rattle.jr_rule.proofs.Told.{plainly, PutOwn}
-use Rattle.jr_rule.proofs.StepTaken.{store_at, element_in, may_in, owed, leaves, standing_next, took}
+use Rattle.jr_rule.proofs.Told.{plainly}
+use Rattle.jr_rule.proofs.StepTaken.{may_in, leaves, standing_next, took}
+use Rattle.jr_rule.proofs.StepTaken.AtPlaces.{element_owed}
 use Rattle.jr_rule.proofs.over.StepsOverSteps.put_reserved.Goals as goal
 
 pub overflow_add-place : goal.overflow_add-place
@@ -22,15 +22,11 @@ element_at-at-requires-clause-index g c = let s = c.args.self.now in own_few (g.
 pub store-requires-clause-owed : goal.store-requires-clause-owed
 store-requires-clause-owed g c =
     let s = c.args.self.now in
-    let z = g.C.Cells.sight s.cells in
-    let x = c.args.place + c.args.index in
-    let here : c.element_at-at.result ≡ element_at z.first.config x = c.element_at-at.ensures in
-    owed (element_in z.first.config x here (own_few (g.met.C.Cells.sound s.cells s.place s.at)
-    (may_in (g.C.Cells.sight s.cells) c.requires.role c.requires.own) c.args.place c.args.index (λ k h. h)))
-    (may_in (g.C.Cells.sight s.cells) c.requires.role c.requires.own) (λ k among role m.
-    let at : element_at k.config x ≡ c.element_at-at.result = ap (λ y. element_at y x) (among.config) ∙ sym here in
-    store_at k (PutOwn c.args.place c.args.index c.args.word k) at refl
-    (puts_own k role c.args.place c.args.index c.args.word (∥∥₁_elim m (hlevel props) (λ q. q))))
+    element_owed (c.args.place + c.args.index) c.element_at-at.ensures
+    (own_few (g.met.C.Cells.sound s.cells s.place s.at)
+    (may_in (g.C.Cells.sight s.cells) c.requires.role c.requires.own) c.args.place c.args.index (λ k h. h))
+    (may_in (g.C.Cells.sight s.cells) c.requires.role c.requires.own)
+    (λ k role m. puts_own k role c.args.place c.args.index c.args.word (∥∥₁_elim m (hlevel props) (λ q. q)))
 
 pub invariant_of-self : goal.invariant_of-self
 invariant_of-self g c =

@@ -1,24 +1,19 @@
-use Rattle.std.proofs.Common.{◌≡◌, ◌≤◌, refl, sym, ap, subst, ◌∙◌}
-use Rattle.jr_word.specs.declared.config.Config.{Config}
+use Rattle.std.proofs.Common.{refl, ap, ◌∙◌}
 use Rattle.jr_rule.specs.Image.{header_at}
 use Rattle.jr_rule.proofs.HeapOwed.{sees_header, header_or_zero}
-use Rattle.jr_rule.proofs.Told.{header_load, header_look_leaves, SawHeader}
+use Rattle.jr_rule.proofs.Told.{header_load, header_look_leaves}
 use Rattle.jr_rule.proofs.Readings.{one_header, found_so}
-use Rattle.jr_rule.proofs.StepTaken.{load_at, header_in, may_any, owed, standing_next, took}
+use Rattle.jr_rule.proofs.StepTaken.{may_any, standing_next, took}
+use Rattle.jr_rule.proofs.StepTaken.AtPlaces.{header_owed}
 use Rattle.jr_rule.proofs.over.StepsOverSteps.see_header.Goals as goal
 
 pub load-found-requires-clause-owed : goal.load-found-requires-clause-owed
 load-found-requires-clause-owed g c =
     let s = c.args.self.now in
     let z = g.C.Cells.sight s.cells in
-    let o = c.args.object in
-    let here : c.header_at-at.result ≡ header_at z.first.config o =
-    c.header_at-at.ensures ∙ ap (header_at z.first.config) c.from.ensures in
-    owed (header_in z.first.config o here c.requires.number.0 c.requires.number.1)
-    (may_any (g.C.Cells.sight s.cells) c.requires.role s.stands) (λ k among role m.
-    let at : header_at k.config o ≡ c.header_at-at.result = ap (λ x. header_at x o) among.config ∙ sym here in
-    load_at k (SawHeader o k) at (sees_header k role o c.requires.number.0
-    (subst (λ (x : Config). o ≤ x.objects) (sym among.config) c.requires.number.1)))
+    header_owed c.args.object (c.header_at-at.ensures ∙ ap (header_at z.first.config) c.from.ensures) c.requires.number
+    (may_any z c.requires.role s.stands)
+    (λ k role few m. sees_header k role c.args.object c.requires.number.0 few)
 
 pub invariant_of-self : goal.invariant_of-self
 invariant_of-self g c =

@@ -26,8 +26,8 @@ loop-index-preserved g c =
     let l = p.1 in
     let next : (n : ℕ) → n ≡ c.loop-index.cleared + cond c.clear_slot.result 1 0
     → ClearsTo g.S.Steps.facts marks (c.loop-index.index + 1) c.args.steps.now c.clear_slot.new.steps n =
-    λ n is. subst (ClearsTo g.S.Steps.facts marks (c.loop-index.index + 1) c.args.steps.now c.clear_slot.new.steps) (sym is)
-    (clears_next g.met.S.Steps.fits marks c.loop-index.index c.clear_slot.result p.0 c.clear_slot.ensures) in
+    λ n is. subst (ClearsTo g.S.Steps.facts marks (c.loop-index.index + 1) c.args.steps.now c.clear_slot.new.steps)
+    (sym is) (clears_next g.met.S.Steps.fits marks c.loop-index.index c.clear_slot.result p.0 c.clear_slot.ensures) in
     elim c.if-clear_slot.branch [
       | then-clear_slot w ↦
           let e = w.cleared-is in

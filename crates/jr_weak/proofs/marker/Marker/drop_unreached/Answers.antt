@@ -26,8 +26,8 @@ loop-index-preserved g c =
     let l = p.1 in
     let next : (n : ℕ) → n ≡ c.loop-index.dropped + cond c.drop_number.result 1 0
     → DropsTo g.S.Steps.facts marks (c.loop-index.index + 1) c.args.steps.now c.drop_number.new.steps n =
-    λ n is. subst (DropsTo g.S.Steps.facts marks (c.loop-index.index + 1) c.args.steps.now c.drop_number.new.steps) (sym is)
-    (drops_next g.met.S.Steps.fits marks c.loop-index.index c.drop_number.result p.0 c.drop_number.ensures) in
+    λ n is. subst (DropsTo g.S.Steps.facts marks (c.loop-index.index + 1) c.args.steps.now c.drop_number.new.steps)
+    (sym is) (drops_next g.met.S.Steps.fits marks c.loop-index.index c.drop_number.result p.0 c.drop_number.ensures) in
     elim c.if-drop_number.branch [
       | then-drop_number w ↦
           let e = w.dropped-is in
