@@ -7,6 +7,8 @@ pub mod NewArray
 pub mod Removing
 pub mod Carrying
 pub mod EnvCalls
+pub mod ReadWords
+pub mod Served
 pub mod MadeAgain
 pub mod FrameCalls
 pub mod ObjectLooks

@@ -13,7 +13,8 @@ use Rattle.jr_model.specs.History.{PassView, Did, state}
 use Rattle.jr_model.specs.Frames.{Frames}
 use Rattle.jr_model.specs.References as references
 use Rattle.jr_gate.specs.Performing.{ThreadState}
-use Rattle.jr_env.specs.Deeds.{call_by, decided, done, get_object_ref_type, new_plain, packed, ◌>>=◌}
+use Rattle.jr_env.specs.Deeds.{call_by, decided, done, get_object_ref_type, new_plain, ◌>>=◌}
+use Rattle.jr_env.specs.Requests.{packed}
 use Rattle.jr_syntax.specs.declared.name.Reference.{Reference}
 use Rattle.jr_syntax.specs.declared.name.Reference.TheVariants as refers
 use Rattle.jr_syntax.specs.declared.command.Command.{Command}
