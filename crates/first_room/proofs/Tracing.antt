@@ -18,8 +18,10 @@ use Rattle.jr_model.proofs.Stays.{did_then}
 use Rattle.jr_gate.specs.Performing.{ThreadState}
 use Rattle.jr_env.specs.Collections.{announced_collection}
 use Rattle.jr_env.specs.Deeds.{Deed, delete_reference, done, get_object_ref_type, is_same_object, new_array}
-use Rattle.jr_env.specs.Deeds.{new_reference, packed, pop_local_frame, push_local_frame, set_array_region}
-use Rattle.jr_env.specs.Deeds.{call_by, making_steps, ◌>>=◌, ◌>>◌}
+use Rattle.jr_env.specs.Deeds.{new_reference, pop_local_frame, push_local_frame, set_array_region}
+use Rattle.jr_env.specs.Requests.{packed}
+use Rattle.jr_env.specs.Deeds.{call_by, ◌>>=◌, ◌>>◌}
+use Rattle.jr_env.specs.Requests.{making_steps}
 use Rattle.first_room.specs.declared.TheConstants.{TRIES}
 use Rattle.first_room.specs.Calls.{Found, GotNoTurn, Shared, again, clearing, collecting_in_turn, collecting_twice}
 use Rattle.first_room.specs.Calls.{getting_no_turn, is_kept_out, none, preparing, sharing, word_made}

@@ -9,7 +9,7 @@ use Rattle.jr_model.specs.History.{Did, History, state}
 use Rattle.jr_model.specs.Objects as objects
 use Rattle.jr_gate.specs.Performing.{ThreadState}
 use Rattle.jr_env.specs.Deeds.{Deed, done, new_object_array, new_plain, pop_local_frame, push_local_frame, ◌>>=◌, ◌>>◌}
-use Rattle.jr_env.specs.StayDeeds.{within_by}
+use Rattle.jr_env.specs.Deeds.{within_by}
 use Rattle.first_room.specs.Calls.{Found, HasPrepared, SeesMore, Visited, is_handed, opens_region, reading_within}
 use Rattle.first_room.specs.Calls.{visiting}
 use Rattle.first_room.proofs.Answered.{ints_read}

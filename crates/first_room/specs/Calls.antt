@@ -17,7 +17,7 @@ use Rattle.jr_env.specs.Collections.{announced_collection, collection}
 use Rattle.jr_env.specs.Deeds.{Deed, done, new_plain, new_array, new_object_array, new_reference}
 use Rattle.jr_env.specs.Deeds.{delete_reference, is_same_object, get_object_ref_type}
 use Rattle.jr_env.specs.Deeds.{push_local_frame, pop_local_frame, set_array_region, ◌>>=◌, ◌>>◌}
-use Rattle.jr_env.specs.StayDeeds.{within_by}
+use Rattle.jr_env.specs.Deeds.{within_by}
 use Rattle.jr_threads.specs.Parts.{ComesOfDeed}
 
 -- what a thread found: the first, how many threads were inside as a collection was refused, whether its weak

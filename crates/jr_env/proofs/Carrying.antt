@@ -12,7 +12,7 @@ use Rattle.jr_steps.specs.declared.known.Known.{Known}
 use Rattle.jr_steps.specs.Knowing.{AreOf, Facts, Standing, state_of}
 use Rattle.jr_gate.specs.Performing.{IsAsBefore, IsMade, Performed, ThreadState, thread_state}
 use Rattle.jr_env.specs.Deeds.{CarriedOut, Deed, DoesDeed, answered_by, decided, ◌>>=◌}
-use Rattle.jr_env.specs.StayDeeds.{within_by}
+use Rattle.jr_env.specs.Deeds.{within_by}
 
 -- the same room and thread, and this role
 pub in_role : {s t : Standing} (r : Role) → IsAsBefore s t → s.role ≡ r → IsAsBefore (record s { role = r }) t

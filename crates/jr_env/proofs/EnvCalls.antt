@@ -24,7 +24,8 @@ use Rattle.jr_frames.specs.OverSteps.{CallsWhole}
 use Rattle.jr_env.specs.Works.{Completes}
 use Rattle.jr_frames.specs.Reading.{IsReadAs}
 use Rattle.jr_env.specs.Deeds.{CarriedOut, Deed, DoesDeed, DoesOutside, after_exit, answered_by}
-use Rattle.jr_env.specs.Deeds.{call, call_by, call_on_by, call_on_both_by, packed, packed_if}
+use Rattle.jr_env.specs.Deeds.{call, call_by, call_on_by, call_on_both_by}
+use Rattle.jr_env.specs.Requests.{packed, packed_if}
 use Rattle.jr_env.proofs.Carrying.{did_both, did_in_role, did_more, does_both, own_call}
 use Rattle.jr_env.proofs.EndedStays.{leaves}
 
@@ -104,23 +105,6 @@ module _ {S : Type 0} {facts : S → Facts} where
             (silent s.config) (work s.config s.last s.thread) answer) (sym (x.1).stands_is) x.2));
         outside = p.ready.role_is;
       }
-
-      -- a call that is handed a reference word
-      pub does_call_on : (work : Config → ℕ → ℕ → State → Word → Call A) (w : ℕ) (r : Word) → IsReadAs w r
-          → Completes facts a b t u (silent (facts a).stands.config)
-          (λ s. work (facts a).stands.config (facts a).stands.last (facts a).stands.thread s r) answer
-          → DoesOutside facts a b t.frames u.frames (call_on_by silent w work) answer
-      does_call_on work w r reads p =
-          does_more (λ k m x. (r, reads, x)) (does_call_by (λ c last t s. work c last t s r) p)
-
-      -- a call that is handed two reference words
-      pub does_call_on_both : (work : Config → ℕ → ℕ → State → Word → Word → Call A) (v w : ℕ) (q r : Word)
-          → IsReadAs v q → IsReadAs w r
-          → Completes facts a b t u (silent (facts a).stands.config)
-          (λ s. work (facts a).stands.config (facts a).stands.last (facts a).stands.thread s q r) answer
-          → DoesOutside facts a b t.frames u.frames (call_on_both_by silent v w work) answer
-      does_call_on_both work v w q r reads reads' p =
-          does_more (λ k m x. (q, r, reads, reads', x)) (does_call_by (λ c last t s. work c last t s q r) p)
 
   module _ {a b : S} {A B : Type 0} {f g : Frames} where
     -- the answer in another form

@@ -37,7 +37,8 @@ use Rattle.jr_frames.proofs.WholeCalls.{left_before}
 use Rattle.jr_env.specs.Deeds.{DoesDeed, DoesOutside}
 use Rattle.jr_env.specs.declared.env.Env.{Env}
 use Rattle.jr_env.specs.LentStays.{DoesInside}
-use Rattle.jr_env.specs.OpenStays.{IsInStay, StaysOn}
+use Rattle.jr_env.specs.OpenStays.{StaysOn}
+use Rattle.jr_env.specs.Requests.{IsInStay}
 use Rattle.jr_env.specs.Words.{WasExplained, explained_by_call, explaining}
 use Rattle.jr_env.specs.Works.{EndsStay}
 use Rattle.jr_env.proofs.Carrying.{own_call}

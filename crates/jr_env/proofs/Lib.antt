@@ -8,6 +8,8 @@ pub mod Removing
 pub mod Carrying
 pub mod EnvCalls
 pub mod ExplainedWords
+pub mod ReadWords
+pub mod Served
 pub mod MadeAgain
 pub mod FrameCalls
 pub mod ObjectLooks

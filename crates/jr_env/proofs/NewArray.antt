@@ -43,7 +43,7 @@ use Rattle.jr_heap.specs.Heap.{Fills, FillsWith, IsOwn, IsReady, no_act, own_wor
 use Rattle.jr_heap.proofs.Reserving.{own_range}
 use Rattle.jr_heap.proofs.StayFacts.{word_later}
 use Rattle.jr_heap.proofs.Filling.{among}
-use Rattle.jr_env.specs.Deeds.{making_steps}
+use Rattle.jr_env.specs.Requests.{making_steps}
 use Rattle.jr_env.specs.Works.{LearnsMade, MakesArray, Refers, object_made}
 use Rattle.jr_env.proofs.NewObject.{roomy, makes_nothing}
 

@@ -32,7 +32,8 @@ use Rattle.jr_frames.proofs.FramesAgree.{holds_did}
 use Rattle.jr_frames.proofs.StillReady.{one_act, ready_entered}
 use Rattle.jr_elements.specs.Copies.{answer_in}
 use Rattle.jr_env.specs.Calling.{CanCall}
-use Rattle.jr_env.specs.OpenStays.{BehindExit, EndsAsOneStay, Enters, EntersOver, IsInStay, StaysOn, StaysSince}
+use Rattle.jr_env.specs.Requests.{IsInStay}
+use Rattle.jr_env.specs.OpenStays.{BehindExit, EndsAsOneStay, Enters, EntersOver, StaysOn, StaysSince}
 use Rattle.jr_env.specs.Works.{EndsStayOver}
 use Rattle.jr_env.proofs.EndedStays.{can_call, leaves}
 use Rattle.jr_env.proofs.InsideGate.{completes_barred}
@@ -125,7 +126,7 @@ module _ {S : Type 0} (facts : S → Facts) (a b : S) (t : Table) where
       subst (λ (x : Fault). Enters facts a b t.frames (Err x)) (sym shut.0) (enters_barred shut.1)
 
   module _ (r : StandsReady facts Outside a t) where
-    shut_ready : ActedTo facts a b (Gate Knock ∷ Gate Withdraw ∷ []) anything LetsGoInTwo
+    pub shut_ready : ActedTo facts a b (Gate Knock ∷ Gate Withdraw ∷ []) anything LetsGoInTwo
         → StandsReady facts Outside b t
     shut_ready took =
         (completes_barred {A = Unit {0}} (λ c last thread s. done tt) r (Err Barred) refl (refl, took)).ready

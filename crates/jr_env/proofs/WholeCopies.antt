@@ -28,7 +28,6 @@ use Rattle.jr_elements.specs.Copies.{answer_in, copy_steps}
 use Rattle.jr_frames.specs.Table.{Table}
 use Rattle.jr_frames.proofs.FramesAgree.{holds_did}
 use Rattle.jr_frames.proofs.Reading.{ran_passed, ran_refused}
-use Rattle.jr_env.specs.Copies.{in_form}
 use Rattle.jr_frames.specs.Finding.{Finds}
 use Rattle.jr_frames.specs.Steady.{IsSteady}
 use Rattle.jr_frames.specs.OverSteps.{CallsWhole}
@@ -68,96 +67,13 @@ same_length m n e = grind (arith, nat_tests)
 other_length : (m n : ℕ) → m ≢ n → not (m == n) ≡ true
 other_length m n e = grind (arith, nat_tests)
 
--- ANSWERS IN ANOTHER FORM
-
-module _ {A B : Type 0} (form : A → B) where
-  in_form_grounds : {p q : PassView} {f g : Frames} {call : Call B} (answer : Result A Fault)
-      → Ran p q f g call (answer_in form answer) → Ran p q f g (in_form form call) answer
-  in_form_grounds (Ok x) r =
-      record { acts = r.acts; did = r.did; is = r.is; begun = r.begun; window = r.window; grounds = tt }
-  in_form_grounds (Err e) r =
-      record { acts = r.acts; did = r.did; is = r.is; begun = r.begun; window = r.window; grounds = r.grounds }
-
-  entered_is : (call : Call B) (f g : Frames) (acts : List Act) (answer : Result A Fault)
-      → entered (in_form form call) f acts answer g → entered call f acts (answer_in form answer) g
-  entered_is call f g acts answer (inl y) = inl (y.0, ap (λ r. answer_in form r) y.1, y.2)
-  entered_is call f g acts answer (inr y) = inr y
-
-  ran_whole : {p q : PassView} {f g : Frames} (call : Call B) (answer : Result A Fault)
-      → Ran p q f g (entered (in_form form call)) answer → Ran p q f g (entered call) (answer_in form answer)
-  ran_whole {f = f} {g = g} call (Ok x) r = record {
-    acts = r.acts;
-    did = r.did;
-    is = entered_is call f g r.acts (Ok x) r.is;
-    begun = r.begun;
-    window = r.window;
-    grounds = tt;
-  }
-  ran_whole {f = f} {g = g} call (Err e) r = record {
-    acts = r.acts;
-    did = r.did;
-    is = entered_is call f g r.acts (Err e) r.is;
-    begun = r.begun;
-    window = r.window;
-    grounds = r.grounds;
-  }
-
-  pub steady_in : (call : State → Call B) → IsSteady call → IsSteady (λ s. in_form form (call s))
-  steady_in call steady s s' keeps f g acts answer is = steady s s' keeps f g acts (answer_in form answer) is
-
-  module _ {S : Type 0} {facts : S → Facts} {a b : S} {f g : Frames} where
-    pub performed_in : {n : ℕ} {met : Known → Type 0} {shows : Known → Known → Type 0} (call : State → Call B)
-        (answer : Result A Fault) → Performed facts a b f g n met call (answer_in form answer) shows
-        → Performed facts a b f g n met (λ s. in_form form (call s)) answer shows
-    performed_in call answer p = record {
-      stands_is = p.stands_is;
-      ran = λ k s m. let x = p.ran k s m in (x.0, x.1, made_of (spending x.2) (in_form_grounds answer x.2.ran), x.3);
-    }
-
-    -- the whole call
-    whole_in : (n : ℕ) (call : State → Call B) (answer : Result A Fault)
-        → CallsWhole facts a b f g n (λ s. entered (in_form form (call s))) answer
-        → CallsWhole facts a b f g n (λ s. entered (call s)) (answer_in form answer)
-    whole_in n call answer p = record {
-      stands_is = p.stands_is;
-      ran = λ k s m. let x = p.ran k s m in (x.0, x.1, made_of (spending x.2) (ran_whole _ answer x.2.ran), x.3);
-    }
-
-  pub completes_in : {S : Type 0} {facts : S → Facts} {a b : S} {t u : Table} (n : ℕ) (call : State → Call B)
-      (answer : Result A Fault) → Completes facts a b t u n (λ s. entered (in_form form (call s))) answer
-      → Completes facts a b t u n (λ s. entered (call s)) (answer_in form answer)
-  completes_in n call answer p = record {
-    call = λ out. whole_in n call answer (p.call out);
-    left = λ no. let x = p.left no in (x.0, x.1, whole_in n call answer x.2);
-    ready = p.ready;
-  }
-
 -- WHAT IS LEFT of the elements after they were written back
 
-ran_left : {B : Type 0} {p q : PassView} {f g : Frames} {first : Call (Unit {0})} (left : B)
+pub ran_left : {B : Type 0} {p q : PassView} {f g : Frames} {first : Call (Unit {0})} (left : B)
     (answer : Result (Unit {0}) Fault) → Ran p q f g first answer
     → Ran p q f g (first >> done left) (answer_in (λ u. left) answer)
 ran_left left (Ok u) r = ran_give (λ y. left) u r
 ran_left left (Err e) r = ran_err (λ u. done left) e r
-
-module _ {S : Type 0} {facts : S → Facts} {a b : S} {f g : Frames} where
-  whole_left : {B : Type 0} (n : ℕ) (left : B) (call : State → Call (Unit {0})) (answer : Result (Unit {0}) Fault)
-      → CallsWhole facts a b f g n call answer
-      → CallsWhole facts a b f g n (λ s. call s >> done left) (answer_in (λ u. left) answer)
-  whole_left n left call answer p = record {
-    stands_is = p.stands_is;
-    ran = λ k s m. let x = p.ran k s m in (x.0, x.1, made_of (spending x.2) (ran_left left answer x.2.ran), x.3);
-  }
-
--- a whole call that leaves this
-pub completes_left : {S B : Type 0} {facts : S → Facts} {a b : S} {t u : Table} (n : ℕ) (left : B)
-    (call : State → Call (Unit {0})) (answer : Result (Unit {0}) Fault) → Completes facts a b t u n call answer
-    → Completes facts a b t u n (λ s. call s >> done left) (answer_in (λ u. left) answer)
-completes_left n left call answer p = record {
-  call = λ out. whole_left n left call answer (p.call out);
-  left = λ no. let x = p.left no in (x.0, x.1, whole_left n left call answer x.2);
-  ready = p.ready;
-}
 
 -- THE SAME FOR EACH STATE that keeps its objects
 
@@ -330,8 +246,8 @@ module _ {S : Type 0} {facts : S → Facts} (fits : AreOf facts) {a b : S} {f : 
       → (facts c).stands ≡ (facts b).stands
       → Called facts b c (HoldsHeader o h) (λ j k. copied o h.length) (answer_in (λ v. map (λ x. x) (units v)) answer)
       (by_steps (copy_steps h.length answer) (LeavesObject o h))
-      → Performed facts a c f f 1 (Holds f) (λ s. in_form units (object_work facts a w (units_then copied) s)) answer
+      → Performed facts a c f f 1 (Holds f) (object_work facts a w (units_then copied)) (answer_in units answer)
       (λ j k. Unit {0} × Holds f k)
-  units_read units {c} answer is same q = performed_in units (object_work facts a w (units_then copied)) answer
-      (subst (λ r. Performed facts a c f f 1 (Holds f) (object_work facts a w (units_then copied)) r (λ j k. Unit {0}
-      × Holds f k)) (own_words units answer) (units_copied (λ v. map (λ x. x) (units v)) answer is same q))
+  units_read units {c} answer is same q = subst (λ r. Performed facts a c f f 1 (Holds f)
+      (object_work facts a w (units_then copied)) r (λ j k. Unit {0} × Holds f k)) (own_words units answer)
+      (units_copied (λ v. map (λ x. x) (units v)) answer is same q)

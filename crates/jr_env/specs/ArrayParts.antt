@@ -6,14 +6,9 @@ use Rattle.jr_word.specs.declared.kind.Kind.{Kind}
 use Rattle.jr_model.specs.Frames.{Frames}
 use Rattle.jr_model.specs.Checks.{Word, same_element}
 use Rattle.jr_model.specs.Objects.{part_of, part_reading}
-use Rattle.jr_steps.specs.declared.steps.Steps.{Ghosts}
 use Rattle.jr_steps.specs.Knowing.{Facts, Holds}
 use Rattle.jr_gate.specs.Performing.{Performed}
-use Rattle.jr_frames.specs.declared.held.Held.{Held}
 use Rattle.jr_frames.specs.Finding.{Finds}
-use Rattle.jr_frames.specs.Reading.{word_of}
-use Rattle.jr_env.specs.declared.works.array_parts.Part.{Part}
-use Rattle.jr_env.specs.Works.{CompletesOver}
 
 -- the array with this header has elements of this kind, and n of them from start on
 pub record IsPart (kind : Kind) (start n : ℕ) (h : HeaderParts) : Type 0 where
@@ -34,9 +29,3 @@ module _ {S : Type 0} (facts : S → Facts) where
   ReadsPart old new f kind start n a answer = Performed facts old new f f 1 (Holds f)
       (λ s. part_reading (facts old).stands.config (facts old).stands.last (facts old).stands.thread s kind a start n)
       answer (λ j k. Unit {0} × Holds f k)
-
-module _ {S : Type 0} {G : Ghosts S} where
-  -- a whole call was made that copies n elements out of a part, by at most one operation beside its acts
-  abbrev pub CopiesOut : Held S G → Held S G → Part → Kind → ℕ → Result (List ℕ) Fault → Type 0
-  CopiesOut old new part kind n answer = CompletesOver old new (λ c. 1)
-      (λ c last t s. part_reading c last t s kind (word_of part.array) part.start n) answer

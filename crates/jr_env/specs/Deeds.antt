@@ -15,7 +15,7 @@ use Rattle.jr_model.specs.References as references
 use Rattle.jr_model.specs.Objects as objects
 use Rattle.jr_model.specs.History.{state}
 use Rattle.jr_model.specs.Frames.{Frames}
-use Rattle.jr_model.specs.Calls.{Call}
+use Rattle.jr_model.specs.Calls.{Call, entered}
 use Rattle.jr_model.specs.Checks.{Word}
 use Rattle.jr_model.specs.Parts.{leave}
 use Rattle.jr_steps.specs.declared.known.Known.{Known}
@@ -23,6 +23,9 @@ use Rattle.jr_steps.specs.Holdings.{empty}
 use Rattle.jr_steps.specs.Knowing.{Facts, Leads, Holds}
 use Rattle.jr_frames.specs.Reading.{IsReadAs}
 use Rattle.jr_gate.specs.Performing.{IsAsBefore, ThreadState, thread_state, IsMade}
+use Rattle.jr_elements.specs.Copies.{answer_in}
+use Rattle.jr_env.specs.Requests.{Request, asks, gives, on_word, on_words, told_by}
+use Rattle.jr_env.specs.Requests as requests
 
 -- from an old moment this answer and the new moment may come
 abbrev pub Deed : Type 0 → Type 1
@@ -43,24 +46,22 @@ abbrev pub call_apart : {A : Type 0} → (Config → ℕ → ℕ → Call A) →
 call_apart asked old answer new = IsMade 0 old new (asked old.pass.config old.pass.last old.pass.thread) answer
     × (new ≡ record old { frames = new.frames })
 
+-- work in a stay that goes on: its events, and the answer that it may have;
+-- it takes one operation for each event, and at most so many more
+abbrev pub within_by : {A : Type 0} → (Config → ℕ) → (Config → ℕ → ℕ → State → Call A) → Deed A
+within_by silent asked old answer new = IsMade (silent old.pass.config) old new
+    (asked old.pass.config old.pass.last old.pass.thread (state new.pass.seen)) answer
+
 -- a call that is handed a reference word, and takes at most so many operations beside its events
 abbrev pub call_on_by : {A : Type 0} → (Config → ℕ) → ℕ → (Config → ℕ → ℕ → State → Word → Call A) → Deed A
 call_on_by silent w asked old answer new =
     (a : Word) × IsReadAs w a × call_by silent (λ c last t s. asked c last t s a) old answer new
-
--- one that takes no operation but its events
-abbrev pub call_on : {A : Type 0} → ℕ → (Config → ℕ → ℕ → State → Word → Call A) → Deed A
-call_on w asked = call_on_by (λ c. 0) w asked
 
 -- a call that is handed two reference words, and takes at most so many operations beside its events
 abbrev pub call_on_both_by : {A : Type 0} → (Config → ℕ) → ℕ → ℕ → (Config → ℕ → ℕ → State → Word → Word → Call A)
     → Deed A
 call_on_both_by silent v w asked old answer new =
     (a b : Word) × IsReadAs v a × IsReadAs w b × call_by silent (λ c last t s. asked c last t s a b) old answer new
-
--- one that takes no operation but its events
-abbrev pub call_on_both : {A : Type 0} → ℕ → ℕ → (Config → ℕ → ℕ → State → Word → Word → Call A) → Deed A
-call_on_both v w asked = call_on_both_by (λ c. 0) v w asked
 
 -- an answer, with no event
 abbrev pub done : {A : Type 0} → A → Deed A
@@ -89,61 +90,67 @@ answered_by f first = first >>= (λ x. done (f x))
 abbrev pub after_exit : {A : Type 0} → Deed A → Deed A
 after_exit deed old answer new = (mid : ThreadState) × call (λ c last t s. leave) old (Ok tt) mid × deed mid answer new
 
--- the word of a handle, as native code holds it
-abbrev pub packed : Handle → HandleWord
-packed h = record { 0 = handle_word h }
+-- how the work of a request becomes a deed, by the operations that it may take beside its events
+abbrev pub How : Type 1
+How = (A : Type 0) → (Config → ℕ) → (Config → ℕ → ℕ → State → Call A) → Deed A
 
-abbrev pub packed_if : Option Handle → Option HandleWord
-packed_if None = None
-packed_if (Some h) = Some (packed h)
+-- the deed of a request, by how its work becomes one
+abbrev pub deed_of : {A : Type 0} → How → Request A → Deed A
+deed_of how (asks silent work stays) = how _ silent work
+deed_of how (on_word w next) = λ old answer new. (a : Word) × IsReadAs w a × deed_of how (next a) old answer new
+deed_of how (on_words v w next) =
+    λ old answer new. (a b : Word) × IsReadAs v a × IsReadAs w b × deed_of how (next a b) old answer new
+deed_of how (gives form first) = answered_by form (deed_of how first)
+deed_of how (told_by form first) = λ old answer new. deed_of how first old (answer_in form answer) new
+
+-- A WHOLE CALL of what is requested: the work in a stay of its own, or the gate is shut
+abbrev pub whole : {A : Type 0} → Request A → Deed A
+whole = deed_of (λ A silent work. call_by silent (λ c last t s. entered (work c last t s)))
+
+-- THE SAME IN A STAY that goes on: no entry and no exit
+abbrev pub in_a_stay : {A : Type 0} → Request A → Deed A
+in_a_stay = deed_of (λ A silent work. within_by silent work)
 
 -- NewPlain:
 -- a plain object and a local reference to it, with at most one operation for each object number beside its events
 abbrev pub new_plain : Deed HandleWord
-new_plain = answered_by packed (call_by (λ c. c.objects) (λ c last t s. references.new_plain c last t))
-
--- a new array or string of n words may take a look at the top, a store
--- for each word and an exchange for each object number, beside its events
-abbrev pub making_steps : ℕ → Config → ℕ
-making_steps n c = 1 + n + c.objects
+new_plain = whole requests.for_new_plain
 
 -- NewBooleanArray and its like: n zeros
 abbrev pub new_array : Kind → ℕ → Deed HandleWord
-new_array kind n = answered_by packed (call_by (making_steps n) (λ c last t s. references.new_array c last t kind n))
+new_array kind n = whole (requests.for_new_array kind n)
 
 -- NewObjectArray: n times what the word names
 abbrev pub new_object_array : ℕ → ℕ → Deed HandleWord
-new_object_array n w =
-    answered_by packed (call_on_by (making_steps n) w (λ c last t s a. references.new_object_array c last t n a))
+new_object_array n w = whole (requests.for_new_object_array n w)
 
 -- NewString
 abbrev pub new_string : List ℕ → Deed HandleWord
-new_string units =
-    answered_by packed (call_by (making_steps (length units)) (λ c last t s. references.new_string c last t units))
+new_string units = whole (requests.for_new_string units)
 
 -- NewGlobalRef, NewWeakGlobalRef
 abbrev pub new_reference : RefKind → ℕ → Deed (Option HandleWord)
-new_reference kind w = answered_by packed_if (call_on w (λ c last t s a. references.new_reference c last t kind a))
+new_reference kind w = whole (requests.for_new_reference kind w)
 
 -- NewLocalRef
 abbrev pub new_local_ref : ℕ → Deed (Option HandleWord)
-new_local_ref w = answered_by packed_if (call_on w (λ c last t s a. references.new_local_ref c last t a))
+new_local_ref w = whole (requests.for_new_local_ref w)
 
 -- DeleteGlobalRef, DeleteWeakGlobalRef
 abbrev pub delete_reference : RefKind → ℕ → Deed (Unit {0})
-delete_reference kind w = call_on w (λ c last t s a. references.delete_reference c last t kind a)
+delete_reference kind w = whole (requests.for_delete_reference kind w)
 
 -- DeleteLocalRef
 abbrev pub delete_local_ref : ℕ → Deed (Unit {0})
-delete_local_ref w = call_on w (λ c last t s a. references.delete_local_ref c last t a)
+delete_local_ref w = whole (requests.for_delete_local_ref w)
 
 -- IsSameObject
 abbrev pub is_same_object : ℕ → ℕ → Deed Bool
-is_same_object v w = call_on_both v w (λ c last t s a b. references.is_same_object c last t a b)
+is_same_object v w = whole (requests.for_is_same_object v w)
 
 -- GetObjectRefType
 abbrev pub get_object_ref_type : ℕ → Deed ℕ
-get_object_ref_type w = call_on w (λ c last t s a. references.get_object_ref_type c last t a)
+get_object_ref_type w = whole (requests.for_get_object_ref_type w)
 
 -- EnsureLocalCapacity
 abbrev pub ensure_local_capacity : ℕ → Deed (Unit {0})
@@ -155,36 +162,31 @@ push_local_frame n = call_apart (λ c last t. references.push_local_frame c last
 
 -- PopLocalFrame
 abbrev pub pop_local_frame : ℕ → Deed (Option HandleWord)
-pop_local_frame w = answered_by packed_if (call_on w (λ c last t s a. references.pop_local_frame c last t a))
-
--- THE CALLS AT OBJECTS take one operation beside their events, the look at the header
+pop_local_frame w = whole (requests.for_pop_local_frame w)
 
 -- the kind of what the word names
 abbrev pub kind_of : ℕ → Deed Kind
-kind_of w = call_on_by (λ c. 1) w (λ c last t s a. objects.kind_of c last t s a)
+kind_of w = whole (requests.for_kind_of w)
 
 -- GetArrayLength
 abbrev pub get_array_length : ℕ → Deed ℕ
-get_array_length w = call_on_by (λ c. 1) w (λ c last t s a. objects.get_array_length c last t s a)
+get_array_length w = whole (requests.for_get_array_length w)
 
 -- GetStringLength
 abbrev pub get_string_length : ℕ → Deed ℕ
-get_string_length w = call_on_by (λ c. 1) w (λ c last t s a. objects.get_string_length c last t s a)
+get_string_length w = whole (requests.for_get_string_length w)
 
 -- GetObjectArrayElement
 abbrev pub get_object_array_element : ℕ → ℕ → Deed (Option HandleWord)
-get_object_array_element w i =
-    answered_by packed_if (call_on_by (λ c. 1) w (λ c last t s a. objects.get_object_array_element c last t s a i))
+get_object_array_element w i = whole (requests.for_get_object_array_element w i)
 
 -- SetObjectArrayElement
 abbrev pub set_object_array_element : ℕ → ℕ → ℕ → Deed (Unit {0})
-set_object_array_element v i w =
-    call_on_both_by (λ c. 1) v w (λ c last t s a b. objects.set_object_array_element c last t s a i b)
+set_object_array_element v i w = whole (requests.for_set_object_array_element v i w)
 
 -- GetBooleanArrayRegion and its like: the words of n elements from start on
 abbrev pub get_array_region : Kind → ℕ → ℕ → ℕ → Deed (List ℕ)
-get_array_region kind w start n =
-    call_on_by (λ c. 1) w (λ c last t s a. objects.get_array_region c last t s kind a start n)
+get_array_region kind w start n = whole (requests.for_get_array_region kind w start n)
 
 -- the answer of a call that reads words into a buffer: the words, or its refusal
 abbrev pub read_answer : Result (Unit {0}) Fault → List ℕ → Result (List ℕ) Fault
@@ -193,16 +195,15 @@ read_answer (Err e) ws = Err e
 
 -- SetBooleanArrayRegion and its like
 abbrev pub set_array_region : Kind → ℕ → ℕ → List ℕ → Deed (Unit {0})
-set_array_region kind w start vs =
-    call_on_by (λ c. 1) w (λ c last t s a. objects.set_array_region c last t s kind a start vs)
+set_array_region kind w start vs = whole (requests.for_set_array_region kind w start vs)
 
 -- GetBooleanArrayElements and its like: the words of all elements
 abbrev pub get_array_elements : Kind → ℕ → Deed (List ℕ)
-get_array_elements kind w = call_on_by (λ c. 1) w (λ c last t s a. objects.get_array_elements c last t s kind a)
+get_array_elements kind w = whole (requests.for_get_array_elements kind w)
 
 -- GetStringChars: all units
 abbrev pub get_string_chars : ℕ → Deed (List ℕ)
-get_string_chars w = call_on_by (λ c. 1) w (λ c last t s a. objects.get_string_chars c last t s a)
+get_string_chars w = whole (requests.for_get_string_chars w)
 
 -- ReleaseBooleanArrayElements and its like, of elements with these words: the words of those that are
 -- kept, if they are. To abort looks at no reference, takes no operation, sees nothing, and changes nothing
@@ -213,6 +214,12 @@ release_array_elements kind w vs Commit =
     call_on_by (λ c. 1) w (λ c last t s a. objects.release_array_elements c last t s kind a vs Commit)
 release_array_elements kind w vs Abort = done None
 
+-- the same in a stay
+abbrev pub release_within : Kind → ℕ → List ℕ → Mode → Deed (Option (List ℕ))
+release_within kind w vs Copy = answered_by (λ u. None) (in_a_stay (requests.for_copy_back kind w vs))
+release_within kind w vs Commit = answered_by (λ u. Some vs) (in_a_stay (requests.for_copy_back kind w vs))
+release_within kind w vs Abort = done None
+
 -- the answer of a release, by the words of the elements that are kept; a refusal hands elements back beside it
 abbrev pub release_answer : {A : Type 0} → (A → List ℕ) → Result (Option A) (A × Fault) → Result (Option (List ℕ)) Fault
 release_answer words (Ok None) = Ok None
@@ -221,7 +228,7 @@ release_answer words (Err r) = Err r.1
 
 -- all local references are freed, at the end of a native method
 abbrev pub free_locals : Deed (Unit {0})
-free_locals = call (λ c last t s. references.free_locals)
+free_locals = whole requests.for_free_locals
 
 module _ {S : Type 0} (facts : S → Facts) where
   -- THE DEED WAS DONE, with this answer: for whatever was known and met the condition, something is

@@ -1,3 +1,4 @@
+pub mod Requests
 pub mod Deeds
 pub mod Envs
 pub mod StandingRegions
@@ -9,12 +10,9 @@ pub mod Tries
 pub mod Scopes
 pub mod Texts
 pub mod Works
-pub mod StayDeeds
 pub mod Words
 pub mod LentStays
-pub mod InStays
 pub mod StayLevels
 pub mod Elements
 pub mod Calling
 pub mod ArrayParts
-pub mod Copies

@@ -1,27 +1,21 @@
 -- A stay that goes on from call to call, from the moment before its entry on, for whatever was known then:
 -- its thread entered and has not left, and no step of a collection comes.
-use Rattle.std.specs.Prelude.{◌≢◌, ℕ, Result, Ok, Err, List, []}
+use Rattle.std.specs.Prelude.{◌≢◌, ℕ, Result, Ok, Err, []}
 use Rattle.jr_word.specs.declared.config.Config.{Config}
 use Rattle.jr_word.specs.declared.fault.Fault.{Fault}
-use Rattle.jr_model.specs.declared.event.Act.{Act}
 use Rattle.jr_model.specs.declared.event.Role.{Role}
 use Rattle.jr_model.specs.declared.event.Role.TheVariants.{Outside, Within}
 use Rattle.jr_model.specs.State.{State}
 use Rattle.jr_model.specs.Frames.{Frames}
 use Rattle.jr_model.specs.Calls.{Call}
 use Rattle.jr_model.specs.Parts.{enter, leave}
-use Rattle.jr_model.specs.OpenStays.{HasStayed, IsOneStay, NoneLeaves}
+use Rattle.jr_model.specs.OpenStays.{HasStayed, IsOneStay}
 use Rattle.jr_steps.specs.declared.steps.Steps.{Ghosts}
 use Rattle.jr_steps.specs.declared.known.Known.{Known}
 use Rattle.jr_steps.specs.Knowing.{Facts, view, keeps, lets_go, Holds, Leads}
 use Rattle.jr_gate.specs.Performing.{IsAsBefore, IsMade, Performed, thread_state}
 use Rattle.jr_frames.specs.declared.held.Held.{Held}
 use Rattle.jr_env.specs.StandingRegions.{WasUndisturbed}
-
--- the work has no exit, whatever acts it has
-abbrev pub IsInStay : {A : Type 0} → (Config → ℕ → ℕ → State → Call A) → Type 0
-IsInStay {A} work = (c : Config) (last thread : ℕ) (s : State) (f g : Frames) (acts : List Act)
-    (answer : Result A Fault) → work c last thread s f acts answer g → NoneLeaves acts
 
 -- where the thread stands behind an entry: within, and outside where it was refused
 abbrev pub role_entered : Result (Unit {0}) Fault → Role
@@ -62,15 +56,6 @@ module _ {S : Type 0} {G : Ghosts S} where
   abbrev pub BehindExit : Held S G → (S → Type 0) → Type 0
   BehindExit old done =
       (G.facts old.steps).stands.role ≢ Outside → (mid : S) × Leaves G.facts old.steps mid old.frames.frames × done mid
-
-  -- this work was done in a stay, by so many operations beside its acts as it takes in the room's sizes
-  abbrev pub PerformsOver : {A : Type 0} → Held S G → Held S G → (Config → ℕ) → (Config → ℕ → ℕ → State → Call A)
-      → Result A Fault → Type 0
-  PerformsOver old new silent asked answer =
-      Performed G.facts old.steps new.steps old.frames.frames new.frames.frames
-      (silent (G.facts old.steps).stands.config) (Holds old.frames.frames)
-      (asked (G.facts old.steps).stands.config (G.facts old.steps).stands.last (G.facts old.steps).stands.thread) answer
-      (λ j k. Unit {0} × Holds new.frames.frames k)
 
   -- A STAY STANDS SINCE THEN: whatever was known at the beginning leads to something known
   -- now between which its thread entered, and has not left. So all that was seen since its

@@ -8,7 +8,8 @@ use Rattle.jr_word.specs.declared.fault.Fault.TheVariants.{Memory}
 use Rattle.jr_word.specs.declared.handle.Handle.{Handle}
 use Rattle.jr_steps.specs.declared.steps.Steps.{Ghosts}
 use Rattle.jr_env.specs.declared.env.Env.{Env}
-use Rattle.jr_env.specs.Deeds.{get_string_chars, new_string}
+use Rattle.jr_env.specs.Requests.{for_get_string_chars, for_new_string}
+use Rattle.jr_env.specs.Deeds.{whole}
 use Rattle.jr_env.specs.Envs.{Does}
 
 -- the answer as its bytes
@@ -21,7 +22,7 @@ text_in (Err e) = Err e
 -- or the memory for these was refused, and nothing was done
 abbrev pub MakesText : {S : Type 0} {G : Ghosts S} → Env S G → Env S G → List ℕ → Result Handle Fault → Type 0
 MakesText old new text answer = ((answer ≡ Err Memory) × (new ≡ old))
-    ⊎ ((units : List ℕ) × IsUtf16Of units text × Does old new (new_string units) answer)
+    ⊎ ((units : List ℕ) × IsUtf16Of units text × Does old new (whole (for_new_string units)) answer)
 
 -- the answer is a text that units spell, none where they spell none, or a refusal of memory for it
 abbrev pub SpellsText : List ℕ → Result (Option (List ℕ)) Fault → Type 0
@@ -37,4 +38,4 @@ IsReadAsText (Err e) answer = answer ≡ Err e
 -- THE STRING WAS READ AS A TEXT, with this answer: its units were copied, and the answer is what they spell
 abbrev pub ReadsText : {S : Type 0} {G : Ghosts S} → Env S G → Env S G → ℕ → Result (Option (List ℕ)) Fault → Type 0
 ReadsText old new w answer =
-    (units : Result (List ℕ) Fault) × Does old new (get_string_chars w) units × IsReadAsText units answer
+    (units : Result (List ℕ) Fault) × Does old new (whole (for_get_string_chars w)) units × IsReadAsText units answer

@@ -9,8 +9,7 @@ use Rattle.jr_frames.specs.declared.explaining.Explanation.{Explanation}
 use Rattle.jr_frames.specs.declared.held.Held.{Held}
 use Rattle.jr_frames.specs.Explaining.{IsExplained, WasSeen, glance}
 use Rattle.jr_frames.specs.Reading.{IsReadAs}
-use Rattle.jr_env.specs.Deeds.{Deed, DoesOutside, call_by}
-use Rattle.jr_env.specs.StayDeeds.{within_by}
+use Rattle.jr_env.specs.Deeds.{Deed, DoesOutside, call_by, within_by}
 
 -- the explanation of the word was so at its one look, or at a moment in between where the word needs none
 abbrev pub WasExplained : Word → ThreadState → Explanation → ThreadState → Type 0

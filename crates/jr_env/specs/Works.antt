@@ -9,10 +9,10 @@ use Rattle.jr_model.specs.declared.event.GateAct.TheVariants.{Leave}
 use Rattle.jr_model.specs.declared.event.Role.TheVariants.{Outside}
 use Rattle.jr_model.specs.State.{Handle, State}
 use Rattle.jr_model.specs.Frames.{Frames, object_at}
-use Rattle.jr_model.specs.Calls.{Call, entered, ◌>>=◌, ◌>>◌}
+use Rattle.jr_model.specs.Calls.{Call, entered, ◌>>=◌}
 use Rattle.jr_model.specs.Checks.{Word}
-use Rattle.jr_model.specs.Parts.{frame_to_pop, publish}
-use Rattle.jr_model.specs.References.{added, made, popping, resolved}
+use Rattle.jr_model.specs.Parts.{publish}
+use Rattle.jr_model.specs.References.{added, made}
 use Rattle.jr_steps.specs.declared.known.Known.{Known}
 use Rattle.jr_steps.specs.declared.steps.Steps.{Ghosts}
 use Rattle.jr_steps.specs.Holdings.{with_header}
@@ -23,7 +23,12 @@ use Rattle.jr_frames.specs.declared.held.Held.{Held}
 use Rattle.jr_frames.specs.Table.{Table}
 use Rattle.jr_frames.specs.OverSteps.{CallsWhole}
 use Rattle.jr_frames.specs.Ready.{StandsReady}
-use Rattle.jr_env.specs.Deeds.{making_steps}
+use Rattle.jr_frames.specs.Reading.{IsReadAs}
+use Rattle.jr_frames.specs.Steady.{IsSteady}
+use Rattle.jr_elements.specs.Copies.{answer_in}
+use Rattle.jr_env.specs.Requests.{Request, asks, gives, on_word, on_words, told_by}
+use Rattle.jr_env.specs.Deeds.{DoesDeed, DoesOutside, whole, in_a_stay}
+use Rattle.jr_env.specs.Requests.{making_steps}
 
 -- the pass holds the header of the new object beside what it held, and its range no more;
 -- and just what it held where there is no new object
@@ -40,13 +45,6 @@ LearnsNew o j k = LearnsMade Plain 0 0 o j k
 abbrev pub object_made : Frames → Result Handle Fault → Option ℕ
 object_made f (Ok h) = object_at f h.index
 object_made f (Err e) = None
-
--- what PopLocalFrame does within its stay
-abbrev pub frame_popping : Config → ℕ → ℕ → Word → Call (Option Handle)
-frame_popping c last thread a = do
-  frame_to_pop
-  x ← resolved c last thread a
-  popping c last thread x
 
 module _ {S : Type 0} (facts : S → Facts) where
   -- a range of the pass's own, which has these words and is ready, became a new object with a local reference
@@ -65,6 +63,21 @@ module _ {S : Type 0} (facts : S → Facts) where
       Performed facts old new f g (making_steps (length words) (facts old).stands.config) (λ k. Holds f k × met k)
       (λ s. made (facts old).stands.config (facts old).stands.last (facts old).stands.thread kind words) answer (λ j k.
       Unit {0} × Holds g k)
+
+  -- A REQUEST WAS SERVED in a stay, with this answer: the words were read so, its work was done by so many operations
+  -- beside its acts, and is steady; and the frames go on agreeing with the locals
+  abbrev pub Serves : {A : Type 0} → S → S → Frames → Frames → Request A → Result A Fault → Type 0
+  Serves old new f g (asks silent work stays) answer =
+      Performed facts old new f g (silent (facts old).stands.config) (Holds f)
+      (work (facts old).stands.config (facts old).stands.last (facts old).stands.thread) answer (λ j k.
+      Unit {0} × Holds g k)
+      × IsSteady (work (facts old).stands.config (facts old).stands.last (facts old).stands.thread)
+  Serves old new f g (on_word w next) answer = (a : Word) × IsReadAs w a × Serves old new f g (next a) answer
+  Serves old new f g (on_words v w next) answer =
+      (a b : Word) × IsReadAs v a × IsReadAs w b × Serves old new f g (next a b) answer
+  Serves old new f g (gives {B = B} form first) answer =
+      (found : Result B Fault) × (answer ≡ answer_in form found) × Serves old new f g first found
+  Serves old new f g (told_by form first) answer = Serves old new f g first (answer_in form answer)
 
   -- a stay that was left was ended: where the thread stood outside nothing changed, and else it went out, by one step;
   -- and it stands ready outside, with the same frames
@@ -92,10 +105,12 @@ module _ {S : Type 0} {G : Ghosts S} where
   abbrev pub EndsStayOver : Held S G → Held S G → Type 0
   EndsStayOver old new = EndsStay G.facts old.steps new.steps old.frames new.frames
 
-  -- a whole call was made round this work, by so many operations beside its acts as it takes in the room's sizes
-  abbrev pub CompletesOver : {A : Type 0} → Held S G → Held S G → (Config → ℕ) → (Config → ℕ → ℕ → State → Call A)
-      → Result A Fault → Type 0
-  CompletesOver old new silent asked answer =
-      Completes G.facts old.steps new.steps old.frames new.frames (silent (G.facts old.steps).stands.config)
-      (λ s. entered (asked (G.facts old.steps).stands.config (G.facts old.steps).stands.last
-      (G.facts old.steps).stands.thread s)) answer
+  -- what is requested was done by a whole call
+  abbrev pub ServesWhole : {A : Type 0} → Held S G → Held S G → Request A → Result A Fault → Type 0
+  ServesWhole old new request answer = DoesOutside G.facts old.steps new.steps old.frames.frames new.frames.frames
+      (whole request) answer
+
+  -- what is requested was done in a stay
+  abbrev pub ServesWithin : {A : Type 0} → Held S G → Held S G → Request A → Result A Fault → Type 0
+  ServesWithin old new request answer = DoesDeed G.facts old.steps new.steps old.frames.frames new.frames.frames
+      (in_a_stay request) answer

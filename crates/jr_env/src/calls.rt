@@ -1,8 +1,8 @@
 //! The calls of an env: those of the Java Native Interface, and those that it doesn't have; and each of most as a value, which can be made again.
 
-mod array_parts;
+pub(crate) mod array_parts;
 mod collecting;
-mod copies;
+pub(crate) mod copies;
 mod counting;
 mod critical_regions;
 mod explaining;

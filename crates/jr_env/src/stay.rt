@@ -2,7 +2,8 @@
 ghost use Rattle.jr_gate.specs.Stays.{IsOwnStay};
 
 use crate::env::Env;
-use crate::work::{Work, go_outside, perform};
+use crate::native_call::NativeCall;
+use crate::work::{go_outside, make_within};
 use jr_gate::Inside;
 use jr_steps::Steps;
 use jr_word::Fault;
@@ -15,29 +16,28 @@ pub struct Stay<'e, S: Steps> {
 }
 
 impl<S: Steps> Env<S> {
-    ghost use Rattle.std.specs.Prelude.{◌≡◌, IfOk};
+    ghost use Rattle.std.specs.Prelude.{◌≡◌};
     ghost use Rattle.jr_env.specs.Envs.{IsOutside};
-    ghost use Rattle.jr_env.specs.OpenStays.{EndsAsOneStay, LeavesOver, PerformsOver, StaysOn};
+    ghost use Rattle.jr_env.specs.Deeds.{in_a_stay};
+    ghost use Rattle.jr_env.specs.LentStays.{DoesInside};
+    ghost use Rattle.jr_env.specs.OpenStays.{EndsAsOneStay, LeavesOver};
 
-    /// Does a work in a stay of the thread, which goes on.
+    /// Makes a call in a stay of the thread, which goes on.
     ///
     /// # Errors
     ///
-    /// Those of the work.
+    /// Those of the call but E13.
     #[inline(always)]
-    pub(crate) fn within<W: Work<S> + Drop>(
+    pub(crate) fn make_inside<C: NativeCall<S> + Drop>(
         &mut self,
         inside: &Inside,
-        work: W,
-    ) -> Result<W::Answer, Fault>
-        requires stay { IsOwnStay inside.now (S.facts self.old.held.steps).stands }
-        requires can { W.can_work work }
-        ensures call { PerformsOver self.old.held self.new.held (W.silent work) (W.asked work) result }
-        ensures on { StaysOn self.old.held self.new.held }
+        call: C,
+    ) -> Result<C::Answer, Fault>
+        requires { IsOwnStay inside.now (S.facts self.old.held.steps).stands }
+        ensures call { DoesInside self.old self.new (in_a_stay (C.request call)) result }
         ensures own { IsOwnStay inside.now (S.facts self.new.held.steps).stands }
-        ensures given { IfOk result (λ answer. W.gives (S.facts self.old.held.steps).stands.thread answer) }
     {
-        perform(&mut self.held, inside, work)
+        make_within(&mut self.held, &mut self.numbers, inside, call)
     }
 
     /// Ends a stay of the thread.
@@ -57,7 +57,8 @@ impl<'e, S: Steps> Stay<'e, S> {
     ghost use Rattle.std.specs.Prelude.{◌≡◌};
     ghost use Rattle.jr_env.specs.Envs.{IsOutside};
     ghost use Rattle.jr_env.specs.OpenStays.{EndsAsOneStay, LeavesOver};
-    ghost use Rattle.jr_env.specs.LentStays.{env_in, frames_in, held_in};
+    ghost use Rattle.jr_env.specs.LentStays.{env_in, frames_in, held_in, DoesWithin};
+    ghost use Rattle.jr_env.specs.Deeds.{in_a_stay};
 
     /// The stay of an env whose thread is within.
     #[inline(always)]
@@ -67,6 +68,25 @@ impl<'e, S: Steps> Stay<'e, S> {
         ensures env { (env_in result).now ≡ env.old }
     {
         Stay { env, inside }
+    }
+
+    /// Makes a call in the stay, which goes on.
+    ///
+    /// # Errors
+    ///
+    /// Those of the call but E13.
+    ///
+    /// What stands then is what the call leaves, and the stay stands.
+    ///
+    /// # Operations
+    ///
+    /// Those of the call but its entry and its exit.
+    #[inline(always)]
+    pub fn make<C: NativeCall<S> + Drop>(&mut self, call: C) -> Result<C::Answer, Fault>
+        ensures same_reference { (env_in self.new).ghost_name ≡ (env_in self.old).ghost_name }
+        ensures call { DoesWithin self.old self.new (in_a_stay (C.request call)) result }
+    {
+        self.env.make_inside(&self.inside, call)
     }
 
     /// Ends the stay, and hands the env back: the thread has left the gate.

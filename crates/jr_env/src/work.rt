@@ -1,4 +1,4 @@
-//! What a call does within a stay, and the call round it.
+//! A stay, and the calls that are made by one of their own and in one that goes on.
 
 ghost use Rattle.std.specs.Prelude.{◌≡◌, IfOk, IfErr};
 ghost use Rattle.jr_word.specs.declared.fault.Fault.TheVariants.{Barred};
@@ -6,65 +6,15 @@ ghost use Rattle.jr_model.specs.declared.event.Role.TheVariants.{Outside};
 ghost use Rattle.jr_gate.specs.Stays.{IsOwnStay};
 ghost use Rattle.jr_elements.specs.Copies.{answer_in};
 ghost use Rattle.jr_env.specs.Calling.{CanCall};
-ghost use Rattle.jr_env.specs.OpenStays.{BehindExit, EndsAsOneStay, Enters, EntersOver, LeavesOver, PerformsOver, StaysOn, StaysSince};
-ghost use Rattle.jr_env.specs.Works.{CompletesOver, EndsStayOver};
+ghost use Rattle.jr_env.specs.OpenStays.{BehindExit, EndsAsOneStay, Enters, EntersOver, LeavesOver, StaysOn, StaysSince};
+ghost use Rattle.jr_env.specs.Works.{EndsStayOver, ServesWhole, ServesWithin};
 
-use jr_frames::{Frames, Held};
+use crate::native_call::NativeCall;
+use jr_frames::Held;
 use jr_gate::{Inside, enter};
+use jr_heap::Numbers;
 use jr_steps::{Role, Steps};
 use jr_word::Fault;
-
-/// What a call does within a stay, with what it is handed.
-pub trait Work<S: Steps> {
-    ghost use Rattle.std.specs.Prelude.{ℕ, Result, IfOk};
-    ghost use Rattle.jr_word.specs.declared.fault.Fault.{Fault};
-    ghost use Rattle.jr_word.specs.declared.config.Config.{Config};
-    ghost use Rattle.jr_model.specs.declared.event.Role.TheVariants.{Within};
-    ghost use Rattle.jr_model.specs.State.{State};
-    ghost use Rattle.jr_model.specs.Frames.{Frames};
-    ghost use Rattle.jr_model.specs.Calls.{Call};
-    ghost use Rattle.jr_steps.specs.declared.known.Known.{Known};
-    ghost use Rattle.jr_steps.specs.Knowing.{Holds};
-    ghost use Rattle.jr_gate.specs.Stays.{IsOwnStay};
-    ghost use Rattle.jr_gate.specs.Performing.{Performed};
-    ghost use Rattle.jr_frames.specs.Ready.{StandsReady, KeepsOwner};
-    ghost use Rattle.jr_frames.specs.Steady.{IsSteady};
-    ghost use Rattle.jr_env.specs.OpenStays.{IsInStay};
-
-    /// What it answers.
-    type Answer;
-
-    ghost can_work: { Self → Type 0 };
-
-    ghost silent: { Self → Config → ℕ };
-
-    ghost asked: { Self → Config → ℕ → ℕ → State → Call Self.Answer };
-
-    ghost learns: { Frames → Result Self.Answer Fault → Known → Known → Type 0 };
-
-    ghost gives: { ℕ → Self.Answer → Type 0 };
-
-    ghost in_stay: { (w : Self) → IsInStay (asked w) };
-
-    /// Does it.
-    ///
-    /// # Errors
-    ///
-    /// Those of the call but E13.
-    fn work(
-        self,
-        steps: &mut S,
-        inside: &Inside,
-        frames: &mut Frames,
-    ) -> Result<Self::Answer, Fault>
-        requires stay { IsOwnStay inside.now (S.facts steps.old).stands }
-        requires ready { StandsReady S.facts Within steps.old frames.old }
-        requires can { can_work self }
-        ensures call { Performed S.facts steps.old steps.new frames.old.frames frames.new.frames (silent self (S.facts steps.old).stands.config) (Holds frames.old.frames) (asked self (S.facts steps.old).stands.config (S.facts steps.old).stands.last (S.facts steps.old).stands.thread) result (λ j k. learns frames.new.frames result j k × Holds frames.new.frames k) }
-        ensures steady { IsSteady (asked self (S.facts steps.old).stands.config (S.facts steps.old).stands.last (S.facts steps.old).stands.thread) }
-        ensures same { KeepsOwner frames.old frames.new }
-        ensures given { IfOk result (λ answer. gives (S.facts steps.old).stands.thread answer) };
-}
 
 /// Ends the stay that a region left, and nothing where the thread stands outside. A region has to be released, so that one is left only where its parts were taken apart.
 #[inline(always)]
@@ -77,24 +27,48 @@ pub fn outside<S: Steps>(held: &mut Held<S>)
     }
 }
 
-/// Makes a call: enters the gate, does the work, and leaves. A stay that a region left is ended first.
+/// Makes a call: enters the gate, does what it asks for, and leaves. A stay that a region left is ended first.
 ///
 /// # Errors
 ///
-/// E13, and those of the work.
+/// E13, and those of the call.
 #[inline(always)]
-pub fn make<S: Steps, W: Work<S> + Drop>(held: &mut Held<S>, work: W) -> Result<W::Answer, Fault>
-    requires ready { CanCall (S.facts held.old.steps).stands }
-    requires can { W.can_work work }
-    ensures call { CompletesOver held.old held.new (W.silent work) (W.asked work) result }
+pub fn make_whole<S: Steps, C: NativeCall<S> + Drop>(
+    held: &mut Held<S>,
+    numbers: &mut Numbers,
+    call: C,
+) -> Result<C::Answer, Fault>
+    requires { CanCall (S.facts held.old.steps).stands }
+    ensures call { ServesWhole held.old held.new (C.request call) result }
     ensures next { CanCall (S.facts held.new.steps).stands }
-    ensures given { IfOk result (λ answer. W.gives (S.facts held.old.steps).stands.thread answer) }
 {
     outside(held);
     let inside = enter(&mut held.steps)?;
-    let answer = work.work(&mut held.steps, &inside, &mut held.frames);
+    let answer = call.work(&mut held.steps, &inside, &mut held.frames, numbers);
     inside.leave(&mut held.steps);
     answer
+}
+
+/// Makes a call in a stay of the thread, which goes on.
+///
+/// # Errors
+///
+/// Those of the call but E13.
+#[inline(always)]
+pub fn make_within<S: Steps, C: NativeCall<S> + Drop>(
+    held: &mut Held<S>,
+    numbers: &mut Numbers,
+    inside: &Inside,
+    call: C,
+) -> Result<C::Answer, Fault>
+    requires stay { IsOwnStay inside.now (S.facts held.old.steps).stands }
+    requires ready { CanCall (S.facts held.old.steps).stands }
+    ensures call { ServesWithin held.old held.new (C.request call) result }
+    ensures on { StaysOn held.old held.new }
+    ensures own { IsOwnStay inside.now (S.facts held.new.steps).stands }
+    ensures next { CanCall (S.facts held.new.steps).stands }
+{
+    call.work(&mut held.steps, inside, &mut held.frames, numbers)
 }
 
 /// Enters the gate for a stay that goes on from call to call. A stay that a region left is ended first.
@@ -115,29 +89,6 @@ pub fn go_inside<S: Steps>(held: &mut Held<S>) -> Result<Inside, Fault>
 {
     outside(held);
     enter(&mut held.steps)
-}
-
-/// Does a work in a stay of the thread, which goes on.
-///
-/// # Errors
-///
-/// Those of the work.
-#[inline(always)]
-pub fn perform<S: Steps, W: Work<S> + Drop>(
-    held: &mut Held<S>,
-    inside: &Inside,
-    work: W,
-) -> Result<W::Answer, Fault>
-    requires stay { IsOwnStay inside.now (S.facts held.old.steps).stands }
-    requires ready { CanCall (S.facts held.old.steps).stands }
-    requires can { W.can_work work }
-    ensures call { PerformsOver held.old held.new (W.silent work) (W.asked work) result }
-    ensures on { StaysOn held.old held.new }
-    ensures own { IsOwnStay inside.now (S.facts held.new.steps).stands }
-    ensures next { CanCall (S.facts held.new.steps).stands }
-    ensures given { IfOk result (λ answer. W.gives (S.facts held.old.steps).stands.thread answer) }
-{
-    work.work(&mut held.steps, inside, &mut held.frames)
 }
 
 /// Ends a stay that went on from call to call.

@@ -54,7 +54,8 @@ use Rattle.jr_scripts.specs.declared.reply.Reply.TheVariants as replies
 use Rattle.jr_frames.specs.Reading.{IsReadAs}
 use Rattle.jr_scripts.specs.Names.{Names}
 use Rattle.jr_gate.specs.Performing.{ThreadState}
-use Rattle.jr_env.specs.Deeds.{Deed, call_apart, decided, done, making_steps, new_array, new_object_array}
+use Rattle.jr_env.specs.Deeds.{Deed, call_apart, decided, done, new_array, new_object_array}
+use Rattle.jr_env.specs.Requests.{making_steps}
 use Rattle.jr_env.specs.Deeds.{new_string, kind_of, get_array_length, get_string_length, get_object_array_element}
 use Rattle.jr_env.specs.Deeds.{set_object_array_element, get_array_region, set_array_region, push_local_frame}
 use Rattle.jr_env.specs.Deeds.{ensure_local_capacity, pop_local_frame, new_plain, new_reference, new_local_ref}

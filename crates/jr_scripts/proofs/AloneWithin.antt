@@ -46,7 +46,7 @@ use Rattle.jr_scripts.specs.Names.{referent, wanted}
 use Rattle.jr_scripts.specs.Numbers.{has_numbers, is_number_of, word_of_number}
 use Rattle.jr_scripts.specs.Places.{Place, level_wanted, newest, nth_object}
 use Rattle.jr_scripts.specs.Commands.{awaited}
-use Rattle.jr_env.specs.StayDeeds.{within_by}
+use Rattle.jr_env.specs.Deeds.{within_by}
 use Rattle.jr_scripts.specs.RegionCommands.{deed_within, giving_up, kind_of_level, nesting, read_kind}
 use Rattle.jr_scripts.specs.RegionCommands.{level_reading, reading_at, level_writing, writing_at}
 use Rattle.jr_scripts.specs.AloneAnswers.{IsFaultWithin, IsNestingFault, IsReadingFault, IsWritingFault, LevelObject}

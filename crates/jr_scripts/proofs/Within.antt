@@ -46,7 +46,7 @@ use Rattle.jr_syntax.specs.declared.verb.PutAt.TheVariants as put_at
 use Rattle.jr_syntax.specs.declared.verb.Release.TheVariants as release
 use Rattle.jr_scripts.proofs.CommandDeeds.{numbered_has}
 use Rattle.jr_scripts.specs.Commands.{opening_by, opens, deed}
-use Rattle.jr_env.specs.StayDeeds.{within_by}
+use Rattle.jr_env.specs.Deeds.{within_by}
 use Rattle.jr_scripts.specs.RegionCommands.{deed_at, deed_within, kind_of_level, nesting, nests, read_kind}
 use Rattle.jr_scripts.specs.RegionCommands.{level_reading, reading_as, level_writing, writing_as}
 use Rattle.jr_word.specs.declared.fault.Fault.TheVariants.{InCritical}

@@ -50,7 +50,7 @@ use Rattle.jr_env.specs.Deeds.{get_object_ref_type, push_local_frame, ensure_loc
 use Rattle.jr_env.specs.Deeds.{kind_of, get_array_length, get_string_length, get_object_array_element}
 use Rattle.jr_env.specs.Deeds.{set_object_array_element, get_array_region, set_array_region, get_array_elements}
 use Rattle.jr_env.specs.Deeds.{release_array_elements, get_string_chars, answered_by, ◌>>=◌, ◌>>◌}
-use Rattle.jr_env.specs.StayDeeds.{within_by}
+use Rattle.jr_env.specs.Deeds.{within_by}
 use Rattle.jr_scripts.specs.Tries.{Tried}
 use Rattle.jr_scripts.specs.Numbers.{has_numbers, word_of_number, first_number}
 

@@ -7,12 +7,14 @@ use Rattle.jr_word.specs.declared.handle.RefKind.TheVariants.{Global, Weak}
 use Rattle.jr_steps.specs.declared.steps.Steps.{Ghosts}
 use Rattle.jr_env.specs.declared.env.Env.{Env}
 use Rattle.jr_env.specs.declared.stay.Stay.{Stay}
-use Rattle.jr_env.specs.Deeds.{Deed}
+use Rattle.jr_env.specs.Requests.{Request, for_delete_local_ref, for_delete_reference, for_get_array_length}
+use Rattle.jr_env.specs.Requests.{for_get_object_array_element, for_get_object_ref_type, for_get_string_length}
+use Rattle.jr_env.specs.Requests.{for_is_same_object}
+use Rattle.jr_env.specs.Requests.{for_new_local_ref, for_new_reference, for_set_object_array_element}
+use Rattle.jr_env.specs.Deeds.{in_a_stay}
 use Rattle.jr_env.specs.Envs.{IsOutside}
 use Rattle.jr_env.specs.LentStays.{frames_in, held_in, DoesWithin, WasBarred, WasEntered}
 use Rattle.jr_env.specs.OpenStays.{EndsAsOneStay, LeavesOver}
-use Rattle.jr_env.specs.StayDeeds.{array_length, comparison, creation, element_reading, element_writing}
-use Rattle.jr_env.specs.StayDeeds.{local_creation, local_removal, removal, string_length, typing}
 use Rattle.luthrady.specs.declared.batches.Call.{Call}
 use Rattle.luthrady.specs.declared.batches.Operation.{Operation}
 use Rattle.luthrady.specs.declared.batches.Operation.TheVariants as operation
@@ -42,27 +44,35 @@ IsNumber n (Some o) = n ≡ operation_number o
 IsNumber n None = (o : Operation) → n ≢ operation_number o
 
 module _ {S : Type 0} {G : Ghosts S} where
-  -- the stay's call did the deed, with an answer that the reply tells
-  abbrev pub RepliedWithin : {A : Type 0} → (A → ℕ) → Stay S G → Stay S G → Deed A → Reply → Type 0
-  RepliedWithin {A} word old new deed reply =
-      (answer : Result A Fault) × (reply ≡ reply_of word answer) × DoesWithin old new deed answer
+  -- what is requested was done in the stay, with an answer that the reply tells
+  abbrev pub RepliedWithin : {A : Type 0} → (A → ℕ) → Stay S G → Stay S G → Request A → Reply → Type 0
+  RepliedWithin {A} word old new request reply =
+      (answer : Result A Fault) × (reply ≡ reply_of word answer) × DoesWithin old new (in_a_stay request) answer
 
   -- this call of the stay was made; where none has the number it is E7, and all is as it was
   abbrev pub MadeAs : Option Operation → Stay S G → Stay S G → Call → Reply → Type 0
-  MadeAs (Some operation.NewGlobalRef) old new c r = RepliedWithin word_or_null old new (creation Global c.first) r
-  MadeAs (Some operation.NewWeakGlobalRef) old new c r = RepliedWithin word_or_null old new (creation Weak c.first) r
-  MadeAs (Some operation.NewLocalRef) old new c r = RepliedWithin word_or_null old new (local_creation c.first) r
-  MadeAs (Some operation.DeleteGlobalRef) old new c r = RepliedWithin nothing_told old new (removal Global c.first) r
-  MadeAs (Some operation.DeleteWeakGlobalRef) old new c r = RepliedWithin nothing_told old new (removal Weak c.first) r
-  MadeAs (Some operation.DeleteLocalRef) old new c r = RepliedWithin nothing_told old new (local_removal c.first) r
-  MadeAs (Some operation.IsSameObject) old new c r = RepliedWithin zero_or_one old new (comparison c.first c.second) r
-  MadeAs (Some operation.GetObjectRefType) old new c r = RepliedWithin the_number old new (typing c.first) r
-  MadeAs (Some operation.GetArrayLength) old new c r = RepliedWithin the_number old new (array_length c.first) r
-  MadeAs (Some operation.GetStringLength) old new c r = RepliedWithin the_number old new (string_length c.first) r
+  MadeAs (Some operation.NewGlobalRef) old new c r = RepliedWithin word_or_null old new
+      (for_new_reference Global c.first) r
+  MadeAs (Some operation.NewWeakGlobalRef) old new c r =
+      RepliedWithin word_or_null old new (for_new_reference Weak c.first) r
+  MadeAs (Some operation.NewLocalRef) old new c r = RepliedWithin word_or_null old new (for_new_local_ref c.first) r
+  MadeAs (Some operation.DeleteGlobalRef) old new c r =
+      RepliedWithin nothing_told old new (for_delete_reference Global c.first) r
+  MadeAs (Some operation.DeleteWeakGlobalRef) old new c r =
+      RepliedWithin nothing_told old new (for_delete_reference Weak c.first) r
+  MadeAs (Some operation.DeleteLocalRef) old new c r = RepliedWithin nothing_told old new
+      (for_delete_local_ref c.first) r
+  MadeAs (Some operation.IsSameObject) old new c r =
+      RepliedWithin zero_or_one old new (for_is_same_object c.first c.second) r
+  MadeAs (Some operation.GetObjectRefType) old new c r =
+      RepliedWithin the_number old new (for_get_object_ref_type c.first) r
+  MadeAs (Some operation.GetArrayLength) old new c r = RepliedWithin the_number old new (for_get_array_length c.first) r
+  MadeAs (Some operation.GetStringLength) old new c r = RepliedWithin the_number old new
+      (for_get_string_length c.first) r
   MadeAs (Some operation.GetObjectArrayElement) old new c r =
-      RepliedWithin word_or_null old new (element_reading c.first c.index) r
+      RepliedWithin word_or_null old new (for_get_object_array_element c.first c.index) r
   MadeAs (Some operation.SetObjectArrayElement) old new c r =
-      RepliedWithin nothing_told old new (element_writing c.first c.index c.second) r
+      RepliedWithin nothing_told old new (for_set_object_array_element c.first c.index c.second) r
   MadeAs None old new c r = (r ≡ reply_of nothing_told (Err Range)) × (new ≡ old)
 
   -- A CALL WAS MADE in the stay, by its number

@@ -1,16 +1,34 @@
 //! The calls of the Java Native Interface for parts of arrays, over any steps.
+ghost use Rattle.std.specs.Prelude.{◌≡◌, ◌+◌, nat_lt, IfOk, IfErr, map, length};
+ghost use Rattle.jr_gate.specs.Stays.{IsOwnStay};
+ghost use Rattle.jr_model.specs.declared.event.Role.TheVariants.{Within};
+ghost use Rattle.jr_model.specs.Checks.{same_element as same_element_of};
+ghost use Rattle.jr_steps.specs.Knowing.{MayKnow};
+ghost use Rattle.jr_heap.specs.Heap.{HoldsHeader};
+ghost use Rattle.jr_frames.specs.Ready.{StandsReady};
+ghost use Rattle.jr_frames.specs.Reading.{word_of, OwnerFits};
+ghost use Rattle.jr_env.specs.Requests.{for_get_array_region};
+ghost use Rattle.jr_env.specs.Deeds.{read_answer};
+ghost use Rattle.jr_env.specs.Calling.{CanCall};
+ghost use Rattle.jr_env.specs.OpenStays.{StaysOn};
+ghost use Rattle.jr_env.specs.ArrayParts.{FindsPart};
+ghost use Rattle.jr_env.specs.Works.{Serves, ServesWhole, ServesWithin};
+
 use crate::env::Env;
 use crate::env_call::EnvCall;
-use crate::work::make;
-use crate::works::array_parts::{Part, PartWriting, copy_out};
-use jr_frames::Reference;
+use crate::native_call::NativeCall;
+use crate::work::outside;
+use jr_frames::{Frames, Held, Reference, find};
+use jr_gate::{Inside, enter};
+use jr_heap::{Numbers, is_array, read_part, write_part};
 use jr_steps::Steps;
-use jr_word::{Elem, Fault, Handle};
+use jr_word::{Elem, Fault, Handle, HeaderParts, Kind};
 
 impl<S: Steps> Env<S> {
     ghost use Rattle.std.specs.Prelude.{◌≡◌, IfErr, map, length};
     ghost use Rattle.jr_env.specs.Envs.{Does};
-    ghost use Rattle.jr_env.specs.Deeds.{get_array_region, read_answer, set_array_region};
+    ghost use Rattle.jr_env.specs.Deeds.{read_answer, whole};
+    ghost use Rattle.jr_env.specs.Requests.{for_get_array_region, for_set_array_region};
 
     /// Copies a part of an array out, from an index on: as many elements as the slice has room for, one after the other, rising. No elements are in range up to the end of the array. (JNI Specification, chapter 4, "Get<PrimitiveType>ArrayRegion Routines")
     ///
@@ -30,11 +48,10 @@ impl<S: Steps> Env<S> {
         elements: &mut [E],
     ) -> Result<(), Fault>
         ensures size { length elements.new ≡ length elements.old }
-        ensures call { Does self.old self.new (get_array_region E.KIND array.0 start (length elements.old)) (read_answer result (map E.word_of elements.new)) }
+        ensures call { Does self.old self.new (whole (for_get_array_region E.KIND array.0 start (length elements.old))) (read_answer result (map E.word_of elements.new)) }
         ensures err { IfErr result (λ _. elements.new ≡ elements.old) }
     {
-        let array = Reference::of(array);
-        copy_out(&mut self.held, Part { array, start }, elements)
+        copy_out(&mut self.held, array, start, elements)
     }
 
     /// Copies elements into a part of an array, from an index on, one after the other, rising. No elements are in range up to the end of the array. (JNI Specification, chapter 4, "Set<PrimitiveType>ArrayRegion Routines")
@@ -54,11 +71,9 @@ impl<S: Steps> Env<S> {
         start: u32,
         elements: &[E],
     ) -> Result<(), Fault>
-        ensures { Does self.old self.new (set_array_region E.KIND array.0 start (map E.word_of elements.now)) result }
+        ensures { Does self.old self.new (whole (for_set_array_region E.KIND array.0 start (map E.word_of elements.now))) result }
     {
-        let array = Reference::of(array);
-        let part = Part { array, start };
-        make(&mut self.held, PartWriting { part, elements })
+        self.make(SetArrayRegion(array, start, elements))
     }
 }
 
@@ -66,15 +81,177 @@ impl<S: Steps> Env<S> {
 #[derive(Clone, Copy)]
 pub struct SetArrayRegion<'a, E>(pub Handle, pub u32, pub &'a [E]);
 
-impl<S: Steps, E: Elem> EnvCall<S> for SetArrayRegion<'_, E> {
+impl<S: Steps, E: Elem> NativeCall<S> for SetArrayRegion<'_, E> {
     ghost use Rattle.std.specs.Prelude.{map};
-    ghost use Rattle.jr_env.specs.Deeds.{set_array_region};
+    ghost use Rattle.jr_env.specs.Requests.{for_set_array_region};
 
     type Answer = ();
 
-    ghost deed = { λ c. set_array_region E.KIND c.0.0 c.1 (map E.word_of c.2.now) };
+    ghost request = { λ c. for_set_array_region E.KIND c.0.0 c.1 (map E.word_of c.2.now) };
+
+    #[inline(always)]
+    fn work(
+        self,
+        steps: &mut S,
+        inside: &Inside,
+        frames: &mut Frames,
+        _numbers: &mut Numbers,
+    ) -> Result<(), Fault> {
+        let SetArrayRegion(handle, start, elements) = self;
+        let array = Reference::of(handle);
+        let part = Part { array, start };
+        let (object, header) = find_part(steps, inside, frames, part, E::KIND, elements.len())?;
+        write_part(steps, object, header, start, elements);
+        Ok(())
+    }
+}
+
+impl<S: Steps, E: Elem> EnvCall<S> for SetArrayRegion<'_, E> {
+    ghost use Rattle.std.specs.Prelude.{map};
+    ghost use Rattle.jr_env.specs.Deeds.{whole};
+    ghost use Rattle.jr_env.specs.Requests.{for_set_array_region};
+
+    type Answer = ();
+
+    ghost deed = { λ c. whole (for_set_array_region E.KIND c.0.0 c.1 (map E.word_of c.2.now)) };
 
     fn make(&self, env: &mut Env<S>) -> Result<(), Fault> {
-        env.set_array_region(self.0, self.1, self.2)
+        env.make(*self)
+    }
+}
+
+/// A part of an array, of as many elements as are handed in beside it.
+#[derive(Clone, Copy)]
+struct Part {
+    /// The array.
+    array: Reference,
+    /// The index at which the part begins.
+    start: u32,
+}
+
+/// Makes the call that copies a part of an array out: enters the gate, reads, and leaves. A stay that a region left is ended first.
+#[inline(always)]
+fn copy_out<S: Steps, E: Elem>(
+    held: &mut Held<S>,
+    array: Handle,
+    start: u32,
+    elements: &mut [E],
+) -> Result<(), Fault>
+    requires { CanCall (S.facts held.old.steps).stands }
+    ensures size { length elements.new ≡ length elements.old }
+    ensures call { ServesWhole held.old held.new (for_get_array_region E.KIND array.0 start (length elements.old)) (read_answer result (map E.word_of elements.new)) }
+    ensures next { CanCall (S.facts held.new.steps).stands }
+    ensures err { IfErr result (λ _. elements.new ≡ elements.old) }
+{
+    outside(held);
+    let inside = enter(&mut held.steps)?;
+    let answer = read_into(
+        &mut held.steps,
+        &inside,
+        &held.frames,
+        array,
+        start,
+        elements,
+    );
+    inside.leave(&mut held.steps);
+    answer
+}
+
+/// Reads a part of an array in a stay of the thread, which goes on: E1, E2, E3, E5, E6, E7.
+#[inline(always)]
+pub(crate) fn copy_inside<S: Steps, E: Elem>(
+    held: &mut Held<S>,
+    inside: &Inside,
+    array: Handle,
+    start: u32,
+    elements: &mut [E],
+) -> Result<(), Fault>
+    requires stay { IsOwnStay inside.now (S.facts held.old.steps).stands }
+    requires ready { CanCall (S.facts held.old.steps).stands }
+    ensures size { length elements.new ≡ length elements.old }
+    ensures call { ServesWithin held.old held.new (for_get_array_region E.KIND array.0 start (length elements.old)) (read_answer result (map E.word_of elements.new)) }
+    ensures on { StaysOn held.old held.new }
+    ensures own { IsOwnStay inside.now (S.facts held.new.steps).stands }
+    ensures next { CanCall (S.facts held.new.steps).stands }
+    ensures err { IfErr result (λ _. elements.new ≡ elements.old) }
+{
+    read_into(
+        &mut held.steps,
+        inside,
+        &held.frames,
+        array,
+        start,
+        elements,
+    )
+}
+
+/// Reads a part of an array: E1, E2, E3, E5, E6, E7.
+#[inline(always)]
+fn read_into<S: Steps, E: Elem>(
+    steps: &mut S,
+    inside: &Inside,
+    frames: &Frames,
+    handle: Handle,
+    start: u32,
+    elements: &mut [E],
+) -> Result<(), Fault>
+    requires stay { IsOwnStay inside.now (S.facts steps.old).stands }
+    requires ready { StandsReady S.facts Within steps.old frames.now }
+    ensures size { length elements.new ≡ length elements.old }
+    ensures call { Serves S.facts steps.old steps.new frames.now.frames frames.now.frames (for_get_array_region E.KIND handle.0 start (length elements.old)) (read_answer result (map E.word_of elements.new)) }
+    ensures err { IfErr result (λ _. elements.new ≡ elements.old) }
+{
+    let array = Reference::of(handle);
+    let part = Part { array, start };
+    let (object, header) = find_part(steps, inside, frames, part, E::KIND, elements.len())?;
+    read_part(steps, object, header, start, elements);
+    Ok(())
+}
+
+/// The array of a part, and its header, which is known from then on: E1, E2, E3, E5, E6 unless its elements are of the kind, E7 unless so many from its start on lie in it.
+#[inline(always)]
+fn find_part<S: Steps>(
+    steps: &mut S,
+    inside: &Inside,
+    frames: &Frames,
+    part: Part,
+    kind: Kind,
+    count: usize,
+) -> Result<(u16, HeaderParts), Fault>
+    requires stay { IsOwnStay inside.now (S.facts steps.old).stands }
+    requires ready { StandsReady S.facts Within steps.old frames.now }
+    requires fits { OwnerFits part.array }
+    ensures call { FindsPart S.facts steps.old steps.new frames.now.frames kind part.start count (word_of part.array) result }
+    ensures known { IfOk result (λ x. MayKnow S.facts steps.new (HoldsHeader x.0 x.1)) }
+{
+    let (object, header) = find(steps, inside, frames, part.array)?;
+    if !is_array(header.kind) {
+        return Err(Fault::NotArray);
+    }
+    if !same_element(kind, header.kind) {
+        return Err(Fault::WrongElement);
+    }
+    if lies_past(header.length, part.start, count) {
+        return Err(Fault::Range);
+    }
+    Ok((object, header))
+}
+
+/// Whether so many elements from an index on don't all lie in an array of this length.
+#[inline(always)]
+fn lies_past(length: u32, start: u32, count: usize) -> bool
+    ensures { result ≡ nat_lt length (start + count) }
+{
+    start > length || count > (length - start) as usize
+}
+
+/// Whether both kinds are one kind of array whose elements are no objects.
+#[inline(always)]
+pub(crate) fn same_element(kind: Kind, other: Kind) -> bool
+    ensures { result ≡ same_element_of kind other }
+{
+    match kind {
+        Kind::Plain | Kind::Objects | Kind::Text => false,
+        _ => kind == other,
     }
 }

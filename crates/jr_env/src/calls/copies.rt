@@ -1,9 +1,12 @@
 //! The calls of the Java Native Interface that copy all elements of an array or string out, and back, over any steps.
+use crate::calls::array_parts::same_element;
 use crate::env::Env;
-use crate::work::{make, outside};
-use crate::works::copies::{CopyingBack, ElementsCopying, UnitsCopying};
-use jr_elements::Elements;
-use jr_frames::Reference;
+use crate::native_call::NativeCall;
+use crate::work::outside;
+use jr_elements::{Elements, elements_of, put_back, read_all};
+use jr_frames::{Frames, Reference, find};
+use jr_gate::Inside;
+use jr_heap::{Numbers, is_array, is_text};
 use jr_model::Mode;
 use jr_steps::Steps;
 use jr_word::{Elem, Fault, Handle};
@@ -14,7 +17,8 @@ impl<S: Steps> Env<S> {
     ghost use Rattle.std.specs.Prelude.{◌≡◌, IfOk, IfErr, map};
     ghost use Rattle.jr_elements.specs.Copies.{answer_in, kept};
     ghost use Rattle.jr_env.specs.Envs.{Does};
-    ghost use Rattle.jr_env.specs.Deeds.{get_array_elements, get_string_chars, release_answer, release_array_elements};
+    ghost use Rattle.jr_env.specs.Deeds.{release_answer, release_array_elements, whole};
+    ghost use Rattle.jr_env.specs.Requests.{for_get_array_elements, for_get_string_chars};
 
     /// Copies all elements of an array, one after the other, rising. (JNI Specification, chapter 4, "Get<PrimitiveType>ArrayElements Routines")
     ///
@@ -32,18 +36,14 @@ impl<S: Steps> Env<S> {
         alloc: Global,
         array: Handle,
     ) -> Result<Elements<E>, Fault>
-        ensures { Does self.old self.new (get_array_elements E.KIND array.0) (answer_in (map E.word_of) result) }
+        ensures { Does self.old self.new (whole (for_get_array_elements E.KIND array.0)) (answer_in (map E.word_of) result) }
     {
-        let array = Reference::of(array);
         let element = PhantomData;
-        make(
-            &mut self.held,
-            ElementsCopying {
-                alloc,
-                array,
-                element,
-            },
-        )
+        self.make(GetArrayElements {
+            alloc,
+            array,
+            element,
+        })
     }
 
     /// Releases copied elements by a mode. To copy writes them to the whole array, one after the other, rising, and gives them up; to commit writes them and hands them back, as they were; to abort gives them up, enters no gate, looks at no reference and is never refused. (JNI Specification, chapter 4, "Release<PrimitiveType>ArrayElements Routines")
@@ -71,12 +71,11 @@ impl<S: Steps> Env<S> {
             outside(&mut self.held);
             return Ok(None);
         }
-        let array = Reference::of(array);
-        let work = CopyingBack {
+        let call = CopyBack {
             array,
             elements: &elements,
         };
-        match make(&mut self.held, work) {
+        match self.make(call) {
             Ok(()) => Ok(elements.kept(mode)),
             Err(fault) => Err((elements, fault)),
         }
@@ -94,9 +93,126 @@ impl<S: Steps> Env<S> {
     ///
     /// At most 4, and one for each unit: the entry, a look at the slot of a global or weak handle, one at the string's header, a load for each unit, and the exit.
     pub fn get_string_chars(&mut self, alloc: Global, string: Handle) -> Result<Vec<u16>, Fault>
-        ensures { Does self.old self.new (get_string_chars string.0) (answer_in (λ units. units.items) result) }
+        ensures { Does self.old self.new (whole (for_get_string_chars string.0)) (answer_in (λ units. units.items) result) }
     {
-        let string = Reference::of(string);
-        make(&mut self.held, UnitsCopying { alloc, string })
+        self.make(GetStringChars { alloc, string })
+    }
+}
+
+/// A copy of all elements of an array.
+#[derive(Clone, Copy)]
+pub struct GetArrayElements<E> {
+    /// What the memory is taken from.
+    pub alloc: Global,
+    /// The array.
+    pub array: Handle,
+    /// The type of its elements.
+    pub element: PhantomData<E>,
+}
+
+impl<S: Steps, E: Elem> NativeCall<S> for GetArrayElements<E> {
+    ghost use Rattle.std.specs.Prelude.{map};
+    ghost use Rattle.jr_env.specs.Requests.{for_get_array_elements, told_by};
+
+    type Answer = Elements<E>;
+
+    ghost request = { λ c. told_by (map E.word_of) (for_get_array_elements E.KIND c.array.0) };
+
+    #[inline(always)]
+    fn work(
+        self,
+        steps: &mut S,
+        inside: &Inside,
+        frames: &mut Frames,
+        _numbers: &mut Numbers,
+    ) -> Result<Elements<E>, Fault> {
+        let array = Reference::of(self.array);
+        let (object, header) = find(steps, inside, frames, array)?;
+        if !is_array(header.kind) {
+            return Err(Fault::NotArray);
+        }
+        if !same_element(E::KIND, header.kind) {
+            return Err(Fault::WrongElement);
+        }
+        let items = read_all(self.alloc, steps, object, header)?;
+        Ok(elements_of(items))
+    }
+}
+
+/// A copy of all units of a string.
+#[derive(Clone, Copy)]
+pub struct GetStringChars {
+    /// What the memory is taken from.
+    pub alloc: Global,
+    /// The string.
+    pub string: Handle,
+}
+
+impl<S: Steps> NativeCall<S> for GetStringChars {
+    ghost use Rattle.jr_env.specs.Requests.{for_get_string_chars, told_by};
+
+    type Answer = Vec<u16>;
+
+    ghost request = { λ c. told_by (λ units. units.items) (for_get_string_chars c.string.0) };
+
+    #[inline(always)]
+    fn work(
+        self,
+        steps: &mut S,
+        inside: &Inside,
+        frames: &mut Frames,
+        _numbers: &mut Numbers,
+    ) -> Result<Vec<u16>, Fault> {
+        let string = Reference::of(self.string);
+        let (object, header) = find(steps, inside, frames, string)?;
+        if !is_text(header.kind) {
+            return Err(Fault::WrongKind);
+        }
+        read_all(self.alloc, steps, object, header)
+    }
+}
+
+/// Writes elements to the whole array, which has to have as many.
+#[derive(Clone, Copy)]
+pub struct CopyBack<'a, E: Elem> {
+    /// The array.
+    pub array: Handle,
+    /// The elements.
+    pub elements: &'a Elements<E>,
+}
+
+impl<S: Steps, E: Elem> NativeCall<S> for CopyBack<'_, E> {
+    ghost use Rattle.std.specs.Prelude.{map};
+    ghost use Rattle.jr_env.specs.Requests.{for_copy_back};
+
+    type Answer = ();
+
+    ghost request = { λ c. for_copy_back E.KIND c.array.0 (map E.word_of c.elements.now) };
+
+    #[inline(always)]
+    fn work(
+        self,
+        steps: &mut S,
+        inside: &Inside,
+        frames: &mut Frames,
+        _numbers: &mut Numbers,
+    ) -> Result<(), Fault> {
+        let CopyBack {
+            array: handle,
+            elements,
+        } = self;
+        let array = Reference::of(handle);
+        let (object, header) = find(steps, inside, frames, array)?;
+        if !is_array(header.kind) {
+            return Err(Fault::NotArray);
+        }
+        if !same_element(E::KIND, header.kind) {
+            return Err(Fault::WrongElement);
+        }
+        if header.length != elements.length() {
+            return Err(Fault::Range);
+        }
+        put_back(steps, object, header, elements);
+        Ok(())
     }
 }

@@ -1,16 +1,19 @@
 //! The calls of the Java Native Interface for the frames of one thread, over any steps.
 use crate::env::Env;
 use crate::env_call::EnvCall;
-use crate::work::{make, outside};
-use crate::works::frames::{FramePop, LocalsFreeing};
-use jr_frames::Reference;
+use crate::native_call::NativeCall;
+use crate::work::outside;
+use jr_frames::{Frames, Reference, free_all, pop_frame, resolve};
+use jr_gate::Inside;
+use jr_heap::Numbers;
 use jr_model::FRAMES;
 use jr_steps::Steps;
 use jr_word::{Fault, Handle};
 
 impl<S: Steps> Env<S> {
     ghost use Rattle.jr_env.specs.Envs.{Does};
-    ghost use Rattle.jr_env.specs.Deeds.{ensure_local_capacity, push_local_frame, pop_local_frame, free_locals};
+    ghost use Rattle.jr_env.specs.Deeds.{ensure_local_capacity, push_local_frame, whole};
+    ghost use Rattle.jr_env.specs.Requests.{for_free_locals, for_pop_local_frame};
 
     /// Tells whether so many more local references can be made. It enters no gate. A negative capacity can't be handed in. (JNI Specification, chapter 4, "EnsureLocalCapacity")
     ///
@@ -71,11 +74,9 @@ impl<S: Steps> Env<S> {
     ///
     /// Just its events: the entry, a look at the slot of a global or weak handle, a store for each local reference of the frame, one for the result, and the exit.
     pub fn pop_local_frame(&mut self, kept: Handle) -> Result<Option<Handle>, Fault>
-        ensures { Does self.old self.new (pop_local_frame kept.0) result }
+        ensures { Does self.old self.new (whole (for_pop_local_frame kept.0)) result }
     {
-        let target = Reference::of(kept);
-        let made = make(&mut self.held, FramePop(target))?;
-        Ok(made.map(Handle::pack))
+        self.make(PopLocalFrame(kept))
     }
 
     /// Frees all local references of the thread, as at the end of a native method. One empty frame is left. (JNI Specification, chapter 2, "Global and Local References")
@@ -90,9 +91,9 @@ impl<S: Steps> Env<S> {
     ///
     /// Just its events: the entry, a store for each local reference, and the exit.
     pub fn free_locals(&mut self) -> Result<(), Fault>
-        ensures { Does self.old self.new free_locals result }
+        ensures { Does self.old self.new (whole for_free_locals) result }
     {
-        make(&mut self.held, LocalsFreeing)
+        self.make(FreeLocals)
     }
 }
 
@@ -132,15 +133,42 @@ impl<S: Steps> EnvCall<S> for PushLocalFrame {
 #[derive(Clone, Copy)]
 pub struct PopLocalFrame(pub Handle);
 
-impl<S: Steps> EnvCall<S> for PopLocalFrame {
-    ghost use Rattle.jr_env.specs.Deeds.{pop_local_frame};
+impl<S: Steps> NativeCall<S> for PopLocalFrame {
+    ghost use Rattle.jr_env.specs.Requests.{for_pop_local_frame};
 
     type Answer = Option<Handle>;
 
-    ghost deed = { λ c. pop_local_frame c.0.0 };
+    ghost request = { λ c. for_pop_local_frame c.0.0 };
+
+    #[inline(always)]
+    fn work(
+        self,
+        steps: &mut S,
+        inside: &Inside,
+        frames: &mut Frames,
+        _numbers: &mut Numbers,
+    ) -> Result<Option<Handle>, Fault> {
+        let target = Reference::of(self.0);
+        frames.are_sound();
+        if frames.is_base() {
+            return Err(Fault::NoFrame);
+        }
+        let object = resolve(steps, inside, frames, target)?;
+        let made = pop_frame(steps, inside, frames, object)?;
+        Ok(made.map(Handle::pack))
+    }
+}
+
+impl<S: Steps> EnvCall<S> for PopLocalFrame {
+    ghost use Rattle.jr_env.specs.Deeds.{whole};
+    ghost use Rattle.jr_env.specs.Requests.{for_pop_local_frame};
+
+    type Answer = Option<Handle>;
+
+    ghost deed = { λ c. whole (for_pop_local_frame c.0.0) };
 
     fn make(&self, env: &mut Env<S>) -> Result<Option<Handle>, Fault> {
-        env.pop_local_frame(self.0)
+        env.make(*self)
     }
 }
 
@@ -148,14 +176,35 @@ impl<S: Steps> EnvCall<S> for PopLocalFrame {
 #[derive(Clone, Copy)]
 pub struct FreeLocals;
 
-impl<S: Steps> EnvCall<S> for FreeLocals {
-    ghost use Rattle.jr_env.specs.Deeds.{free_locals};
+impl<S: Steps> NativeCall<S> for FreeLocals {
+    ghost use Rattle.jr_env.specs.Requests.{for_free_locals};
 
     type Answer = ();
 
-    ghost deed = { λ _. free_locals };
+    ghost request = { λ _. for_free_locals };
+
+    #[inline(always)]
+    fn work(
+        self,
+        steps: &mut S,
+        inside: &Inside,
+        frames: &mut Frames,
+        _numbers: &mut Numbers,
+    ) -> Result<(), Fault> {
+        free_all(steps, inside, frames);
+        Ok(())
+    }
+}
+
+impl<S: Steps> EnvCall<S> for FreeLocals {
+    ghost use Rattle.jr_env.specs.Deeds.{whole};
+    ghost use Rattle.jr_env.specs.Requests.{for_free_locals};
+
+    type Answer = ();
+
+    ghost deed = { λ _. whole for_free_locals };
 
     fn make(&self, env: &mut Env<S>) -> Result<(), Fault> {
-        env.free_locals()
+        env.make(*self)
     }
 }

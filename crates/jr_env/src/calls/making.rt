@@ -1,16 +1,30 @@
 //! The calls of the Java Native Interface that make objects, over any steps.
+ghost use Rattle.std.specs.Prelude.{◌≡◌, ◌≢◌, ℕ, List, length, replicate, IfOk};
+ghost use Rattle.jr_word.specs.declared.handle.RefKind.TheVariants.{Local};
+ghost use Rattle.jr_word.specs.declared.kind.Kind.TheVariants.{Plain, Text};
+ghost use Rattle.jr_model.specs.declared.event.Role.TheVariants.{Within};
+ghost use Rattle.jr_steps.specs.Knowing.{anything, IsWordNow, MayKnow};
+ghost use Rattle.jr_heap.specs.Heap.{IsReady};
+ghost use Rattle.jr_heap.specs.Ranges.{place_of, size_of};
+ghost use Rattle.jr_frames.specs.Ready.{StandsReady, KeepsOwner};
+ghost use Rattle.jr_frames.specs.Table.{IsNext};
+ghost use Rattle.jr_env.specs.Works.{Refers, MakesArray};
+
+use crate::calls::objects::element_word;
 use crate::env::Env;
 use crate::env_call::EnvCall;
-use crate::work::make;
-use crate::works::making::{ArrayMaking, Making, ObjectArrayMaking, StringMaking};
-use jr_frames::Reference;
+use crate::native_call::NativeCall;
+use jr_frames::{Frames, Reference, resolve};
+use jr_gate::Inside;
+use jr_heap::{Numbers, Range, fill, fill_from, publish, reserve};
 use jr_steps::Steps;
-use jr_word::{Elem, Fault, Handle};
+use jr_word::{Elem, Fault, Handle, HandleParts, Kind};
 use std::marker::PhantomData;
 
 impl<S: Steps> Env<S> {
     ghost use Rattle.jr_env.specs.Envs.{Does};
-    ghost use Rattle.jr_env.specs.Deeds.{new_plain, new_array, new_object_array, new_string};
+    ghost use Rattle.jr_env.specs.Deeds.{whole};
+    ghost use Rattle.jr_env.specs.Requests.{for_new_plain, for_new_array, for_new_object_array, for_new_string};
 
     /// Makes a plain object, which has no elements, and a local reference to it. The Java Native Interface has no such call.
     ///
@@ -24,10 +38,9 @@ impl<S: Steps> Env<S> {
     ///
     /// At most 4, and one for each object number of the room: its events (the entry, the exchange of a header, the store of the local word, the exit), and an exchange for each number that is found present.
     pub fn new_plain(&mut self) -> Result<Handle, Fault>
-        ensures { Does self.old self.new new_plain result }
+        ensures { Does self.old self.new (whole for_new_plain) result }
     {
-        let made = make(&mut self.held, Making(&mut self.numbers))?;
-        Ok(Handle::pack(made))
+        self.make(NewPlain)
     }
 
     /// Makes an array of so many elements, each zero (false), and a local reference to it. (JNI Specification, chapter 4, "New<PrimitiveType>Array Routines")
@@ -42,19 +55,10 @@ impl<S: Steps> Env<S> {
     ///
     /// At most 6, and one for each element and for each object number of the room: its events (the entry, the exchange of the top, that of a header, the store of the local word, the exit), the look at the top, a store for each element, and an exchange for each number that is found present. Without elements nothing is reserved.
     pub fn new_array<E: Elem>(&mut self, length: u32) -> Result<Handle, Fault>
-        ensures { Does self.old self.new (new_array E.KIND length) result }
+        ensures { Does self.old self.new (whole (for_new_array E.KIND length)) result }
     {
-        let numbers = &mut self.numbers;
-        let kind = E::KIND;
-        let made = make(
-            &mut self.held,
-            ArrayMaking {
-                numbers,
-                kind,
-                length,
-            },
-        )?;
-        Ok(Handle::pack(made))
+        let element = PhantomData::<E>;
+        self.make(NewArray { length, element })
     }
 
     /// Makes an array of so many object references, each to what the handle names, null for NULL and for a weak one that is cleared, and a local reference to it. (JNI Specification, chapter 4, "NewObjectArray")
@@ -69,19 +73,9 @@ impl<S: Steps> Env<S> {
     ///
     /// At most 7, and one for each element and for each object number of the room: its events (the entry, a look at the slot of a global or weak handle, the exchange of the top, that of a header, the store of the local word, the exit), the look at the top, a store for each element, and an exchange for each number that is found present. Without elements nothing is reserved.
     pub fn new_object_array(&mut self, length: u32, initial: Handle) -> Result<Handle, Fault>
-        ensures { Does self.old self.new (new_object_array length initial.0) result }
+        ensures { Does self.old self.new (whole (for_new_object_array length initial.0)) result }
     {
-        let numbers = &mut self.numbers;
-        let initial = Reference::of(initial);
-        let made = make(
-            &mut self.held,
-            ObjectArrayMaking {
-                numbers,
-                length,
-                initial,
-            },
-        )?;
-        Ok(Handle::pack(made))
+        self.make(NewObjectArray(length, initial))
     }
 
     /// Makes a string of these UTF-16 units, and a local reference to it. (JNI Specification, chapter 4, "NewString")
@@ -96,11 +90,9 @@ impl<S: Steps> Env<S> {
     ///
     /// At most 6, and one for each unit and for each object number of the room: its events (the entry, the exchange of the top, that of a header, the store of the local word, the exit), the look at the top, a store for each unit, and an exchange for each number that is found present. Without units nothing is reserved.
     pub fn new_string(&mut self, units: &[u16]) -> Result<Handle, Fault>
-        ensures { Does self.old self.new (new_string units.now) result }
+        ensures { Does self.old self.new (whole (for_new_string units.now)) result }
     {
-        let numbers = &mut self.numbers;
-        let made = make(&mut self.held, StringMaking { numbers, units })?;
-        Ok(Handle::pack(made))
+        self.make(NewString(units))
     }
 }
 
@@ -108,15 +100,39 @@ impl<S: Steps> Env<S> {
 #[derive(Clone, Copy)]
 pub struct NewPlain;
 
-impl<S: Steps> EnvCall<S> for NewPlain {
-    ghost use Rattle.jr_env.specs.Deeds.{new_plain};
+impl<S: Steps> NativeCall<S> for NewPlain {
+    ghost use Rattle.jr_env.specs.Requests.{for_new_plain};
 
     type Answer = Handle;
 
-    ghost deed = { λ _. new_plain };
+    ghost request = { λ _. for_new_plain };
+
+    #[inline(always)]
+    fn work(
+        self,
+        steps: &mut S,
+        _inside: &Inside,
+        frames: &mut Frames,
+        numbers: &mut Numbers,
+    ) -> Result<Handle, Fault> {
+        let Some(handle) = frames.next() else {
+            return Err(Fault::LocalsFull);
+        };
+        let made = refer(steps, frames, numbers, handle, Kind::Plain, Range::empty())?;
+        Ok(Handle::pack(made))
+    }
+}
+
+impl<S: Steps> EnvCall<S> for NewPlain {
+    ghost use Rattle.jr_env.specs.Deeds.{whole};
+    ghost use Rattle.jr_env.specs.Requests.{for_new_plain};
+
+    type Answer = Handle;
+
+    ghost deed = { λ _. whole for_new_plain };
 
     fn make(&self, env: &mut Env<S>) -> Result<Handle, Fault> {
-        env.new_plain()
+        env.make(*self)
     }
 }
 
@@ -124,15 +140,39 @@ impl<S: Steps> EnvCall<S> for NewPlain {
 #[derive(Clone, Copy)]
 pub struct NewObjectArray(pub u32, pub Handle);
 
-impl<S: Steps> EnvCall<S> for NewObjectArray {
-    ghost use Rattle.jr_env.specs.Deeds.{new_object_array};
+impl<S: Steps> NativeCall<S> for NewObjectArray {
+    ghost use Rattle.jr_env.specs.Requests.{for_new_object_array};
 
     type Answer = Handle;
 
-    ghost deed = { λ c. new_object_array c.0 c.1.0 };
+    ghost request = { λ c. for_new_object_array c.0 c.1.0 };
+
+    #[inline(always)]
+    fn work(
+        self,
+        steps: &mut S,
+        inside: &Inside,
+        frames: &mut Frames,
+        numbers: &mut Numbers,
+    ) -> Result<Handle, Fault> {
+        let initial = Reference::of(self.1);
+        let object = resolve(steps, inside, frames, initial)?;
+        let word = element_word(object);
+        let made = make_array(steps, frames, numbers, Kind::Objects, self.0, word)?;
+        Ok(Handle::pack(made))
+    }
+}
+
+impl<S: Steps> EnvCall<S> for NewObjectArray {
+    ghost use Rattle.jr_env.specs.Deeds.{whole};
+    ghost use Rattle.jr_env.specs.Requests.{for_new_object_array};
+
+    type Answer = Handle;
+
+    ghost deed = { λ c. whole (for_new_object_array c.0 c.1.0) };
 
     fn make(&self, env: &mut Env<S>) -> Result<Handle, Fault> {
-        env.new_object_array(self.0, self.1)
+        env.make(*self)
     }
 }
 
@@ -140,15 +180,36 @@ impl<S: Steps> EnvCall<S> for NewObjectArray {
 #[derive(Clone, Copy)]
 pub struct NewString<'a>(pub &'a [u16]);
 
-impl<S: Steps> EnvCall<S> for NewString<'_> {
-    ghost use Rattle.jr_env.specs.Deeds.{new_string};
+impl<S: Steps> NativeCall<S> for NewString<'_> {
+    ghost use Rattle.jr_env.specs.Requests.{for_new_string};
 
     type Answer = Handle;
 
-    ghost deed = { λ c. new_string c.0.now };
+    ghost request = { λ c. for_new_string c.0.now };
+
+    #[inline(always)]
+    fn work(
+        self,
+        steps: &mut S,
+        _inside: &Inside,
+        frames: &mut Frames,
+        numbers: &mut Numbers,
+    ) -> Result<Handle, Fault> {
+        let made = make_string(steps, frames, numbers, self.0)?;
+        Ok(Handle::pack(made))
+    }
+}
+
+impl<S: Steps> EnvCall<S> for NewString<'_> {
+    ghost use Rattle.jr_env.specs.Deeds.{whole};
+    ghost use Rattle.jr_env.specs.Requests.{for_new_string};
+
+    type Answer = Handle;
+
+    ghost deed = { λ c. whole (for_new_string c.0.now) };
 
     fn make(&self, env: &mut Env<S>) -> Result<Handle, Fault> {
-        env.new_string(self.0)
+        env.make(*self)
     }
 }
 
@@ -171,14 +232,111 @@ impl<E: Elem> NewArray<E> {
     }
 }
 
-impl<S: Steps, E: Elem> EnvCall<S> for NewArray<E> {
-    ghost use Rattle.jr_env.specs.Deeds.{new_array};
+impl<S: Steps, E: Elem> NativeCall<S> for NewArray<E> {
+    ghost use Rattle.jr_env.specs.Requests.{for_new_array};
 
     type Answer = Handle;
 
-    ghost deed = { λ c. new_array E.KIND c.length };
+    ghost request = { λ c. for_new_array E.KIND c.length };
+
+    #[inline(always)]
+    fn work(
+        self,
+        steps: &mut S,
+        _inside: &Inside,
+        frames: &mut Frames,
+        numbers: &mut Numbers,
+    ) -> Result<Handle, Fault> {
+        let kind = E::KIND;
+        let made = make_array(steps, frames, numbers, kind, self.length, 0)?;
+        Ok(Handle::pack(made))
+    }
+}
+
+impl<S: Steps, E: Elem> EnvCall<S> for NewArray<E> {
+    ghost use Rattle.jr_env.specs.Deeds.{whole};
+    ghost use Rattle.jr_env.specs.Requests.{for_new_array};
+
+    type Answer = Handle;
+
+    ghost deed = { λ c. whole (for_new_array E.KIND c.length) };
 
     fn make(&self, env: &mut Env<S>) -> Result<Handle, Fault> {
-        env.new_array::<E>(self.length)
+        env.make(*self)
     }
+}
+
+/// How many units there are.
+fn count(units: &[u16]) -> u64
+    ensures { result ≡ length units.now }
+{
+    units.len() as u64
+}
+
+/// Makes a string of these units, and a local reference to it.
+fn make_string<S: Steps>(
+    steps: &mut S,
+    frames: &mut Frames,
+    numbers: &mut Numbers,
+    units: &[u16],
+) -> Result<HandleParts, Fault>
+    requires ready { StandsReady S.facts Within steps.old frames.old }
+    ensures call { MakesArray S.facts steps.old steps.new frames.old.frames frames.new.frames Text units.now anything result }
+    ensures same { KeepsOwner frames.old frames.new }
+    ensures given { IfOk result (λ h. (h.kind ≡ Local) × (h.owner ≡ (S.facts steps.old).stands.thread)) }
+{
+    let Some(handle) = frames.next() else {
+        return Err(Fault::LocalsFull);
+    };
+    let range = reserve(steps, count(units))?;
+    fill_from(steps, &range, units);
+    refer(steps, frames, numbers, handle, Kind::Text, range)
+}
+
+/// Makes an array whose elements are all one word, and a local reference to it.
+fn make_array<S: Steps>(
+    steps: &mut S,
+    frames: &mut Frames,
+    numbers: &mut Numbers,
+    kind: Kind,
+    length: u32,
+    word: u64,
+) -> Result<HandleParts, Fault>
+    requires ready { StandsReady S.facts Within steps.old frames.old }
+    requires kind { kind ≢ Plain }
+    requires word { MayKnow S.facts steps.old (IsWordNow kind word) }
+    ensures call { MakesArray S.facts steps.old steps.new frames.old.frames frames.new.frames kind (replicate length word) (IsWordNow kind word) result }
+    ensures same { KeepsOwner frames.old frames.new }
+    ensures given { IfOk result (λ h. (h.kind ≡ Local) × (h.owner ≡ (S.facts steps.old).stands.thread)) }
+{
+    let Some(handle) = frames.next() else {
+        return Err(Fault::LocalsFull);
+    };
+    let range = reserve(steps, u64::from(length))?;
+    fill(steps, &range, word);
+    refer(steps, frames, numbers, handle, kind, range)
+}
+
+/// Publishes a range of the pass's own as a new object, and makes the local reference of a handle to it.
+#[inline(always)]
+fn refer<S: Steps>(
+    steps: &mut S,
+    frames: &mut Frames,
+    numbers: &mut Numbers,
+    handle: HandleParts,
+    kind: Kind,
+    range: Range,
+) -> Result<HandleParts, Fault>
+    requires ready { StandsReady S.facts Within steps.old frames.old }
+    requires next { IsNext frames.old handle }
+    requires plain { kind ≡ Plain → size_of range ≡ 0 }
+    requires filled { MayKnow S.facts steps.old (IsReady kind (place_of range) (size_of range)) }
+    ensures call { (words : List ℕ) → Refers S.facts steps.old steps.new frames.old.frames frames.new.frames kind (place_of range) (size_of range) words result }
+    ensures same { KeepsOwner frames.old frames.new }
+    ensures given { IfOk result (λ h. (h.kind ≡ Local) × (h.owner ≡ (S.facts steps.old).stands.thread)) }
+{
+    let object = publish(steps, numbers, kind, range)?;
+    steps.put_local(handle.index, Some(object));
+    frames.add(handle, object);
+    Ok(handle)
 }

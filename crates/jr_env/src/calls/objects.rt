@@ -1,15 +1,22 @@
 //! The calls of the Java Native Interface that look at objects, over any steps.
+ghost use Rattle.std.specs.Prelude.{◌≡◌, ◌<◌, ◌^◌, []};
+ghost use Rattle.jr_model.specs.Frames.{Frames as LocalFrames};
+ghost use Rattle.jr_model.specs.Checks.{element_word, object_of_word};
+ghost use Rattle.jr_env.specs.Elements.{element_checks};
+
 use crate::env::Env;
 use crate::env_call::EnvCall;
-use crate::work::make;
-use crate::works::objects::{ArrayLength, ElementReading, ElementWriting, KindReading, TextLength};
-use jr_frames::Reference;
+use crate::native_call::NativeCall;
+use jr_frames::{Frames, Reference, find, new_local, resolve_both};
+use jr_gate::Inside;
+use jr_heap::{Numbers, header, is_array, is_objects, is_text};
 use jr_steps::Steps;
-use jr_word::{Fault, Handle, Kind};
+use jr_word::{Fault, Handle, HeaderParts, Kind};
 
 impl<S: Steps> Env<S> {
     ghost use Rattle.jr_env.specs.Envs.{Does};
-    ghost use Rattle.jr_env.specs.Deeds.{kind_of, get_array_length, get_string_length, get_object_array_element, set_object_array_element};
+    ghost use Rattle.jr_env.specs.Deeds.{whole};
+    ghost use Rattle.jr_env.specs.Requests.{for_kind_of, for_get_array_length, for_get_string_length, for_get_object_array_element, for_set_object_array_element};
 
     /// The kind of what the handle names. The Java Native Interface has no such call.
     ///
@@ -23,10 +30,9 @@ impl<S: Steps> Env<S> {
     ///
     /// At most 4: the entry, a look at the slot of a global or weak handle, one at the object's header, and the exit.
     pub fn kind_of(&mut self, handle: Handle) -> Result<Kind, Fault>
-        ensures { Does self.old self.new (kind_of handle.0) result }
+        ensures { Does self.old self.new (whole (for_kind_of handle.0)) result }
     {
-        let target = Reference::of(handle);
-        make(&mut self.held, KindReading(target))
+        self.make(KindOf(handle))
     }
 
     /// How many elements an array has. (JNI Specification, chapter 4, "GetArrayLength")
@@ -41,10 +47,9 @@ impl<S: Steps> Env<S> {
     ///
     /// At most 4: the entry, a look at the slot of a global or weak handle, one at the array's header, and the exit.
     pub fn get_array_length(&mut self, array: Handle) -> Result<u32, Fault>
-        ensures { Does self.old self.new (get_array_length array.0) result }
+        ensures { Does self.old self.new (whole (for_get_array_length array.0)) result }
     {
-        let target = Reference::of(array);
-        make(&mut self.held, ArrayLength(target))
+        self.make(GetArrayLength(array))
     }
 
     /// How many UTF-16 units a string has. (JNI Specification, chapter 4, "GetStringLength")
@@ -59,10 +64,9 @@ impl<S: Steps> Env<S> {
     ///
     /// At most 4: the entry, a look at the slot of a global or weak handle, one at the string's header, and the exit.
     pub fn get_string_length(&mut self, string: Handle) -> Result<u32, Fault>
-        ensures { Does self.old self.new (get_string_length string.0) result }
+        ensures { Does self.old self.new (whole (for_get_string_length string.0)) result }
     {
-        let target = Reference::of(string);
-        make(&mut self.held, TextLength(target))
+        self.make(GetStringLength(string))
     }
 
     /// An element of an object array, as a local reference, none for null, which needs no place. A negative index can't be handed in. (JNI Specification, chapter 4, "GetObjectArrayElement")
@@ -81,11 +85,9 @@ impl<S: Steps> Env<S> {
         array: Handle,
         index: u32,
     ) -> Result<Option<Handle>, Fault>
-        ensures { Does self.old self.new (get_object_array_element array.0 index) result }
+        ensures { Does self.old self.new (whole (for_get_object_array_element array.0 index)) result }
     {
-        let target = Reference::of(array);
-        let made = make(&mut self.held, ElementReading { target, index })?;
-        Ok(made.map(Handle::pack))
+        self.make(GetObjectArrayElement(array, index))
     }
 
     /// Sets an element of an object array to what the second handle names, to null for NULL and for a weak one that is cleared. Each check of a reference is made of the array and then of the value, before the next, and all of them before E1. A negative index can't be handed in. (JNI Specification, chapter 4, "SetObjectArrayElement")
@@ -105,16 +107,9 @@ impl<S: Steps> Env<S> {
         index: u32,
         value: Handle,
     ) -> Result<(), Fault>
-        ensures { Does self.old self.new (set_object_array_element array.0 index value.0) result }
+        ensures { Does self.old self.new (whole (for_set_object_array_element array.0 index value.0)) result }
     {
-        let target = Reference::of(array);
-        let named = Reference::of(value);
-        let work = ElementWriting {
-            target,
-            index,
-            value: named,
-        };
-        make(&mut self.held, work)
+        self.make(SetObjectArrayElement(array, index, value))
     }
 }
 
@@ -122,15 +117,37 @@ impl<S: Steps> Env<S> {
 #[derive(Clone, Copy)]
 pub struct KindOf(pub Handle);
 
-impl<S: Steps> EnvCall<S> for KindOf {
-    ghost use Rattle.jr_env.specs.Deeds.{kind_of};
+impl<S: Steps> NativeCall<S> for KindOf {
+    ghost use Rattle.jr_env.specs.Requests.{for_kind_of};
 
     type Answer = Kind;
 
-    ghost deed = { λ c. kind_of c.0.0 };
+    ghost request = { λ c. for_kind_of c.0.0 };
+
+    #[inline(always)]
+    fn work(
+        self,
+        steps: &mut S,
+        inside: &Inside,
+        frames: &mut Frames,
+        _numbers: &mut Numbers,
+    ) -> Result<Kind, Fault> {
+        let target = Reference::of(self.0);
+        let (_, header) = find(steps, inside, frames, target)?;
+        Ok(header.kind)
+    }
+}
+
+impl<S: Steps> EnvCall<S> for KindOf {
+    ghost use Rattle.jr_env.specs.Deeds.{whole};
+    ghost use Rattle.jr_env.specs.Requests.{for_kind_of};
+
+    type Answer = Kind;
+
+    ghost deed = { λ c. whole (for_kind_of c.0.0) };
 
     fn make(&self, env: &mut Env<S>) -> Result<Kind, Fault> {
-        env.kind_of(self.0)
+        env.make(*self)
     }
 }
 
@@ -138,15 +155,40 @@ impl<S: Steps> EnvCall<S> for KindOf {
 #[derive(Clone, Copy)]
 pub struct GetArrayLength(pub Handle);
 
-impl<S: Steps> EnvCall<S> for GetArrayLength {
-    ghost use Rattle.jr_env.specs.Deeds.{get_array_length};
+impl<S: Steps> NativeCall<S> for GetArrayLength {
+    ghost use Rattle.jr_env.specs.Requests.{for_get_array_length};
 
     type Answer = u32;
 
-    ghost deed = { λ c. get_array_length c.0.0 };
+    ghost request = { λ c. for_get_array_length c.0.0 };
+
+    #[inline(always)]
+    fn work(
+        self,
+        steps: &mut S,
+        inside: &Inside,
+        frames: &mut Frames,
+        _numbers: &mut Numbers,
+    ) -> Result<u32, Fault> {
+        let target = Reference::of(self.0);
+        let (_, header) = find(steps, inside, frames, target)?;
+        if !is_array(header.kind) {
+            return Err(Fault::NotArray);
+        }
+        Ok(header.length)
+    }
+}
+
+impl<S: Steps> EnvCall<S> for GetArrayLength {
+    ghost use Rattle.jr_env.specs.Deeds.{whole};
+    ghost use Rattle.jr_env.specs.Requests.{for_get_array_length};
+
+    type Answer = u32;
+
+    ghost deed = { λ c. whole (for_get_array_length c.0.0) };
 
     fn make(&self, env: &mut Env<S>) -> Result<u32, Fault> {
-        env.get_array_length(self.0)
+        env.make(*self)
     }
 }
 
@@ -154,15 +196,40 @@ impl<S: Steps> EnvCall<S> for GetArrayLength {
 #[derive(Clone, Copy)]
 pub struct GetStringLength(pub Handle);
 
-impl<S: Steps> EnvCall<S> for GetStringLength {
-    ghost use Rattle.jr_env.specs.Deeds.{get_string_length};
+impl<S: Steps> NativeCall<S> for GetStringLength {
+    ghost use Rattle.jr_env.specs.Requests.{for_get_string_length};
 
     type Answer = u32;
 
-    ghost deed = { λ c. get_string_length c.0.0 };
+    ghost request = { λ c. for_get_string_length c.0.0 };
+
+    #[inline(always)]
+    fn work(
+        self,
+        steps: &mut S,
+        inside: &Inside,
+        frames: &mut Frames,
+        _numbers: &mut Numbers,
+    ) -> Result<u32, Fault> {
+        let target = Reference::of(self.0);
+        let (_, header) = find(steps, inside, frames, target)?;
+        if !is_text(header.kind) {
+            return Err(Fault::WrongKind);
+        }
+        Ok(header.length)
+    }
+}
+
+impl<S: Steps> EnvCall<S> for GetStringLength {
+    ghost use Rattle.jr_env.specs.Deeds.{whole};
+    ghost use Rattle.jr_env.specs.Requests.{for_get_string_length};
+
+    type Answer = u32;
+
+    ghost deed = { λ c. whole (for_get_string_length c.0.0) };
 
     fn make(&self, env: &mut Env<S>) -> Result<u32, Fault> {
-        env.get_string_length(self.0)
+        env.make(*self)
     }
 }
 
@@ -170,15 +237,41 @@ impl<S: Steps> EnvCall<S> for GetStringLength {
 #[derive(Clone, Copy)]
 pub struct GetObjectArrayElement(pub Handle, pub u32);
 
-impl<S: Steps> EnvCall<S> for GetObjectArrayElement {
-    ghost use Rattle.jr_env.specs.Deeds.{get_object_array_element};
+impl<S: Steps> NativeCall<S> for GetObjectArrayElement {
+    ghost use Rattle.jr_env.specs.Requests.{for_get_object_array_element};
 
     type Answer = Option<Handle>;
 
-    ghost deed = { λ c. get_object_array_element c.0.0 c.1 };
+    ghost request = { λ c. for_get_object_array_element c.0.0 c.1 };
+
+    #[inline(always)]
+    fn work(
+        self,
+        steps: &mut S,
+        inside: &Inside,
+        frames: &mut Frames,
+        _numbers: &mut Numbers,
+    ) -> Result<Option<Handle>, Fault> {
+        let target = Reference::of(self.0);
+        let (array, header) = find(steps, inside, frames, target)?;
+        has_element(header, self.1)?;
+        let word = steps.see_element(array, header, self.1);
+        let object = object_in(word);
+        let made = new_local(steps, inside, frames, object)?;
+        Ok(made.map(Handle::pack))
+    }
+}
+
+impl<S: Steps> EnvCall<S> for GetObjectArrayElement {
+    ghost use Rattle.jr_env.specs.Deeds.{whole};
+    ghost use Rattle.jr_env.specs.Requests.{for_get_object_array_element};
+
+    type Answer = Option<Handle>;
+
+    ghost deed = { λ c. whole (for_get_object_array_element c.0.0 c.1) };
 
     fn make(&self, env: &mut Env<S>) -> Result<Option<Handle>, Fault> {
-        env.get_object_array_element(self.0, self.1)
+        env.make(*self)
     }
 }
 
@@ -186,14 +279,82 @@ impl<S: Steps> EnvCall<S> for GetObjectArrayElement {
 #[derive(Clone, Copy)]
 pub struct SetObjectArrayElement(pub Handle, pub u32, pub Handle);
 
-impl<S: Steps> EnvCall<S> for SetObjectArrayElement {
-    ghost use Rattle.jr_env.specs.Deeds.{set_object_array_element};
+impl<S: Steps> NativeCall<S> for SetObjectArrayElement {
+    ghost use Rattle.jr_env.specs.Requests.{for_set_object_array_element};
 
     type Answer = ();
 
-    ghost deed = { λ c. set_object_array_element c.0.0 c.1 c.2.0 };
+    ghost request = { λ c. for_set_object_array_element c.0.0 c.1 c.2.0 };
+
+    #[inline(always)]
+    fn work(
+        self,
+        steps: &mut S,
+        inside: &Inside,
+        frames: &mut Frames,
+        _numbers: &mut Numbers,
+    ) -> Result<(), Fault> {
+        let target = Reference::of(self.0);
+        let value = Reference::of(self.2);
+        let (array, object) = resolve_both(steps, inside, frames, target, value)?;
+        let Some(array) = array else {
+            return Err(Fault::Null);
+        };
+        let header = header(steps, array);
+        has_element(header, self.1)?;
+        let word = element_word(object);
+        steps.put_element(array, header, self.1, word);
+        Ok(())
+    }
+}
+
+impl<S: Steps> EnvCall<S> for SetObjectArrayElement {
+    ghost use Rattle.jr_env.specs.Deeds.{whole};
+    ghost use Rattle.jr_env.specs.Requests.{for_set_object_array_element};
+
+    type Answer = ();
+
+    ghost deed = { λ c. whole (for_set_object_array_element c.0.0 c.1 c.2.0) };
 
     fn make(&self, env: &mut Env<S>) -> Result<(), Fault> {
-        env.set_object_array_element(self.0, self.1, self.2)
+        env.make(*self)
+    }
+}
+
+/// Whether an object with this header is an object array with an element at the index.
+///
+/// # Errors
+///
+/// E5 where it is no array, E6 where it is one of other elements, E7 past its length.
+fn has_element(header: HeaderParts, index: u32) -> Result<(), Fault>
+    ensures { (f : LocalFrames) → element_checks header.kind header.length index f [] result f }
+{
+    if !is_array(header.kind) {
+        return Err(Fault::NotArray);
+    }
+    if !is_objects(header.kind) {
+        return Err(Fault::WrongElement);
+    }
+    if header.length <= index {
+        return Err(Fault::Range);
+    }
+    Ok(())
+}
+
+/// The object that an element of an object array names, none for 0.
+fn object_in(word: u64) -> Option<u16>
+    requires { word < 2 ^ 16 }
+    ensures { result ≡ object_of_word word }
+{
+    if word == 0 { None } else { Some(word as u16) }
+}
+
+/// The element of an object array that names the object, 0 for none.
+pub(crate) fn element_word(object: Option<u16>) -> u64
+    ensures { result ≡ element_word object }
+{
+    match object {
+        Some(object) => u64::from(object),
+        None => 0,
     }
 }

@@ -1,17 +1,17 @@
 //! The calls at a part of an array in a stay, over any steps.
+use crate::calls::SetArrayRegion;
+use crate::calls::array_parts::copy_inside;
 use crate::env::Env;
 use crate::stay::Stay;
-use crate::works::array_parts::{Part, PartWriting, copy_inside};
-use jr_frames::Reference;
 use jr_gate::Inside;
 use jr_steps::Steps;
 use jr_word::{Elem, Fault, Handle};
 
 impl<S: Steps> Stay<'_, S> {
     ghost use Rattle.std.specs.Prelude.{◌≡◌, IfErr, length, map};
-    ghost use Rattle.jr_env.specs.Deeds.{read_answer};
+    ghost use Rattle.jr_env.specs.Deeds.{read_answer, in_a_stay};
     ghost use Rattle.jr_env.specs.LentStays.{env_in, DoesWithin};
-    ghost use Rattle.jr_env.specs.StayDeeds.{region_reading, region_writing};
+    ghost use Rattle.jr_env.specs.Requests.{for_get_array_region, for_set_array_region};
 
     /// Copies a part of an array out, from an index on: as many elements as the slice has room for, one after the other, rising. No elements are in range up to the end of the array. (JNI Specification, chapter 4, "Get<PrimitiveType>ArrayRegion Routines")
     ///
@@ -31,13 +31,11 @@ impl<S: Steps> Stay<'_, S> {
         elements: &mut [E],
     ) -> Result<(), Fault>
         ensures same_reference { (env_in self.new).ghost_name ≡ (env_in self.old).ghost_name }
-        ensures call { DoesWithin self.old self.new (region_reading E.KIND array.0 start (length elements.old)) (read_answer result (map E.word_of elements.new)) }
+        ensures call { DoesWithin self.old self.new (in_a_stay (for_get_array_region E.KIND array.0 start (length elements.old))) (read_answer result (map E.word_of elements.new)) }
         ensures size { length elements.new ≡ length elements.old }
         ensures err { IfErr result (λ _. elements.new ≡ elements.old) }
     {
-        let array = Reference::of(array);
-        let part = Part { array, start };
-        self.env.copy_within(&self.inside, part, elements)
+        self.env.copy_within(&self.inside, array, start, elements)
     }
 
     /// Copies elements into a part of an array, from an index on, one after the other, rising. No elements are in range up to the end of the array. (JNI Specification, chapter 4, "Set<PrimitiveType>ArrayRegion Routines")
@@ -58,38 +56,34 @@ impl<S: Steps> Stay<'_, S> {
         elements: &[E],
     ) -> Result<(), Fault>
         ensures same_reference { (env_in self.new).ghost_name ≡ (env_in self.old).ghost_name }
-        ensures call { DoesWithin self.old self.new (region_writing E.KIND array.0 start (map E.word_of elements.now)) result }
+        ensures call { DoesWithin self.old self.new (in_a_stay (for_set_array_region E.KIND array.0 start (map E.word_of elements.now))) result }
     {
-        let array = Reference::of(array);
-        let part = Part { array, start };
-        self.env
-            .within(&self.inside, PartWriting { part, elements })
+        self.make(SetArrayRegion(array, start, elements))
     }
 }
 
 impl<S: Steps> Env<S> {
     ghost use Rattle.std.specs.Prelude.{◌≡◌, IfErr, length, map};
-    ghost use Rattle.jr_model.specs.Objects.{part_reading};
-    ghost use Rattle.jr_frames.specs.Reading.{word_of, OwnerFits};
     ghost use Rattle.jr_gate.specs.Stays.{IsOwnStay};
-    ghost use Rattle.jr_env.specs.Deeds.{read_answer};
-    ghost use Rattle.jr_env.specs.OpenStays.{PerformsOver, StaysOn};
+    ghost use Rattle.jr_env.specs.Deeds.{read_answer, in_a_stay};
+    ghost use Rattle.jr_env.specs.LentStays.{DoesInside};
+    ghost use Rattle.jr_env.specs.Requests.{for_get_array_region};
 
-    /// Reads a part of an array in a stay, which goes on.
+    /// Copies a part of an array out in a stay of the thread, which goes on.
+    #[inline(always)]
     fn copy_within<E: Elem>(
         &mut self,
         inside: &Inside,
-        part: Part,
+        array: Handle,
+        start: u32,
         elements: &mut [E],
     ) -> Result<(), Fault>
-        requires stay { IsOwnStay inside.now (S.facts self.old.held.steps).stands }
-        requires fits { OwnerFits part.array }
+        requires { IsOwnStay inside.now (S.facts self.old.held.steps).stands }
         ensures size { length elements.new ≡ length elements.old }
-        ensures call { PerformsOver self.old.held self.new.held (λ c. 1) (λ c last t s. part_reading c last t s E.KIND (word_of part.array) part.start (length elements.old)) (read_answer result (map E.word_of elements.new)) }
-        ensures on { StaysOn self.old.held self.new.held }
+        ensures call { DoesInside self.old self.new (in_a_stay (for_get_array_region E.KIND array.0 start (length elements.old))) (read_answer result (map E.word_of elements.new)) }
         ensures own { IsOwnStay inside.now (S.facts self.new.held.steps).stands }
         ensures err { IfErr result (λ _. elements.new ≡ elements.old) }
     {
-        copy_inside(&mut self.held, inside, part, elements)
+        copy_inside(&mut self.held, inside, array, start, elements)
     }
 }

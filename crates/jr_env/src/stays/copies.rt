@@ -1,8 +1,7 @@
 //! The calls that copy all elements of an array or string out, and back, in a stay, over any steps.
+use crate::calls::copies::{CopyBack, GetArrayElements, GetStringChars};
 use crate::stay::Stay;
-use crate::works::copies::{CopyingBack, ElementsCopying, UnitsCopying};
 use jr_elements::Elements;
-use jr_frames::Reference;
 use jr_model::Mode;
 use jr_steps::Steps;
 use jr_word::{Elem, Fault, Handle};
@@ -12,9 +11,9 @@ use std::marker::PhantomData;
 impl<S: Steps> Stay<'_, S> {
     ghost use Rattle.std.specs.Prelude.{◌≡◌, IfOk, IfErr, map};
     ghost use Rattle.jr_elements.specs.Copies.{answer_in, kept};
-    ghost use Rattle.jr_env.specs.Deeds.{release_answer};
+    ghost use Rattle.jr_env.specs.Deeds.{release_answer, release_within, in_a_stay};
     ghost use Rattle.jr_env.specs.LentStays.{env_in, DoesWithin};
-    ghost use Rattle.jr_env.specs.StayDeeds.{copying_back, elements_copying, units_copying};
+    ghost use Rattle.jr_env.specs.Requests.{for_get_array_elements, for_get_string_chars};
 
     /// Copies all elements of an array, one after the other, rising. (JNI Specification, chapter 4, "Get<PrimitiveType>ArrayElements Routines")
     ///
@@ -33,16 +32,14 @@ impl<S: Steps> Stay<'_, S> {
         array: Handle,
     ) -> Result<Elements<E>, Fault>
         ensures same_reference { (env_in self.new).ghost_name ≡ (env_in self.old).ghost_name }
-        ensures call { DoesWithin self.old self.new (elements_copying E.KIND array.0) (answer_in (map E.word_of) result) }
+        ensures call { DoesWithin self.old self.new (in_a_stay (for_get_array_elements E.KIND array.0)) (answer_in (map E.word_of) result) }
     {
-        let array = Reference::of(array);
         let element = PhantomData;
-        let work = ElementsCopying {
+        self.make(GetArrayElements {
             alloc,
             array,
             element,
-        };
-        self.env.within(&self.inside, work)
+        })
     }
 
     /// Releases copied elements by a mode. To copy writes them to the whole array, one after the other, rising, and gives them up; to commit writes them and hands them back, as they were; to abort gives them up, enters no gate, looks at no reference and is never refused. (JNI Specification, chapter 4, "Release<PrimitiveType>ArrayElements Routines")
@@ -63,19 +60,18 @@ impl<S: Steps> Stay<'_, S> {
         mode: Mode,
     ) -> Result<Option<Elements<E>>, (Elements<E>, Fault)>
         ensures same_reference { (env_in self.new).ghost_name ≡ (env_in self.old).ghost_name }
-        ensures call { DoesWithin self.old self.new (copying_back E.KIND array.0 (map E.word_of elements) mode) (release_answer (map E.word_of) result) }
+        ensures call { DoesWithin self.old self.new (release_within E.KIND array.0 (map E.word_of elements) mode) (release_answer (map E.word_of) result) }
         ensures ok { IfOk result (λ left. left ≡ kept mode elements) }
         ensures err { IfErr result (λ refused. refused.0 ≡ elements) }
     {
         if !mode.copies_back() {
             return Ok(None);
         }
-        let array = Reference::of(array);
-        let work = CopyingBack {
+        let call = CopyBack {
             array,
             elements: &elements,
         };
-        match self.env.within(&self.inside, work) {
+        match self.make(call) {
             Ok(()) => Ok(elements.kept(mode)),
             Err(fault) => Err((elements, fault)),
         }
@@ -94,10 +90,8 @@ impl<S: Steps> Stay<'_, S> {
     /// At most 2, and one for each unit: a look at the slot of a global or weak handle, one at the string's header, and a load for each unit.
     pub fn get_string_chars(&mut self, alloc: Global, string: Handle) -> Result<Vec<u16>, Fault>
         ensures same_reference { (env_in self.new).ghost_name ≡ (env_in self.old).ghost_name }
-        ensures call { DoesWithin self.old self.new (units_copying string.0) (answer_in (λ units. units.items) result) }
+        ensures call { DoesWithin self.old self.new (in_a_stay (for_get_string_chars string.0)) (answer_in (λ units. units.items) result) }
     {
-        let string = Reference::of(string);
-        self.env
-            .within(&self.inside, UnitsCopying { alloc, string })
+        self.make(GetStringChars { alloc, string })
     }
 }

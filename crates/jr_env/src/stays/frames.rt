@@ -1,14 +1,14 @@
 //! The calls for the frames of one thread in a stay, over any steps.
+use crate::calls::{FreeLocals, PopLocalFrame};
 use crate::stay::Stay;
-use crate::works::frames::{FramePop, LocalsFreeing};
-use jr_frames::Reference;
 use jr_steps::Steps;
 use jr_word::{Fault, Handle};
 
 impl<S: Steps> Stay<'_, S> {
     ghost use Rattle.std.specs.Prelude.{◌≡◌};
     ghost use Rattle.jr_env.specs.LentStays.{env_in, DoesWithin};
-    ghost use Rattle.jr_env.specs.StayDeeds.{freeing, popping_frame};
+    ghost use Rattle.jr_env.specs.Deeds.{in_a_stay};
+    ghost use Rattle.jr_env.specs.Requests.{for_free_locals, for_pop_local_frame};
 
     /// Takes the newest frame away with its local references, and makes one in the frame below to what the handle names, none for NULL and for a weak one that is cleared, which needs no place. (JNI Specification, chapter 4, "PopLocalFrame")
     ///
@@ -23,11 +23,9 @@ impl<S: Steps> Stay<'_, S> {
     /// Just its events: a look at the slot of a global or weak handle, a store for each local reference of the frame, and one for the result.
     pub fn pop_local_frame(&mut self, kept: Handle) -> Result<Option<Handle>, Fault>
         ensures same_reference { (env_in self.new).ghost_name ≡ (env_in self.old).ghost_name }
-        ensures call { DoesWithin self.old self.new (popping_frame kept.0) result }
+        ensures call { DoesWithin self.old self.new (in_a_stay (for_pop_local_frame kept.0)) result }
     {
-        let target = Reference::of(kept);
-        let made = self.env.within(&self.inside, FramePop(target))?;
-        Ok(made.map(Handle::pack))
+        self.make(PopLocalFrame(kept))
     }
 
     /// Frees all local references of the thread, as at the end of a native method. One empty frame is left. (JNI Specification, chapter 2, "Global and Local References")
@@ -41,8 +39,8 @@ impl<S: Steps> Stay<'_, S> {
     /// Just its events, a store for each local reference.
     pub fn free_locals(&mut self) -> Result<(), Fault>
         ensures same_reference { (env_in self.new).ghost_name ≡ (env_in self.old).ghost_name }
-        ensures call { DoesWithin self.old self.new freeing result }
+        ensures call { DoesWithin self.old self.new (in_a_stay for_free_locals) result }
     {
-        self.env.within(&self.inside, LocalsFreeing)
+        self.make(FreeLocals)
     }
 }

@@ -1,14 +1,16 @@
 //! The calls that look at objects in a stay, over any steps.
+use crate::calls::{
+    GetArrayLength, GetObjectArrayElement, GetStringLength, KindOf, SetObjectArrayElement,
+};
 use crate::stay::Stay;
-use crate::works::objects::{ArrayLength, ElementReading, ElementWriting, KindReading, TextLength};
-use jr_frames::Reference;
 use jr_steps::Steps;
 use jr_word::{Fault, Handle, Kind};
 
 impl<S: Steps> Stay<'_, S> {
     ghost use Rattle.std.specs.Prelude.{◌≡◌};
     ghost use Rattle.jr_env.specs.LentStays.{env_in, DoesWithin};
-    ghost use Rattle.jr_env.specs.StayDeeds.{array_length, element_reading, element_writing, kind_reading, string_length};
+    ghost use Rattle.jr_env.specs.Deeds.{in_a_stay};
+    ghost use Rattle.jr_env.specs.Requests.{for_kind_of, for_get_array_length, for_get_string_length, for_get_object_array_element, for_set_object_array_element};
 
     /// The kind of what the handle names. The Java Native Interface has no such call.
     ///
@@ -24,10 +26,9 @@ impl<S: Steps> Stay<'_, S> {
     #[inline(always)]
     pub fn kind_of(&mut self, handle: Handle) -> Result<Kind, Fault>
         ensures same_reference { (env_in self.new).ghost_name ≡ (env_in self.old).ghost_name }
-        ensures call { DoesWithin self.old self.new (kind_reading handle.0) result }
+        ensures call { DoesWithin self.old self.new (in_a_stay (for_kind_of handle.0)) result }
     {
-        let target = Reference::of(handle);
-        self.env.within(&self.inside, KindReading(target))
+        self.make(KindOf(handle))
     }
 
     /// How many elements an array has. (JNI Specification, chapter 4, "GetArrayLength")
@@ -44,10 +45,9 @@ impl<S: Steps> Stay<'_, S> {
     #[inline(always)]
     pub fn get_array_length(&mut self, array: Handle) -> Result<u32, Fault>
         ensures same_reference { (env_in self.new).ghost_name ≡ (env_in self.old).ghost_name }
-        ensures call { DoesWithin self.old self.new (array_length array.0) result }
+        ensures call { DoesWithin self.old self.new (in_a_stay (for_get_array_length array.0)) result }
     {
-        let target = Reference::of(array);
-        self.env.within(&self.inside, ArrayLength(target))
+        self.make(GetArrayLength(array))
     }
 
     /// How many UTF-16 units a string has. (JNI Specification, chapter 4, "GetStringLength")
@@ -64,10 +64,9 @@ impl<S: Steps> Stay<'_, S> {
     #[inline(always)]
     pub fn get_string_length(&mut self, string: Handle) -> Result<u32, Fault>
         ensures same_reference { (env_in self.new).ghost_name ≡ (env_in self.old).ghost_name }
-        ensures call { DoesWithin self.old self.new (string_length string.0) result }
+        ensures call { DoesWithin self.old self.new (in_a_stay (for_get_string_length string.0)) result }
     {
-        let target = Reference::of(string);
-        self.env.within(&self.inside, TextLength(target))
+        self.make(GetStringLength(string))
     }
 
     /// An element of an object array, as a local reference, none for null, which needs no place. A negative index can't be handed in. (JNI Specification, chapter 4, "GetObjectArrayElement")
@@ -88,12 +87,9 @@ impl<S: Steps> Stay<'_, S> {
         index: u32,
     ) -> Result<Option<Handle>, Fault>
         ensures same_reference { (env_in self.new).ghost_name ≡ (env_in self.old).ghost_name }
-        ensures call { DoesWithin self.old self.new (element_reading array.0 index) result }
+        ensures call { DoesWithin self.old self.new (in_a_stay (for_get_object_array_element array.0 index)) result }
     {
-        let target = Reference::of(array);
-        let work = ElementReading { target, index };
-        let made = self.env.within(&self.inside, work)?;
-        Ok(made.map(Handle::pack))
+        self.make(GetObjectArrayElement(array, index))
     }
 
     /// Sets an element of an object array to what the second handle names, to null for NULL and for a weak one that is cleared. Each check of a reference is made of the array and then of the value, before the next, and all of them before E1. A negative index can't be handed in. (JNI Specification, chapter 4, "SetObjectArrayElement")
@@ -115,15 +111,8 @@ impl<S: Steps> Stay<'_, S> {
         value: Handle,
     ) -> Result<(), Fault>
         ensures same_reference { (env_in self.new).ghost_name ≡ (env_in self.old).ghost_name }
-        ensures call { DoesWithin self.old self.new (element_writing array.0 index value.0) result }
+        ensures call { DoesWithin self.old self.new (in_a_stay (for_set_object_array_element array.0 index value.0)) result }
     {
-        let target = Reference::of(array);
-        let named = Reference::of(value);
-        let work = ElementWriting {
-            target,
-            index,
-            value: named,
-        };
-        self.env.within(&self.inside, work)
+        self.make(SetObjectArrayElement(array, index, value))
     }
 }

@@ -1,17 +1,18 @@
 //! The calls for references in a stay, over any steps.
-use crate::stay::Stay;
-use crate::works::references::{
-    Comparison, Creation, LocalCreation, LocalRemoval, Removal, Typing,
+use crate::calls::{
+    DeleteGlobalRef, DeleteLocalRef, DeleteWeakGlobalRef, GetObjectRefType, IsSameObject,
+    NewGlobalRef, NewLocalRef, NewWeakGlobalRef,
 };
-use jr_frames::Reference;
+use crate::stay::Stay;
 use jr_steps::Steps;
-use jr_word::{Fault, Handle, RefKind};
+use jr_word::{Fault, Handle};
 
 impl<S: Steps> Stay<'_, S> {
-    ghost use Rattle.std.specs.Prelude.{◌≡◌, ◌≢◌};
-    ghost use Rattle.jr_word.specs.declared.handle.RefKind.TheVariants.{Local, Global, Weak};
+    ghost use Rattle.std.specs.Prelude.{◌≡◌};
+    ghost use Rattle.jr_word.specs.declared.handle.RefKind.TheVariants.{Global, Weak};
     ghost use Rattle.jr_env.specs.LentStays.{env_in, DoesWithin};
-    ghost use Rattle.jr_env.specs.StayDeeds.{comparison, creation, local_creation, local_removal, removal, typing};
+    ghost use Rattle.jr_env.specs.Deeds.{in_a_stay};
+    ghost use Rattle.jr_env.specs.Requests.{for_delete_local_ref, for_delete_reference, for_get_object_ref_type, for_is_same_object, for_new_local_ref, for_new_reference};
 
     /// Makes a global reference to what the handle names, none for NULL and for a weak one that is cleared. (JNI Specification, chapter 4, "NewGlobalRef")
     ///
@@ -27,9 +28,9 @@ impl<S: Steps> Stay<'_, S> {
     #[inline(always)]
     pub fn new_global_ref(&mut self, handle: Handle) -> Result<Option<Handle>, Fault>
         ensures same_reference { (env_in self.new).ghost_name ≡ (env_in self.old).ghost_name }
-        ensures call { DoesWithin self.old self.new (creation Global handle.0) result }
+        ensures call { DoesWithin self.old self.new (in_a_stay (for_new_reference Global handle.0)) result }
     {
-        self.new_reference(RefKind::Global, handle)
+        self.make(NewGlobalRef(handle))
     }
 
     /// Makes a weak global reference to what the handle names, none for NULL and for a weak one that is cleared. (JNI Specification, chapter 4, "NewWeakGlobalRef")
@@ -46,9 +47,9 @@ impl<S: Steps> Stay<'_, S> {
     #[inline(always)]
     pub fn new_weak_global_ref(&mut self, handle: Handle) -> Result<Option<Handle>, Fault>
         ensures same_reference { (env_in self.new).ghost_name ≡ (env_in self.old).ghost_name }
-        ensures call { DoesWithin self.old self.new (creation Weak handle.0) result }
+        ensures call { DoesWithin self.old self.new (in_a_stay (for_new_reference Weak handle.0)) result }
     {
-        self.new_reference(RefKind::Weak, handle)
+        self.make(NewWeakGlobalRef(handle))
     }
 
     /// Makes a local reference to what the handle names, none for NULL and for a weak one that is cleared, which needs no place. (JNI Specification, chapter 4, "NewLocalRef")
@@ -65,11 +66,9 @@ impl<S: Steps> Stay<'_, S> {
     #[inline(always)]
     pub fn new_local_ref(&mut self, handle: Handle) -> Result<Option<Handle>, Fault>
         ensures same_reference { (env_in self.new).ghost_name ≡ (env_in self.old).ghost_name }
-        ensures call { DoesWithin self.old self.new (local_creation handle.0) result }
+        ensures call { DoesWithin self.old self.new (in_a_stay (for_new_local_ref handle.0)) result }
     {
-        let target = Reference::of(handle);
-        let made = self.env.within(&self.inside, LocalCreation(target))?;
-        Ok(made.map(Handle::pack))
+        self.make(NewLocalRef(handle))
     }
 
     /// Makes a local reference to what a weak one names, none where that is cleared: `new_local_ref`, by the name of what it is for. (JNI Specification, chapter 4, "NewLocalRef")
@@ -86,7 +85,7 @@ impl<S: Steps> Stay<'_, S> {
     #[inline(always)]
     pub fn upgrade_local(&mut self, weak: Handle) -> Result<Option<Handle>, Fault>
         ensures same_reference { (env_in self.new).ghost_name ≡ (env_in self.old).ghost_name }
-        ensures call { DoesWithin self.old self.new (local_creation weak.0) result }
+        ensures call { DoesWithin self.old self.new (in_a_stay (for_new_local_ref weak.0)) result }
     {
         self.new_local_ref(weak)
     }
@@ -105,7 +104,7 @@ impl<S: Steps> Stay<'_, S> {
     #[inline(always)]
     pub fn upgrade_global(&mut self, weak: Handle) -> Result<Option<Handle>, Fault>
         ensures same_reference { (env_in self.new).ghost_name ≡ (env_in self.old).ghost_name }
-        ensures call { DoesWithin self.old self.new (creation Global weak.0) result }
+        ensures call { DoesWithin self.old self.new (in_a_stay (for_new_reference Global weak.0)) result }
     {
         self.new_global_ref(weak)
     }
@@ -124,11 +123,9 @@ impl<S: Steps> Stay<'_, S> {
     #[inline(always)]
     pub fn delete_global_ref(&mut self, handle: Handle) -> Result<(), Fault>
         ensures same_reference { (env_in self.new).ghost_name ≡ (env_in self.old).ghost_name }
-        ensures call { DoesWithin self.old self.new (removal Global handle.0) result }
+        ensures call { DoesWithin self.old self.new (in_a_stay (for_delete_reference Global handle.0)) result }
     {
-        let target = Reference::of(handle);
-        let kind = RefKind::Global;
-        self.env.within(&self.inside, Removal { kind, target })
+        self.make(DeleteGlobalRef(handle))
     }
 
     /// Deletes a weak global reference, cleared or not. For NULL it deletes nothing, and is not refused. (JNI Specification, chapter 4, "DeleteWeakGlobalRef")
@@ -145,11 +142,9 @@ impl<S: Steps> Stay<'_, S> {
     #[inline(always)]
     pub fn delete_weak_global_ref(&mut self, handle: Handle) -> Result<(), Fault>
         ensures same_reference { (env_in self.new).ghost_name ≡ (env_in self.old).ghost_name }
-        ensures call { DoesWithin self.old self.new (removal Weak handle.0) result }
+        ensures call { DoesWithin self.old self.new (in_a_stay (for_delete_reference Weak handle.0)) result }
     {
-        let target = Reference::of(handle);
-        let kind = RefKind::Weak;
-        self.env.within(&self.inside, Removal { kind, target })
+        self.make(DeleteWeakGlobalRef(handle))
     }
 
     /// Deletes a local reference of the thread, whichever frame has it. For NULL it deletes nothing, and is not refused. (JNI Specification, chapter 4, "DeleteLocalRef")
@@ -166,10 +161,9 @@ impl<S: Steps> Stay<'_, S> {
     #[inline(always)]
     pub fn delete_local_ref(&mut self, handle: Handle) -> Result<(), Fault>
         ensures same_reference { (env_in self.new).ghost_name ≡ (env_in self.old).ghost_name }
-        ensures call { DoesWithin self.old self.new (local_removal handle.0) result }
+        ensures call { DoesWithin self.old self.new (in_a_stay (for_delete_local_ref handle.0)) result }
     {
-        let target = Reference::of(handle);
-        self.env.within(&self.inside, LocalRemoval(target))
+        self.make(DeleteLocalRef(handle))
     }
 
     /// Whether two references are to one object, or both to null. The look at the first and the look at the second are two moments. Each check is made of the first handle and then of the second, before the next check. (JNI Specification, chapter 4, "IsSameObject")
@@ -186,24 +180,9 @@ impl<S: Steps> Stay<'_, S> {
     #[inline(always)]
     pub fn is_same_object(&mut self, left: Handle, right: Handle) -> Result<bool, Fault>
         ensures same_reference { (env_in self.new).ghost_name ≡ (env_in self.old).ghost_name }
-        ensures call { DoesWithin self.old self.new (comparison left.0 right.0) result }
+        ensures call { DoesWithin self.old self.new (in_a_stay (for_is_same_object left.0 right.0)) result }
     {
-        if left.is_shared() && right.is_shared() {
-            // (the same, in a place of its own: there the compiler knows how most of the tests end)
-            return self.compare(left, right);
-        }
-        self.compare(left, right)
-    }
-
-    /// The same, whatever they are.
-    #[inline(always)]
-    fn compare(&mut self, left: Handle, right: Handle) -> Result<bool, Fault>
-        ensures same_reference { (env_in self.new).ghost_name ≡ (env_in self.old).ghost_name }
-        ensures call { DoesWithin self.old self.new (comparison left.0 right.0) result }
-    {
-        let left = Reference::of(left);
-        let right = Reference::of(right);
-        self.env.within(&self.inside, Comparison(left, right))
+        self.make(IsSameObject(left, right))
     }
 
     /// The type of a reference: 1 local, 2 global, 3 weak global, be it cleared, and 0 for NULL, a malformed handle, one that lies outside the room, a local one of another thread, and one whose reference does not stand. (JNI Specification, chapter 4, "GetObjectRefType")
@@ -218,21 +197,8 @@ impl<S: Steps> Stay<'_, S> {
     #[inline(always)]
     pub fn get_object_ref_type(&mut self, handle: Handle) -> Result<u8, Fault>
         ensures same_reference { (env_in self.new).ghost_name ≡ (env_in self.old).ghost_name }
-        ensures call { DoesWithin self.old self.new (typing handle.0) result }
+        ensures call { DoesWithin self.old self.new (in_a_stay (for_get_object_ref_type handle.0)) result }
     {
-        let target = Reference::of(handle);
-        self.env.within(&self.inside, Typing(target))
-    }
-
-    /// A global or weak global reference to what the handle names, or none for null.
-    #[inline(always)]
-    fn new_reference(&mut self, kind: RefKind, handle: Handle) -> Result<Option<Handle>, Fault>
-        requires { kind ≢ Local }
-        ensures same_reference { (env_in self.new).ghost_name ≡ (env_in self.old).ghost_name }
-        ensures call { DoesWithin self.old self.new (creation kind handle.0) result }
-    {
-        let target = Reference::of(handle);
-        let made = self.env.within(&self.inside, Creation { kind, target })?;
-        Ok(made.map(Handle::pack))
+        self.make(GetObjectRefType(handle))
     }
 }

@@ -1,6 +1,5 @@
 use Rattle.std.proofs.Common.{Err, Ok, map, rules, sym, subst, ap, ◌∙◌, ◌≢◌}
 use Rattle.jr_model.specs.declared.frames.Mode.TheVariants.{Abort}
-use Rattle.jr_frames.specs.Reading.{word_of}
 use Rattle.jr_env.specs.Deeds.{DoesOutside, release_answer, release_array_elements}
 use Rattle.jr_env.proofs.ReleasedElements.{aborts, kept_words, releases}
 use Rattle.jr_env.proofs.env.Env.release_array_elements.Goals as goal
@@ -10,18 +9,17 @@ returns-in-Ok-clause-call g c =
     let words = map g.E.Elem.word_of in
     let writes : c.args.mode ≢ Abort = search rules in
     let old = c.args.self.now.held in
-    let new = c.make.new.held in
+    let new = c.make.new.self.held in
     subst (λ z. DoesOutside g.S.Steps.facts old.steps new.steps old.frames.frames new.frames.frames
     (release_array_elements g.E.Elem.KIND c.args.array.0 (words c.args.elements) c.args.mode) z)
     (kept_words words c.args.elements c.args.mode ∙ ap (λ k. release_answer words (Ok k)) (sym c.kept.ensures))
-    (releases g.met.S.Steps.fits g.E.Elem.KIND c.args.array.0 (word_of c.of-array.result) c.of-array.ensures.reads
-    (words c.args.elements) c.args.mode writes (Ok _) c.in-Ok.ensures.call)
+    (releases g.E.Elem.KIND c.args.array.0 (words c.args.elements) c.args.mode writes (Ok _) c.in-Ok.ensures)
 
 pub returns-in-Err-clause-call : goal.returns-in-Err-clause-call
 returns-in-Err-clause-call g c =
     let writes : c.args.mode ≢ Abort = search rules in
-    releases g.met.S.Steps.fits g.E.Elem.KIND c.args.array.0 (word_of c.of-array.result) c.of-array.ensures.reads
-    (map g.E.Elem.word_of c.args.elements) c.args.mode writes (Err c.in-Err.fault) c.in-Err.ensures.call
+    releases g.E.Elem.KIND c.args.array.0 (map g.E.Elem.word_of c.args.elements) c.args.mode writes
+    (Err c.in-Err.fault) c.in-Err.ensures
 
 pub returns-then-not-copies_back-clause-call : goal.returns-then-not-copies_back-clause-call
 returns-then-not-copies_back-clause-call g c =

@@ -1,5 +1,0 @@
-use Rattle.jr_frames.proofs.Dropping.{calls_dropped}
-use Rattle.jr_env.proofs.works.frames.LocalsFreeingWork.work.Goals as goal
-
-pub returns-clause-call : goal.returns-clause-call
-returns-clause-call g c = calls_dropped c.free_all.ensures.call
