@@ -14,20 +14,17 @@ use Rattle.jr_word.specs.declared.kind.Kind.TheVariants.{Objects}
 use Rattle.jr_model.specs.declared.event.Role.TheVariants.{Within}
 use Rattle.jr_model.specs.declared.event.Act.{Act}
 use Rattle.jr_model.specs.declared.event.Act.TheVariants.{LocalPut, Read}
-use Rattle.jr_model.specs.State.{Handle, State, IsWord}
-use Rattle.jr_model.specs.History.{by, state, IsLegal}
+use Rattle.jr_model.specs.State.{Handle, State}
+use Rattle.jr_model.specs.History.{IsLegal}
 use Rattle.jr_model.specs.Frames.{Frames, free_places}
 use Rattle.jr_model.specs.Calls.{Call, Ran, done, refuse_if, some_act, for_object, ◌>>=◌}
 use Rattle.jr_model.specs.Checks.{Word, object_of_word}
 use Rattle.jr_model.specs.References.{added, new_local}
 use Rattle.jr_model.specs.Objects.{element_reading}
-use Rattle.jr_model.proofs.Gates.{apart_state}
-use Rattle.jr_model.proofs.Histories.{legal_push, state_push}
 use Rattle.jr_model.proofs.InRoom.{in_room}
-use Rattle.jr_model.proofs.Words.{elements_are_words}
 use Rattle.jr_model.proofs.Runs.{ran_err, ran_some_act, ran_then}
 use Rattle.jr_steps.specs.declared.known.Known.{Known}
-use Rattle.jr_steps.specs.Knowing.{AreOf, Facts, Goes, Standing, view, state_of, keeps, HasOptional}
+use Rattle.jr_steps.specs.Knowing.{AreOf, Facts, Goes, Standing, view, keeps, HasOptional}
 use Rattle.jr_steps.specs.Knowing.{Holds, IsWordNow, KnowsHeader, MayKnow, ShowsObject, Took}
 use Rattle.jr_steps.proofs.StepFacts.{goes_did}
 use Rattle.jr_gate.specs.Performing.{Performed}
@@ -35,7 +32,8 @@ use Rattle.jr_gate.proofs.HandedOn.{handed_on}
 use Rattle.jr_gate.proofs.SameRoom.{nothing_changed, as_before, but_fresh, still_before}
 use Rattle.jr_gate.proofs.Spending.{made_of, spending, spend_first, spend_none, spend_step}
 use Rattle.jr_heap.specs.Heap.{HoldsHeader}
-use Rattle.jr_heap.proofs.StayFacts.{NoLeave, kind_in, object_later}
+use Rattle.jr_heap.proofs.Elements.{read_word}
+use Rattle.jr_heap.proofs.StayFacts.{NoLeave, object_later}
 use Rattle.jr_frames.specs.OverSteps.{MakesLocal}
 use Rattle.jr_frames.specs.Table.{Table}
 use Rattle.jr_frames.specs.Ready.{StandsReady}
@@ -51,18 +49,7 @@ use Rattle.jr_frames.proofs.Steady.{steady_at, steady_for, steady_same, steady_t
 -- an element of an object array that was read is 0 or a present object
 named_by : {k k' : Known} (o i v : ℕ) (h : HeaderParts) → h.kind ≡ Objects → Goes k (Read o i v ∷ []) k'
     → ShowsObject o h k' → IsWordNow Objects v k'
-named_by {k} {k'} o i v h kind g shown =
-    let before = k.seen ++ g.between in
-    let e = by k.thread (Read o i v) in
-    let legal = (legal_push k.config k.last before e).0 (subst (IsLegal k.config k.last) g.seen g.legal) in
-    let needs = legal.1.1 in
-    let same : state before ≡ state_of k' = sym (ap state g.seen ∙ state_push before e) in
-    let there : Some needs.1 ≡ Some shown.contents = sym needs.2 ∙ (ap (λ (s : State). s.objects o) same ∙ shown.is) in
-    let word : IsWord (state before) needs.1.kind v
-    = elements_are_words k.config k.last before o needs.1 legal.0 needs.2
-    (λ is t collects. (apart_state k.config k.last before legal.0).apart t k.thread collects needs.0) i v needs.3 in
-    let kinds : needs.1.kind ≡ Objects = ap kind_in there ∙ (shown.says.kind ∙ kind) in
-    subst (λ s. IsWord s Objects v) same (subst (λ kind. IsWord (state before) kind v) kinds word)
+named_by {k' = k'} o i v h kind g shown = subst (λ of. IsWordNow of v k') kind (read_word o i v h g shown)
 
 -- the object that it names, if there is one, is present
 named_optional : (v : ℕ) (k : Known) → IsWordNow Objects v k → HasOptional (object_of_word v) k

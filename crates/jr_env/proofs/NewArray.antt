@@ -28,12 +28,12 @@ use Rattle.jr_model.proofs.Stays.{role_did}
 use Rattle.jr_model.proofs.Runs.{ran_then, ran_err, ran_behind}
 use Rattle.jr_steps.specs.declared.known.Known.{Known}
 use Rattle.jr_steps.specs.Knowing.{AreOf, Facts, Standing, view, state_of, anything, keeps}
-use Rattle.jr_steps.specs.Knowing.{HasOptional, Holds, MayKnow, IsWordNow, fresh_from}
+use Rattle.jr_steps.specs.Knowing.{HasOptional, Holds, MayKnow, IsWordNow, fresh_after, fresh_from}
 use Rattle.jr_frames.specs.Table.{Table, IsNext}
 use Rattle.jr_frames.specs.Ready.{StandsReady}
 use Rattle.jr_frames.specs.OverSteps.{Calls, FoundPresent, Resolves}
 use Rattle.jr_frames.proofs.RoomFor.{room_at}
-use Rattle.jr_gate.specs.Performing.{ThreadState, Performed, hint_from, thread_state}
+use Rattle.jr_gate.specs.Performing.{ThreadState, Performed, hint_after, hint_from, thread_state}
 use Rattle.jr_gate.proofs.HandedOn.{handed_on}
 use Rattle.jr_gate.proofs.SameRoom.{as_before, but_fresh, still_before}
 use Rattle.jr_gate.proofs.Spending.{Spending, made_of, spending, spend_acts, spend_last, spend_more, spend_then}
@@ -71,35 +71,23 @@ reservations_none = record {
   stays = tt;
 }
 
+reservations_one : (steps : ℕ) (a : Act) → 1 ≤ steps → steps ≤ 1 + 1 → ((b : Bool) → fresh_after b a ≡ b)
+    → ((slots i : ℕ) → hint_after slots i a ≡ i) → spares_places a ≡ true → a ≢ Gate Leave
+    → AreReservations steps (a ∷ [])
+reservations_one steps a few most fresh hint spares stays =
+    record { few = few; most = most; fresh = fresh; hint = hint; spares = (spares, tt); stays = (stays, tt) }
+
 reservations_won : (n : ℕ) → AreReservations 2 (Reserve n ∷ [])
-reservations_won n = record {
-  few = let e : 1 ≤ 2 = omega arith in e;
-  most = let e : 2 ≤ 1 + 1 = omega arith in e;
-  fresh = λ b. refl;
-  hint = λ slots i. refl;
-  spares = (refl, tt);
-  stays = (λ e. cc, tt);
-}
+reservations_won n = reservations_one 2 (Reserve n) (omega arith) (omega arith) (λ b. refl) (λ slots i. refl) refl
+    (λ e. cc)
 
 reservations_full : (n u : ℕ) → AreReservations 1 (ReserveFull n u ∷ [])
-reservations_full n u = record {
-  few = let e : 1 ≤ 1 = omega arith in e;
-  most = let e : 1 ≤ 1 + 1 = omega arith in e;
-  fresh = λ b. refl;
-  hint = λ slots i. refl;
-  spares = (refl, tt);
-  stays = (λ e. cc, tt);
-}
+reservations_full n u =
+    reservations_one 1 (ReserveFull n u) (omega arith) (omega arith) (λ b. refl) (λ slots i. refl) refl (λ e. cc)
 
 reservations_lost : (n l u : ℕ) → AreReservations 2 (ReserveLost n l u ∷ [])
-reservations_lost n l u = record {
-  few = let e : 1 ≤ 2 = omega arith in e;
-  most = let e : 2 ≤ 1 + 1 = omega arith in e;
-  fresh = λ b. refl;
-  hint = λ slots i. refl;
-  spares = (refl, tt);
-  stays = (λ e. cc, tt);
-}
+reservations_lost n l u =
+    reservations_one 2 (ReserveLost n l u) (omega arith) (omega arith) (λ b. refl) (λ slots i. refl) refl (λ e. cc)
 
 reserved_acts : (n : ℕ) (f : Frames) (acts : List Act) → reserve n f acts (Ok tt) f
     → AreReservations (reserve_steps n) acts

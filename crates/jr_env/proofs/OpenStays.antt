@@ -1,6 +1,6 @@
 -- A stay that goes on from call to call, for whatever was known: which no collection disturbs.
 use Rattle.std.proofs.Common.{◌≡◌, ℕ, [], ◌∷◌, Result, Ok, Err, IfOk, IfErr}
-use Rattle.std.proofs.Common.{⊎_elim, inl, inr, refl, sym, ap, subst, ◌∙◌}
+use Rattle.std.proofs.Common.{⊎_elim, inl, inr, refl, sym, subst, ◌∙◌}
 use Rattle.jr_word.specs.declared.config.Config.{Config}
 use Rattle.jr_word.specs.declared.fault.Fault.{Fault}
 use Rattle.jr_word.specs.declared.fault.Fault.TheVariants.{Barred}
@@ -18,7 +18,7 @@ use Rattle.jr_model.proofs.OpenStays.{one_stay, one_stay_left, stays_more}
 use Rattle.jr_model.proofs.Moments.{prefix_self}
 use Rattle.jr_steps.specs.declared.known.Known.{Known}
 use Rattle.jr_steps.specs.declared.steps.Steps.{Ghosts}
-use Rattle.jr_steps.specs.Knowing.{AreOf, Facts, Standing, anything, keeps, lets_go, state_of, view, Holds, Took}
+use Rattle.jr_steps.specs.Knowing.{AreOf, Facts, anything, keeps, lets_go, state_of, view, Holds, Took}
 use Rattle.jr_gate.specs.declared.inside.Inside.{Inside}
 use Rattle.jr_gate.specs.Acting.{ActedTo, LetsGoInTwo}
 use Rattle.jr_gate.specs.Performing.{Performed}

@@ -124,11 +124,6 @@ module _ {S : Type 0} {facts : S → Facts} where
       → Took facts a b (Gate Leave ∷ []) anything lets_go → StandsReady facts Outside b t
   ready_left = ready_stepped (Gate Leave) refl (λ f. refl)
 
-  -- frames that agree go on agreeing, whatever the thread learns
-  pub ready_met : {a b : S} {t : Table} → StandsReady facts Outside a t → Took facts a b (Meet ∷ []) anything keeps
-      → StandsReady facts Outside b t
-  ready_met = ready_stepped Meet refl (λ f. refl)
-
   -- A CALL OF ONE ACT that stores no local word and makes no reference, over frames that stay as they are
   pub one_act : {A : Type 0} {a b : S} {act : Act} {call : Call A} {answer : Result A Fault} {met : Known → Type 0}
       {shows : Known → Known → Type 0} (f : Frames) → spares_places act ≡ true → KeepsHint act

@@ -25,20 +25,6 @@ pub header_some : (x : Option Contents) (w : ℕ) → IsHeaderOf x w → w ≢ 0
 header_some None w h ne = absurd (ne h)
 header_some (Some x) w h ne = refl
 
--- a header of no elements
-pub header_fits : (p : HeaderParts) → (p.length ≡ 0) × (p.place ≡ 0) → IsHeader p
-header_fits p e = let a = e.0 in let b = e.1 in
-    record { length = omega arith; place = omega arith; length_fits = λ k. a; place_fits = λ l. b }
-
 -- no header's word is 0
 pub header_positive : (p : HeaderParts) → 1 ≤ header_word p
 header_positive p = let some = kind_some p.kind in omega arith
-
--- an object without elements needs no range
-pub filled_none : (p : HeaderParts) (k : Known) → p.length ≡ 0 → IsFilled p k
-filled_none p k e =
-    let none : words_for p k ≡ [] =
-    ap (λ b. cond b [] (words_at p.place k.holdings.ranges)) (eq-eqb p.length 0 e) in record {
-      long = ap length none ∙ sym e;
-      words = subst (λ ws. AreWords (state_of k) p.kind ws) (sym none) (λ i v q. absurd cc);
-    }

@@ -57,22 +57,6 @@ module _ (a b m : SeatState) (alone : IsAlone a) (note : IsNote b) (joined : m �
   acting_noted = ap stepping_pass with_note
 
   module _ {told : Known → ℕ → List Act → Known → Type 0} (n : ℕ) (m' : SeatState) (s : Tells told m n m') where
-    -- it was told what the look told, as if it had looked with nothing beside it
-    pub told_noted : Tells told a n m'
-    told_noted = record {
-      acts = s.acts;
-      new = s.new;
-      is = s.is ∙ (ap (λ (z : SeatState). (seats (s.new ∷ others_of z.0.passes), z.1)) with_note
-          ∙ sym (ap (λ (z : SeatState). (seats (s.new ∷ others_of z.0.passes), z.1)) alone));
-      goes = subst (λ k. Rattle.jr_steps.specs.Knowing.Goes k s.acts s.new) acting_noted s.goes;
-      says = subst (λ k. told k n s.acts s.new) acting_noted s.says;
-      space = subst (λ (k : Known). InSpace k.config (s.new).holdings) acting_noted s.space;
-      held = s.held;
-      others = subst (λ ks. EachFits (stepping_pass a).config (stepping_pass a).last (s.new).seen s.held ks)
-          (sym (ap (λ (z : SeatState). others_of z.0.passes) alone)) tt;
-      noted = subst (λ ns. AreBeginnings (s.new).seen ns) (sym (ap (λ (z : SeatState). z.0.notes) alone)) tt;
-    }
-
     -- and it has seen all that the note says
     pub learned : IsPrefix (noted_pass b).seen (stepping_pass m').seen
     learned = subst (λ (k : Known). IsPrefix (noted_pass b).seen k.seen) (sym (ap stepping_pass s.is))
