@@ -15,16 +15,14 @@ use Rattle.jr_model.specs.declared.event.GateAct.TheVariants.{Leave}
 use Rattle.jr_model.specs.State.{Handle, State}
 use Rattle.jr_model.specs.Frames.{Frames}
 use Rattle.jr_model.specs.Calls.{Call}
-use Rattle.jr_model.specs.Checks.{Word}
 use Rattle.jr_model.specs.Parts.{leave}
 use Rattle.jr_steps.specs.Knowing.{AreOf, Facts, Standing, anything, lets_go, Holds, Took}
 use Rattle.jr_gate.specs.Performing.{ThreadState}
 use Rattle.jr_frames.specs.Table.{Table}
 use Rattle.jr_frames.specs.OverSteps.{CallsWhole}
 use Rattle.jr_env.specs.Works.{Completes}
-use Rattle.jr_frames.specs.Reading.{IsReadAs}
 use Rattle.jr_env.specs.Deeds.{CarriedOut, Deed, DoesDeed, DoesOutside, after_exit, answered_by}
-use Rattle.jr_env.specs.Deeds.{call, call_by, call_on_by, call_on_both_by}
+use Rattle.jr_env.specs.Deeds.{call, call_by}
 use Rattle.jr_env.specs.Requests.{packed, packed_if}
 use Rattle.jr_env.proofs.Carrying.{did_both, did_in_role, did_more, does_both, own_call}
 use Rattle.jr_env.proofs.EndedStays.{leaves}

@@ -13,25 +13,21 @@ use Rattle.jr_model.specs.declared.event.Act.{Act}
 use Rattle.jr_model.specs.State.{State}
 use Rattle.jr_model.specs.History.{PassView, IsLegal}
 use Rattle.jr_model.specs.Frames.{Frames}
-use Rattle.jr_model.specs.Calls.{Call, Ran, ◌>>◌, done, entered, for_object}
+use Rattle.jr_model.specs.Calls.{Call, Ran, ◌>>◌, done, for_object}
 use Rattle.jr_model.specs.Calls.{one_of, refuse, refuse_if, unless_memory_for}
 use Rattle.jr_model.specs.Checks.{Word, is_array, is_text, same_element}
 use Rattle.jr_model.specs.Parts.{read, write}
 use Rattle.jr_model.proofs.Runs.{ran_err, ran_give}
-use Rattle.jr_steps.specs.declared.known.Known.{Known}
 use Rattle.jr_steps.specs.Knowing.{AreOf, Facts, Standing, Holds, view}
 use Rattle.jr_gate.specs.Performing.{Performed}
 use Rattle.jr_gate.proofs.SameRoom.{as_before, nothing_changed}
-use Rattle.jr_gate.proofs.Spending.{made_of, spending, spend_acts, spend_none}
+use Rattle.jr_gate.proofs.Spending.{made_of, spend_acts, spend_none}
 use Rattle.jr_heap.specs.Heap.{Called, HoldsHeader, LeavesObject, by_steps}
 use Rattle.jr_elements.specs.Copies.{answer_in, copy_steps}
-use Rattle.jr_frames.specs.Table.{Table}
 use Rattle.jr_frames.proofs.FramesAgree.{holds_did}
 use Rattle.jr_frames.proofs.Reading.{ran_passed, ran_refused}
 use Rattle.jr_frames.specs.Finding.{Finds}
 use Rattle.jr_frames.specs.Steady.{IsSteady}
-use Rattle.jr_frames.specs.OverSteps.{CallsWhole}
-use Rattle.jr_env.specs.Works.{Completes}
 use Rattle.jr_env.proofs.ArrayParts.{AreSpared, array_of, read_spared, write_spared}
 use Rattle.jr_frames.proofs.FoundObject.{at_named, finds_refused, finds_then, work_at}
 use Rattle.jr_frames.proofs.Steady.{steady_at, steady_for}

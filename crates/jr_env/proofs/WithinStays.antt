@@ -1,29 +1,17 @@
 -- A call of a stay, for whatever was known.
 use Rattle.std.proofs.Common.{◌≡◌, ◌≢◌, ℕ, List, Some, None, Result, Ok, Err, refl}
 use Rattle.std.specs.Result.{IsErrAnd}
-use Rattle.jr_word.specs.declared.config.Config.{Config}
 use Rattle.jr_word.specs.declared.fault.Fault.{Fault}
 use Rattle.jr_word.specs.declared.kind.Kind.{Kind}
 use Rattle.jr_model.specs.declared.frames.Mode.{Mode}
 use Rattle.jr_model.specs.declared.frames.Mode.TheVariants.{Copy, Commit, Abort}
-use Rattle.jr_model.specs.State.{State}
-use Rattle.jr_model.specs.Frames.{Frames}
-use Rattle.jr_model.specs.History.{PassView}
-use Rattle.jr_model.specs.Calls.{Call, Ran}
-use Rattle.jr_model.specs.Checks.{Word}
-use Rattle.jr_model.specs.Objects as objects
 use Rattle.jr_steps.specs.declared.steps.Steps.{Ghosts}
-use Rattle.jr_steps.specs.Knowing.{AreOf}
-use Rattle.jr_gate.proofs.Spending.{made_of, spending}
-use Rattle.jr_frames.specs.Reading.{IsReadAs}
 use Rattle.jr_elements.specs.Copies.{answer_in, kept}
 use Rattle.jr_env.specs.declared.env.Env.{Env}
 use Rattle.jr_env.specs.Deeds.{Deed, answered_by, done, release_within, in_a_stay}
-use Rattle.jr_env.specs.OpenStays.{StaysOn}
 use Rattle.jr_env.specs.Requests.{for_copy_back}
-use Rattle.jr_env.specs.Deeds.{within_by}
 use Rattle.jr_env.specs.LentStays.{DoesInside}
-use Rattle.jr_env.proofs.Carrying.{did_answer, did_call, did_more, did_refuse, does_nothing}
+use Rattle.jr_env.proofs.Carrying.{did_answer, did_refuse, does_nothing}
 
 module _ {S : Type 0} {G : Ghosts S} (old new : Env S G) where
   -- the answer in another form

@@ -1,16 +1,15 @@
 -- What the calls of an env do, from one moment of its pass and frames to another.
-use Rattle.std.specs.Prelude.{◌≡◌, ◌≢◌, ◌⊎◌, ◌+◌, ℕ, Bool, Option, Some, None, Result, Ok, Err, List, length}
+use Rattle.std.specs.Prelude.{◌≡◌, ◌≢◌, ◌⊎◌, ℕ, Bool, Option, Some, None, Result, Ok, Err, List}
 use Rattle.jr_word.specs.declared.handle.RefKind.{RefKind}
 use Rattle.jr_word.specs.declared.kind.Kind.{Kind}
 use Rattle.jr_word.specs.declared.handle.Handle.{Handle as HandleWord}
-use Rattle.jr_word.specs.Handle.{handle_word}
 use Rattle.jr_word.specs.declared.config.Config.{Config}
 use Rattle.jr_word.specs.declared.fault.Fault.{Fault}
 use Rattle.jr_model.specs.declared.event.Role.{Role}
 use Rattle.jr_model.specs.declared.event.Role.TheVariants.{Outside}
 use Rattle.jr_model.specs.declared.frames.Mode.{Mode}
 use Rattle.jr_model.specs.declared.frames.Mode.TheVariants.{Copy, Commit, Abort}
-use Rattle.jr_model.specs.State.{Handle, State}
+use Rattle.jr_model.specs.State.{State}
 use Rattle.jr_model.specs.References as references
 use Rattle.jr_model.specs.Objects as objects
 use Rattle.jr_model.specs.History.{state}

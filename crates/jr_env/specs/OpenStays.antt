@@ -1,19 +1,16 @@
 -- A stay that goes on from call to call, from the moment before its entry on, for whatever was known then:
 -- its thread entered and has not left, and no step of a collection comes.
-use Rattle.std.specs.Prelude.{◌≢◌, ℕ, Result, Ok, Err, []}
-use Rattle.jr_word.specs.declared.config.Config.{Config}
+use Rattle.std.specs.Prelude.{◌≢◌, Result, Ok, Err, []}
 use Rattle.jr_word.specs.declared.fault.Fault.{Fault}
 use Rattle.jr_model.specs.declared.event.Role.{Role}
 use Rattle.jr_model.specs.declared.event.Role.TheVariants.{Outside, Within}
-use Rattle.jr_model.specs.State.{State}
 use Rattle.jr_model.specs.Frames.{Frames}
-use Rattle.jr_model.specs.Calls.{Call}
 use Rattle.jr_model.specs.Parts.{enter, leave}
 use Rattle.jr_model.specs.OpenStays.{HasStayed, IsOneStay}
 use Rattle.jr_steps.specs.declared.steps.Steps.{Ghosts}
 use Rattle.jr_steps.specs.declared.known.Known.{Known}
 use Rattle.jr_steps.specs.Knowing.{Facts, view, keeps, lets_go, Holds, Leads}
-use Rattle.jr_gate.specs.Performing.{IsAsBefore, IsMade, Performed, thread_state}
+use Rattle.jr_gate.specs.Performing.{IsAsBefore, IsMade, thread_state}
 use Rattle.jr_frames.specs.declared.held.Held.{Held}
 use Rattle.jr_env.specs.StandingRegions.{WasUndisturbed}
 

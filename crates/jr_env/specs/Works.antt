@@ -1,6 +1,5 @@
 -- What calls and their works did, over any steps and frames, for whatever was known.
 use Rattle.std.specs.Prelude.{◌≡◌, ◌≢◌, ℕ, Result, Ok, Err, Option, Some, None, List, [], ◌∷◌, length}
-use Rattle.jr_word.specs.declared.config.Config.{Config}
 use Rattle.jr_word.specs.declared.fault.Fault.{Fault}
 use Rattle.jr_word.specs.declared.kind.Kind.{Kind}
 use Rattle.jr_word.specs.declared.kind.Kind.TheVariants.{Plain}
@@ -9,7 +8,7 @@ use Rattle.jr_model.specs.declared.event.GateAct.TheVariants.{Leave}
 use Rattle.jr_model.specs.declared.event.Role.TheVariants.{Outside}
 use Rattle.jr_model.specs.State.{Handle, State}
 use Rattle.jr_model.specs.Frames.{Frames, object_at}
-use Rattle.jr_model.specs.Calls.{Call, entered, ◌>>=◌}
+use Rattle.jr_model.specs.Calls.{Call, ◌>>=◌}
 use Rattle.jr_model.specs.Checks.{Word}
 use Rattle.jr_model.specs.Parts.{publish}
 use Rattle.jr_model.specs.References.{added, made}

@@ -1,4 +1,4 @@
-use Rattle.std.proofs.Common.{[], Err, Ok, ap, map, refl, sym}
+use Rattle.std.proofs.Common.{[], Err, Ok, ap, map, refl}
 use Rattle.jr_frames.specs.Reading.{word_of}
 use Rattle.jr_env.proofs.Served.{answered_as, kept_refusal}
 use Rattle.jr_env.proofs.WholeCopies.{copied, elements_copied, elements_then, no_array, no_such_elements}
