@@ -108,12 +108,11 @@ impl<S: Steps, E: Elem> NativeCall<S> for SetArrayRegion<'_, E> {
 
 impl<S: Steps, E: Elem> EnvCall<S> for SetArrayRegion<'_, E> {
     ghost use Rattle.std.specs.Prelude.{map};
-    ghost use Rattle.jr_env.specs.Deeds.{whole};
-    ghost use Rattle.jr_env.specs.Requests.{for_set_array_region};
+    ghost use Rattle.jr_env.specs.Deeds.{set_array_region};
 
     type Answer = ();
 
-    ghost deed = { λ c. whole (for_set_array_region E.KIND c.0.0 c.1 (map E.word_of c.2.now)) };
+    ghost deed = { λ c. set_array_region E.KIND c.0.0 c.1 (map E.word_of c.2.now) };
 
     fn make(&self, env: &mut Env<S>) -> Result<(), Fault> {
         env.make(*self)

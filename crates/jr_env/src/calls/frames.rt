@@ -160,12 +160,11 @@ impl<S: Steps> NativeCall<S> for PopLocalFrame {
 }
 
 impl<S: Steps> EnvCall<S> for PopLocalFrame {
-    ghost use Rattle.jr_env.specs.Deeds.{whole};
-    ghost use Rattle.jr_env.specs.Requests.{for_pop_local_frame};
+    ghost use Rattle.jr_env.specs.Deeds.{pop_local_frame};
 
     type Answer = Option<Handle>;
 
-    ghost deed = { λ c. whole (for_pop_local_frame c.0.0) };
+    ghost deed = { λ c. pop_local_frame c.0.0 };
 
     fn make(&self, env: &mut Env<S>) -> Result<Option<Handle>, Fault> {
         env.make(*self)
@@ -197,12 +196,11 @@ impl<S: Steps> NativeCall<S> for FreeLocals {
 }
 
 impl<S: Steps> EnvCall<S> for FreeLocals {
-    ghost use Rattle.jr_env.specs.Deeds.{whole};
-    ghost use Rattle.jr_env.specs.Requests.{for_free_locals};
+    ghost use Rattle.jr_env.specs.Deeds.{free_locals};
 
     type Answer = ();
 
-    ghost deed = { λ _. whole for_free_locals };
+    ghost deed = { λ _. free_locals };
 
     fn make(&self, env: &mut Env<S>) -> Result<(), Fault> {
         env.make(*self)

@@ -124,12 +124,11 @@ impl<S: Steps> NativeCall<S> for NewPlain {
 }
 
 impl<S: Steps> EnvCall<S> for NewPlain {
-    ghost use Rattle.jr_env.specs.Deeds.{whole};
-    ghost use Rattle.jr_env.specs.Requests.{for_new_plain};
+    ghost use Rattle.jr_env.specs.Deeds.{new_plain};
 
     type Answer = Handle;
 
-    ghost deed = { λ _. whole for_new_plain };
+    ghost deed = { λ _. new_plain };
 
     fn make(&self, env: &mut Env<S>) -> Result<Handle, Fault> {
         env.make(*self)
@@ -164,12 +163,11 @@ impl<S: Steps> NativeCall<S> for NewObjectArray {
 }
 
 impl<S: Steps> EnvCall<S> for NewObjectArray {
-    ghost use Rattle.jr_env.specs.Deeds.{whole};
-    ghost use Rattle.jr_env.specs.Requests.{for_new_object_array};
+    ghost use Rattle.jr_env.specs.Deeds.{new_object_array};
 
     type Answer = Handle;
 
-    ghost deed = { λ c. whole (for_new_object_array c.0 c.1.0) };
+    ghost deed = { λ c. new_object_array c.0 c.1.0 };
 
     fn make(&self, env: &mut Env<S>) -> Result<Handle, Fault> {
         env.make(*self)
@@ -201,12 +199,11 @@ impl<S: Steps> NativeCall<S> for NewString<'_> {
 }
 
 impl<S: Steps> EnvCall<S> for NewString<'_> {
-    ghost use Rattle.jr_env.specs.Deeds.{whole};
-    ghost use Rattle.jr_env.specs.Requests.{for_new_string};
+    ghost use Rattle.jr_env.specs.Deeds.{new_string};
 
     type Answer = Handle;
 
-    ghost deed = { λ c. whole (for_new_string c.0.now) };
+    ghost deed = { λ c. new_string c.0.now };
 
     fn make(&self, env: &mut Env<S>) -> Result<Handle, Fault> {
         env.make(*self)
@@ -254,12 +251,11 @@ impl<S: Steps, E: Elem> NativeCall<S> for NewArray<E> {
 }
 
 impl<S: Steps, E: Elem> EnvCall<S> for NewArray<E> {
-    ghost use Rattle.jr_env.specs.Deeds.{whole};
-    ghost use Rattle.jr_env.specs.Requests.{for_new_array};
+    ghost use Rattle.jr_env.specs.Deeds.{new_array};
 
     type Answer = Handle;
 
-    ghost deed = { λ c. whole (for_new_array E.KIND c.length) };
+    ghost deed = { λ c. new_array E.KIND c.length };
 
     fn make(&self, env: &mut Env<S>) -> Result<Handle, Fault> {
         env.make(*self)

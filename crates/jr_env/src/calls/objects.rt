@@ -139,12 +139,11 @@ impl<S: Steps> NativeCall<S> for KindOf {
 }
 
 impl<S: Steps> EnvCall<S> for KindOf {
-    ghost use Rattle.jr_env.specs.Deeds.{whole};
-    ghost use Rattle.jr_env.specs.Requests.{for_kind_of};
+    ghost use Rattle.jr_env.specs.Deeds.{kind_of};
 
     type Answer = Kind;
 
-    ghost deed = { λ c. whole (for_kind_of c.0.0) };
+    ghost deed = { λ c. kind_of c.0.0 };
 
     fn make(&self, env: &mut Env<S>) -> Result<Kind, Fault> {
         env.make(*self)
@@ -180,12 +179,11 @@ impl<S: Steps> NativeCall<S> for GetArrayLength {
 }
 
 impl<S: Steps> EnvCall<S> for GetArrayLength {
-    ghost use Rattle.jr_env.specs.Deeds.{whole};
-    ghost use Rattle.jr_env.specs.Requests.{for_get_array_length};
+    ghost use Rattle.jr_env.specs.Deeds.{get_array_length};
 
     type Answer = u32;
 
-    ghost deed = { λ c. whole (for_get_array_length c.0.0) };
+    ghost deed = { λ c. get_array_length c.0.0 };
 
     fn make(&self, env: &mut Env<S>) -> Result<u32, Fault> {
         env.make(*self)
@@ -221,12 +219,11 @@ impl<S: Steps> NativeCall<S> for GetStringLength {
 }
 
 impl<S: Steps> EnvCall<S> for GetStringLength {
-    ghost use Rattle.jr_env.specs.Deeds.{whole};
-    ghost use Rattle.jr_env.specs.Requests.{for_get_string_length};
+    ghost use Rattle.jr_env.specs.Deeds.{get_string_length};
 
     type Answer = u32;
 
-    ghost deed = { λ c. whole (for_get_string_length c.0.0) };
+    ghost deed = { λ c. get_string_length c.0.0 };
 
     fn make(&self, env: &mut Env<S>) -> Result<u32, Fault> {
         env.make(*self)
@@ -263,12 +260,11 @@ impl<S: Steps> NativeCall<S> for GetObjectArrayElement {
 }
 
 impl<S: Steps> EnvCall<S> for GetObjectArrayElement {
-    ghost use Rattle.jr_env.specs.Deeds.{whole};
-    ghost use Rattle.jr_env.specs.Requests.{for_get_object_array_element};
+    ghost use Rattle.jr_env.specs.Deeds.{get_object_array_element};
 
     type Answer = Option<Handle>;
 
-    ghost deed = { λ c. whole (for_get_object_array_element c.0.0 c.1) };
+    ghost deed = { λ c. get_object_array_element c.0.0 c.1 };
 
     fn make(&self, env: &mut Env<S>) -> Result<Option<Handle>, Fault> {
         env.make(*self)
@@ -309,12 +305,11 @@ impl<S: Steps> NativeCall<S> for SetObjectArrayElement {
 }
 
 impl<S: Steps> EnvCall<S> for SetObjectArrayElement {
-    ghost use Rattle.jr_env.specs.Deeds.{whole};
-    ghost use Rattle.jr_env.specs.Requests.{for_set_object_array_element};
+    ghost use Rattle.jr_env.specs.Deeds.{set_object_array_element};
 
     type Answer = ();
 
-    ghost deed = { λ c. whole (for_set_object_array_element c.0.0 c.1 c.2.0) };
+    ghost deed = { λ c. set_object_array_element c.0.0 c.1 c.2.0 };
 
     fn make(&self, env: &mut Env<S>) -> Result<(), Fault> {
         env.make(*self)

@@ -193,12 +193,11 @@ impl<S: Steps> NativeCall<S> for NewGlobalRef {
 
 impl<S: Steps> EnvCall<S> for NewGlobalRef {
     ghost use Rattle.jr_word.specs.declared.handle.RefKind.TheVariants.{Global};
-    ghost use Rattle.jr_env.specs.Deeds.{whole};
-    ghost use Rattle.jr_env.specs.Requests.{for_new_reference};
+    ghost use Rattle.jr_env.specs.Deeds.{new_reference};
 
     type Answer = Option<Handle>;
 
-    ghost deed = { λ c. whole (for_new_reference Global c.0.0) };
+    ghost deed = { λ c. new_reference Global c.0.0 };
 
     fn make(&self, env: &mut Env<S>) -> Result<Option<Handle>, Fault> {
         env.make(*self)
@@ -231,12 +230,11 @@ impl<S: Steps> NativeCall<S> for NewWeakGlobalRef {
 
 impl<S: Steps> EnvCall<S> for NewWeakGlobalRef {
     ghost use Rattle.jr_word.specs.declared.handle.RefKind.TheVariants.{Weak};
-    ghost use Rattle.jr_env.specs.Deeds.{whole};
-    ghost use Rattle.jr_env.specs.Requests.{for_new_reference};
+    ghost use Rattle.jr_env.specs.Deeds.{new_reference};
 
     type Answer = Option<Handle>;
 
-    ghost deed = { λ c. whole (for_new_reference Weak c.0.0) };
+    ghost deed = { λ c. new_reference Weak c.0.0 };
 
     fn make(&self, env: &mut Env<S>) -> Result<Option<Handle>, Fault> {
         env.make(*self)
@@ -270,12 +268,11 @@ impl<S: Steps> NativeCall<S> for NewLocalRef {
 }
 
 impl<S: Steps> EnvCall<S> for NewLocalRef {
-    ghost use Rattle.jr_env.specs.Deeds.{whole};
-    ghost use Rattle.jr_env.specs.Requests.{for_new_local_ref};
+    ghost use Rattle.jr_env.specs.Deeds.{new_local_ref};
 
     type Answer = Option<Handle>;
 
-    ghost deed = { λ c. whole (for_new_local_ref c.0.0) };
+    ghost deed = { λ c. new_local_ref c.0.0 };
 
     fn make(&self, env: &mut Env<S>) -> Result<Option<Handle>, Fault> {
         env.make(*self)
@@ -308,12 +305,11 @@ impl<S: Steps> NativeCall<S> for DeleteGlobalRef {
 
 impl<S: Steps> EnvCall<S> for DeleteGlobalRef {
     ghost use Rattle.jr_word.specs.declared.handle.RefKind.TheVariants.{Global};
-    ghost use Rattle.jr_env.specs.Deeds.{whole};
-    ghost use Rattle.jr_env.specs.Requests.{for_delete_reference};
+    ghost use Rattle.jr_env.specs.Deeds.{delete_reference};
 
     type Answer = ();
 
-    ghost deed = { λ c. whole (for_delete_reference Global c.0.0) };
+    ghost deed = { λ c. delete_reference Global c.0.0 };
 
     fn make(&self, env: &mut Env<S>) -> Result<(), Fault> {
         env.make(*self)
@@ -346,12 +342,11 @@ impl<S: Steps> NativeCall<S> for DeleteWeakGlobalRef {
 
 impl<S: Steps> EnvCall<S> for DeleteWeakGlobalRef {
     ghost use Rattle.jr_word.specs.declared.handle.RefKind.TheVariants.{Weak};
-    ghost use Rattle.jr_env.specs.Deeds.{whole};
-    ghost use Rattle.jr_env.specs.Requests.{for_delete_reference};
+    ghost use Rattle.jr_env.specs.Deeds.{delete_reference};
 
     type Answer = ();
 
-    ghost deed = { λ c. whole (for_delete_reference Weak c.0.0) };
+    ghost deed = { λ c. delete_reference Weak c.0.0 };
 
     fn make(&self, env: &mut Env<S>) -> Result<(), Fault> {
         env.make(*self)
@@ -387,12 +382,11 @@ impl<S: Steps> NativeCall<S> for DeleteLocalRef {
 }
 
 impl<S: Steps> EnvCall<S> for DeleteLocalRef {
-    ghost use Rattle.jr_env.specs.Deeds.{whole};
-    ghost use Rattle.jr_env.specs.Requests.{for_delete_local_ref};
+    ghost use Rattle.jr_env.specs.Deeds.{delete_local_ref};
 
     type Answer = ();
 
-    ghost deed = { λ c. whole (for_delete_local_ref c.0.0) };
+    ghost deed = { λ c. delete_local_ref c.0.0 };
 
     fn make(&self, env: &mut Env<S>) -> Result<(), Fault> {
         env.make(*self)
@@ -427,12 +421,11 @@ impl<S: Steps> NativeCall<S> for IsSameObject {
 }
 
 impl<S: Steps> EnvCall<S> for IsSameObject {
-    ghost use Rattle.jr_env.specs.Deeds.{whole};
-    ghost use Rattle.jr_env.specs.Requests.{for_is_same_object};
+    ghost use Rattle.jr_env.specs.Deeds.{is_same_object};
 
     type Answer = bool;
 
-    ghost deed = { λ c. whole (for_is_same_object c.0.0 c.1.0) };
+    ghost deed = { λ c. is_same_object c.0.0 c.1.0 };
 
     fn make(&self, env: &mut Env<S>) -> Result<bool, Fault> {
         env.make(*self)
@@ -464,12 +457,11 @@ impl<S: Steps> NativeCall<S> for GetObjectRefType {
 }
 
 impl<S: Steps> EnvCall<S> for GetObjectRefType {
-    ghost use Rattle.jr_env.specs.Deeds.{whole};
-    ghost use Rattle.jr_env.specs.Requests.{for_get_object_ref_type};
+    ghost use Rattle.jr_env.specs.Deeds.{get_object_ref_type};
 
     type Answer = u8;
 
-    ghost deed = { λ c. whole (for_get_object_ref_type c.0.0) };
+    ghost deed = { λ c. get_object_ref_type c.0.0 };
 
     fn make(&self, env: &mut Env<S>) -> Result<u8, Fault> {
         env.make(*self)
