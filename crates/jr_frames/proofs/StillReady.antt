@@ -9,7 +9,7 @@ use Rattle.jr_word.specs.declared.fault.Fault.{Fault}
 use Rattle.jr_model.specs.declared.event.Role.{Role}
 use Rattle.jr_model.specs.declared.event.Role.TheVariants.{Outside, Within}
 use Rattle.jr_model.specs.declared.event.Act.{Act}
-use Rattle.jr_model.specs.declared.event.Act.TheVariants.{Gate, LocalPut, LocalDrop, Meet}
+use Rattle.jr_model.specs.declared.event.Act.TheVariants.{Gate, LocalPut, LocalDrop}
 use Rattle.jr_model.specs.declared.event.GateAct.TheVariants.{Enter, Leave}
 use Rattle.jr_model.specs.State.{State}
 use Rattle.jr_model.specs.Frames.{Frames, fresh_frames, object_at}

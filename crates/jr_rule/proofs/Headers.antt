@@ -1,16 +1,13 @@
 -- What the word of a header tells.
-use Rattle.std.proofs.Common.{◌≡◌, ◌≢◌, ◌≤◌, ℕ, cond, Option, Some, None, IsSome}
-use Rattle.std.proofs.Common.{[], length, eq-eqb, refl, sym, ap, subst, ◌∙◌, arith}
+use Rattle.std.proofs.Common.{◌≡◌, ◌≢◌, ◌≤◌, ℕ, Option, Some, None, IsSome}
+use Rattle.std.proofs.Common.{refl, arith}
 use Rattle.jr_word.specs.declared.kind.Kind.{Kind}
-use Rattle.jr_word.specs.declared.kind.Kind.TheVariants.{Plain, Boolean, Byte, Char, Short, Int, Long, Objects, Text}
+use Rattle.jr_word.specs.declared.kind.Kind.TheVariants.{Plain}
 use Rattle.jr_word.specs.declared.header.HeaderParts.{HeaderParts}
-use Rattle.jr_word.specs.Header.{header_word, IsHeader}
+use Rattle.jr_word.specs.Header.{header_word}
 use Rattle.jr_word.specs.Kind.{kind_code}
-use Rattle.jr_model.specs.State.{Contents, AreWords}
-use Rattle.jr_steps.specs.declared.known.Known.{Known}
-use Rattle.jr_steps.specs.Holdings.{words_at}
+use Rattle.jr_model.specs.State.{Contents}
 use Rattle.jr_rule.specs.Image.{IsHeaderOf}
-use Rattle.jr_steps.specs.Knowing.{state_of, words_for, IsFilled}
 
 pub kind_some : (k : Kind) → 1 ≤ kind_code k
 kind_some Plain = omega arith

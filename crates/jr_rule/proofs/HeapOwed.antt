@@ -12,7 +12,7 @@ use prog.Atomic.{either}
 use Rattle.jr_word.specs.declared.config.Config.{Config}
 use Rattle.jr_word.specs.declared.header.HeaderParts.{HeaderParts}
 use Rattle.jr_word.specs.declared.kind.Kind.{Kind}
-use Rattle.jr_word.specs.declared.kind.Kind.TheVariants.{Plain, Boolean, Byte, Char, Short, Int, Long, Objects, Text}
+use Rattle.jr_word.specs.declared.kind.Kind.TheVariants.{Objects, Text}
 use Rattle.jr_word.specs.Header.{header_word, IsHeader, IsHeaderOrZero}
 use Rattle.jr_model.specs.declared.event.Role.TheVariants.{Within, Collecting}
 use Rattle.jr_model.specs.declared.event.Act.{Act}
