@@ -166,7 +166,7 @@ collected_quiet old new inside was =
     let s3 = both_done getting_no_turn (λ _. announced_collection TRIES) s1.mid s2.mid s2.x s2.one in
     let kept_out = made_quiet parts.collect collect_spares s1.one.2.made in
     let end = quiet_then (no_turns_quiet kept_out s3.one.1)
-    (ran_quiet (parts.collect_announced TRIES) (collect_announced_spares TRIES) s3.two.ran) in
+    (ran_quiet (parts.collect_announced TRIES) (collect_announced_spares TRIES) s3.two.done.ran) in
     subst (λ (z : ThreadState). IsQuiet old.pass z.pass) (sym s2.two.1) end
 
 cleared_spared : (weak global : ℕ) → Spared (clearing weak global)

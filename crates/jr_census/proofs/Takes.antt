@@ -27,6 +27,8 @@ use Rattle.jr_compact.specs.Counting.{SawWithin, TakesWithin}
 use Rattle.jr_weak.specs.Counting.{marking_steps}
 use Rattle.jr_weak.specs.Marking.{IsMarkedNow}
 use Rattle.jr_weak.specs.Marks.{IsExactly}
+use Rattle.jr_weak.specs.Waiting.{ShutsAnnounced}
+use Rattle.jr_weak.proofs.AnnouncedCollects.{ShutFor, does_announced}
 use Rattle.jr_weak.proofs.Collects.{same_back, sees_did, shut_tables}
 use Rattle.jr_census.specs.Dumps.{HasObjects, HasPlaces, HasPlacesOf, HasSlots, KeepsNumber}
 use Rattle.jr_census.specs.declared.taking.Census.{Census}
@@ -35,7 +37,7 @@ use Rattle.jr_census.specs.declared.objects.Objects.{Objects as ObjectCounts}
 use Rattle.jr_census.specs.declared.words.Words.{Words}
 use Rattle.jr_census.specs.Counts.{AreLocals, AreObjects, AreSlots, HaveWords, unmarked}
 use Rattle.jr_census.specs.Taking.{Counts, IsCensusOf, IsDumpOf, IsTold, Notes, ShutIn}
-use Rattle.jr_census.specs.Taking.{TakesTold, TellsOnce, ToldFrom, counting_steps, noting_steps}
+use Rattle.jr_census.specs.Taking.{TakesTold, TakesToldAnnounced, TellsOnce, ToldFrom, counting_steps, noting_steps}
 use Rattle.jr_census.specs.Telling.{LoadsTell}
 use Rattle.jr_census.proofs.SlotsCounted.{slots_on}
 use Rattle.jr_census.proofs.Turns.{told_then}
@@ -259,6 +261,31 @@ module _ {S : Type 0} (facts : S → Facts) {a b z : S} (most : Config → ℕ) 
         let since = told_since most tells on k1.2 k6.2 in
         (k6.0, k6.1, since.told, (k6.3, (since.begun, since.window), since.within));
   }
+
+-- IT WAS TOLD BY AN ANNOUNCED CALL
+told_for : (most : Config → ℕ) (tells : Config → ℕ → State → Type 0) → IsOfTables tells
+    → (k k1 k' : Known) → Goes k (Gate Shut ∷ []) k1 → ToldFrom most tells k1 k'
+    → ShutFor [] (most k.config + 2) (λ p q. IsTold p q tells) k k1 k'
+told_for most tells on k k1 k' g rest =
+    let since = told_since most tells on g rest in
+    record {
+      opening = rest.opening;
+      swept = sees_did rest.seen.sees;
+      opened = rest.opened;
+      did = since.told.did;
+      done = since.told;
+      within = since.within;
+    }
+
+pub takes_announced : {S : Type 0} (facts : S → Facts) {a d z : S} {tries : ℕ} (most : Config → ℕ)
+    (tells : Config → ℕ → State → Type 0) → IsOfTables tells → (facts a).stands.role ≡ Outside
+    → ShutsAnnounced facts a d tries → TellsOnce facts most tells d z → TakesToldAnnounced facts most tells tries a z
+takes_announced facts most tells on outside sh rest = record {
+  refused = sh.after.refused;
+  few = sh.after.few;
+  done = does_announced facts [] (λ c. most c + 2) (λ p q. IsTold p q tells) (λ j k. ToldFrom most tells j k) outside tt
+      tt (told_for most tells on) sh rest;
+}
 
 -- what is kept of tables is kept of the same ones
 pub dump_on : (noted : List SlotParts) (locals : List LocalParts) (headers : List (Option HeaderParts)) (words : List ℕ)

@@ -9,10 +9,10 @@ use Rattle.jr_model.specs.declared.event.Act.TheVariants.{Gate}
 use Rattle.jr_model.specs.declared.event.GateAct.TheVariants.{Shut, Reopen}
 use Rattle.jr_model.specs.State.{State}
 use Rattle.jr_model.specs.History.{History, by, state, PassView, Did}
-use Rattle.jr_model.specs.Windows.{IsWindow}
 use Rattle.jr_steps.specs.declared.known.Known.{Known}
-use Rattle.jr_steps.specs.Knowing.{Facts, Goes, Went, CanReopen, view, state_of, standing_after, anything, lets_go}
-use Rattle.jr_compact.specs.Counting.{SeesWithin, TakesWithin}
+use Rattle.jr_steps.specs.Knowing.{Facts, Goes, Went, CanReopen, state_of, standing_after, lets_go}
+use Rattle.jr_compact.specs.Counting.{SeesWithin}
+use Rattle.jr_weak.specs.Collecting.{AfterTries, WentAnnounced, WentShut}
 use Rattle.jr_weak.specs.Counting.{marking_steps}
 use Rattle.jr_weak.specs.Marks.{IsExactly}
 use Rattle.jr_census.specs.declared.taking.Census.{Census}
@@ -82,9 +82,12 @@ module _ {S : Type 0} (facts : S → Facts) (most : Config → ℕ) (tells : Con
   -- IT WAS TOLD BY A CALL, in its own window, by no more operations than the room's sizes say, and two;
   -- and nothing is held then
   abbrev pub TakesTold : S → S → Type 0
-  TakesTold old new = Went facts old new (facts old).stands anything (λ j k. IsTold (view j) (view k) tells)
-      (λ j k. lets_go j k × ((begun : History) × IsWindow (view j) (view k) (Gate Shut ∷ Gate Reopen ∷ []) begun)
-      × TakesWithin (most j.config + 2) j k)
+  TakesTold old new = WentShut facts old new [] [] (λ c. most c + 2) (λ p q. IsTold p q tells)
+
+  -- IT WAS TOLD BY AN ANNOUNCED CALL, after fewer refused shuts than there were tries
+  abbrev pub TakesToldAnnounced : ℕ → S → S → Type 0
+  TakesToldAnnounced tries old new = AfterTries tries (λ refused.
+      WentAnnounced facts old new refused [] (λ c. most c + 2) (λ p q. IsTold p q tells))
 
 module _ {S : Type 0} (facts : S → Facts) (old new : S) where
   -- For the crate's own functions: it was counted, once the gate was shut
@@ -95,6 +98,11 @@ module _ {S : Type 0} (facts : S → Facts) (old new : S) where
   abbrev pub TakesCensus : Census → Type 0
   TakesCensus x = TakesTold facts counting_steps (λ c last s. IsCensusOf c last s x) old new
 
+  -- AN ANNOUNCED CENSUS WAS TAKEN
+  abbrev pub TakesCensusAnnounced : ℕ → Census → Type 0
+  TakesCensusAnnounced tries x =
+      TakesToldAnnounced facts counting_steps (λ c last s. IsCensusOf c last s x) tries old new
+
   -- For the crate's own functions: it was noted, once the gate was shut
   abbrev pub Notes : List SlotParts → List LocalParts → List (Option HeaderParts) → List ℕ → Type 0
   Notes noted locals headers words =
@@ -104,3 +112,8 @@ module _ {S : Type 0} (facts : S → Facts) (old new : S) where
   abbrev pub TakesDump : List SlotParts → List LocalParts → List (Option HeaderParts) → List ℕ → Type 0
   TakesDump noted locals headers words =
       TakesTold facts noting_steps (λ c last s. IsDumpOf c last s noted locals headers words) old new
+
+  -- AN ANNOUNCED DUMP WAS TAKEN
+  abbrev pub TakesDumpAnnounced : ℕ → List SlotParts → List LocalParts → List (Option HeaderParts) → List ℕ → Type 0
+  TakesDumpAnnounced tries noted locals headers words = TakesToldAnnounced facts noting_steps
+      (λ c last s. IsDumpOf c last s noted locals headers words) tries old new

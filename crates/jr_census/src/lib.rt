@@ -11,9 +11,9 @@ mod slots;
 mod taking;
 mod words;
 
-pub use dumping::take_dump;
+pub use dumping::{take_dump, take_dump_announced};
 pub use laws::censuses_foretell_collections;
 pub use objects::{KindCounts, Objects};
 pub use slots::Slots;
-pub use taking::{Census, take_census};
+pub use taking::{Census, take_census, take_census_announced};
 pub use words::Words;

@@ -5,8 +5,9 @@ ghost use Rattle.jr_model.specs.declared.event.Role.TheVariants.{Outside};
 ghost use Rattle.jr_model.specs.declared.event.Act.TheVariants.{ShutBusy};
 ghost use Rattle.jr_steps.specs.Knowing.{anything, keeps, CanReopen, IsLone, MayKnow, Took};
 ghost use Rattle.jr_gate.specs.Stays.{IsOwnCollection};
+ghost use Rattle.jr_weak.specs.Collecting.{GivesUp};
 ghost use Rattle.jr_weak.specs.Markers.{room_of};
-ghost use Rattle.jr_census.specs.Taking.{Counts, TakesCensus};
+ghost use Rattle.jr_census.specs.Taking.{Counts, TakesCensus, TakesCensusAnnounced};
 
 use crate::locals::count_locals;
 use crate::objects::{Objects, count_objects};
@@ -14,7 +15,7 @@ use crate::slots::{Slots, count_slots};
 use crate::words::{Words, count_words};
 use jr_gate::{Shut, shut_gate};
 use jr_steps::Steps;
-use jr_weak::Marker;
+use jr_weak::{Marker, shut_announced};
 use jr_word::Fault;
 
 /// What stands in a room at one step.
@@ -53,6 +54,35 @@ pub fn take_census<S: Steps>(steps: &mut S, marker: &mut Marker) -> Result<Censu
     ensures alone { IsLone (S.facts steps.old).stands → IsOk result }
 {
     let shut = shut_gate(steps)?;
+    Ok(count(steps, shut, marker))
+}
+
+/// Takes a census as `take_census` does, but announces it first, so that nobody is let in any more. It tries so many times to shut the gate, which is refused while another thread is inside or knocks, and takes the announcement back where the last try is refused, too. It takes no memory and never waits. The thread has to stand outside.
+///
+/// # Errors
+///
+/// E14 with how many threads were inside, knocking, announcing or collecting, at least 1, where another thread kept the gate closed already; E23 with two counts of the open gate, where another thread went in or out between the look at it and the announcement; E14 with how many other threads were inside or knocking at the last try, at least 1.
+///
+/// Nothing has changed then, the marker is as it was, and the thread stands outside. Over one thread, and over plain words, it is never refused.
+///
+/// # Operations
+///
+/// Up to the shut of the gate those of `shut_announced`; from then on those of `take_census`.
+pub fn take_census_announced<S: Steps>(
+    steps: &mut S,
+    marker: &mut Marker,
+    tries: u32,
+) -> Result<Census, Fault>
+    requires outside { (S.facts steps.old).stands.role ≡ Outside }
+    requires room { room_of marker.old ≡ (S.facts steps.old).stands.config.objects }
+    requires tries { 1 ≤ tries }
+    ensures room { room_of marker.new ≡ room_of marker.old }
+    ensures ok { IfOk result (λ x. TakesCensusAnnounced S.facts steps.old steps.new tries x) }
+    ensures err { IfErr result (λ e. GivesUp S.facts steps.old steps.new tries e) }
+    ensures kept { OnErr result (marker.new ≡ marker.old) }
+    ensures alone { IsLone (S.facts steps.old).stands → IsOk result }
+{
+    let shut = shut_announced(steps, tries)?;
     Ok(count(steps, shut, marker))
 }
 

@@ -3,7 +3,6 @@ use Rattle.std.proofs.Common.{◌≡◌, inl, inr, ◌≤◌, ◌+◌, ℕ, Bool
 use Rattle.std.proofs.Common.{Result, Ok, Err, IfOk, IfErr, refl, sym, ap, subst, ◌∙◌, arith}
 use Rattle.std.proofs.Math.Bridge.{le_prop}
 use Rattle.std.proofs.Math.Logic.{∥∥₁_elim}
-use mathlib.Core.Logic.{∥∥₁_map}
 use Rattle.jr_word.specs.declared.fault.Fault.{Fault}
 use Rattle.jr_word.specs.declared.fault.Fault.TheVariants.{Busy, Moved}
 use Rattle.jr_model.specs.declared.event.Role.TheVariants.{Outside}
@@ -13,29 +12,31 @@ use Rattle.jr_model.specs.declared.event.GateAct.TheVariants.{Announce, Cancel}
 use Rattle.jr_model.specs.CollectionCalls.{announcing_acts, collection_acts}
 use Rattle.jr_model.specs.Frames.{Frames}
 use Rattle.jr_model.specs.Calls.{◌>>◌, act, one_of}
-use Rattle.jr_model.specs.History.{PassView, Did}
+use Rattle.jr_model.specs.History.{PassView}
 use Rattle.jr_model.specs.Parts.{announce, collect_announced, found_closed, found_moved}
 use Rattle.jr_model.specs.Refusals.{Grounds}
 use Rattle.jr_model.proofs.Stays.{did_then}
 use Rattle.jr_steps.specs.declared.known.Holdings.{Holdings}
 use Rattle.jr_steps.specs.declared.known.Known.{Known}
-use Rattle.jr_steps.specs.Knowing.{Facts, MayKnow, Standing, Went, anything, fresh_from, view}
+use Rattle.jr_steps.specs.Knowing.{Facts, MayKnow, Standing, anything, fresh_from}
 use Rattle.jr_gate.specs.Performing.{hint_from}
 use Rattle.jr_gate.proofs.SameRoom.{as_before}
 use Rattle.jr_frames.specs.Table.{Table}
-use Rattle.jr_frames.specs.Ready.{AreOwn, StandsReady}
+use Rattle.jr_frames.specs.Ready.{StandsReady}
 use Rattle.jr_frames.proofs.FramesAgree.{holds_did}
 use Rattle.jr_weak.specs.declared.collecting.Collected.{Collected}
-use Rattle.jr_weak.specs.Collecting.{GivesUp, MakesAnnouncedCollection, WasGivenUp, closed_at_look}
+use Rattle.jr_weak.specs.Collecting.{CollectsAnnounced, GivesUp, MakesAnnouncedCollection, WasGivenUp}
+use Rattle.jr_weak.specs.Collecting.{announced_steps, closed_at_look}
+use Rattle.jr_weak.specs.Counting.{collection_steps}
 use Rattle.jr_weak.specs.Collecting.{closed_at_exchange, moved_at_exchange, taken_back}
 use Rattle.jr_env.specs.Collections.{IsNoTurn, announced_collection}
 use Rattle.jr_env.specs.Deeds.{DoesDeed, DoesOutside}
 use Rattle.jr_env.specs.Works.{EndsStay}
 use Rattle.jr_env.proofs.FrameCalls.{does_from}
-use Rattle.jr_env.proofs.WholeCollections.{AllSpare, collection_spares}
+use Rattle.jr_env.proofs.WholeCollections.{AllSpare, collection_spares, made_deed, ready_after}
 
 -- what comes before other acts leaves the places alone, and the pass as fresh and its hint as they were
-waiting_spares : (refused : List ℕ) (acts : List Act) → AllSpare acts → AllSpare (announcing_acts refused ++ acts)
+pub waiting_spares : (refused : List ℕ) (acts : List Act) → AllSpare acts → AllSpare (announcing_acts refused ++ acts)
 waiting_spares refused acts rest = (refl, (refl, go refused))
   where
     go : (refused : List ℕ) → AllSpare (map ShutBusy refused ++ acts)
@@ -163,111 +164,47 @@ no_turn_prop (Busy n) = le_prop
 no_turn_prop (Moved n m) = λ x y i z. bottom_prop (x z) (y z) i
 no_turn_prop _ = λ x y. absurd x
 
--- one of the two that a call of the steps answers
-abbrev pub AnnouncesOr : {S : Type 0} → (S → Facts) → S → S → ℕ → Result Collected Fault → Type 0
-AnnouncesOr facts a b tries (Ok x) = MakesAnnouncedCollection facts a b tries x.cleared x.dropped x.used
-AnnouncesOr facts a b tries (Err e) = GivesUp facts a b tries e
-
-pub announces_or : {S : Type 0} (facts : S → Facts) (a b : S) (tries : ℕ) (answer : Result Collected Fault)
-    → IfOk answer (λ c. MakesAnnouncedCollection facts a b tries c.cleared c.dropped c.used)
-    → IfErr answer (λ e. GivesUp facts a b tries e) → AnnouncesOr facts a b tries answer
-announces_or facts a b tries (Ok x) ok err = ok
-announces_or facts a b tries (Err e) ok err = err
-
 module _ {S : Type 0} {facts : S → Facts} where
-  -- the frames are the thread's own still, after acts that leave its places alone
-  own_after : {a b : S} {t : Table} {made shows : Known → Known → Type 0} → AreOwn facts a t
-      → Went facts a b (facts a).stands anything made shows
-      → ((j k : Known) → made j k → shows j k → (acts : List Act) × Did (view j) (view k) acts × AllSpare acts)
-      → AreOwn facts b t
-  own_after {t = t} r w did = record {
-    owner = r.owner ∙ sym (ap (λ (s : Standing). s.thread) w.stands_is);
-    last = r.last ∙ sym (ap (λ (s : Standing). s.last) w.stands_is);
-    places = r.places ∙ sym (ap (λ (s : Standing). s.config.locals) w.stands_is);
-    agrees = ∥∥₁_map r.agrees (λ k.
-        let x = w.leads k.0 k.1 tt in
-        let d = did k.0 x.0 x.2 x.3 in
-        (x.0, x.1, holds_did k.0 x.0 t.frames d.0 d.1 d.2 k.2));
-  }
-
-  ready_after : {a b : S} {t : Table} {made shows : Known → Known → Type 0} → StandsReady facts Outside a t
-      → Went facts a b (facts a).stands anything made shows
-      → ((j k : Known) → made j k → shows j k → (acts : List Act) × Did (view j) (view k) acts × AllSpare acts)
-      → StandsReady facts Outside b t
-  ready_after r w did = record {
-    role_is = ap (λ (s : Standing). s.role) w.stands_is ∙ r.role_is;
-    spent = ap (λ (s : Standing). s.fresh) w.stands_is ∙ r.spent;
-    own = own_after r.own w did;
-  }
-
   -- THE THREAD STANDS READY OUTSIDE, as before
-  pub ready_announced : {a b : S} {t : Table} (tries : ℕ) (answer : Result Collected Fault)
-      → StandsReady facts Outside a t → AnnouncesOr facts a b tries answer → StandsReady facts Outside b t
-  ready_announced tries (Ok x) r m = ready_after r m.went (λ j k y shown.
-      let acts = collection_acts m.cleared m.dropped x.used in (
-        announcing_acts m.refused ++ acts,
-        did_then (announcing_acts m.refused) acts y.announced y.collects.did,
-        waiting_spares m.refused acts (collection_spares m.cleared m.dropped x.used),
-      ))
-  ready_announced tries (Err e) r z = ready_after r z.went (λ j k y shown. (z.acts, y, ending_spares shown.0))
+  pub ready_given_up : {a b : S} {t : Table} (tries : ℕ) (e : Fault) → StandsReady facts Outside a t
+      → GivesUp facts a b tries e → StandsReady facts Outside b t
+  ready_given_up tries e r z = ready_after r z.went (λ j k y shown. (z.acts, y, ending_spares shown.0))
 
   module _ {a b : S} (tries : ℕ) (t : Table) where
     announced_deed : (x : Collected) → MakesAnnouncedCollection facts a b tries x.cleared x.dropped x.used
         → DoesDeed facts a b t.frames t.frames (announced_collection tries) (Ok x)
-    announced_deed x m = record {
-      stands_is = as_before (facts a).stands {f = (facts a).stands.fresh} m.went.stands_is;
-      did = λ k s h.
-          let y = m.went.leads k s tt in
-          let rest = collection_acts m.cleared m.dropped x.used in
-          let acts = announcing_acts m.refused ++ rest in
-          let did = did_then (announcing_acts m.refused) rest y.2.announced y.2.collects.did in
-          let count : ◌≡◌ {A = ℕ × ℕ × ℕ} (length m.cleared, length m.dropped, x.used) (x.cleared, x.dropped, x.used) =
-          ap (λ n. (n, length m.dropped, x.used)) m.clears ∙ ap (λ n. (x.cleared, n, x.used)) m.drops in (
-            y.0,
-            y.1,
-            holds_did k y.0 t.frames acts did
-                (waiting_spares m.refused rest (collection_spares m.cleared m.dropped x.used)) h,
-            record {
-              refused = m.refused;
-              few = m.few;
-              cleared = m.cleared;
-              dropped = m.dropped;
-              clears = m.clears;
-              drops = m.drops;
-              collects = y.2;
-              ran = record {
-                acts = acts;
-                did = did;
-                is = inl (
-                  tt,
-                  t.frames,
-                  Meet ∷ Gate Announce ∷ [],
-                  map ShutBusy m.refused ++ rest,
-                  refl,
-                  announced_is tries t.frames,
-                  inl (inl (
-                    tt,
-                    t.frames,
-                    map ShutBusy m.refused,
-                    rest,
-                    refl,
-                    (m.refused, m.few, refl, refl, refl),
-                    (m.cleared, m.dropped, x.used, refl, sym (ap (λ z. Ok z) count), refl),
-                  )),
-                );
-                begun = y.3.1.0;
-                window = y.3.1.1;
-                grounds = tt;
-              };
-              taken = y.3.2;
-              fresh = ap (λ (s : Standing). s.fresh) m.went.stands_is;
-              hint = m.went.hint_is;
-              lets_go = y.3.0;
-            },
-          );
-    }
+    announced_deed x m =
+        let refused = m.refused in
+        let cleared = m.done.cleared in
+        let dropped = m.done.dropped in
+        let rest = collection_acts cleared dropped x.used in
+        let d = made_deed t (announcing_acts refused) (λ c. announced_steps refused (collection_steps c))
+        (CollectsAnnounced refused) (collect_announced tries) x m.done
+        (λ p q y. did_then (announcing_acts refused) rest y.announced y.done.did)
+        (waiting_spares refused rest (collection_spares cleared dropped x.used)) (inl (
+          tt,
+          t.frames,
+          Meet ∷ Gate Announce ∷ [],
+          map ShutBusy refused ++ rest,
+          refl,
+          announced_is tries t.frames,
+          inl (inl (
+            tt,
+            t.frames,
+            map ShutBusy refused,
+            rest,
+            refl,
+            (refused, m.few, refl, refl, refl),
+            (cleared, dropped, x.used, refl, refl, refl),
+          )),
+        )) in
+        record {
+          stands_is = d.stands_is;
+          did = λ k s h. let y = d.did k s h in
+              (y.0, y.1, y.2, record { refused = refused; few = m.few; done = y.3 });
+        }
 
-    given_up_deed : (e : Fault) → GivesUp facts a b tries e
+    pub given_up_deed : (e : Fault) → GivesUp facts a b tries e
         → DoesDeed facts a b t.frames t.frames (announced_collection tries) (Err e)
     given_up_deed e z = record {
       stands_is = as_before (facts a).stands {f = (facts a).stands.fresh} z.went.stands_is;
@@ -302,21 +239,33 @@ module _ {S : Type 0} {facts : S → Facts} where
           );
     }
 
-    announces_deed : (answer : Result Collected Fault) → AnnouncesOr facts a b tries answer
-        → DoesDeed facts a b t.frames t.frames (announced_collection tries) answer
-    announces_deed (Ok x) m = announced_deed x m
-    announces_deed (Err e) z = given_up_deed e z
-
-  -- THE DEED WAS DONE, once a stay that was left has been ended
-  pub does_announced : {o a b : S} {r t : Table} (tries : ℕ) (answer : Result Collected Fault) → EndsStay facts o a r t
-      → AnnouncesOr facts a b tries answer → DoesOutside facts o b r.frames t.frames (announced_collection tries) answer
-  does_announced {t = t} tries answer e m = does_from e (announces_deed tries t answer m)
+  -- THE DEED WAS DONE, once a stay that was left has been ended, and the thread stands ready
+  pub collected_announced : {o a b : S} {r t : Table} (tries : ℕ) (answer : Result Collected Fault)
+      → EndsStay facts o a r t
+      → IfOk answer (λ c. MakesAnnouncedCollection facts a b tries c.cleared c.dropped c.used)
+      → IfErr answer (λ e. GivesUp facts a b tries e)
+      → StandsReady facts Outside b t × DoesOutside facts o b r.frames t.frames (announced_collection tries) answer
+  collected_announced {t = t} tries (Ok x) ends ok err =
+      let acts = collection_acts ok.done.cleared ok.done.dropped x.used in (
+        ready_after ends.ready ok.done.went (λ j k y shown. (
+          announcing_acts ok.refused ++ acts,
+          did_then (announcing_acts ok.refused) acts y.announced y.done.did,
+          waiting_spares ok.refused acts (collection_spares ok.done.cleared ok.done.dropped x.used),
+        )),
+        does_from ends (announced_deed tries t x ok),
+      )
+  collected_announced {t = t} tries (Err e) ends ok err =
+      (ready_given_up tries e ends.ready err, does_from ends (given_up_deed tries t e err))
 
 -- why there was no turn
-pub no_turn : {S : Type 0} (facts : S → Facts) (a b : S) (tries : ℕ) (answer : Result Collected Fault)
-    → MayKnow facts a anything → AnnouncesOr facts a b tries answer → IfErr answer IsNoTurn
-no_turn facts a b tries (Ok x) may m = tt
-no_turn facts a b tries (Err e) may z =
+pub no_turn_why : {S : Type 0} (facts : S → Facts) (a b : S) (tries : ℕ) (e : Fault) → MayKnow facts a anything
+    → GivesUp facts a b tries e → IsNoTurn e
+no_turn_why facts a b tries e may z =
     let each : ((k : Known) × (facts a).knows k × anything k)
     → IsNoTurn e = λ k. no_turn_of (z.went.leads k.0 k.1 tt).3.0 in
     ∥∥₁_elim may (no_turn_prop e) each
+
+pub no_turn : {S A : Type 0} (facts : S → Facts) (a b : S) (tries : ℕ) (answer : Result A Fault)
+    → MayKnow facts a anything → IfErr answer (λ e. GivesUp facts a b tries e) → IfErr answer IsNoTurn
+no_turn facts a b tries (Ok x) may z = tt
+no_turn facts a b tries (Err e) may z = no_turn_why facts a b tries e may z

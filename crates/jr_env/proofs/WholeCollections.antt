@@ -3,6 +3,7 @@ use Rattle.std.proofs.Common.{◌≡◌, ◌≤◌, ℕ, true, List, [], ◌∷�
 use Rattle.std.proofs.Common.{Ok, Err, IfOk, IfErr, inl, inr, refl, sym, ap, subst, ◌∙◌}
 use Rattle.std.specs.List.{AllByRecursion}
 use mathlib.Core.Logic.{∥∥₁_map}
+use Rattle.jr_word.specs.declared.config.Config.{Config}
 use Rattle.jr_word.specs.declared.fault.Fault.{Fault}
 use Rattle.jr_word.specs.declared.fault.Fault.TheVariants.{Busy}
 use Rattle.jr_model.specs.declared.event.Role.TheVariants.{Outside}
@@ -10,12 +11,16 @@ use Rattle.jr_model.specs.declared.event.Act.{Act}
 use Rattle.jr_model.specs.declared.event.Act.TheVariants.{Gate, ShutBusy, Clear, Drop, Settle}
 use Rattle.jr_model.specs.declared.event.GateAct.TheVariants.{Reopen}
 use Rattle.jr_model.specs.State.{Handle}
-use Rattle.jr_model.specs.CollectionCalls.{collection_acts, sweeping_acts}
+use Rattle.jr_model.specs.Calls.{Call}
+use Rattle.jr_model.specs.CollectionCalls.{Collects, collection_acts, sweeping_acts}
+use Rattle.jr_model.specs.History.{Did, PassView}
+use Rattle.jr_model.specs.Parts as parts
 use Rattle.jr_model.specs.Refusals.{Grounds}
 use Rattle.jr_model.proofs.Agreement.{spares_places}
 use Rattle.jr_model.proofs.Exactly.{append_all}
 use Rattle.jr_model.proofs.Windows.{window_act}
-use Rattle.jr_steps.specs.Knowing.{Facts, Standing, Took, anything, keeps, view}
+use Rattle.jr_steps.specs.declared.known.Known.{Known}
+use Rattle.jr_steps.specs.Knowing.{Facts, Standing, Took, Went, anything, keeps, view}
 use Rattle.jr_steps.proofs.StepFacts.{goes_did}
 use Rattle.jr_gate.proofs.SameRoom.{as_before}
 use Rattle.jr_gate.proofs.Spending.{made_of, spend_step}
@@ -24,8 +29,9 @@ use Rattle.jr_frames.specs.Ready.{AreOwn, StandsReady}
 use Rattle.jr_frames.proofs.FramesAgree.{holds_did}
 use Rattle.jr_frames.proofs.StillReady.{own_stepped}
 use Rattle.jr_weak.specs.declared.collecting.Collected.{Collected}
-use Rattle.jr_weak.specs.Collecting.{MakesCollection}
-use Rattle.jr_env.specs.Collections.{collection}
+use Rattle.jr_weak.specs.Collecting.{MakesAfter, MakesCollection}
+use Rattle.jr_weak.specs.Counting.{collection_steps}
+use Rattle.jr_env.specs.Collections.{HasCollected, collection}
 use Rattle.jr_env.specs.Deeds.{DoesDeed, DoesOutside}
 use Rattle.jr_env.specs.Works.{EndsStay}
 use Rattle.jr_env.proofs.FrameCalls.{does_from}
@@ -49,82 +55,92 @@ collection_spares hs os used = (
       ∷ []) (append_all _ (map Clear hs) (map Drop os) (clears_spare hs) (drops_spare os)) (refl, tt)) (refl, tt),
 )
 
--- one of the two that a call of the steps answers
-abbrev pub CollectsOr : {S : Type 0} → (S → Facts) → S → S → Result Collected Fault → Type 0
-CollectsOr facts a b (Ok x) = MakesCollection facts a b x.cleared x.dropped x.used
-CollectsOr facts a b (Err e) = (n : ℕ) × (e ≡ Busy n) × (1 ≤ n) × Took facts a b (ShutBusy n ∷ []) anything keeps
-
-pub collects_or : {S : Type 0} (facts : S → Facts) (a b : S) (answer : Result Collected Fault)
-    → IfOk answer (λ c. MakesCollection facts a b c.cleared c.dropped c.used)
-    → IfErr answer (λ e. (n : ℕ) × (e ≡ Busy n) × (1 ≤ n) × Took facts a b (ShutBusy n ∷ []) anything keeps)
-    → CollectsOr facts a b answer
-collects_or facts a b (Ok x) ok err = ok
-collects_or facts a b (Err e) ok err = err
-
 module _ {S : Type 0} {facts : S → Facts} where
-  -- the frames are the thread's own still
-  own_collected : {a b : S} {t : Table} {cleared dropped used : ℕ} → AreOwn facts a t
-      → MakesCollection facts a b cleared dropped used → AreOwn facts b t
-  own_collected {t = t} {used = used} r m = record {
-    owner = r.owner ∙ sym (ap (λ (s : Standing). s.thread) m.went.stands_is);
-    last = r.last ∙ sym (ap (λ (s : Standing). s.last) m.went.stands_is);
-    places = r.places ∙ sym (ap (λ (s : Standing). s.config.locals) m.went.stands_is);
-    agrees = ∥∥₁_map r.agrees (λ k. let x = m.went.leads k.0 k.1 tt in (
-      x.0,
-      x.1,
-      holds_did k.0 x.0 t.frames (collection_acts m.cleared m.dropped used) x.2.did
-          (collection_spares m.cleared m.dropped used) k.2,
-    ));
+  -- THE THREAD STANDS READY OUTSIDE, as before, after steps whose acts leave its places alone
+  own_after : {a b : S} {t : Table} {made shows : Known → Known → Type 0} → AreOwn facts a t
+      → Went facts a b (facts a).stands anything made shows
+      → ((j k : Known) → made j k → shows j k → (acts : List Act) × Did (view j) (view k) acts × AllSpare acts)
+      → AreOwn facts b t
+  own_after {t = t} r w did = record {
+    owner = r.owner ∙ sym (ap (λ (s : Standing). s.thread) w.stands_is);
+    last = r.last ∙ sym (ap (λ (s : Standing). s.last) w.stands_is);
+    places = r.places ∙ sym (ap (λ (s : Standing). s.config.locals) w.stands_is);
+    agrees = ∥∥₁_map r.agrees (λ k.
+        let x = w.leads k.0 k.1 tt in
+        let d = did k.0 x.0 x.2 x.3 in
+        (x.0, x.1, holds_did k.0 x.0 t.frames d.0 d.1 d.2 k.2));
   }
 
-  -- THE THREAD STANDS READY OUTSIDE, as before
-  pub ready_collected : {a b : S} {t : Table} (answer : Result Collected Fault) → StandsReady facts Outside a t
-      → CollectsOr facts a b answer → StandsReady facts Outside b t
-  ready_collected (Ok x) r m = record {
-    role_is = ap (λ (s : Standing). s.role) m.went.stands_is ∙ r.role_is;
-    spent = ap (λ (s : Standing). s.fresh) m.went.stands_is ∙ r.spent;
-    own = own_collected r.own m;
+  pub ready_after : {a b : S} {t : Table} {made shows : Known → Known → Type 0} → StandsReady facts Outside a t
+      → Went facts a b (facts a).stands anything made shows
+      → ((j k : Known) → made j k → shows j k → (acts : List Act) × Did (view j) (view k) acts × AllSpare acts)
+      → StandsReady facts Outside b t
+  ready_after r w did = record {
+    role_is = ap (λ (s : Standing). s.role) w.stands_is ∙ r.role_is;
+    spent = ap (λ (s : Standing). s.fresh) w.stands_is ∙ r.spent;
+    own = own_after r.own w did;
   }
-  ready_collected (Err e) r m = record {
-    role_is = ap (λ (s : Standing). s.role) (m.3).stands_is ∙ r.role_is;
-    spent = ap (λ (s : Standing). s.fresh) (m.3).stands_is ∙ r.spent;
-    own = own_stepped (ShutBusy m.0) refl r.own m.3;
+
+  -- and after one that was refused
+  pub ready_refused : {a b : S} {t : Table} (n : ℕ) → StandsReady facts Outside a t
+      → Took facts a b (ShutBusy n ∷ []) anything keeps → StandsReady facts Outside b t
+  ready_refused n r z = record {
+    role_is = ap (λ (s : Standing). s.role) z.stands_is ∙ r.role_is;
+    spent = ap (λ (s : Standing). s.fresh) z.stands_is ∙ r.spent;
+    own = own_stepped (ShutBusy n) refl r.own z;
   }
 
   module _ {a b : S} (t : Table) where
+    -- THE MACHINE'S COLLECTION WAS MADE, with these acts before its shut
+    pub made_deed : (before : List Act) (most : Config → ℕ)
+        (does : PassView → PassView → List Handle → List ℕ → ℕ → Type 0) (asked : Call (ℕ × ℕ × ℕ)) (x : Collected)
+        → (m : MakesAfter facts a b before most does x.cleared x.dropped x.used)
+        → ((p q : PassView) → does p q m.cleared m.dropped x.used
+        → Did p q (before ++ collection_acts m.cleared m.dropped x.used))
+        → AllSpare (before ++ collection_acts m.cleared m.dropped x.used)
+        → asked t.frames (before ++ collection_acts m.cleared m.dropped x.used)
+        (Ok (length m.cleared, length m.dropped, x.used)) t.frames
+        → DoesDeed facts a b t.frames t.frames
+        (λ old answer new. HasCollected does asked (most old.pass.config) old new x) (Ok x)
+    made_deed before most does asked x m did spares is =
+        let acts = before ++ collection_acts m.cleared m.dropped x.used in
+        let count : ◌≡◌ {A = ℕ × ℕ × ℕ} (length m.cleared, length m.dropped, x.used) (x.cleared, x.dropped, x.used) =
+        ap (λ n. (n, length m.dropped, x.used)) m.clears ∙ ap (λ n. (x.cleared, n, x.used)) m.drops in
+        record {
+          stands_is = as_before (facts a).stands {f = (facts a).stands.fresh} m.went.stands_is;
+          did = λ k s h.
+              let y = m.went.leads k s tt in (
+                y.0,
+                y.1,
+                holds_did k y.0 t.frames acts (did (view k) (view y.0) y.2) spares h,
+                record {
+                  cleared = m.cleared;
+                  dropped = m.dropped;
+                  clears = m.clears;
+                  drops = m.drops;
+                  collects = y.2;
+                  ran = record {
+                    acts = acts;
+                    did = did (view k) (view y.0) y.2;
+                    is = subst (λ (n : ℕ × ℕ × ℕ). asked t.frames acts (Ok n) t.frames) count is;
+                    begun = y.3.1.0;
+                    window = y.3.1.1;
+                    grounds = tt;
+                  };
+                  taken = y.3.2;
+                  fresh = ap (λ (s : Standing). s.fresh) m.went.stands_is;
+                  hint = m.went.hint_is;
+                  lets_go = y.3.0;
+                },
+              );
+        }
+
     collected_deed : (x : Collected) → MakesCollection facts a b x.cleared x.dropped x.used
         → DoesDeed facts a b t.frames t.frames collection (Ok x)
-    collected_deed x m = record {
-      stands_is = as_before (facts a).stands {f = (facts a).stands.fresh} m.went.stands_is;
-      did = λ k s h.
-          let y = m.went.leads k s tt in
-          let acts = collection_acts m.cleared m.dropped x.used in
-          let count : ◌≡◌ {A = ℕ × ℕ × ℕ} (length m.cleared, length m.dropped, x.used) (x.cleared, x.dropped, x.used) =
-          ap (λ n. (n, length m.dropped, x.used)) m.clears ∙ ap (λ n. (x.cleared, n, x.used)) m.drops in (
-            y.0,
-            y.1,
-            holds_did k y.0 t.frames acts y.2.did (collection_spares m.cleared m.dropped x.used) h,
-            record {
-              cleared = m.cleared;
-              dropped = m.dropped;
-              clears = m.clears;
-              drops = m.drops;
-              collects = y.2;
-              ran = record {
-                acts = acts;
-                did = y.2.did;
-                is = inl (m.cleared, m.dropped, x.used, refl, sym (ap (λ z. Ok z) count), refl);
-                begun = y.3.1.0;
-                window = y.3.1.1;
-                grounds = tt;
-              };
-              taken = y.3.2;
-              fresh = ap (λ (s : Standing). s.fresh) m.went.stands_is;
-              hint = m.went.hint_is;
-              lets_go = y.3.0;
-            },
-          );
-    }
+    collected_deed x m =
+        let d = made_deed [] collection_steps Collects parts.collect x m (λ p q y. y.did)
+        (collection_spares m.cleared m.dropped x.used) (inl (m.cleared, m.dropped, x.used, refl, refl, refl)) in
+        record { stands_is = d.stands_is; did = d.did }
 
     pub kept_out : (e : Fault) (n : ℕ) → e ≡ Busy n → 1 ≤ n → Took facts a b (ShutBusy n ∷ []) anything keeps
         → DoesDeed facts a b t.frames t.frames collection (Err e)
@@ -154,12 +170,18 @@ module _ {S : Type 0} {facts : S → Facts} where
           );
     }
 
-    collects_deed : (answer : Result Collected Fault) → CollectsOr facts a b answer
-        → DoesDeed facts a b t.frames t.frames collection answer
-    collects_deed (Ok x) m = collected_deed x m
-    collects_deed (Err e) m = kept_out e m.0 m.1 m.2 m.3
-
-  -- THE DEED WAS DONE, once a stay that was left has been ended
-  pub does_collection : {o a b : S} {r t : Table} (answer : Result Collected Fault) → EndsStay facts o a r t
-      → CollectsOr facts a b answer → DoesOutside facts o b r.frames t.frames collection answer
-  does_collection {t = t} answer e m = does_from e (collects_deed t answer m)
+  -- THE DEED WAS DONE, once a stay that was left has been ended, and the thread stands ready
+  pub collected : {o a b : S} {r t : Table} (answer : Result Collected Fault) → EndsStay facts o a r t
+      → IfOk answer (λ c. MakesCollection facts a b c.cleared c.dropped c.used)
+      → IfErr answer (λ e. (n : ℕ) × (e ≡ Busy n) × (1 ≤ n) × Took facts a b (ShutBusy n ∷ []) anything keeps)
+      → StandsReady facts Outside b t × DoesOutside facts o b r.frames t.frames collection answer
+  collected {t = t} (Ok x) ends ok err = (
+    ready_after ends.ready ok.went (λ j k y shown. (
+      collection_acts ok.cleared ok.dropped x.used,
+      y.did,
+      collection_spares ok.cleared ok.dropped x.used,
+    )),
+    does_from ends (collected_deed t x ok),
+  )
+  collected {t = t} (Err e) ends ok err =
+      (ready_refused err.0 ends.ready err.3, does_from ends (kept_out t e err.0 err.1 err.2 err.3))

@@ -1,36 +1,42 @@
 -- What a collection that an env makes did.
-use Rattle.std.specs.Prelude.{◌≡◌, ◌≢◌, ◌<◌, ◌≤◌, ◌+◌, ℕ, Ok, Err, List, length}
+use Rattle.std.specs.Prelude.{◌≡◌, ◌≢◌, ◌≤◌, ◌+◌, ℕ, Ok, Err, List, length}
 use Rattle.jr_word.specs.declared.fault.Fault.{Fault}
 use Rattle.jr_word.specs.declared.fault.Fault.TheVariants.{Busy, Moved}
 use Rattle.jr_model.specs.State.{Handle}
-use Rattle.jr_model.specs.Calls.{Ran}
+use Rattle.jr_model.specs.History.{PassView}
+use Rattle.jr_model.specs.Calls.{Call, Ran}
 use Rattle.jr_model.specs.CollectionCalls.{Collects}
 use Rattle.jr_model.specs.Parts as parts
 use Rattle.jr_steps.specs.declared.steps.Steps.{Ghosts}
 use Rattle.jr_steps.specs.Holdings.{empty}
 use Rattle.jr_gate.specs.Performing.{ThreadState, IsMade}
 use Rattle.jr_weak.specs.declared.collecting.Collected.{Collected}
-use Rattle.jr_weak.specs.Collecting.{CollectsAnnounced, WasGivenUp, announced_steps}
+use Rattle.jr_weak.specs.Collecting.{AfterTries, CollectsAnnounced, WasGivenUp, announced_steps}
 use Rattle.jr_weak.specs.Counting.{collection_steps}
 use Rattle.jr_weak.specs.declared.marker.Marker.{Marker}
 use Rattle.jr_weak.specs.Markers.{room_of}
 use Rattle.jr_env.specs.declared.env.Env.{Env}
 use Rattle.jr_env.specs.Deeds.{Deed}
 
--- A COLLECTION WAS MADE: the machine's, which clears and drops so many, all that was to be in the
--- state at its shut, and leaves so many words used. It takes no more operations than the sizes of
--- the room say. The frames and the hint stay as they are, and afterwards the thread holds nothing
-pub record IsCollected (old new : ThreadState) (c : Collected) : Type 0 where
+-- A COLLECTION WAS MADE: that of this call of the machine, which clears and drops so many, all that was to be in
+-- the state at its shut, and leaves so many words used. It takes no more operations than these. The frames and the
+-- hint stay as they are, and afterwards the thread holds nothing
+pub record HasCollected (does : PassView → PassView → List Handle → List ℕ → ℕ → Type 0) (asked : Call (ℕ × ℕ × ℕ))
+    (most : ℕ) (old new : ThreadState) (c : Collected) : Type 0 where
   pub cleared : List Handle
   pub dropped : List ℕ
   pub clears : length cleared ≡ c.cleared
   pub drops : length dropped ≡ c.dropped
-  pub collects : Collects old.pass new.pass cleared dropped c.used
-  pub ran : Ran old.pass new.pass old.frames new.frames parts.collect (Ok (c.cleared, c.dropped, c.used))
-  pub taken : new.taken ≤ old.taken + collection_steps old.pass.config
+  pub collects : does old.pass new.pass cleared dropped c.used
+  pub ran : Ran old.pass new.pass old.frames new.frames asked (Ok (c.cleared, c.dropped, c.used))
+  pub taken : new.taken ≤ old.taken + most
   pub fresh : new.fresh ≡ old.fresh
   pub hint : new.hint ≡ old.hint
   pub lets_go : new.held ≡ empty
+
+-- by a call that announces nothing
+abbrev pub IsCollected : ThreadState → ThreadState → Collected → Type 0
+IsCollected old = HasCollected Collects parts.collect (collection_steps old.pass.config) old
 
 -- IT WAS REFUSED: at its one operation so many threads were not outside, at least one; and nothing has changed
 pub record IsKeptOut (old new : ThreadState) (e : Fault) : Type 0 where
@@ -45,23 +51,11 @@ abbrev pub collection : Deed Collected
 collection old (Ok c) new = IsCollected old new c
 collection old (Err e) new = IsKeptOut old new e
 
--- AN ANNOUNCED COLLECTION WAS MADE: the machine's, after fewer refused shuts than there
--- were tries, by no more operations than these shuts and the sizes of the room say. The
--- frames and the hint stay as they are, and afterwards the thread holds nothing
-pub record IsCollectedAnnounced (tries : ℕ) (old new : ThreadState) (c : Collected) : Type 0 where
-  pub refused : List ℕ
-  pub few : length refused < tries
-  pub cleared : List Handle
-  pub dropped : List ℕ
-  pub clears : length cleared ≡ c.cleared
-  pub drops : length dropped ≡ c.dropped
-  pub collects : CollectsAnnounced old.pass new.pass refused cleared dropped c.used
-  pub ran : Ran old.pass new.pass old.frames new.frames (parts.collect_announced tries)
-      (Ok (c.cleared, c.dropped, c.used))
-  pub taken : new.taken ≤ old.taken + announced_steps refused old.pass.config
-  pub fresh : new.fresh ≡ old.fresh
-  pub hint : new.hint ≡ old.hint
-  pub lets_go : new.held ≡ empty
+-- AN ANNOUNCED COLLECTION WAS MADE, after fewer refused shuts than there were tries
+abbrev pub IsCollectedAnnounced : ℕ → ThreadState → ThreadState → Collected → Type 0
+IsCollectedAnnounced tries old new c = AfterTries tries (λ refused.
+    HasCollected (CollectsAnnounced refused) (parts.collect_announced tries)
+    (announced_steps refused (collection_steps old.pass.config)) old new c)
 
 -- IT WAS GIVEN UP: it took one operation for each of its acts, which came to one of four ends
 pub record IsGivenUp (tries : ℕ) (old new : ThreadState) (e : Fault) : Type 0 where

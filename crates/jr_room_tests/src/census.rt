@@ -72,7 +72,19 @@ fn is_counted<S: Steps>(
     Ok(())
 }
 
-/// A census by thread 1, which has made all that stands, and another by the same marker.
+/// Checks the numbers of a census that is announced.
+fn is_counted_announced<S: Steps>(
+    rt: &impl Abort,
+    env: &mut Env<S>,
+    marker: &mut Marker,
+    wanted: [u32; 16],
+) -> Result<(), Fail> {
+    let census = env.census_announced(marker, 3)?;
+    assert_eq!(rt; numbers(&census), wanted);
+    Ok(())
+}
+
+/// A census by thread 1, which has made all that stands, another by the same marker, and one that is announced.
 pub(crate) fn tells_what_stands<S: Steps>(
     rt: &impl Abort,
     alloc: Global,
@@ -82,7 +94,8 @@ pub(crate) fn tells_what_stands<S: Steps>(
     let mut marker = Marker::new(alloc, env.held.steps.config())?;
     let wanted = [1, 1, 1, 0, 0, 2, 3, 8, 1, 1, 3, 0, 8, 0, 5, 3];
     is_counted(rt, env, &mut marker, wanted)?;
-    is_counted(rt, env, &mut marker, wanted)
+    is_counted(rt, env, &mut marker, wanted)?;
+    is_counted_announced(rt, env, &mut marker, wanted)
 }
 
 #[test]
@@ -164,13 +177,8 @@ fn have_locals(rt: &impl Abort, locals: &[LocalParts; 80]) {
     assert_eq!(rt; all, 2);
 }
 
-/// A dump of a room of four slots, four objects and eight words, for five threads with 16 local places each.
-pub(crate) fn has_what_stands<S: Steps>(
-    rt: &impl Abort,
-    alloc: Global,
-    env: &mut Env<S>,
-) -> Result<(), Fail> {
-    fill(alloc, env)?;
+/// Checks a dump, announced or not, of a room of four slots, four objects and eight words, for five threads with 16 local places each.
+fn is_noted<S: Steps>(rt: &impl Abort, env: &mut Env<S>, is_announced: bool) -> Result<(), Fail> {
     let config = env.held.steps.config();
     if config.slots != 4 || config.objects != 4 || config.words != 8 {
         return Err("the room has other sizes")?;
@@ -182,11 +190,26 @@ pub(crate) fn has_what_stands<S: Steps>(
     let mut locals = [LocalParts::Free; 80];
     let mut headers = [None; 4];
     let mut words = [0u64; 8];
-    env.dump(&mut slots, &mut locals, &mut headers, &mut words)?;
+    if is_announced {
+        env.dump_announced(3, &mut slots, &mut locals, &mut headers, &mut words)?;
+    } else {
+        env.dump(&mut slots, &mut locals, &mut headers, &mut words)?;
+    }
     have_references(rt, &slots);
     have_locals(rt, &locals);
     has_three(rt, &headers);
     Ok(())
+}
+
+/// A dump of what thread 1 has made, and another that is announced.
+pub(crate) fn has_what_stands<S: Steps>(
+    rt: &impl Abort,
+    alloc: Global,
+    env: &mut Env<S>,
+) -> Result<(), Fail> {
+    fill(alloc, env)?;
+    is_noted(rt, env, false)?;
+    is_noted(rt, env, true)
 }
 
 #[test]

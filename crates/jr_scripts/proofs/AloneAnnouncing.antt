@@ -156,7 +156,7 @@ module _ (turns tries : ℕ) (names : Names) where
           → LedAlone n (names, commands.WithTries with_tries.CollectAnnounced tries) old.pass new.pass new.frames answer
       led old new (Ok c) alone d = leaves_alone tries old.pass new.pass old.frames new.frames alone
           n (names, commands.WithTries with_tries.CollectAnnounced tries) (Ok c) (Ok (c.cleared, c.dropped, c.used)) tt
-          d.ran
+          d.done.ran
       led old new (Err e) alone d =
           absurd (never_refused tries old.pass new.pass old.frames new.frames alone e d.made.ran)
 

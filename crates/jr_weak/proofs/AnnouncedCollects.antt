@@ -1,6 +1,6 @@
--- A collection that was announced is the model's, and so is one that was given up.
+-- What is done behind an announcement, and a collection so made; and one that was given up is the model's.
 use Rattle.std.proofs.Common.{◌≡◌, ◌≢◌, ◌+◌, ℕ, inl, inr, List, [], ◌∷◌, ◌++◌, map}
-use Rattle.std.proofs.Common.{length, refl, sym, ap, subst, ◌∙◌, arith, append_assoc}
+use Rattle.std.proofs.Common.{Result, Ok, Err, IfOk, IfErr, length, refl, sym, ap, subst, ◌∙◌, arith, append_assoc}
 use Rattle.std.proofs.lemmas.List.{length-append, length-map}
 use Rattle.std.specs.List.{AllByRecursion}
 use Rattle.jr_word.specs.declared.config.Config.{Config}
@@ -11,7 +11,7 @@ use Rattle.jr_model.specs.declared.event.Act.TheVariants.{Gate, ShutBusy, Clear,
 use Rattle.jr_model.specs.declared.event.GateAct.TheVariants.{Announce, Cancel, Shut, Reopen}
 use Rattle.jr_model.specs.State.{Handle}
 use Rattle.jr_model.specs.History.{PassView, Did}
-use Rattle.jr_model.specs.CollectionCalls.{announcing_acts, collection_acts, sweeping_acts}
+use Rattle.jr_model.specs.CollectionCalls.{Collects, announcing_acts, sweeping_acts}
 use Rattle.jr_model.specs.Windows.{IsLastSeen, IsWindow}
 use Rattle.jr_model.proofs.Announcements.{announced_until}
 use Rattle.jr_model.proofs.Moments.{prefix_self}
@@ -19,29 +19,29 @@ use Rattle.jr_model.proofs.Stays.{did_then}
 use Rattle.jr_model.proofs.Windows.{ends_behind, stepped_last, window_act, window_some}
 use Rattle.jr_steps.specs.declared.known.Holdings.{Holdings}
 use Rattle.jr_steps.specs.declared.known.Known.{Known}
-use Rattle.jr_steps.specs.Knowing.{Facts, Takes, anything, standing_after, view}
+use Rattle.jr_steps.specs.Knowing.{CanReopen, Facts, Goes, Takes, Went, anything, lets_go, standing_after, view}
 use Rattle.jr_steps.proofs.StepFacts.{goes_did, goes_stepped}
 use Rattle.jr_gate.specs.Acting.{ActedTo}
 use Rattle.jr_gate.specs.Announcing.{AnnouncesInTwo, WasNotAnnounced}
 use Rattle.jr_compact.specs.Counting.{TakesWithin}
 use Rattle.jr_weak.specs.Counting.{collection_steps}
-use Rattle.jr_weak.specs.Collecting.{Finishes, GivesUp, MakesAnnouncedCollection, closed_at_look}
+use Rattle.jr_weak.specs.Collecting.{CollectsFrom, Finishes, GivesUp, MakesAnnouncedCollection, WentAnnounced}
+use Rattle.jr_weak.specs.Collecting.{closed_at_look, shut_acts}
 use Rattle.jr_weak.specs.Collecting.{closed_at_exchange, moved_at_exchange, taken_back}
-use Rattle.jr_weak.specs.Waiting.{CancelsAfter, ShutsAfter}
+use Rattle.jr_weak.specs.Waiting.{CancelsAfter, ShutsAfter, ShutsAnnounced}
 use Rattle.jr_weak.proofs.Collects.{collects_since, within_since}
 use Rattle.jr_weak.proofs.Tries.{one_more}
 
 -- a call that begins with a look, and ends with an act that takes its thread outside
-collection_window : {old new : PassView} (refused : List ℕ) (cleared : List Handle) (dropped : List ℕ) (used : ℕ)
-    → Did old new (announcing_acts refused ++ collection_acts cleared dropped used) → IsLastSeen new (Gate Reopen)
-    → IsWindow old new (announcing_acts refused ++ collection_acts cleared dropped used) old.seen
-collection_window {old} {new} refused cleared dropped used d last = record {
+shut_window : {old new : PassView} (refused : List ℕ) (acts : List Act)
+    → Did old new (announcing_acts refused ++ shut_acts acts) → IsLastSeen new (Gate Reopen)
+    → IsWindow old new (announcing_acts refused ++ shut_acts acts) old.seen
+shut_window {old} {new} refused acts d last = record {
   from = prefix_self old.seen;
   to = d.begins;
   first = tt;
-  last =
-      ends_behind old new (announcing_acts refused) (Gate Shut) (sweeping_acts cleared dropped used ++ Gate Reopen ∷ [])
-      (ends_behind old new (Gate Shut ∷ sweeping_acts cleared dropped used) (Gate Reopen) [] (λ out. last));
+  last = ends_behind old new (announcing_acts refused) (Gate Shut) (acts ++ Gate Reopen ∷ [])
+      (ends_behind old new (Gate Shut ∷ acts) (Gate Reopen) [] (λ out. last));
 }
 
 cancel_window : {old new : PassView} (refused : List ℕ) (n : ℕ)
@@ -154,68 +154,109 @@ not_announced facts tries e (inr (inr z)) = record {
   };
 }
 
-module _ {S : Type 0} (facts : S → Facts) {a b : S} (tries : ℕ) (outside : (facts a).stands.role ≡ Outside)
-    (announced : ActedTo facts a b (Meet ∷ Gate Announce ∷ []) anything AnnouncesInTwo) where
-  pub makes_announced : {d z : S} {cleared_count dropped_count used : ℕ} → ShutsAfter facts b d tries
-      → Finishes facts d z cleared_count dropped_count used
-      → MakesAnnouncedCollection facts a z tries cleared_count dropped_count used
-  makes_announced {used = used} sh rest = record {
-    refused = sh.refused;
-    few = sh.few;
-    cleared = rest.cleared;
-    dropped = rest.dropped;
-    clears = rest.clears;
-    drops = rest.drops;
-    went = record {
-      stands_is = rest.went.stands_is
-          ∙ (ap (λ s. standing_after s (Gate Reopen ∷ [])) sh.shut.stands_is
-          ∙ (ap (λ s. standing_after s (Gate Shut ∷ Gate Reopen ∷ [])) (sh.waited.went.stands_is ∙ announced.stands_is)
+-- WHAT IS KNOWN FROM THE SHUT ON of what was done with these acts, before the gate was opened
+pub record ShutFor (acts : List Act) (most : ℕ) (does : PassView → PassView → Type 0) (k k1 k' : Known) : Type 0 where
+  pub opening : Known
+  pub swept : Did (view k1) (view opening) acts
+  pub opened : Goes opening (Gate Reopen ∷ []) k'
+  pub did : Did (view k) (view k') (shut_acts acts)
+  pub done : does (view k) (view k')
+  pub within : TakesWithin most k k'
+
+-- IT WAS DONE BEHIND AN ANNOUNCEMENT, whatever it was
+pub does_announced : {S : Type 0} (facts : S → Facts) {a d z : S} {tries : ℕ} (acts : List Act) (most : Config → ℕ)
+    (does : PassView → PassView → Type 0) (rest : Known → Known → Type 0) → (facts a).stands.role ≡ Outside
+    → Spares (Gate Cancel) acts → Spares (Gate Reopen) acts
+    → ((k k1 k' : Known) → Goes k (Gate Shut ∷ []) k1 → rest k1 k' → ShutFor acts (most k.config) does k k1 k')
+    → (sh : ShutsAnnounced facts a d tries)
+    → Went facts d z (standing_after (facts d).stands (Gate Reopen ∷ [])) CanReopen rest lets_go
+    → WentAnnounced facts a z sh.after.refused acts most does
+does_announced facts {a} acts most does rest outside cancels reopens since sh then' =
+    let refused = sh.after.refused in
+    record {
+      stands_is = then'.stands_is ∙ (ap (λ s. standing_after s (Gate Reopen ∷ [])) sh.after.shut.stands_is
+          ∙ (ap (λ s. standing_after s (Gate Shut ∷ Gate Reopen ∷ []))
+          (sh.after.waited.went.stands_is ∙ sh.announced.stands_is)
           ∙ ap (λ r. record ((facts a).stands) { role = r }) (sym outside)));
-      hint_is = rest.went.hint_is ∙ (sh.shut.hint_is ∙ (sh.waited.went.hint_is ∙ announced.hint_is));
+      hint_is = then'.hint_is ∙ (sh.after.shut.hint_is ∙ (sh.after.waited.went.hint_is ∙ sh.announced.hint_is));
       leads = λ k s m.
-          let kb = announced.leads k s tt in
-          let kc = sh.waited.went.leads kb.0 kb.1 tt in
-          let kd = sh.shut.goes kc.0 kc.1 tt in
-          let kz = rest.went.leads kd.0 kd.1 (kd.3.0, ap (λ (g : Holdings). g.moving) kd.3.1) in
-          let since = collects_since rest.cleared rest.dropped used kd.2 kz.2 in
-          let waiting : Did (view k) (view kc.0) (announcing_acts sh.refused) =
-          did_then (Meet ∷ Gate Announce ∷ []) (map ShutBusy sh.refused) kb.2 kc.2 in
-          let acts = sweeping_acts rest.cleared rest.dropped used in
-          let swept : Did (view kb.0) (view (kz.2).opening) (map ShutBusy sh.refused ++ Gate Shut ∷ acts) =
-          did_then (map ShutBusy sh.refused) (Gate Shut ∷ acts) kc.2
-          (did_then (Gate Shut ∷ []) acts (goes_did kd.2) (kz.2).swept) in
-          let did = did_then (announcing_acts sh.refused) (collection_acts rest.cleared rest.dropped used) waiting
-          since.collects.did in (
+          let kb = sh.announced.leads k s tt in
+          let kc = sh.after.waited.went.leads kb.0 kb.1 tt in
+          let kd = sh.after.shut.goes kc.0 kc.1 tt in
+          let kz = then'.leads kd.0 kd.1 (kd.3.0, ap (λ (g : Holdings). g.moving) kd.3.1) in
+          let done = since kc.0 kd.0 kz.0 kd.2 kz.2 in
+          let waiting : Did (view k) (view kc.0) (announcing_acts refused) =
+          did_then (Meet ∷ Gate Announce ∷ []) (map ShutBusy refused) kb.2 kc.2 in
+          let swept : Did (view kb.0) (view done.opening) (map ShutBusy refused ++ Gate Shut ∷ acts) =
+          did_then (map ShutBusy refused) (Gate Shut ∷ acts) kc.2
+          (did_then (Gate Shut ∷ []) acts (goes_did kd.2) done.swept) in
+          let did : Did (view k) (view kz.0) (announcing_acts refused ++ shut_acts acts) =
+          did_then (announcing_acts refused) (shut_acts acts) waiting done.did in (
             kz.0,
             kz.1,
             record {
               shutting = view kc.0;
               announced = waiting;
-              collects = since.collects;
-              until = announced_until (map ShutBusy sh.refused ++ Gate Shut ∷ acts) Reopen
-                  (shut_spares (Gate Cancel) (λ n e. cc) (λ e. cc) sh.refused acts
-                  (sweeping_spares (Gate Cancel) (λ h e. cc) (λ o e. cc) (λ n e. cc) rest.cleared rest.dropped used))
-                  (shut_spares (Gate Reopen) (λ n e. cc) (λ e. cc) sh.refused acts
-                  (sweeping_spares (Gate Reopen) (λ h e. cc) (λ o e. cc) (λ n e. cc) rest.cleared rest.dropped used))
-                  kb.3.0.1 swept (goes_stepped (kz.2).opened);
+              done = done.done;
+              until = announced_until (map ShutBusy refused ++ Gate Shut ∷ acts) Reopen
+                  (shut_spares (Gate Cancel) (λ n e. cc) (λ e. cc) refused acts cancels)
+                  (shut_spares (Gate Reopen) (λ n e. cc) (λ e. cc) refused acts reopens)
+                  kb.3.0.1 swept (goes_stepped done.opened);
             },
             (
               kz.3,
-              (
-                k.seen,
-                collection_window sh.refused rest.cleared rest.dropped used did
-                    (stepped_last (goes_stepped (kz.2).opened)),
-              ),
-              then_within (length (announcing_acts sh.refused)) (collection_steps k.config) k kc.0 kz.0
-                  (announcing_takes sh.refused k kb.0 kc.0 kb.3.0.0.1 kc.3.1)
-                  (subst (λ (c : Config). TakesWithin (collection_steps c) kc.0 kz.0) waiting.config
-                  (within_since kz.0 kd.2 (kz.2).taken)),
+              (k.seen, shut_window refused acts did (stepped_last (goes_stepped done.opened))),
+              then_within (length (announcing_acts refused)) (most k.config) k kc.0 kz.0
+                  (announcing_takes refused k kb.0 kc.0 kb.3.0.0.1 kc.3.1)
+                  (subst (λ (c : Config). TakesWithin (most c) kc.0 kz.0) waiting.config done.within),
             ),
           );
-    };
-  }
+    }
 
-  pub gives_up : {z : S} (e : Fault) → CancelsAfter facts b z tries e → GivesUp facts a z tries e
+-- A COLLECTION
+collected_for : (cleared : List Handle) (dropped : List ℕ) (used : ℕ) (k k1 k' : Known) → Goes k (Gate Shut ∷ []) k1
+    → CollectsFrom k1 k' cleared dropped used
+    → ShutFor (sweeping_acts cleared dropped used) (collection_steps k.config)
+    (λ p q. Collects p q cleared dropped used) k k1 k'
+collected_for cleared dropped used k k1 k' g rest =
+    let since = collects_since cleared dropped used g rest in
+    record {
+      opening = rest.opening;
+      swept = rest.swept;
+      opened = rest.opened;
+      did = since.collects.did;
+      done = since.collects;
+      within = within_since k' g rest.taken;
+    }
+
+pub makes_announced : {S : Type 0} (facts : S → Facts) {a d z : S} {tries cleared_count dropped_count used : ℕ}
+    → (facts a).stands.role ≡ Outside → ShutsAnnounced facts a d tries
+    → Finishes facts d z cleared_count dropped_count used
+    → MakesAnnouncedCollection facts a z tries cleared_count dropped_count used
+makes_announced facts {used = used} outside sh rest = record {
+  refused = sh.after.refused;
+  few = sh.after.few;
+  done = record {
+    cleared = rest.cleared;
+    dropped = rest.dropped;
+    clears = rest.clears;
+    drops = rest.drops;
+    went = does_announced facts (sweeping_acts rest.cleared rest.dropped used) collection_steps
+        (λ p q. Collects p q rest.cleared rest.dropped used) (λ j k. CollectsFrom j k rest.cleared rest.dropped used)
+        outside (sweeping_spares (Gate Cancel) (λ h e. cc) (λ o e. cc) (λ n e. cc) rest.cleared rest.dropped used)
+        (sweeping_spares (Gate Reopen) (λ h e. cc) (λ o e. cc) (λ n e. cc) rest.cleared rest.dropped used)
+        (collected_for rest.cleared rest.dropped used) sh rest.went;
+  };
+}
+
+module _ {S : Type 0} (facts : S → Facts) {a b : S} (tries : ℕ) (outside : (facts a).stands.role ≡ Outside)
+    (announced : ActedTo facts a b (Meet ∷ Gate Announce ∷ []) anything AnnouncesInTwo) where
+  pub shuts_announced : {A : Type 0} (d : S) (r : Result A Fault) → IfOk r (λ _. ShutsAfter facts b d tries)
+      → IfOk r (λ _. ShutsAnnounced facts a d tries)
+  shuts_announced d (Ok x) after = record { announcing = b; announced = announced; after = after }
+  shuts_announced d (Err e) after = tt
+
+  gives_up : {z : S} (e : Fault) → CancelsAfter facts b z tries e → GivesUp facts a z tries e
   gives_up e u = record {
     acts = announcing_acts u.refused ++ ShutBusy u.count ∷ Gate Cancel ∷ [];
     went = record {
@@ -255,3 +296,8 @@ module _ {S : Type 0} (facts : S → Facts) {a b : S} (tries : ℕ) (outside : (
           );
     };
   }
+
+  pub gives_up_all : {A : Type 0} (z : S) (r : Result A Fault) → IfErr r (λ e. CancelsAfter facts b z tries e)
+      → IfErr r (λ e. GivesUp facts a z tries e)
+  gives_up_all z (Ok x) u = tt
+  gives_up_all z (Err e) u = gives_up e u

@@ -10,7 +10,7 @@ use Rattle.jr_model.specs.State.{Handle, SomebodyCloses}
 use Rattle.jr_model.specs.History.{History, PassView, Did, state}
 use Rattle.jr_model.specs.Refusals.{GateHasMoved}
 use Rattle.jr_model.specs.Announcements.{AnnouncedUntil}
-use Rattle.jr_model.specs.CollectionCalls.{IsWhole, announcing_acts, collection_acts, sweeping_acts, Collects}
+use Rattle.jr_model.specs.CollectionCalls.{IsWhole, announcing_acts, sweeping_acts, Collects}
 use Rattle.jr_model.specs.Windows.{IsWindow}
 use Rattle.jr_steps.specs.declared.known.Holdings.{Holdings}
 use Rattle.jr_steps.specs.declared.known.Known.{Known}
@@ -29,19 +29,35 @@ pub record CollectsFrom (j k : Known) (cleared : List Handle) (dropped : List �
   pub whole : IsWhole (state_of j) cleared dropped
   pub taken : TakesWithin (sweeping_steps j.config + 1) j k
 
--- A COLLECTION THAT WAS ANNOUNCED: up to some moment the thread announced it and was refused with
--- these counts, and from then on it collected. From its announcement to its reopening nobody entered
-pub record CollectsAnnounced (old new : PassView) (refused : List ℕ) (cleared : List Handle) (dropped : List ℕ)
-    (used : ℕ) : Type 0 where
+-- all acts of a thread that shuts the gate, does these, and opens it again
+abbrev pub shut_acts : List Act → List Act
+shut_acts acts = Gate Shut ∷ acts ++ Gate Reopen ∷ []
+
+-- IT WAS DONE BEHIND AN ANNOUNCEMENT: up to some moment the thread announced it and was refused with these
+-- counts, and from then on it did this, with these acts while the gate was shut. From its announcement to its
+-- reopening nobody entered
+pub record DoesAnnounced (old new : PassView) (refused : List ℕ) (acts : List Act)
+    (does : PassView → PassView → Type 0) : Type 0 where
   pub shutting : PassView
   pub announced : Did old shutting (announcing_acts refused)
-  pub collects : Collects shutting new cleared dropped used
-  pub until : AnnouncedUntil new (map ShutBusy refused ++ Gate Shut ∷ sweeping_acts cleared dropped used) Reopen
+  pub done : does shutting new
+  pub until : AnnouncedUntil new (map ShutBusy refused ++ Gate Shut ∷ acts) Reopen
+
+-- IT WAS DONE AFTER SOME TRIES: fewer than these were refused before, with these counts
+pub record AfterTries (tries : ℕ) (does : List ℕ → Type 0) : Type 0 where
+  pub refused : List ℕ
+  pub few : length refused < tries
+  pub done : does refused
+
+-- A COLLECTION THAT WAS ANNOUNCED, and refused with these counts before its gate was shut
+abbrev pub CollectsAnnounced : List ℕ → PassView → PassView → List Handle → List ℕ → ℕ → Type 0
+CollectsAnnounced refused old new cleared dropped used =
+    DoesAnnounced old new refused (sweeping_acts cleared dropped used) (λ p q. Collects p q cleared dropped used)
 
 -- the operations of one that was refused so often:
--- one for each act up to its shut, and from then on as many as the room's sizes say
-abbrev pub announced_steps : List ℕ → Config → ℕ
-announced_steps refused c = length (announcing_acts refused) + collection_steps c
+-- one for each act up to its shut, and from then on as many as it takes unannounced
+abbrev pub announced_steps : List ℕ → ℕ → ℕ
+announced_steps refused most = length (announcing_acts refused) + most
 
 -- AN ANNOUNCED COLLECTION WAS GIVEN UP, with this refusal and by these acts, at one of four ends;
 -- the pass had the one holdings and has the others
@@ -72,31 +88,40 @@ module _ {S : Type 0} (facts : S → Facts) where
     pub went : Went facts old new (standing_after (facts old).stands (Gate Reopen ∷ [])) CanReopen
         (λ j k. CollectsFrom j k cleared dropped used) lets_go
 
-  -- A COLLECTION WAS MADE, which cleared and dropped so many, and left so many words used: the model's, with
-  -- nothing left out, in its own window, by no more operations than the room's sizes say; and nothing is held then
-  pub record MakesCollection (old new : S) (cleared_count dropped_count used : ℕ) : Type 0 where
+  -- THE GATE WAS SHUT, THIS DONE, AND THE GATE OPENED AGAIN, with the first acts before and the others meanwhile: in
+  -- its own window, by no more operations than the room's sizes say; and nothing is held then
+  abbrev pub WentShut : S → S → List Act → List Act → (Config → ℕ) → (PassView → PassView → Type 0) → Type 0
+  WentShut old new before acts most does = Went facts old new (facts old).stands anything
+      (λ j k. does (view j) (view k))
+      (λ j k. lets_go j k × ((begun : History) × IsWindow (view j) (view k) (before ++ shut_acts acts) begun)
+      × TakesWithin (most j.config) j k)
+
+  -- the same behind an announcement that was refused with these counts
+  abbrev pub WentAnnounced : S → S → List ℕ → List Act → (Config → ℕ) → (PassView → PassView → Type 0) → Type 0
+  WentAnnounced old new refused acts most does =
+      WentShut old new (announcing_acts refused) acts (λ c. announced_steps refused (most c))
+      (λ p q. DoesAnnounced p q refused acts does)
+
+  -- A COLLECTION WAS MADE behind these acts, which cleared and dropped so many, and left so many words used:
+  -- the model's, with nothing left out
+  pub record MakesAfter (old new : S) (before : List Act) (most : Config → ℕ)
+      (does : PassView → PassView → List Handle → List ℕ → ℕ → Type 0) (cleared_count dropped_count used : ℕ)
+      : Type 0 where
     pub cleared : List Handle
     pub dropped : List ℕ
     pub clears : length cleared ≡ cleared_count
     pub drops : length dropped ≡ dropped_count
-    pub went : Went facts old new (facts old).stands anything (λ j k. Collects (view j) (view k) cleared dropped used)
-        (λ j k. lets_go j k
-        × ((begun : History) × IsWindow (view j) (view k) (collection_acts cleared dropped used) begun)
-        × TakesWithin (collection_steps j.config) j k)
+    pub went : WentShut old new before (sweeping_acts cleared dropped used) most (λ p q. does p q cleared dropped used)
+
+  -- by a call that announces nothing
+  abbrev pub MakesCollection : S → S → ℕ → ℕ → ℕ → Type 0
+  MakesCollection old new = MakesAfter old new [] collection_steps Collects
 
   -- AN ANNOUNCED COLLECTION WAS MADE, after fewer refused shuts than there were tries
-  pub record MakesAnnouncedCollection (old new : S) (tries cleared_count dropped_count used : ℕ) : Type 0 where
-    pub refused : List ℕ
-    pub few : length refused < tries
-    pub cleared : List Handle
-    pub dropped : List ℕ
-    pub clears : length cleared ≡ cleared_count
-    pub drops : length dropped ≡ dropped_count
-    pub went : Went facts old new (facts old).stands anything (λ j k.
-        CollectsAnnounced (view j) (view k) refused cleared dropped used)
-        (λ j k. lets_go j k × ((begun : History)
-        × IsWindow (view j) (view k) (announcing_acts refused ++ collection_acts cleared dropped used) begun)
-        × TakesWithin (announced_steps refused j.config) j k)
+  abbrev pub MakesAnnouncedCollection : S → S → ℕ → ℕ → ℕ → ℕ → Type 0
+  MakesAnnouncedCollection old new tries cleared dropped used = AfterTries tries (λ refused.
+      MakesAfter old new (announcing_acts refused) (λ c. announced_steps refused (collection_steps c))
+      (CollectsAnnounced refused) cleared dropped used)
 
   -- IT WAS GIVEN UP, by one operation for each of these acts, in its own window
   pub record GivesUp (old new : S) (tries : ℕ) (e : Fault) : Type 0 where

@@ -1,11 +1,13 @@
--- For the crate's own functions: the tries to shut a gate that was announced to be shut.
+-- For this crate and those above: the tries to shut a gate that was announced to be shut.
 use Rattle.std.specs.Prelude.{◌≡◌, ◌<◌, ◌≤◌, ◌+◌, ℕ, List, [], ◌∷◌, ◌++◌, map, length}
 use Rattle.jr_word.specs.declared.fault.Fault.{Fault}
 use Rattle.jr_word.specs.declared.fault.Fault.TheVariants.{Busy}
-use Rattle.jr_model.specs.declared.event.Act.TheVariants.{Gate, ShutBusy}
-use Rattle.jr_model.specs.declared.event.GateAct.TheVariants.{Cancel, Shut}
+use Rattle.jr_model.specs.declared.event.Act.TheVariants.{Gate, Meet, ShutBusy}
+use Rattle.jr_model.specs.declared.event.GateAct.TheVariants.{Announce, Cancel, Shut}
 use Rattle.jr_model.specs.History.{Did}
 use Rattle.jr_steps.specs.Knowing.{Facts, Went, Took, Takes, anything, keeps, lets_go, view, IsClosedNow}
+use Rattle.jr_gate.specs.Acting.{ActedTo}
+use Rattle.jr_gate.specs.Announcing.{AnnouncesInTwo}
 
 module _ {S : Type 0} (facts : S → Facts) where
   -- so many tries were refused, with these counts, and nothing else was done
@@ -20,6 +22,12 @@ module _ {S : Type 0} (facts : S → Facts) where
     pub shutting : S
     pub waited : RefusedTries old shutting refused
     pub shut : Took facts shutting new (Gate Shut ∷ []) anything (λ j k. IsClosedNow k × lets_go j k)
+
+  -- THE GATE WAS ANNOUNCED TO BE SHUT, and was, after fewer refused tries than these
+  pub record ShutsAnnounced (old new : S) (tries : ℕ) : Type 0 where
+    pub announcing : S
+    pub announced : ActedTo facts old announcing (Meet ∷ Gate Announce ∷ []) anything AnnouncesInTwo
+    pub after : ShutsAfter announcing new tries
 
   -- ALL TRIES WERE REFUSED, the last with this count, and the announcement was taken back
   pub record CancelsAfter (old new : S) (tries : ℕ) (e : Fault) : Type 0 where

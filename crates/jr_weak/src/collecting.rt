@@ -9,8 +9,8 @@ ghost use Rattle.jr_weak.specs.Markers.{room_of};
 ghost use Rattle.jr_weak.specs.Collecting.{Finishes, GivesUp, MakesAnnouncedCollection, MakesCollection};
 
 use crate::marker::Marker;
-use crate::waiting::shut_within;
-use jr_gate::{Shut, announce, shut_gate};
+use crate::waiting::shut_announced;
+use jr_gate::{Shut, shut_gate};
 use jr_steps::Steps;
 use jr_word::Fault;
 
@@ -74,8 +74,7 @@ pub fn collect_announced<S: Steps>(
     ensures kept { OnErr result (marker.new ≡ marker.old) }
     ensures alone { IsLone (S.facts steps.old).stands → IsOk result }
 {
-    let announced = announce(steps)?;
-    let shut = shut_within(steps, announced, tries)?;
+    let shut = shut_announced(steps, tries)?;
     Ok(finish(steps, shut, marker))
 }
 

@@ -13,3 +13,4 @@ mod waiting;
 
 pub use collecting::{Collected, collect, collect_announced};
 pub use marker::Marker;
+pub use waiting::shut_announced;

@@ -57,22 +57,6 @@ impl<S: Steps> Env<S> {
         if !self.has_marker(marker) {
             return Err(Fault::Size);
         }
-        self.collect_by(marker)
-    }
-
-    /// Collects, by a marker that fits.
-    ///
-    /// # Errors
-    ///
-    /// E14.
-    fn collect_by(&mut self, marker: &mut Marker) -> Result<Collected, Fault>
-        requires { FitsRoom marker.old self.old }
-        ensures call { Does self.old self.new collection result }
-        ensures room { room_of marker.new ≡ room_of marker.old }
-        ensures busy { IfErr result (λ e. (n : ℕ) × (e ≡ Busy n) × (1 ≤ n)) }
-        ensures kept { OnErr result (marker.new ≡ marker.old) }
-        ensures alone { (S.facts self.old.held.steps).stands.config.threads ≡ 1 → IsOk result }
-    {
         let held = &mut self.held;
         outside(held);
         collect(&mut held.steps, marker)
@@ -102,23 +86,6 @@ impl<S: Steps> Env<S> {
         if !self.has_marker(marker) {
             return Err(Fault::Size);
         }
-        self.collect_announced_by(marker, tries)
-    }
-
-    /// Collects by an announcement, and by a marker that fits.
-    ///
-    /// # Errors
-    ///
-    /// E14, E23.
-    fn collect_announced_by(&mut self, marker: &mut Marker, tries: u32) -> Result<Collected, Fault>
-        requires room { FitsRoom marker.old self.old }
-        requires tries { 1 ≤ tries }
-        ensures call { Does self.old self.new (announced_collection tries) result }
-        ensures room { room_of marker.new ≡ room_of marker.old }
-        ensures refused { IfErr result IsNoTurn }
-        ensures kept { OnErr result (marker.new ≡ marker.old) }
-        ensures alone { (S.facts self.old.held.steps).stands.config.threads ≡ 1 → IsOk result }
-    {
         let held = &mut self.held;
         outside(held);
         collect_announced(&mut held.steps, marker, tries)

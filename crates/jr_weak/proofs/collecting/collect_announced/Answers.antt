@@ -1,21 +1,6 @@
-use Rattle.std.proofs.Common.{sym, subst}
-use Rattle.jr_gate.proofs.HandedOn.{handed_err}
-use Rattle.jr_weak.specs.Collecting.{GivesUp}
-use Rattle.jr_weak.proofs.AnnouncedCollects.{gives_up, makes_announced, not_announced}
+use Rattle.jr_weak.proofs.AnnouncedCollects.{makes_announced}
 use Rattle.jr_weak.proofs.collecting.collect_announced.Goals as goal
 
-pub returns-in_err-announced-clause-err : goal.returns-in_err-announced-clause-err
-returns-in_err-announced-clause-err g c = handed_err c.from_residual.result c.from_residual.ensures.1 (λ e is.
-    subst (λ z. GivesUp g.S.Steps.facts c.args.steps.now c.announce.new.steps c.args.tries z) (sym is)
-    (not_announced g.S.Steps.facts c.args.tries _ c.in_err-announced.ensures.err))
-
-pub returns-in_err-shut-clause-err : goal.returns-in_err-shut-clause-err
-returns-in_err-shut-clause-err g c =
-    handed_err c.from_residual-in_err-shut.result c.from_residual-in_err-shut.ensures.1 (λ e is.
-    subst (λ z. GivesUp g.S.Steps.facts c.args.steps.now c.shut_within.new.steps c.args.tries z) (sym is)
-    (gives_up g.S.Steps.facts c.args.tries c.requires.outside c.in_ok-announced.ensures.ok.1 c.in_err-shut.field-0.0
-    c.in_err-shut.ensures.err))
-
 pub returns-clause-ok : goal.returns-clause-ok
-returns-clause-ok g c = makes_announced g.S.Steps.facts c.args.tries c.requires.outside c.in_ok-announced.ensures.ok.1
-    c.in_ok-shut.ensures.ok c.finish.ensures.all
+returns-clause-ok g c =
+    makes_announced g.S.Steps.facts c.requires.outside c.in_ok-shut.ensures.ok c.finish.ensures.all

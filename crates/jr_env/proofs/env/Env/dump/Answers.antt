@@ -2,33 +2,35 @@ use Rattle.std.proofs.Common.{inr, ap, ◌∙◌}
 use Rattle.jr_word.specs.declared.config.Config.{Config}
 use Rattle.jr_census.specs.Taking.{IsDumpOf, noting_steps}
 use Rattle.jr_env.proofs.EndedStays.{can_call}
-use Rattle.jr_env.proofs.WholeCensuses.{does_tell, ready_told, tells_or}
+use Rattle.jr_env.proofs.WholeCensuses.{told}
 use Rattle.jr_env.proofs.env.Env.dump.Goals as goal
 
 pub invariant_of-held : goal.invariant_of-held
-invariant_of-held g c = record {
-  own = (ready_told g.S.Steps.facts noting_steps (λ x k last s. IsDumpOf k last s c.take_dump.new.slots
-      c.take_dump.new.locals c.take_dump.new.headers c.take_dump.new.words) c.take_dump.result c.outside.ensures.ready
-      (tells_or g.S.Steps.facts noting_steps (λ x k last s. IsDumpOf k last s c.take_dump.new.slots
-      c.take_dump.new.locals c.take_dump.new.headers c.take_dump.new.words) c.outside.new.held.steps
-      c.take_dump.new.steps c.take_dump.result c.take_dump.ensures.ok c.take_dump.ensures.err)).own;
-}
+invariant_of-held g c =
+    let x = c.take_dump in
+    let did =
+    told g.S.Steps.facts noting_steps (λ y k last s.
+    IsDumpOf k last s x.new.slots x.new.locals x.new.headers x.new.words)
+    x.result c.outside.ensures x.ensures.ok x.ensures.err in
+    record { own = did.0.own }
 
 pub invariant_of-self : goal.invariant_of-self
-invariant_of-self g c = record {
-  ready = can_call (ready_told g.S.Steps.facts noting_steps (λ x k last s. IsDumpOf k last s c.take_dump.new.slots
-      c.take_dump.new.locals c.take_dump.new.headers c.take_dump.new.words) c.take_dump.result c.outside.ensures.ready
-      (tells_or g.S.Steps.facts noting_steps (λ x k last s. IsDumpOf k last s c.take_dump.new.slots
-      c.take_dump.new.locals c.take_dump.new.headers c.take_dump.new.words) c.outside.new.held.steps
-      c.take_dump.new.steps c.take_dump.result c.take_dump.ensures.ok c.take_dump.ensures.err));
-}
+invariant_of-self g c =
+    let x = c.take_dump in
+    let did =
+    told g.S.Steps.facts noting_steps (λ y k last s.
+    IsDumpOf k last s x.new.slots x.new.locals x.new.headers x.new.words)
+    x.result c.outside.ensures x.ensures.ok x.ensures.err in
+    record { ready = can_call did.0 }
 
 pub returns-clause-call : goal.returns-clause-call
-returns-clause-call g c = does_tell g.S.Steps.facts noting_steps (λ x k last s.
-    IsDumpOf k last s c.take_dump.new.slots c.take_dump.new.locals c.take_dump.new.headers c.take_dump.new.words)
-    c.take_dump.result c.outside.ensures (tells_or g.S.Steps.facts noting_steps (λ x k last s.
-    IsDumpOf k last s c.take_dump.new.slots c.take_dump.new.locals c.take_dump.new.headers c.take_dump.new.words)
-    c.outside.new.held.steps c.take_dump.new.steps c.take_dump.result c.take_dump.ensures.ok c.take_dump.ensures.err)
+returns-clause-call g c =
+    let x = c.take_dump in
+    let did =
+    told g.S.Steps.facts noting_steps (λ y k last s.
+    IsDumpOf k last s x.new.slots x.new.locals x.new.headers x.new.words)
+    x.result c.outside.ensures x.ensures.ok x.ensures.err in
+    did.1
 
 pub returns-clause-alone : goal.returns-clause-alone
 returns-clause-alone g c one =

@@ -1,0 +1,41 @@
+use Rattle.std.proofs.Common.{inr, ap, ◌∙◌}
+use Rattle.jr_word.specs.declared.config.Config.{Config}
+use Rattle.jr_census.specs.Taking.{IsCensusOf, counting_steps}
+use Rattle.jr_env.proofs.AnnouncedCollections.{no_turn}
+use Rattle.jr_env.proofs.EndedStays.{can_call}
+use Rattle.jr_env.proofs.WholeCensuses.{told_announced}
+use Rattle.jr_env.proofs.env.Env.census_announced.Goals as goal
+
+pub invariant_of-held : goal.invariant_of-held
+invariant_of-held g c =
+    let x = c.take_census_announced in
+    let did =
+    told_announced g.S.Steps.facts counting_steps (λ y k last s. IsCensusOf k last s y) c.args.tries x.result
+    c.outside.ensures x.ensures.ok x.ensures.err in
+    record { own = did.0.own }
+
+pub invariant_of-self : goal.invariant_of-self
+invariant_of-self g c =
+    let x = c.take_census_announced in
+    let did =
+    told_announced g.S.Steps.facts counting_steps (λ y k last s. IsCensusOf k last s y) c.args.tries x.result
+    c.outside.ensures x.ensures.ok x.ensures.err in
+    record { ready = can_call did.0 }
+
+pub returns-clause-call : goal.returns-clause-call
+returns-clause-call g c fits =
+    let x = c.take_census_announced in
+    let did =
+    told_announced g.S.Steps.facts counting_steps (λ y k last s. IsCensusOf k last s y) c.args.tries x.result
+    c.outside.ensures x.ensures.ok x.ensures.err in
+    did.1
+
+pub returns-clause-refused : goal.returns-clause-refused
+returns-clause-refused g c fits =
+    let x = c.take_census_announced in
+    no_turn g.S.Steps.facts c.outside.new.held.steps x.new.steps c.args.tries x.result
+    (g.met.S.Steps.some_known c.outside.new.held.steps) x.ensures.err
+
+pub returns-clause-alone : goal.returns-clause-alone
+returns-clause-alone g c fits one =
+    c.take_census_announced.ensures.alone (inr (ap (λ (z : Config). z.threads) c.outside.ensures.config ∙ one))
