@@ -32,7 +32,7 @@ use Rattle.jr_frames.specs.Reading.{IsReadAs}
 use Rattle.jr_frames.specs.Ready.{StandsReady}
 use Rattle.jr_frames.specs.Table.{Table}
 use Rattle.jr_frames.proofs.FramesAgree.{holds_did}
-use Rattle.jr_frames.proofs.StillReady.{ready_after, same_owner}
+use Rattle.jr_frames.proofs.StillReady.{ready_after, ready_left, same_owner}
 use Rattle.jr_frames.proofs.WholeCalls.{left_before}
 use Rattle.jr_env.specs.Deeds.{DoesDeed, DoesOutside}
 use Rattle.jr_env.specs.declared.env.Env.{Env}
@@ -44,7 +44,7 @@ use Rattle.jr_env.specs.Works.{EndsStay}
 use Rattle.jr_env.proofs.Carrying.{own_call}
 use Rattle.jr_env.proofs.EnvCalls.{does_call_by, does_more}
 use Rattle.jr_env.proofs.InsideGate.{completes_barred, completes_from, completes_more}
-use Rattle.jr_env.proofs.OpenStays.{performs_on, ready_left}
+use Rattle.jr_env.proofs.OpenStays.{performs_on}
 
 -- what was seen in a part of what is seen now, by the same thread of the same room
 seen_within : {c d : Config} (a : Word) {P Q : State → Type 0} (old mid later new : PassView) → c ≡ d
@@ -115,7 +115,7 @@ module _ {S : Type 0} {facts : S → Facts} (fits : AreOf facts) where
   pub ready_behind : {b c d : S} {t : Table} {w : Word} {e : Explanation} → StandsReady facts Within b t
       → ExplainsWord facts b c t.frames w e → Took facts c d (Gate Leave ∷ []) anything lets_go
       → StandsReady facts Outside d t
-  ready_behind {c = c} {d = d} {t = t} r p leaves = ready_left facts c d t (ready_explained r p) leaves
+  ready_behind {c = c} {d = d} {t = t} r p leaves = ready_left (ready_explained r p) leaves
 
   -- an entry that found the gate shut, once a stay that was left has been ended
   pub explained_barred : {o a b : S} {r t : Table} {e : Fault} (w : Word) (answer : Result Explanation Fault)
