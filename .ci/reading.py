@@ -23,6 +23,8 @@ NAMED = re.compile(r"^pub type (\w+)[^=;]*=\s*([^;]+);", re.M)
 HELD_TYPE = re.compile(r"[(:<] ?([A-Z]\w*)")
 BOUND = re.compile(r"\b([A-Z]\w*)\s*:\s*([A-Z]\w*)")
 MEMBER = re.compile(r"(?<![\w.])([A-Z]\w*)\.([A-Za-z]\w*)")
+# A trait, and the one that it asks for.
+ABOVE = re.compile(r"^(?:pub )?trait (\w+)(?:<[^{]*?>)?: (\w+)", re.M)
 # Traits whose members count for nothing beside the trait itself: what they are in a room is a claim of its own.
 TOLD_APART = ("Steps",)
 
@@ -305,6 +307,7 @@ class Repository:
     def __init__(self):
         """Reads all crates."""
         self.definitions, self.said, self.items, self.public, self.types, self.constructors = {}, {}, [], [], {}, {}
+        self.above = dict(it for crate in crates() for path in files_of(crate, "src", ".rt") for it in ABOVE.findall(text_of(path)))
         for crate in crates():
             for file in (Specs(it).read() for it in files_of(crate, "specs", ".antt")):
                 self.definitions.update({it.name: it for it in file.definitions})
@@ -323,9 +326,16 @@ class Repository:
         others = {name for it in item.clauses for _, name in it.words}
         found = item.says if not clause else own | (item.says - others)
         for trait, member in set().union(*(it.members for it in chosen)):
+            trait = self.having(trait, member)
             if trait not in TOLD_APART:
                 found = found | self.member(trait, member, impls)
         return found
+
+    def having(self, trait, member):
+        """Returns the trait that has a member: this one, or the one that it asks for."""
+        while trait in self.above and not any(it.in_trait and (it.inside, it.kind, it.name) == (trait, "ghost", member) for it in self.items):
+            trait = self.above[trait]
+        return trait
 
     def member(self, trait, member, impls):
         """Returns the names that a member of a trait stands for."""

@@ -54,9 +54,9 @@ returns-clause-step g c = λ p saw.
     (slice_set (slice_set (slice_set es i a) (i + 1) b) (i + 2) d) e c.see_one-fourth.result (omega arith)
     (omega arith) c.of_word-4.ensures
     (subst (λ n. SawPart (facts_within g.C.Cells.sight) p c.see_one-third.new.cells c.args.object c.args.header
-    c.args.start g.E.Elem.element_of (take n (slice_set (slice_set (slice_set es i a) (i + 1) b) (i + 2) d))) three s3)
+    c.args.start g.E.Elem.element_of
+    (take n (slice_set (slice_set (slice_set es i a) (i + 1) b) (i + 2) d))) three s3)
     c.see_one-fourth.ensures.step in
     subst (λ n. SawPart (facts_within g.C.Cells.sight) p c.see_one-fourth.new.cells c.args.object c.args.header
     c.args.start g.E.Elem.element_of
-    (take n (slice_set (slice_set (slice_set (slice_set es i a) (i + 1) b) (i + 2) d) (i + 3) e)))
-    four s4
+    (take n (slice_set (slice_set (slice_set (slice_set es i a) (i + 1) b) (i + 2) d) (i + 3) e))) four s4
