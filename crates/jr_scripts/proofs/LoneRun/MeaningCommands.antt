@@ -19,7 +19,7 @@ use Rattle.jr_model.proofs.Stays.{sees_its_own_acts}
 use Rattle.jr_gate.specs.Performing.{IsMade, ThreadState}
 use Rattle.jr_env.specs.Deeds.{Deed, call_by, call_on, decided, delete_local_ref, done, ensure_local_capacity}
 use Rattle.jr_env.specs.Deeds.{pop_local_frame, push_local_frame, get_object_ref_type, is_same_object, new_local_ref}
-use Rattle.jr_env.specs.Deeds.{new_plain, ◌>>=◌, answered_by, call_on_by, new_object_array}
+use Rattle.jr_env.specs.Deeds.{◌>>=◌, answered_by, call_on_by, new_object_array}
 use Rattle.jr_env.specs.Requests.{making_steps, packed, packed_if}
 use Rattle.jr_syntax.specs.declared.name.Reference.{Reference}
 use Rattle.jr_syntax.specs.declared.name.Reference.TheVariants as refers

@@ -8,7 +8,6 @@ use Rattle.jr_model.specs.declared.event.Act.{Act}
 use Rattle.jr_model.specs.History.{PassView, Did, state}
 use Rattle.jr_model.specs.Frames.{Frames}
 use Rattle.jr_gate.specs.Performing.{ThreadState}
-use Rattle.jr_syntax.specs.declared.name.Reference.{Reference}
 use Rattle.jr_syntax.specs.declared.command.Command.{Command}
 use Rattle.jr_scripts.specs.declared.reply.Reply.{Reply}
 use Rattle.jr_scripts.specs.declared.reply.Reply.TheVariants as replies
