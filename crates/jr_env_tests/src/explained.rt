@@ -56,7 +56,12 @@ fn told_of_none<S: Steps>(rt: &impl Abort, env: &mut Env<S>) -> Result<(), Fail>
 fn told_of_gone<S: Steps>(rt: &impl Abort, env: &mut Env<S>, word: Handle) -> Result<(), Fail> {
     is_told(rt, env, word, Explanation::Gone)?;
     is_told(rt, env, Handle(word.0 ^ 1), Explanation::Gone)?;
-    is_told(rt, env, Handle(word.0 + 4), Explanation::NotGiven)
+    is_told(
+        rt,
+        env,
+        Handle(word.0.wrapping_add(4)),
+        Explanation::NotGiven,
+    )
 }
 
 /// What a word is told to be in a stay.
