@@ -17,7 +17,7 @@ use Rattle.jr_model.specs.Checks.{Word, Nothing, Malformed, Parts, is_of_kind}
 use Rattle.jr_model.specs.References as references
 use Rattle.jr_model.proofs.Stays.{sees_its_own_acts}
 use Rattle.jr_gate.specs.Performing.{IsMade, ThreadState}
-use Rattle.jr_env.specs.Deeds.{Deed, call_by, call_on, decided, delete_local_ref, done, ensure_local_capacity}
+use Rattle.jr_env.specs.Deeds.{Deed, call_by, decided, delete_local_ref, done, ensure_local_capacity}
 use Rattle.jr_env.specs.Deeds.{pop_local_frame, push_local_frame, get_object_ref_type, is_same_object, new_local_ref}
 use Rattle.jr_env.specs.Deeds.{◌>>=◌, answered_by, call_on_by, new_object_array}
 use Rattle.jr_env.specs.Requests.{making_steps, packed, packed_if}
@@ -197,7 +197,7 @@ module _ (c : Config) (last : ℕ) where
               (asked : Config → ℕ → ℕ → State → Word → Call A) (meant : Meaning B) (once : Result A Fault) (h g : ℕ)
               → HandleFits P w h g
               → ((a : Word) (z : State) → WordFits P w a g → Means c last j k V P w (asked c last 0 z a) meant)
-              → call_on h asked old once new → answer ≡ formed form once → CallMeant V once (meant w)
+              → call_on_by (λ c. 0) h asked old once new → answer ≡ formed form once → CallMeant V once (meant w)
           word_call {V = V} form asked meant once h g fits means d is =
               let a = d.0 in
               made_call {V = V} form 0 (λ l m t z. asked l m t z a) meant once
@@ -422,8 +422,8 @@ module _ (c : Config) (last : ℕ) where
               let f = was_formed (λ z. replies.Made z) (tried turns (new_local_ref h.0)) old new answer d' in
               let once = made_once command (λ z. local_ref_alone z command (λ l v none. none) h.0) turns old new f.once
               alone some_turns f.did in
-              let y = was_formed packed_if (call_on h.0 (λ z l t u a. references.new_local_ref z l t a)) old new f.once
-              once in
+              let y = was_formed packed_if (call_on_by (λ z. 0) h.0 (λ z l t u a. references.new_local_ref z l t a))
+              old new f.once once in
               let is : answer ≡ formed (λ z. replies.Made (packed_if z)) y.once =
               f.is ∙ (ap (formed (λ z. replies.Made z)) y.is ∙ formed_both (λ z. replies.Made z) packed_if y.once) in
               let meant : Meaning ℕ = λ z. goes_on (meaning.new_local c) (meaning.object g.0 z) in
@@ -533,9 +533,8 @@ module _ (c : Config) (last : ℕ) where
               let f = was_formed (λ z. replies.Made z) (tried turns (pop_local_frame h.0)) old new answer d in
               let once = made_once (p.names, x) (λ z. pop_alone z p.names n r h.0) turns old new f.once alone some_turns
               f.did in
-              let y = was_formed packed_if (call_on h.0 (λ z l t u a. references.pop_local_frame z l t a)) old new
-              f.once
-              once in
+              let y = was_formed packed_if (call_on_by (λ z. 0) h.0 (λ z l t u a. references.pop_local_frame z l t a))
+              old new f.once once in
               let is : answer ≡ formed (λ z. replies.Made (packed_if z)) y.once =
               f.is ∙ (ap (formed (λ z. replies.Made z)) y.is ∙ formed_both (λ z. replies.Made z) packed_if y.once) in
               let i = word_call x answer fault {V = MaybeFits} (λ z. replies.Made (packed_if z))
