@@ -16,12 +16,13 @@ use jr_word::{Fault, Handle};
 pub struct NewArray(pub MakeSized, pub u32);
 
 impl<S: Steps> EnvCall<S> for NewArray {
-    ghost use Rattle.jr_env.specs.Deeds.{new_array};
+    ghost use Rattle.jr_env.specs.Deeds.{whole};
+    ghost use Rattle.jr_env.specs.Requests.{for_new_array};
     ghost use Rattle.jr_scripts.specs.Commands.{kind_made};
 
     type Answer = Handle;
 
-    ghost deed = { λ c. new_array (kind_made c.0) c.1 };
+    ghost deed = { λ c. whole (for_new_array (kind_made c.0) c.1) };
 
     fn make(&self, env: &mut Env<S>) -> Result<Handle, Fault> {
         match self.0 {
@@ -79,12 +80,13 @@ pub struct SetElement(pub Handle, pub u32, pub Element);
 
 impl<S: Steps> EnvCall<S> for SetElement {
     ghost use Rattle.std.specs.Prelude.{◌∷◌, []};
-    ghost use Rattle.jr_env.specs.Deeds.{set_array_region};
+    ghost use Rattle.jr_env.specs.Deeds.{whole};
+    ghost use Rattle.jr_env.specs.Requests.{for_set_array_region};
     ghost use Rattle.jr_scripts.specs.Numbers.{kind_of_element, word_of_element};
 
     type Answer = ();
 
-    ghost deed = { λ c. set_array_region (kind_of_element c.2) c.0.0 c.1 (word_of_element c.2 ∷ []) };
+    ghost deed = { λ c. whole (for_set_array_region (kind_of_element c.2) c.0.0 c.1 (word_of_element c.2 ∷ [])) };
 
     fn make(&self, env: &mut Env<S>) -> Result<(), Fault> {
         match self.2 {
