@@ -1,6 +1,6 @@
-use Rattle.jr_frames.proofs.StillReady.{ready_entered}
+use Rattle.jr_frames.proofs.StillReady.{ready_entered, ready_left}
 use Rattle.jr_env.proofs.EndedStays.{can_call}
-use Rattle.jr_env.proofs.OpenStays.{ready_left, shut_ready}
+use Rattle.jr_env.proofs.OpenStays.{shut_ready}
 use Rattle.jr_env.proofs.Served.{does_barred, did_served, does_served, own_as, ready_served}
 use Rattle.jr_env.proofs.work.make_whole.Goals as goal
 
@@ -25,7 +25,7 @@ returns-clause-call g c = does_served g.met.S.Steps.fits (g.C.NativeCall.request
     c.leave.ensures
 
 pub returns-clause-next : goal.returns-clause-next
-returns-clause-next g c = can_call (ready_left _ _ _ _ (ready_served (g.C.NativeCall.request c.args.call)
+returns-clause-next g c = can_call (ready_left (ready_served (g.C.NativeCall.request c.args.call)
     c.work-answer.result (ready_entered c.outside.ensures.ready c.in_ok-inside.ensures.ok.1)
     c.work-answer.ensures.same c.work-answer.ensures.call) c.leave.ensures)
 
@@ -36,7 +36,7 @@ invariant_of-held g c =
 
 pub invariant_of-held-2 : goal.invariant_of-held-2
 invariant_of-held-2 g c = record {
-  own = (ready_left _ _ _ _ (ready_served (g.C.NativeCall.request c.args.call) c.work-answer.result
+  own = (ready_left (ready_served (g.C.NativeCall.request c.args.call) c.work-answer.result
       (ready_entered c.outside.ensures.ready c.in_ok-inside.ensures.ok.1) c.work-answer.ensures.same
       c.work-answer.ensures.call) c.leave.ensures).own;
 }

@@ -1,10 +1,10 @@
 use Rattle.std.proofs.Common.{length, map}
-use Rattle.jr_frames.proofs.StillReady.{ready_entered, same_owner}
+use Rattle.jr_frames.proofs.StillReady.{ready_entered, ready_left, same_owner}
 use Rattle.jr_env.specs.Deeds.{read_answer}
 use Rattle.jr_env.specs.Requests.{for_get_array_region}
 use Rattle.jr_env.proofs.ArrayParts.{no_words}
 use Rattle.jr_env.proofs.EndedStays.{can_call}
-use Rattle.jr_env.proofs.OpenStays.{ready_left, shut_ready}
+use Rattle.jr_env.proofs.OpenStays.{shut_ready}
 use Rattle.jr_env.proofs.Served.{did_served, does_barred, does_served, own_as, ready_served}
 use Rattle.jr_env.proofs.calls.array_parts.copy_out.Goals as goal
 
@@ -37,7 +37,7 @@ returns-clause-call g c = does_served g.met.S.Steps.fits
     (same_owner c.outside.new.held.frames) c.leave.ensures
 
 pub returns-clause-next : goal.returns-clause-next
-returns-clause-next g c = can_call (ready_left _ _ _ _ (ready_served
+returns-clause-next g c = can_call (ready_left (ready_served
     (for_get_array_region g.E.Elem.KIND c.args.array.0 c.args.start
     (length c.args.elements.now)) (read_answer c.read_into-answer.result
     (map g.E.Elem.word_of c.read_into-answer.new.elements))
@@ -51,7 +51,7 @@ invariant_of-held g c =
 
 pub invariant_of-held-2 : goal.invariant_of-held-2
 invariant_of-held-2 g c = record {
-  own = (ready_left _ _ _ _ (ready_served (for_get_array_region g.E.Elem.KIND c.args.array.0 c.args.start
+  own = (ready_left (ready_served (for_get_array_region g.E.Elem.KIND c.args.array.0 c.args.start
       (length c.args.elements.now)) (read_answer c.read_into-answer.result
       (map g.E.Elem.word_of c.read_into-answer.new.elements))
       (ready_entered c.outside.ensures.ready c.in_ok-inside.ensures.ok.1) (same_owner c.outside.new.held.frames)
