@@ -14,7 +14,8 @@ returns-in-Byte g c =
     let new = c.set_array_region-in-Byte.new.self.held in
     let back : to_z w8 (of_z w8 c.in-Byte.element) ≡ c.in-Byte.element = search rules in
     rw c.in-Byte.is (subst (λ z. DoesOutside g.S.Steps.facts old.steps new.steps old.frames.frames new.frames.frames
-    (whole (for_set_array_region Byte c.args.self.now.0.0 c.args.self.now.1 (signed_word w8 z ∷ []))) c.set_array_region-in-Byte.result) back
+    (whole (for_set_array_region Byte c.args.self.now.0.0 c.args.self.now.1 (signed_word w8 z ∷ [])))
+    c.set_array_region-in-Byte.result) back
     c.set_array_region-in-Byte.ensures)
 
 pub returns-in-Char : goal.returns-in-Char
@@ -26,7 +27,8 @@ returns-in-Short g c =
     let new = c.set_array_region-in-Short.new.self.held in
     let back : to_z w16 (of_z w16 c.in-Short.element) ≡ c.in-Short.element = search rules in
     rw c.in-Short.is (subst (λ z. DoesOutside g.S.Steps.facts old.steps new.steps old.frames.frames new.frames.frames
-    (whole (for_set_array_region Short c.args.self.now.0.0 c.args.self.now.1 (signed_word w16 z ∷ []))) c.set_array_region-in-Short.result) back
+    (whole (for_set_array_region Short c.args.self.now.0.0 c.args.self.now.1 (signed_word w16 z ∷ [])))
+    c.set_array_region-in-Short.result) back
     c.set_array_region-in-Short.ensures)
 
 pub returns-in-Int : goal.returns-in-Int
@@ -35,7 +37,8 @@ returns-in-Int g c =
     let new = c.set_array_region-in-Int.new.self.held in
     let back : to_z w32 (of_z w32 c.in-Int.element) ≡ c.in-Int.element = search rules in
     rw c.in-Int.is (subst (λ z. DoesOutside g.S.Steps.facts old.steps new.steps old.frames.frames new.frames.frames
-    (whole (for_set_array_region Int c.args.self.now.0.0 c.args.self.now.1 (signed_word w32 z ∷ []))) c.set_array_region-in-Int.result) back
+    (whole (for_set_array_region Int c.args.self.now.0.0 c.args.self.now.1 (signed_word w32 z ∷ [])))
+    c.set_array_region-in-Int.result) back
     c.set_array_region-in-Int.ensures)
 
 pub returns-in-Long : goal.returns-in-Long
@@ -44,5 +47,6 @@ returns-in-Long g c =
     let new = c.set_array_region-in-Long.new.self.held in
     let back : to_z w64 (of_z w64 c.in-Long.element) ≡ c.in-Long.element = search rules in
     rw c.in-Long.is (subst (λ z. DoesOutside g.S.Steps.facts old.steps new.steps old.frames.frames new.frames.frames
-    (whole (for_set_array_region Long c.args.self.now.0.0 c.args.self.now.1 (signed_word w64 z ∷ []))) c.set_array_region-in-Long.result) back
+    (whole (for_set_array_region Long c.args.self.now.0.0 c.args.self.now.1 (signed_word w64 z ∷ [])))
+    c.set_array_region-in-Long.result) back
     c.set_array_region-in-Long.ensures)
