@@ -10,5 +10,5 @@ pub mod Finding
 pub mod Explaining
 pub mod Ready
 pub mod Dropping
-pub mod Giving
 pub mod Steady
+pub mod Giving

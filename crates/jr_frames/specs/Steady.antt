@@ -1,4 +1,4 @@
--- For the crate's own functions: calls that name a state by the kinds and the lengths of its objects alone.
+-- Calls that name a state by the kinds and the lengths of its objects alone.
 use Rattle.std.specs.Prelude.{◌≡◌, ℕ, Result, Some, List, length}
 use Rattle.jr_word.specs.declared.fault.Fault.{Fault}
 use Rattle.jr_model.specs.declared.event.Act.{Act}
