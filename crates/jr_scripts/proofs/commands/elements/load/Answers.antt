@@ -1,6 +1,24 @@
+use Rattle.std.proofs.Common.{refl}
+use Rattle.jr_env.specs.Deeds.{decided, ◌>>=◌, ◌>>◌}
+use Rattle.jr_env.proofs.Carrying.{did_decline, did_refused, did_residual, does_then}
+use Rattle.jr_scripts.specs.Commands.{loading_as}
+use Rattle.jr_scripts.specs.Numbers.{has_numbers}
 use Rattle.jr_scripts.proofs.CommandDeeds.{does_load}
 use Rattle.jr_scripts.proofs.commands.elements.load.Goals as goal
 
 pub returns : goal.returns
 returns g c = does_load c.args.turns c.args.array.0 c.args.index c.in_ok-kind.kind c.in_ok-numbered.numbered
     c.in_ok-numbered.ensures.ok c.in_ok-kind.ensures c.ask.ensures
+
+pub returns-in_err-kind : goal.returns-in_err-kind
+returns-in_err-kind g c = did_residual c.in_err-kind.field-0.0 c.from_residual.result c.from_residual.ensures.1
+    (did_refused (λ k. decided (has_numbers k) >> loading_as c.args.turns c.args.array.0 c.args.index k)
+    c.in_err-kind.field-0.0 c.in_err-kind.ensures)
+
+pub returns-in_err-numbered : goal.returns-in_err-numbered
+returns-in_err-numbered g c = did_residual c.in_err-numbered.field-0.0 c.from_residual-in_err-numbered.result
+    c.from_residual-in_err-numbered.ensures.1
+    (does_then (λ k. decided (has_numbers k) >> loading_as c.args.turns c.args.array.0 c.args.index k)
+    c.in_ok-kind.ensures
+    (did_decline (λ _. loading_as c.args.turns c.args.array.0 c.args.index c.in_ok-kind.kind) refl (λ k m. m)
+    c.in_err-numbered.ensures.err))
