@@ -289,7 +289,7 @@ class Equation:
         elif head[1] in SHAPES:
             test, *parts = (it.format(value) for it in SHAPES[head[1]])
             tests = [test]
-        elif head[1][0].isupper():
+        elif given or head[1][0].isupper():
             raise LookupError(f"'{head[1]}' in '{self.left}' is no constructor that is known here")
         else:
             tests, parts = [], []
@@ -332,7 +332,7 @@ class Equation:
         module, name = self.file.scope.meaning(word.strip("◌")) or ("", word)
         if ".specs.declared." in module:
             return repr(constant(module, name))
-        if word in CHOICES:
+        if not module and word in CHOICES:
             return CHOICES[word].format(*values)
         if module == self.file.module and self.file.blocks[name][0] == self.file.blocks[self.own][0]:
             values = [*(f"{it}_" for it in self.file.blocks[name][1]), *values]
