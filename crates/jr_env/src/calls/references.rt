@@ -146,6 +146,10 @@ impl<S: Steps> Env<S> {
     pub fn is_same_object(&mut self, left: Handle, right: Handle) -> Result<bool, Fault>
         ensures { Does self.old self.new (whole (for_is_same_object left.0 right.0)) result }
     {
+        if left.is_shared() && right.is_shared() {
+            // (the same, in a place of its own: there the compiler knows how most of the tests end)
+            return self.make(IsSameObject(left, right));
+        }
         self.make(IsSameObject(left, right))
     }
 
@@ -412,11 +416,10 @@ impl<S: Steps> NativeCall<S> for IsSameObject {
         frames: &mut Frames,
         _numbers: &mut Numbers,
     ) -> Result<bool, Fault> {
-        if self.0.is_shared() && self.1.is_shared() {
-            // (the same, in a place of its own: there the compiler knows how most of the tests end)
-            return compare(steps, inside, frames, self.0, self.1);
-        }
-        compare(steps, inside, frames, self.0, self.1)
+        let left = Reference::of(self.0);
+        let right = Reference::of(self.1);
+        let (first, second) = resolve_both(steps, inside, frames, left, right)?;
+        Ok(first == second)
     }
 }
 
@@ -508,25 +511,6 @@ fn delete_reference<S: Steps>(
         Reference::Malformed => Err(Fault::Stale),
         Reference::Parts(parts) => delete_parts(steps, inside, kind, parts),
     }
-}
-
-/// Tells whether two handles are to one object, or both to none.
-#[inline(always)]
-fn compare<S: Steps>(
-    steps: &mut S,
-    inside: &Inside,
-    frames: &Frames,
-    left: Handle,
-    right: Handle,
-) -> Result<bool, Fault>
-    requires stay { IsOwnStay inside.now (S.facts steps.old).stands }
-    requires ready { StandsReady S.facts Within steps.old frames.now }
-    ensures { Serves S.facts steps.old steps.new frames.now.frames frames.now.frames (for_is_same_object left.0 right.0) result }
-{
-    let left = Reference::of(left);
-    let right = Reference::of(right);
-    let (first, second) = resolve_both(steps, inside, frames, left, right)?;
-    Ok(first == second)
 }
 
 /// Deletes the reference of a handle, if it is of the kind.

@@ -182,6 +182,10 @@ impl<S: Steps> Stay<'_, S> {
         ensures same_reference { (env_in self.new).ghost_name ≡ (env_in self.old).ghost_name }
         ensures call { DoesWithin self.old self.new (in_a_stay (for_is_same_object left.0 right.0)) result }
     {
+        if left.is_shared() && right.is_shared() {
+            // (the same, in a place of its own: there the compiler knows how most of the tests end)
+            return self.make(IsSameObject(left, right));
+        }
         self.make(IsSameObject(left, right))
     }
 

@@ -1,10 +1,10 @@
 use Rattle.jr_frames.specs.Reading.{word_of}
 use Rattle.jr_frames.proofs.ResolutionOfBoth.{compares_refused, compares}
 use Rattle.jr_env.proofs.Served.{plainly}
-use Rattle.jr_env.proofs.calls.references.compare.Goals as goal
+use Rattle.jr_env.proofs.calls.references.IsSameObjectNativeCall.work.Goals as goal
 
-pub returns-in_err-first : goal.returns-in_err-first
-returns-in_err-first g c = (
+pub returns-in_err-first-clause-call : goal.returns-in_err-first-clause-call
+returns-in_err-first-clause-call g c = (
   word_of c.of-left.result,
   word_of c.of-right.result,
   c.of-left.ensures.reads,
@@ -12,8 +12,8 @@ returns-in_err-first g c = (
   plainly (compares_refused c.from_residual.result c.from_residual.ensures.1 c.in_err-first.ensures),
 )
 
-pub returns : goal.returns
-returns g c = (
+pub returns-clause-call : goal.returns-clause-call
+returns-clause-call g c = (
   word_of c.of-left.result,
   word_of c.of-right.result,
   c.of-left.ensures.reads,
