@@ -1,6 +1,7 @@
 pub mod EndedStays
 pub mod InsideGate
 pub mod Meetings
+pub mod Moving
 pub mod NewReference
 pub mod NewObject
 pub mod NewArray

@@ -172,7 +172,7 @@ module _ {S : Type 0} {G : Ghosts S} (fits : AreOf G.facts) (old new : Held S G)
   -- and the stay goes on
   pub on_served : {A : Type 0} (request : Request A) (answer : Result A Fault)
       → Serves G.facts old.steps new.steps old.frames.frames new.frames.frames request answer → StaysOn old new
-  on_served (asks silent work stays) answer p = performs_on fits old new _ (λ j k. Unit {0}) work stays p.0
+  on_served (asks silent work law) answer p = performs_on fits old new _ (λ j k. Unit {0}) work law.stays p.0
   on_served (on_word w next) answer p = on_served (next p.0) answer p.2
   on_served (on_words v w next) answer p = on_served (next p.0 p.1) answer p.4
   on_served (gives form first) answer p = on_served first p.0 p.2

@@ -12,6 +12,7 @@ pub mod Texts
 pub mod Works
 pub mod Words
 pub mod LentStays
+pub mod Moving
 pub mod StayLevels
 pub mod Elements
 pub mod Calling

@@ -20,13 +20,14 @@ use Rattle.jr_model.specs.State.{Handle, State}
 use Rattle.jr_model.specs.Frames.{Frames}
 use Rattle.jr_model.specs.Calls.{Call, entered, ◌>>=◌, ◌>>◌}
 use Rattle.jr_model.specs.Checks.{Word, is_array, is_text}
+use Rattle.jr_model.specs.Moves.{MovesFrames}
 use Rattle.jr_model.specs.OpenStays.{NoneLeaves}
 use Rattle.jr_model.specs.Parts.{frame_to_pop}
 use Rattle.jr_model.specs.References.{popping, resolved}
 use Rattle.jr_model.specs.References as references
 use Rattle.jr_model.specs.Objects as objects
 use Rattle.jr_model.specs.AllCalls.{AnswerKind, AnswerOf, CallOf, means}
-use Rattle.jr_model.proofs.EachCall.{whole_stays}
+use Rattle.jr_model.proofs.EachCall.{calls_move_frames, whole_stays}
 
 -- the word of a handle, as native code holds it
 abbrev pub packed : Handle → HandleWord
@@ -41,20 +42,36 @@ abbrev pub IsInStay : {A : Type 0} → (Config → ℕ → ℕ → State → Cal
 IsInStay {A} work = (c : Config) (last thread : ℕ) (s : State) (f g : Frames) (acts : List Act)
     (answer : Result A Fault) → work c last thread s f acts answer g → NoneLeaves acts
 
--- what a call of the machine does between its entry and its exit has no exit
+-- WORK BY THE LAWS: it has no exit, and the frames that it leaves
+-- come from those before it by what a thread may do with frames
+pub record IsLawfulWork {A : Type 0} (work : Config → ℕ → ℕ → State → Call A) : Type 0 where
+  pub stays : IsInStay work
+  pub moves : (c : Config) (last thread : ℕ) (s : State) → MovesFrames last thread (work c last thread s)
+
+-- what a call of the machine does between its entry and its exit is by the laws
 pub in_stay : {a : AnswerKind} (x : CallOf a) {work : Config → ℕ → ℕ → State → Call (AnswerOf a)}
     → ((c : Config) (last thread : ℕ) (s : State) → means c last thread s x ≡ entered (work c last thread s))
-    → IsInStay work
-in_stay {a} x same c last t s f g acts answer is =
-    whole_stays c last t s x f g acts answer
-    (subst (λ (call : Call (AnswerOf a)). call f (Gate Enter ∷ acts ++ Gate Leave ∷ []) answer g)
-    (sym (same c last t s)) (inr (acts, refl, is)))
+    → IsLawfulWork work
+in_stay {a} x {work} same = record {
+  stays = λ c last t s f g acts answer is. whole_stays c last t s x f g acts answer (entered_so c last t s is);
+  moves = λ c last t s. record {
+    leads = λ f g acts answer is. (calls_move_frames c last t s a x).leads f g _ answer (entered_so c last t s is);
+  };
+}
+  where
+    entered_so : (c : Config) (last t : ℕ) (s : State) {f g : Frames} {acts : List Act}
+        {answer : Result (AnswerOf a) Fault} → work c last t s f acts answer g
+        → means c last t s x f (Gate Enter ∷ acts ++ Gate Leave ∷ []) answer g
+    entered_so c last t s {f} {g} {acts} {answer} is =
+        subst (λ (call : Call (AnswerOf a)). call f (Gate Enter ∷ acts ++ Gate Leave ∷ []) answer g)
+        (sym (same c last t s)) (inr (acts, refl, is))
 
--- A REQUEST: it asks for work in a stay, by at most so many operations beside its events; or it goes on by what a
--- word says that it is handed, or by what two say; or its answer is another's, in another form, or kept in one from
--- which that can be told
+-- A REQUEST: it asks for work by the laws in a stay, by at most so many operations beside its events; or it goes
+-- on by what a word says that it is handed, or by what two say; or its answer is another's, in another form, or kept
+-- in one from which that can be told
 pub data Request : Type 0 → Type 1 where
-  asks : {A : Type 0} → (Config → ℕ) → (work : Config → ℕ → ℕ → State → Call A) → IsInStay work → Request A
+  asks : {A : Type 0} → (Config → ℕ) → (work : Config → ℕ → ℕ → State → Call A) → IsLawfulWork work
+      → Request A
   on_word : {A : Type 0} → ℕ → (Word → Request A) → Request A
   on_words : {A : Type 0} → ℕ → ℕ → (Word → Word → Request A) → Request A
   gives : {A B : Type 0} → (B → A) → Request B → Request A
@@ -191,16 +208,33 @@ for_get_string_chars w = on_word w (λ a. asks (λ c. 1) (λ c last t s. objects
     (in_stay (CallOf.get_string_chars a) (λ c last t s. refl)))
 
 -- a release that gives its elements up goes on with no act
-pub copying_back_stays : (k : Kind) (a : Word) (vs : List ℕ)
-    → IsInStay (λ c last t s. objects.copying_back c last t s k a vs)
-copying_back_stays k a vs c last t s f g acts (Ok x) is =
-    let whole = Gate Enter ∷ acts ++ Gate Leave ∷ [] in
-    whole_stays c last t s (CallOf.release_array_elements k a vs Copy) f g acts (Ok None)
-    (inl (x, g, whole, [], sym (append-nil whole), inr (acts, refl, is), (refl, refl, refl)))
-copying_back_stays k a vs c last t s f g acts (Err e) is = whole_stays c last t s
-    (CallOf.release_array_elements k a vs Copy) f g acts (Err e) (inr (e, refl, inr (acts, refl, is)))
+pub copying_back_is : (k : Kind) (a : Word) (vs : List ℕ)
+    → IsLawfulWork (λ c last t s. objects.copying_back c last t s k a vs)
+copying_back_is k a vs = record {
+  stays = λ c last t s f g acts answer is.
+      whole_stays c last t s (CallOf.release_array_elements k a vs Copy) f g acts (kept answer)
+      (released c last t s answer is);
+  moves = λ c last t s. record {
+    leads = λ f g acts answer is.
+        (calls_move_frames c last t s _ (CallOf.release_array_elements k a vs Copy)).leads f g _ (kept answer)
+        (released c last t s answer is);
+  };
+}
+  where
+    kept : Result (Unit {0}) Fault → Result (Option (List ℕ)) Fault
+    kept (Ok x) = Ok None
+    kept (Err e) = Err e
+
+    released : (c : Config) (last t : ℕ) (s : State) {f g : Frames} {acts : List Act}
+        (answer : Result (Unit {0}) Fault) → objects.copying_back c last t s k a vs f acts answer g
+        → means c last t s (CallOf.release_array_elements k a vs Copy) f (Gate Enter ∷ acts ++ Gate Leave ∷ [])
+        (kept answer) g
+    released c last t s {f} {g} {acts} (Ok x) is =
+        let whole = Gate Enter ∷ acts ++ Gate Leave ∷ [] in
+        inl (x, g, whole, [], sym (append-nil whole), inr (acts, refl, is), (refl, refl, refl))
+    released c last t s {f} {g} {acts} (Err e) is = inr (e, refl, inr (acts, refl, is))
 
 -- ReleaseBooleanArrayElements and its like, where it writes these words back
 abbrev pub for_copy_back : Kind → ℕ → List ℕ → Request (Unit {0})
 for_copy_back kind w vs = on_word w (λ a. asks (λ c. 1) (λ c last t s. objects.copying_back c last t s kind a vs)
-    (copying_back_stays kind a vs))
+    (copying_back_is kind a vs))

@@ -5,6 +5,7 @@ pub mod calls;
 mod critical_region;
 mod env;
 mod env_call;
+pub mod laws;
 pub mod levels_beside;
 mod native_call;
 mod patience;
