@@ -87,9 +87,6 @@ module _ (k : Known) where
           )
 
 module _ (k : Known) (within : role_of (view k) ≡ Within) where
-  pub sees_header : (o : ℕ) → 1 ≤ o → o ≤ k.config.objects → Owes k (header_at k.config o) (λ n. n) (SawHeader o k)
-  sees_header o low high = loads_header k (inl within) o low high
-
   pub sees_top : (name : TopLoad) → Owes k top_at (λ n. n) (SawTop name k)
   sees_top name log words held f =
       let n : ℕ = get_or words top_at 0 in

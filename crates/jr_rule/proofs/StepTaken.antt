@@ -21,7 +21,7 @@ use Rattle.jr_model.proofs.Stays.{role_did}
 use Rattle.jr_word.specs.declared.header.HeaderParts.{HeaderParts}
 use Rattle.jr_model.specs.declared.event.Role.TheVariants.{Within}
 use Rattle.jr_steps.specs.Knowing.{Took, TookWith, Goes, view, anything, fresh_from, HasNoLocals, IsOf, Standing}
-use Rattle.jr_steps.specs.Knowing.{KnowsHeader, ReadsInTurn, SawPart}
+use Rattle.jr_steps.specs.Knowing.{KnowsHeader, MayKnow, ReadsInTurn, SawPart}
 use Rattle.jr_steps.proofs.StepFacts.{goes_did}
 use Rattle.jr_rule.specs.declared.cells.Cells.{Ghosts}
 use Rattle.jr_rule.specs.declared.over.StepsOver.{StepsOver}
@@ -168,6 +168,32 @@ module _ {z z' : Sight} {r : Role} {met : Known → Type 0} {told : Known → �
         sound.locals u.new k' u.is h' none p);
     below = subst (λ (c : Config). hint < c.slots) (ap (λ (x : Standing). x.config) (sym t.first)) s.below;
   }
+
+-- steps over words know something
+pub known_any : {C P : Type 0} {G : Ghosts C P} (s : StepsOver C P G) → MayKnow facts s anything
+known_any s = ∥∥₁_map s.stands.some (λ k. (k.0, k.1, tt))
+
+-- A STEP OF STEPS OVER WORDS, in a role, where something that may be known meets the condition
+module _ {C P : Type 0} {G : Ghosts C P} (s : StepsOver C P G) {r : Role} {met : Known → Type 0} (is : s.role ≡ r)
+    (may : MayKnow facts s met) where
+  pub known_in : May (G.sight s.cells) (InRole r met)
+  known_in = may_in (G.sight s.cells) is may
+
+  module _ {told : Known → ℕ → List Act → Known → Type 0} where
+    -- is owed by what is known of it
+    pub owing : {i : ℕ} {f : ℕ → ℕ} → i < row_words (G.sight s.cells).first.config
+        → ((k : Known) → IsAmong (G.sight s.cells) k → role_of (view k) ≡ r → ∥ met k ∥₁ → Owes k i f (told k))
+        → IsOwed (G.sight s.cells) (InRole r met) i f told
+    owing place owes = owed place known_in owes
+
+    -- and leaves them at words where they are, standing as they must
+    pub stood : {x : C} {n : ℕ} {role : Role} {fresh : Bool}
+        → ((x : C) (place : P) → G.are_at x place → AreSoundWords (G.sight x)) → G.are_at x s.place
+        → HasStepped (G.sight s.cells) (G.sight x) (InRole r met) told n
+        → Leaves (G.sight s.cells) r met told n s.role role s.fresh fresh
+        → record { at : G.are_at x s.place; stands : IsStanding (G.sight x) role fresh s.hint }
+    stood {x} sound there step left =
+        record { at = there; stands = standing_next step left is (sound x s.place there) s.stands known_in }
 
 module _ {C P : Type 0} {G : Ghosts C P} (old new : StepsOver C P G) {r : Role} {met : Known → Type 0}
     {told : Known → ℕ → List Act → Known → Type 0} {n : ℕ} {shows : Known → Known → Type 0}

@@ -46,6 +46,7 @@ use Rattle.std.proofs.Props.{props}
 use Rattle.jr_model.specs.declared.event.Role.TheVariants.{Outside, Announcing, Collecting, Within}
 use Rattle.jr_rule.specs.Cells.{Sight, InRole, May, HasStepped}
 use Rattle.jr_rule.specs.Over.{LooksSo}
+use Rattle.jr_rule.specs.declared.cells.StepKind.{Ghosts}
 use Rattle.jr_rule.proofs.StepTaken.{Reads, Leaves}
 use Rattle.jr_rule.proofs.ActEffects.{gate_load_role, gate_load_fresh, slot_load_role, slot_load_fresh}
 use Rattle.jr_rule.proofs.ActEffects.{claiming_role, claiming_fresh, top_load_role, top_load_fresh}
@@ -56,6 +57,16 @@ use Rattle.jr_word.specs.declared.slot.SlotParts.TheVariants as slot
 -- what is told of the number found, where its word has these parts
 abbrev pub Told : Type 1
 Told = Known → ℕ → List Act → Known → Type 0
+
+-- what a kind of step picks: what it asks, in a role, and what it tells
+abbrev pub in_role : {X : Type 0} → Role → (Known → Type 0) → Told → Ghosts X
+in_role r met told = record { met = InRole r met; told = told }
+
+abbrev pub within : {X : Type 0} → (Known → Type 0) → Told → Ghosts X
+within = in_role Within
+
+abbrev pub collecting : {X : Type 0} → (Known → Type 0) → Told → Ghosts X
+collecting = in_role Collecting
 
 abbrev pub Entered : Told
 Entered k n acts k' =

@@ -212,12 +212,12 @@ pub(crate) fn header_at<C: Cells<P>, P: Copy>(cells: &C, place: P, object: u32) 
     cells.headers(place) + (object as usize - 1)
 }
 
-/// The place of a word of array space in the row.
+/// The place of a word of array space in the row, so many behind a first one.
 #[inline(always)]
-pub(crate) fn element_at<C: Cells<P>, P: Copy>(cells: &C, place: P, index: u32) -> usize
+pub(crate) fn element_at<C: Cells<P>, P: Copy>(cells: &C, place: P, first: u32, index: u32) -> usize
     requires there { C.are_at cells.now place }
-    requires index { index < (C.sight cells.now).first.config.words }
-    ensures { result ≡ place_of_element (C.sight cells.now).first.config index }
+    requires index { first + index < (C.sight cells.now).first.config.words }
+    ensures { result ≡ place_of_element (C.sight cells.now).first.config (first + index) }
 {
-    cells.elements(place) + index as usize
+    cells.elements(place) + first as usize + index as usize
 }

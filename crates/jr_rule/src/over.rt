@@ -34,9 +34,10 @@ pub struct StepsOver<C: Cells<P>, P: Copy> {
 }
 
 impl<C: Cells<P>, P: Copy> StepsOver<C, P> {
-    ghost use Rattle.std.specs.Prelude.{[], ◌∷◌};
+    ghost use Rattle.std.specs.Prelude.{◌⊎◌, ◌≤◌, [], ◌∷◌};
+    ghost use Rattle.jr_model.specs.declared.event.Role.TheVariants.{Within, Collecting};
     ghost use Rattle.jr_steps.specs.Acts.{act_of_gate_load, GateLoadFits};
-    ghost use Rattle.jr_steps.specs.Knowing.{anything, ShowsGate, Took, keeps};
+    ghost use Rattle.jr_steps.specs.Knowing.{anything, ShowsGate, ShowsHeader, Took, keeps};
     ghost use Rattle.jr_rule.specs.Over.{facts_over, LooksSo};
 
     /// Loads the gate, which counts as what it is named.
@@ -48,6 +49,19 @@ impl<C: Cells<P>, P: Copy> StepsOver<C, P> {
         let about = (name, self.role);
         let found = load::<C, P, Brand, (GateLoad, Role)>(&mut self.cells, self.place, GATE, about);
         GateWord::parts(found).unwrap()
+    }
+
+    /// Loads the header of an object, within or during a collection.
+    #[inline(always)]
+    fn header_of(&mut self, object: u16) -> Option<HeaderParts>
+        requires role { (self.old.role ≡ Within) ⊎ (self.old.role ≡ Collecting) }
+        requires number { (1 ≤ object) × (object ≤ (C.sight self.old.cells).first.config.objects) }
+        ensures { Took facts_over self.old self.new [] anything (ShowsHeader object result) }
+    {
+        let at = header_at::<C, P>(&self.cells, self.place, u32::from(object));
+        let about = (object, self.role);
+        let found = load::<C, P, Brand, (u16, Role)>(&mut self.cells, self.place, at, about);
+        Header::of_word(found)
     }
 }
 
@@ -288,9 +302,7 @@ impl<C: Parts<P>, P: Copy> Steps for StepsOver<C, P> {
     }
 
     fn see_header(&mut self, object: u16) -> Option<HeaderParts> {
-        let at = header_at::<C, P>(&self.cells, self.place, u32::from(object));
-        let found = load::<C, P, Brand, u16>(&mut self.cells, self.place, at, object);
-        Header::of_word(found)
+        self.header_of(object)
     }
 
     fn claim_header(&mut self, object: u16, header: HeaderParts) -> bool {
@@ -332,7 +344,7 @@ impl<C: Parts<P>, P: Copy> Steps for StepsOver<C, P> {
     }
 
     fn see_element(&mut self, object: u16, header: HeaderParts, index: u32) -> u64 {
-        let at = element_at::<C, P>(&self.cells, self.place, header.place + index);
+        let at = element_at::<C, P>(&self.cells, self.place, header.place, index);
         let about = (object, header, index);
         load::<C, P, Brand, (u16, HeaderParts, u32)>(&mut self.cells, self.place, at, about)
     }
@@ -350,13 +362,13 @@ impl<C: Parts<P>, P: Copy> Steps for StepsOver<C, P> {
     }
 
     fn put_element(&mut self, object: u16, header: HeaderParts, index: u32, word: u64) {
-        let at = element_at::<C, P>(&self.cells, self.place, header.place + index);
+        let at = element_at::<C, P>(&self.cells, self.place, header.place, index);
         let about = (object, header, index);
         store::<C, P, Brand, (u16, HeaderParts, u32)>(&mut self.cells, self.place, at, word, about);
     }
 
     fn put_reserved(&mut self, place: u32, index: u32, word: u64) {
-        let at = element_at::<C, P>(&self.cells, self.place, place + index);
+        let at = element_at::<C, P>(&self.cells, self.place, place, index);
         store::<C, P, Brand, (u32, u32)>(&mut self.cells, self.place, at, word, (place, index));
     }
 
@@ -379,13 +391,11 @@ impl<C: Parts<P>, P: Copy> Steps for StepsOver<C, P> {
     }
 
     fn scan_header(&mut self, object: u16) -> Option<HeaderParts> {
-        let at = header_at::<C, P>(&self.cells, self.place, u32::from(object));
-        let found = load::<C, P, Brand, u16>(&mut self.cells, self.place, at, object);
-        Header::of_word(found)
+        self.header_of(object)
     }
 
     fn scan_element(&mut self, object: u16, header: HeaderParts, index: u32) -> u64 {
-        let at = element_at::<C, P>(&self.cells, self.place, header.place + index);
+        let at = element_at::<C, P>(&self.cells, self.place, header.place, index);
         let about = (object, header, index);
         load::<C, P, Brand, (u16, HeaderParts, u32)>(&mut self.cells, self.place, at, about)
     }
@@ -435,7 +445,7 @@ impl<C: Parts<P>, P: Copy> Steps for StepsOver<C, P> {
         index: u32,
         word: u64,
     ) {
-        let at = element_at::<C, P>(&self.cells, self.place, place + index);
+        let at = element_at::<C, P>(&self.cells, self.place, place, index);
         let about = (object, header, place, index);
         store::<C, P, Brand, (u16, HeaderParts, u32, u32)>(
             &mut self.cells,

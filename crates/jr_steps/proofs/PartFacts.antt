@@ -2,13 +2,12 @@
 use Rattle.std.proofs.Common.{◌≡◌, ◌<◌, ◌+◌, ℕ, suc, List, [], ◌∷◌, ◌++◌, take}
 use Rattle.std.proofs.Common.{length, slice_set, refl, sym, ap, subst, ◌∙◌, arith}
 use Rattle.std.proofs.lemmas.List.{map-append, length-map, length-take-le, take_all, take_more_set}
-use mathlib.Core.Logic.{∥∥₁_map}
 use Rattle.jr_word.specs.declared.header.HeaderParts.{HeaderParts}
 use Rattle.jr_model.specs.declared.event.Act.TheVariants.{Read}
 use Rattle.jr_steps.specs.declared.known.Known.{Known}
 use Rattle.jr_steps.specs.declared.known.Holdings.{Holdings}
 use Rattle.jr_steps.specs.Holdings.{header_in}
-use Rattle.jr_steps.specs.Knowing.{Facts, MayKnow, Goes, KnowsHeader, ReadsInTurn, SawPart, Took, keeps}
+use Rattle.jr_steps.specs.Knowing.{Facts, Goes, KnowsHeader, ReadsInTurn, SawPart, Took, keeps}
 
 -- one word more
 reads_more : (o i : ℕ) (vs : List ℕ) (v : ℕ) (k mid k' : Known) → ReadsInTurn o i vs k mid
@@ -29,12 +28,6 @@ module _ {S : Type 0} {facts : S → Facts} {V : Type 0} (taken : ℕ → V) (o 
   pub saw_nothing : (a : S) → SawPart facts a a o h start taken []
   saw_nothing a =
       record { words = []; are = refl; stands_is = refl; hint_is = refl; leads = λ k s m. (k, s, refl, refl) }
-
-  -- the header is known still
-  pub saw_may : {a b : S} {values : List V} → MayKnow facts a (KnowsHeader o h)
-      → SawPart facts a b o h start taken values → MayKnow facts b (KnowsHeader o h)
-  saw_may may p = ∥∥₁_map may (λ k. let x = p.leads k.0 k.1 k.2 in
-      (x.0, x.1, ap (λ (g : Holdings). header_in o g.headers) x.3 ∙ k.2))
 
   -- one element more was read
   saw_next : {a b c : S} (values : List V) (at v : ℕ) → at ≡ start + length values

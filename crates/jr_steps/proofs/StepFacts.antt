@@ -1,11 +1,10 @@
 -- What follows from a step, and one step after the other.
-use Rattle.std.proofs.Common.{◌≡◌, ◌≢◌, ⊎_elim, ◌<◌, ◌==◌, ℕ, Bool, true, false, cond, Result}
-use Rattle.std.proofs.Common.{Ok, Err, eq-eqb, length, List, [], ◌∷◌, ◌++◌, Option, Some}
-use Rattle.std.proofs.Common.{None, IsSome, refl, sym, ap, subst, ◌∙◌, arith, append_assoc}
+use Rattle.std.proofs.Common.{◌≡◌, ◌≢◌, ⊎_elim, ◌==◌, ℕ, Bool, true, false, cond}
+use Rattle.std.proofs.Common.{List, [], ◌∷◌, ◌++◌, Option, Some}
+use Rattle.std.proofs.Common.{None, IsSome, refl, sym, ap, subst, ◌∙◌}
 use Rattle.std.proofs.lemmas.List.{append-nil}
 use Rattle.std.specs.List.{AllByRecursion}
 use mathlib.Core.Logic.{∥∥₁_map}
-use Rattle.jr_word.specs.declared.header.HeaderParts.{HeaderParts}
 use Rattle.jr_model.specs.declared.event.Role.TheVariants.{Within}
 use Rattle.jr_model.specs.declared.event.Event.{Event}
 use Rattle.jr_model.specs.declared.event.Found.{Found}
@@ -18,16 +17,13 @@ use Rattle.jr_model.specs.History.{History, by, mine, state, IsLegal, role_of, D
 use Rattle.jr_model.specs.Windows.{Stepped}
 use Rattle.jr_model.proofs.Gates.{all_may_shut}
 use Rattle.jr_model.proofs.Updates.{eq_false}
-use Rattle.jr_model.proofs.Histories.{legal_push, state_push, mine_append}
+use Rattle.jr_model.proofs.Histories.{legal_push, state_push}
 use Rattle.jr_model.proofs.Presence.{named_is_present, sound_state}
-use Rattle.jr_model.proofs.Stays.{IsStill, still_did, did_added, mine_did}
+use Rattle.jr_model.proofs.Stays.{IsStill, still_did, did_added}
 use Rattle.jr_steps.specs.declared.known.Known.{Known}
-use Rattle.jr_steps.specs.declared.known.Holdings.{Holdings}
-use Rattle.jr_steps.specs.Acts.{act_of_reservation}
-use Rattle.jr_steps.specs.Holdings.{words_at}
 use Rattle.jr_steps.specs.Knowing.{Facts, Standing, IsOf, MayKnow, DidAll, keeps, ShowsUsed}
 use Rattle.jr_steps.specs.Knowing.{IsClosedNow, view, anything, state_of, Goes, HasObject, HasLooked}
-use Rattle.jr_steps.specs.Knowing.{WasUsed, ShowsPublished, ShowsRange, HasWord, Took, TookWith}
+use Rattle.jr_steps.specs.Knowing.{WasUsed, Took, TookWith}
 
 -- a step is what the thread did
 pub goes_did : {k k' : Known} {acts : List Act} → Goes k acts k' → Did (view k) (view k') acts
@@ -87,35 +83,6 @@ pub used_now : (u : ℕ) (k : Known) → role_of (view k) ≡ Within → (state_
 used_now u k within used =
     record { before = k.seen; since = []; is = sym (append-nil k.seen); used = used; within = within; stays = tt }
 
--- and were so at a moment of the stay, whatever the thread has done since but leave
-pub used_later : (u : ℕ) (k k' : Known) (acts : List Act) → Did (view k) (view k') acts
-    → AllByRecursion (λ a. a ≢ Gate Leave) acts → WasUsed u k → WasUsed u k'
-used_later u k k' acts d q w =
-    let more : History = d.begins.0 in
-    let own : mine more k.thread ≡ acts = mine_did acts d in
-    record {
-      before = w.before;
-      since = w.since ++ more;
-      is = sym d.begins.1 ∙ (ap (λ l. l ++ more) w.is ∙ append_assoc w.before w.since more);
-      used = w.used;
-      within = subst (λ t. (state w.before).role t ≡ Within) (sym d.thread) w.within;
-      stays = subst (λ t. AllByRecursion (λ a. a ≢ Gate Leave) (mine (w.since ++ more) t)) (sym d.thread)
-          (subst (λ l. AllByRecursion (λ a. a ≢ Gate Leave) l)
-          (sym (mine_append w.since more k.thread ∙ ap (λ l. mine w.since k.thread ++ l) own))
-          (all_append (mine w.since k.thread) acts w.stays q));
-    }
-  where
-    all_append : (xs ys : List Act) → AllByRecursion (λ a. a ≢ Gate Leave) xs → AllByRecursion (λ a. a ≢ Gate Leave) ys
-        → AllByRecursion (λ a. a ≢ Gate Leave) (xs ++ ys)
-    all_append [] ys p r = r
-    all_append (x ∷ xs) ys p r = (p.0, all_append xs ys p.1 r)
-
--- an exchange of the top is no leave
-pub reserving_stays : (looked n : ℕ) (r : Result (Unit {0}) ℕ)
-    → AllByRecursion (λ a. a ≢ Gate Leave) (act_of_reservation looked n r ∷ [])
-reserving_stays looked n (Ok u) = ((λ e. cc), tt)
-reserving_stays looked n (Err f) = ((λ e. cc), tt)
-
 pub present_still : (s s' : State) (o : ℕ) → IsStill s s' → IsPresent s o → IsPresent s' o
 present_still s s' o still = go (s.objects o) refl
   where
@@ -137,19 +104,6 @@ shut_closed {k} {k'} g =
 pub present_stays : (k k' : Known) (acts : List Act) (o : ℕ) → Did (view k) (view k') acts → role_of (view k) ≡ Within
     → AllByRecursion (λ a. a ≢ Gate Leave) acts → HasObject o k → HasObject o k'
 present_stays k k' acts o d w q p = present_still (state_of k) (state_of k') o (still_did acts d w q) p
-
--- the words that were reserved are the pass's own
-pub reserved_word : (looked n i : ℕ) (k k' : Known) → i < n → ShowsRange looked n (Ok tt) k k' → HasWord looked i k'
-reserved_word looked n i k k' l shown =
-    let here : words_at looked k'.holdings.ranges ≡ shown.0 = ap (λ (g : Holdings). words_at looked g.ranges) shown.2
-    ∙ ap (λ b. cond b shown.0 (words_at looked k.holdings.ranges)) (eq-eqb looked looked refl) in
-    let long = shown.1 in
-    subst (λ ws. i < length ws) (sym here) (omega arith)
-
--- an object is present after an exchange of its header, won or lost
-pub shown_published : (o : ℕ) (h : HeaderParts) (b : Bool) (k k' : Known) → ShowsPublished o h b k k' → HasObject o k'
-shown_published o h true k k' shown = shown.0
-shown_published o h false k k' shown = shown.0
 
 module _ {S : Type 0} {facts : S → Facts} where
   -- a step shows less, too

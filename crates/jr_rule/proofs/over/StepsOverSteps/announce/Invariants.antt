@@ -1,8 +1,7 @@
 use Rattle.jr_model.specs.declared.event.Role.TheVariants.{Outside}
 use Rattle.jr_steps.specs.Knowing.{anything}
-use Rattle.jr_rule.proofs.Told.{Announced}
-use Rattle.jr_rule.specs.Cells.{InRole}
+use Rattle.jr_rule.proofs.Told.{Announced, in_role}
 use Rattle.jr_rule.proofs.over.StepsOverSteps.announce.Given as goal
 
 abbrev pub ghosts-exchange : goal.ghosts-exchange
-ghosts-exchange g a = record { met = InRole Outside anything; told = Announced a._about }
+ghosts-exchange g a = in_role Outside anything (Announced a._about)

@@ -3,26 +3,20 @@ use Rattle.jr_word.specs.declared.gate.GateState.TheVariants.{Open}
 use Rattle.jr_model.specs.declared.event.Role.TheVariants.{Outside}
 use Rattle.jr_rule.proofs.GateOwed.{shuts}
 use Rattle.jr_rule.proofs.Told.{barred, bar_lost, busy_leaves, word_read}
-use Rattle.jr_rule.proofs.StepTaken.{may_any, owed, leaves, standing_next, took, its_acts}
+use Rattle.jr_rule.proofs.StepTaken.{its_acts, known_any, known_in, leaves, owing, stood, took}
 use Rattle.jr_rule.proofs.over.StepsOverSteps.bar.Goals as goal
 
 pub exchange-found-requires-clause-owed : goal.exchange-found-requires-clause-owed
-exchange-found-requires-clause-owed g c = let s = c.args.self.now in owed (search rules)
-    (may_any (g.C.Cells.sight s.cells) c.requires s.stands) (λ k among role m. shuts k Open (inl refl) role)
+exchange-found-requires-clause-owed g c = let s = c.args.self.now in owing s c.requires (known_any s) (search rules) (λ
+    k among role m. shuts k Open (inl refl) role)
 
 pub invariant_of-self : goal.invariant_of-self
-invariant_of-self g c =
-    let s = c.args.self.now in
-    record {
-      at = c.exchange-found.ensures.there;
-      stands = standing_next c.exchange-found.ensures.step (busy_leaves Open Outside c.if-found-ne0.true) c.requires
-          (g.met.C.Cells.sound c.exchange-found.new.cells s.place c.exchange-found.ensures.there) s.stands
-          (may_any (g.C.Cells.sight s.cells) c.requires s.stands);
-    }
+invariant_of-self g c = let s = c.args.self.now in stood s c.requires (known_any s) g.met.C.Cells.sound
+    c.exchange-found.ensures.there c.exchange-found.ensures.step (busy_leaves Open Outside c.if-found-ne0.true)
 
 pub unwrap-requires : goal.unwrap-requires
 unwrap-requires g c = let s = c.args.self.now in
-    word_read c.exchange-found.ensures.step (may_any (g.C.Cells.sight s.cells) c.requires s.stands)
+    word_read c.exchange-found.ensures.step (known_in s c.requires (known_any s))
     (λ k k' done t. let u = t.1 c.if-found-ne0.true in (u.0, u.1, u.2)) c.parts.result c.parts.ensures.complete
 
 pub returns-then-found-ne0-clause-step : goal.returns-then-found-ne0-clause-step
@@ -35,15 +29,9 @@ returns-then-found-ne0-clause-seen g c = let s = c.args.self.now in c.exchange-f
     (bar_lost _ c.parts.ensures.complete _ c.unwrap.ensures Open Outside c.if-found-ne0.true _ c.all_counted.ensures))
 
 pub invariant_of-self-2 : goal.invariant_of-self-2
-invariant_of-self-2 g c =
-    let s = c.args.self.now in
-    record {
-      at = c.exchange-found.ensures.there;
-      stands = standing_next c.exchange-found.ensures.step
-          (leaves (barred Open Outside c.if-found-ne0.false) (λ k. refl) (λ k. refl)) c.requires
-          (g.met.C.Cells.sound c.exchange-found.new.cells s.place c.exchange-found.ensures.there) s.stands
-          (may_any (g.C.Cells.sight s.cells) c.requires s.stands);
-    }
+invariant_of-self-2 g c = let s = c.args.self.now in stood s c.requires (known_any s) g.met.C.Cells.sound
+    c.exchange-found.ensures.there c.exchange-found.ensures.step (leaves (barred Open Outside c.if-found-ne0.false) (λ
+    k. refl) (λ k. refl))
 
 pub returns-clause-step : goal.returns-clause-step
 returns-clause-step g c = let s = c.args.self.now in

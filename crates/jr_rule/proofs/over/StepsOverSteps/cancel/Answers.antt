@@ -1,22 +1,16 @@
 use Rattle.std.proofs.Common.{rules, refl}
 use Rattle.jr_rule.proofs.GateOwed.{takes_back}
 use Rattle.jr_rule.proofs.Told.{cancelled}
-use Rattle.jr_rule.proofs.StepTaken.{may_any, owed, leaves, standing_next, took, its_acts}
+use Rattle.jr_rule.proofs.StepTaken.{its_acts, known_any, leaves, owing, stood, took}
 use Rattle.jr_rule.proofs.over.StepsOverSteps.cancel.Goals as goal
 
 pub take-requires-clause-owed : goal.take-requires-clause-owed
 take-requires-clause-owed g c = let s = c.args.self.now in
-    owed (search rules) (may_any (g.C.Cells.sight s.cells) c.requires s.stands) (λ k among role m. takes_back k role)
+    owing s c.requires (known_any s) (search rules) (λ k among role m. takes_back k role)
 
 pub invariant_of-self : goal.invariant_of-self
-invariant_of-self g c =
-    let s = c.args.self.now in
-    record {
-      at = c.take.ensures.there;
-      stands = standing_next c.take.ensures.step (leaves cancelled (λ k. refl) (λ k. refl)) c.requires
-          (g.met.C.Cells.sound c.take.new.cells s.place c.take.ensures.there) s.stands
-          (may_any (g.C.Cells.sight s.cells) c.requires s.stands);
-    }
+invariant_of-self g c = let s = c.args.self.now in stood s c.requires (known_any s) g.met.C.Cells.sound
+    c.take.ensures.there c.take.ensures.step (leaves cancelled (λ k. refl) (λ k. refl))
 
 pub returns-clause-step : goal.returns-clause-step
 returns-clause-step g c = let s = c.args.self.now in took s _ c.take.ensures.step refl c.requires _ cancelled refl refl

@@ -4,7 +4,7 @@ use Rattle.std.proofs.Props.{props}
 use Rattle.jr_word.specs.declared.config.Config.{Config}
 use Rattle.jr_rule.proofs.FromMayKnow.{object_some}
 use Rattle.jr_rule.proofs.Readings.{one_slot, found_so}
-use Rattle.jr_rule.proofs.StepTaken.{exchange_at, may_in, owed, standing_next, took, its_acts}
+use Rattle.jr_rule.proofs.StepTaken.{exchange_at, its_acts, known_in, owing, stood, took}
 use Rattle.jr_rule.proofs.SlotOwed.{claims_slot}
 use Rattle.jr_rule.proofs.Told.{claim_leaves, claim_won, claim_lost, Claimed}
 use Rattle.jr_rule.proofs.Slots.{free_fits, names_object}
@@ -23,7 +23,7 @@ exchange-found-requires-clause-owed g c =
     let i = c.args.index in
     let o = c.args.object in
     let serial = c.args.serial in
-    owed (search rules) (may_in (g.C.Cells.sight s.cells) c.requires.role c.requires.looked) (λ k among role m.
+    owing s c.requires.role c.requires.looked (search rules) (λ k among role m.
     exchange_at k (Claimed i serial c.args.kind o k) (sym c.slot_at-at.ensures) (sym c.pack-looked.ensures)
     (sym c.pack-made.ensures)
     (claims_slot k role i serial c.args.kind o c.reference.result (subst (λ (z : Config). i < z.slots)
@@ -31,21 +31,15 @@ exchange-found-requires-clause-owed g c =
     c.reference.ensures (∥∥₁_elim m (hlevel props) (λ q. q.0))))
 
 pub invariant_of-self : goal.invariant_of-self
-invariant_of-self g c =
-    let s = c.args.self.now in
-    record {
-      at = c.exchange-found.ensures.there;
-      stands = standing_next c.exchange-found.ensures.step
-          (claim_leaves c.args.index c.args.serial c.args.kind c.args.object) c.requires.role
-          (g.met.C.Cells.sound c.exchange-found.new.cells s.place c.exchange-found.ensures.there) s.stands
-          (may_in (g.C.Cells.sight s.cells) c.requires.role c.requires.looked);
-    }
+invariant_of-self g c = let s = c.args.self.now in stood s c.requires.role c.requires.looked g.met.C.Cells.sound
+    c.exchange-found.ensures.there c.exchange-found.ensures.step (claim_leaves c.args.index c.args.serial c.args.kind
+    c.args.object)
 
 pub of_word-requires : goal.of_word-requires
 of_word-requires g c =
     let s = c.args.self.now in
     one_slot
-    (found_so c.exchange-found.ensures.step (may_in (g.C.Cells.sight s.cells) c.requires.role c.requires.looked)
+    (found_so c.exchange-found.ensures.step (known_in s c.requires.role c.requires.looked)
     (λ k k' done t. let u = t.1 (λ e. c.if-found-looked.true (e ∙ sym c.pack-looked.ensures)) in (u.0, u.1, u.2)))
 
 pub returns-then-found-looked-clause-step : goal.returns-then-found-looked-clause-step

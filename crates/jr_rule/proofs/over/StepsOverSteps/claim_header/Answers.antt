@@ -4,7 +4,7 @@ use Rattle.jr_rule.specs.Image.{header_at}
 use Rattle.jr_rule.proofs.ActEffects.{publishing_role, publishing_fresh}
 use Rattle.jr_rule.proofs.HeapOwed.{publishes_header}
 use Rattle.jr_rule.proofs.Told.{publishing, Published}
-use Rattle.jr_rule.proofs.StepTaken.{exchange_at, may_in, leaves, standing_next, took_with}
+use Rattle.jr_rule.proofs.StepTaken.{exchange_at, known_in, leaves, stood, took_with}
 use Rattle.jr_rule.proofs.StepTaken.AtPlaces.{header_owed}
 use Rattle.jr_rule.proofs.over.StepsOverSteps.claim_header.Goals as goal
 
@@ -15,7 +15,7 @@ exchange-found-requires-clause-owed g c =
     let z = g.C.Cells.sight s.cells in
     let o = c.args.object in
     header_owed o (c.header_at-at.ensures ∙ ap (header_at z.first.config) c.from.ensures) c.requires.number
-    (may_in z c.requires.role c.requires.filled)
+    (known_in s c.requires.role c.requires.filled)
     (λ k role few m. exchange_at k (Published o h k) refl refl (sym c.pack-new.ensures)
     (publishes_header k role o h c.requires.number.0 few c.requires.header m))
 
@@ -25,13 +25,10 @@ invariant_of-self g c =
     let o = c.args.object in
     let h = c.args.header in
     let n = c.exchange-found.result in
-    record {
-      at = c.exchange-found.ensures.there;
-      stands = standing_next c.exchange-found.ensures.step (leaves (publishing o h) (λ k. publishing_role o h.kind
-          (words_for h k) (n == 0) s.role) (λ k. publishing_fresh o h.kind (words_for h k) (n == 0) s.fresh))
-          c.requires.role (g.met.C.Cells.sound c.exchange-found.new.cells s.place c.exchange-found.ensures.there)
-          s.stands (may_in (g.C.Cells.sight s.cells) c.requires.role c.requires.filled);
-    }
+    stood s c.requires.role c.requires.filled g.met.C.Cells.sound c.exchange-found.ensures.there
+    c.exchange-found.ensures.step (leaves (publishing o h)
+    (λ k. publishing_role o h.kind (words_for h k) (n == 0) s.role)
+    (λ k. publishing_fresh o h.kind (words_for h k) (n == 0) s.fresh))
 
 pub returns : goal.returns
 returns g c =

@@ -3,7 +3,7 @@ use Rattle.jr_word.specs.Slot.{slot_word}
 use Rattle.jr_rule.specs.Slots.{parts_once_free}
 use Rattle.jr_rule.proofs.ActEffects.{freeing_role, freeing_fresh}
 use Rattle.jr_rule.proofs.FromMayKnow.{looked_can, looked_object}
-use Rattle.jr_rule.proofs.StepTaken.{exchange_at, may_in, owed, leaves, standing_next, took, its_acts}
+use Rattle.jr_rule.proofs.StepTaken.{exchange_at, its_acts, leaves, owing, stood, took}
 use Rattle.jr_rule.proofs.SlotOwed.{frees_slot}
 use Rattle.jr_rule.proofs.Told.{freeing, Freed}
 use Rattle.jr_rule.proofs.Slots.{names_object}
@@ -22,7 +22,7 @@ pub exchange-found-requires-clause-owed : goal.exchange-found-requires-clause-ow
 exchange-found-requires-clause-owed g c =
     let s = c.args.self.now in
     let h = c.args.handle in
-    owed (search rules) (may_in (g.C.Cells.sight s.cells) c.requires.role c.requires.looked) (λ k among role m.
+    owing s c.requires.role c.requires.looked (search rules) (λ k among role m.
     let free : slot_word (parts_once_free k.last h.serial) ≡ c.pack-freed.result.0 =
     ap (λ n. slot_word (parts_once_free n h.serial)) (among.last ∙ sym c.last.ensures)
     ∙ sym (c.pack-freed.ensures ∙ ap slot_word c.freed_slot.ensures) in
@@ -38,13 +38,9 @@ invariant_of-self g c =
     let h = c.args.handle in
     let n = c.exchange-found.result in
     let x = c.pack-looked.result.0 in
-    record {
-      at = c.exchange-found.ensures.there;
-      stands = standing_next c.exchange-found.ensures.step (leaves (freeing h c.args.object x)
-          (λ k. freeing_role h (n == x) s.role) (λ k. freeing_fresh h (n == x) s.fresh)) c.requires.role
-          (g.met.C.Cells.sound c.exchange-found.new.cells s.place c.exchange-found.ensures.there) s.stands
-          (may_in (g.C.Cells.sight s.cells) c.requires.role c.requires.looked);
-    }
+    stood s c.requires.role c.requires.looked g.met.C.Cells.sound c.exchange-found.ensures.there
+    c.exchange-found.ensures.step
+    (leaves (freeing h c.args.object x) (λ k. freeing_role h (n == x) s.role) (λ k. freeing_fresh h (n == x) s.fresh))
 
 pub returns-clause-step : goal.returns-clause-step
 returns-clause-step g c =

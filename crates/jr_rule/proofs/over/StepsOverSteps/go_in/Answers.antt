@@ -4,23 +4,19 @@ use Rattle.jr_steps.specs.Acts.{act_of_entry}
 use Rattle.jr_rule.proofs.ActEffects.{entered_fresh}
 use Rattle.jr_rule.proofs.GateOwed.{enters}
 use Rattle.jr_rule.proofs.Told.{entry}
-use Rattle.jr_rule.proofs.StepTaken.{may_any, owed, leaves, standing_next, took, its_acts}
+use Rattle.jr_rule.proofs.StepTaken.{its_acts, known_any, leaves, owing, stood, took}
 use Rattle.jr_rule.proofs.over.StepsOverSteps.go_in.Goals as goal
 
 pub add-found-requires-clause-owed : goal.add-found-requires-clause-owed
 add-found-requires-clause-owed g c = let s = c.args.self.now in
-    owed (search rules) (may_any (g.C.Cells.sight s.cells) c.requires s.stands) (λ k among role m. enters k role)
+    owing s c.requires (known_any s) (search rules) (λ k among role m. enters k role)
 
 pub invariant_of-self : goal.invariant_of-self
 invariant_of-self g c =
     let s = c.args.self.now in
     let left = leaves (entry _ true c.is_closed.ensures c.if-is_closed.true)
     (λ k. ap (λ r. role_after r (act_of_entry false)) (sym c.requires)) (λ k. entered_fresh false s.fresh) in
-    record {
-      at = c.add-found.ensures.there;
-      stands = standing_next c.add-found.ensures.step left c.requires (g.met.C.Cells.sound c.add-found.new.cells s.place
-          c.add-found.ensures.there) s.stands (may_any (g.C.Cells.sight s.cells) c.requires s.stands);
-    }
+    stood s c.requires (known_any s) g.met.C.Cells.sound c.add-found.ensures.there c.add-found.ensures.step left
 
 pub returns-then-is_closed-clause-step : goal.returns-then-is_closed-clause-step
 returns-then-is_closed-clause-step g c =
@@ -38,11 +34,7 @@ invariant_of-self-else-is_closed g c =
     let s = c.args.self.now in
     let left = leaves (entry _ false c.is_closed.ensures c.if-is_closed.false)
     (λ k. ap (λ r. role_after r (act_of_entry true)) (sym c.requires)) (λ k. entered_fresh true s.fresh) in
-    record {
-      at = c.add-found.ensures.there;
-      stands = standing_next c.add-found.ensures.step left c.requires (g.met.C.Cells.sound c.add-found.new.cells s.place
-          c.add-found.ensures.there) s.stands (may_any (g.C.Cells.sight s.cells) c.requires s.stands);
-    }
+    stood s c.requires (known_any s) g.met.C.Cells.sound c.add-found.ensures.there c.add-found.ensures.step left
 
 pub returns-clause-step : goal.returns-clause-step
 returns-clause-step g c =

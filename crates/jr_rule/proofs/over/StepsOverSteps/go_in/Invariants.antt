@@ -1,8 +1,7 @@
 use Rattle.jr_model.specs.declared.event.Role.TheVariants.{Outside}
 use Rattle.jr_steps.specs.Knowing.{anything}
-use Rattle.jr_rule.specs.Cells.{InRole}
-use Rattle.jr_rule.proofs.Told.{Entered}
+use Rattle.jr_rule.proofs.Told.{Entered, in_role}
 use Rattle.jr_rule.proofs.over.StepsOverSteps.go_in.Given as goal
 
 abbrev pub ghosts-add : goal.ghosts-add
-ghosts-add g a = record { met = InRole Outside anything; told = Entered }
+ghosts-add g a = in_role Outside anything Entered

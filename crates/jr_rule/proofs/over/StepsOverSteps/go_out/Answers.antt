@@ -4,24 +4,20 @@ use Rattle.jr_model.specs.declared.event.Role.{Role}
 use Rattle.jr_rule.proofs.ActEffects.{left_role, left_fresh}
 use Rattle.jr_rule.proofs.GateOwed.{leaves as leaving}
 use Rattle.jr_rule.proofs.Told.{exit}
-use Rattle.jr_rule.proofs.StepTaken.{may_any, owed, leaves, standing_next, took, its_acts}
+use Rattle.jr_rule.proofs.StepTaken.{its_acts, known_any, leaves, owing, stood, took}
 use Rattle.jr_rule.proofs.over.StepsOverSteps.go_out.Goals as goal
 
 pub take-requires-clause-owed : goal.take-requires-clause-owed
 take-requires-clause-owed g c =
     let s = c.args.self.now in
-    owed (search rules) (may_any (g.C.Cells.sight s.cells) refl s.stands) (λ k among role m.
+    owing s refl (known_any s) (search rules) (λ k among role m.
     leaving k (subst (λ (r : Role). (r ≡ Within) ⊎ (r ≡ Knocking)) (sym role) c.requires))
 
 pub invariant_of-self : goal.invariant_of-self
 invariant_of-self g c =
     let s = c.args.self.now in
     let left = leaves (exit s.role) (λ k. left_role s.role c.requires) (λ k. left_fresh s.role s.fresh) in
-    record {
-      at = c.take.ensures.there;
-      stands = standing_next c.take.ensures.step left refl (g.met.C.Cells.sound c.take.new.cells s.place
-          c.take.ensures.there) s.stands (may_any (g.C.Cells.sight s.cells) refl s.stands);
-    }
+    stood s refl (known_any s) g.met.C.Cells.sound c.take.ensures.there c.take.ensures.step left
 
 pub returns-clause-step : goal.returns-clause-step
 returns-clause-step g c = let s = c.args.self.now in

@@ -1,7 +1,6 @@
 use Rattle.jr_steps.specs.Knowing.{anything}
-use Rattle.jr_rule.proofs.Told.{Left}
-use Rattle.jr_rule.specs.Cells.{InRole}
+use Rattle.jr_rule.proofs.Told.{Left, in_role}
 use Rattle.jr_rule.proofs.over.StepsOverSteps.go_out.Given as goal
 
 abbrev pub ghosts-take : goal.ghosts-take
-ghosts-take g a = record { met = InRole a._about anything; told = Left }
+ghosts-take g a = in_role a._about anything Left

@@ -1,18 +1,11 @@
-use Rattle.std.proofs.Common.{◌+◌, refl, arith}
+use Rattle.std.proofs.Common.{◌+◌, refl}
 use Rattle.jr_rule.proofs.CollectOwed.{moves_element}
 use Rattle.jr_rule.proofs.FromMayKnow.{move_few, move_is}
 use Rattle.jr_rule.proofs.Told.{plainly}
-use Rattle.jr_rule.proofs.StepTaken.{may_in, leaves, standing_next, took}
+use Rattle.jr_rule.proofs.StepTaken.{known_in, leaves, stood, took}
 use Rattle.jr_rule.specs.Over.{facts_over as facts}
 use Rattle.jr_rule.proofs.StepTaken.AtPlaces.{element_owed}
 use Rattle.jr_rule.proofs.over.StepsOverSteps.move_element.Goals as goal
-
-pub overflow_add-place : goal.overflow_add-place
-overflow_add-place g c =
-    let s = c.args.self.now in
-    let below =
-    move_few facts (λ s k h. h.1) s c.args.object c.args.header c.args.place c.args.index c.args.word c.requires.can in
-    let most = (g.met.C.Cells.sound s.cells s.place s.at).sized.limited.words in omega (arith, below, most)
 
 pub element_at-at-requires-clause-index : goal.element_at-at-requires-clause-index
 element_at-at-requires-clause-index g c = let s = c.args.self.now in
@@ -23,19 +16,13 @@ store-requires-clause-owed g c =
     let s = c.args.self.now in
     element_owed (c.args.place + c.args.index) c.element_at-at.ensures
     (move_few facts (λ s k h. h.1) s c.args.object c.args.header c.args.place c.args.index c.args.word c.requires.can)
-    (may_in (g.C.Cells.sight s.cells) c.requires.role c.requires.can)
+    (known_in s c.requires.role c.requires.can)
     (λ k role m. moves_element k role c.args.object c.args.header c.args.place c.args.index c.args.word
     c.requires.index (move_is k c.args.object c.args.header c.args.place c.args.index c.args.word m))
 
 pub invariant_of-self : goal.invariant_of-self
-invariant_of-self g c =
-    let s = c.args.self.now in
-    record {
-      at = c.store.ensures.there;
-      stands = standing_next c.store.ensures.step (leaves (plainly (λ k k' done t. t)) (λ k. refl) (λ k. refl))
-          c.requires.role (g.met.C.Cells.sound c.store.new.cells s.place c.store.ensures.there) s.stands
-          (may_in (g.C.Cells.sight s.cells) c.requires.role c.requires.can);
-    }
+invariant_of-self g c = let s = c.args.self.now in stood s c.requires.role c.requires.can g.met.C.Cells.sound
+    c.store.ensures.there c.store.ensures.step (leaves (plainly (λ k k' done t. t)) (λ k. refl) (λ k. refl))
 
 pub returns : goal.returns
 returns g c = let s = c.args.self.now in

@@ -6,7 +6,7 @@ use Rattle.jr_rule.specs.Image.{local_at}
 use Rattle.jr_rule.proofs.ActEffects.{putting_role, putting_spends}
 use Rattle.jr_rule.proofs.FromMayKnow.{optional_few}
 use Rattle.jr_rule.proofs.LocalSteps.{place_fits}
-use Rattle.jr_rule.proofs.StepTaken.{store_at, local_in, may_in, owed, leaves, standing_next, took}
+use Rattle.jr_rule.proofs.StepTaken.{leaves, local_in, owing, stood, store_at, took}
 use Rattle.jr_rule.proofs.PlaceOwed.{optional_is, puts_local}
 use Rattle.jr_rule.proofs.Told.{putting, Put}
 use Rattle.jr_rule.specs.Over.{facts_over as facts}
@@ -28,23 +28,18 @@ store-requires-clause-owed g c =
     let z = g.C.Cells.sight s.cells in
     let here : c.local_at-at.result ≡ local_at z.first.config z.first.thread i = c.local_at-at.ensures
     ∙ ap (λ (x : Config × ℕ). local_at x.0 x.1 i) (λ j. (c.config-config.ensures j, c.thread-own.ensures j)) in
-    owed (local_in z.first.config z.first.thread i here (g.met.C.Cells.sound s.cells s.place s.at).row c.requires.place)
-    (may_in (g.C.Cells.sight s.cells) c.requires.role c.requires.object) (λ k among role m.
+    owing s c.requires.role c.requires.object
+    (local_in z.first.config z.first.thread i here (g.met.C.Cells.sound s.cells s.place s.at).row c.requires.place)
+    (λ k among role m.
     let at : local_at k.config k.thread i ≡ c.local_at-at.result =
     ap (λ (x : Config × ℕ). local_at x.0 x.1 i) (λ j. (among.config j, among.thread j)) ∙ sym here in
     store_at k (Put i o k) at new (puts_local k role i o
     (subst (λ (z : Config). i < z.locals) (sym among.config) c.requires.place) (optional_is o k m)))
 
 pub invariant_of-self : goal.invariant_of-self
-invariant_of-self g c =
-    let s = c.args.self.now in
-    record {
-      at = c.store.ensures.there;
-      stands = standing_next c.store.ensures.step (leaves (putting c.args.place c.args.object) (λ k.
-          putting_role c.args.place c.args.object s.role) (λ k. putting_spends c.args.place c.args.object s.fresh))
-          c.requires.role (g.met.C.Cells.sound c.store.new.cells s.place c.store.ensures.there) s.stands
-          (may_in (g.C.Cells.sight s.cells) c.requires.role c.requires.object);
-    }
+invariant_of-self g c = let s = c.args.self.now in stood s c.requires.role c.requires.object g.met.C.Cells.sound
+    c.store.ensures.there c.store.ensures.step (leaves (putting c.args.place c.args.object) (λ k. putting_role
+    c.args.place c.args.object s.role) (λ k. putting_spends c.args.place c.args.object s.fresh))
 
 pub returns : goal.returns
 returns g c =

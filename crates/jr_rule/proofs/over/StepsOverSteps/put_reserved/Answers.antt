@@ -1,42 +1,29 @@
-use Rattle.std.proofs.Common.{◌+◌, refl, arith}
+use Rattle.std.proofs.Common.{◌+◌, refl}
 use Rattle.jr_rule.proofs.HeapOwed.{puts_own}
 use Rattle.std.proofs.Math.Logic.{∥∥₁_elim}
 use Rattle.std.proofs.Props.{props}
 use Rattle.jr_rule.proofs.FromMayKnow.{own_few}
 use Rattle.jr_rule.proofs.Told.{plainly}
-use Rattle.jr_rule.proofs.StepTaken.{may_in, leaves, standing_next, took}
+use Rattle.jr_rule.proofs.StepTaken.{known_in, leaves, stood, took}
 use Rattle.jr_rule.proofs.StepTaken.AtPlaces.{element_owed}
 use Rattle.jr_rule.proofs.over.StepsOverSteps.put_reserved.Goals as goal
 
-pub overflow_add-place : goal.overflow_add-place
-overflow_add-place g c =
-    let s = c.args.self.now in
-    let below = own_few (g.met.C.Cells.sound s.cells s.place s.at)
-    (may_in (g.C.Cells.sight s.cells) c.requires.role c.requires.own) c.args.place c.args.index (λ k h. h) in
-    let most = (g.met.C.Cells.sound s.cells s.place s.at).sized.limited.words in omega (arith, below, most)
-
 pub element_at-at-requires-clause-index : goal.element_at-at-requires-clause-index
-element_at-at-requires-clause-index g c = let s = c.args.self.now in own_few (g.met.C.Cells.sound s.cells s.place s.at)
-    (may_in (g.C.Cells.sight s.cells) c.requires.role c.requires.own) c.args.place c.args.index (λ k h. h)
+element_at-at-requires-clause-index g c = let s = c.args.self.now in
+    own_few (g.met.C.Cells.sound s.cells s.place s.at) (known_in s c.requires.role c.requires.own) c.args.place
+    c.args.index (λ k h. h)
 
 pub store-requires-clause-owed : goal.store-requires-clause-owed
 store-requires-clause-owed g c =
     let s = c.args.self.now in
+    let may = known_in s c.requires.role c.requires.own in
     element_owed (c.args.place + c.args.index) c.element_at-at.ensures
-    (own_few (g.met.C.Cells.sound s.cells s.place s.at)
-    (may_in (g.C.Cells.sight s.cells) c.requires.role c.requires.own) c.args.place c.args.index (λ k h. h))
-    (may_in (g.C.Cells.sight s.cells) c.requires.role c.requires.own)
-    (λ k role m. puts_own k role c.args.place c.args.index c.args.word (∥∥₁_elim m (hlevel props) (λ q. q)))
+    (own_few (g.met.C.Cells.sound s.cells s.place s.at) may c.args.place c.args.index (λ k h. h)) may (λ k role m.
+    puts_own k role c.args.place c.args.index c.args.word (∥∥₁_elim m (hlevel props) (λ q. q)))
 
 pub invariant_of-self : goal.invariant_of-self
-invariant_of-self g c =
-    let s = c.args.self.now in
-    record {
-      at = c.store.ensures.there;
-      stands = standing_next c.store.ensures.step (leaves (plainly (λ k k' done t. t)) (λ k. refl) (λ k. refl))
-          c.requires.role (g.met.C.Cells.sound c.store.new.cells s.place c.store.ensures.there) s.stands
-          (may_in (g.C.Cells.sight s.cells) c.requires.role c.requires.own);
-    }
+invariant_of-self g c = let s = c.args.self.now in stood s c.requires.role c.requires.own g.met.C.Cells.sound
+    c.store.ensures.there c.store.ensures.step (leaves (plainly (λ k k' done t. t)) (λ k. refl) (λ k. refl))
 
 pub returns : goal.returns
 returns g c = let s = c.args.self.now in

@@ -3,7 +3,7 @@ use Rattle.jr_word.specs.declared.config.Config.{Config}
 use Rattle.jr_rule.specs.Image.{local_at}
 use Rattle.jr_rule.proofs.CollectOwed.{scans_local}
 use Rattle.jr_rule.proofs.Told.{local_scan, local_scan_leaves, word_read, ScannedLocal}
-use Rattle.jr_rule.proofs.StepTaken.{load_at, local_in, may_any, owed, standing_next, took}
+use Rattle.jr_rule.proofs.StepTaken.{known_any, known_in, load_at, local_in, owing, stood, took}
 use Rattle.jr_rule.proofs.over.StepsOverSteps.scan_local.Goals as goal
 
 pub load-found-requires-clause-owed : goal.load-found-requires-clause-owed
@@ -14,25 +14,19 @@ load-found-requires-clause-owed g c =
     let i = c.args.place in
     let here : c.local_at-at.result ≡ local_at z.first.config t i =
     c.local_at-at.ensures ∙ ap (λ x. local_at x t i) c.config-config.ensures in
-    owed (local_in z.first.config t i here c.requires.thread c.requires.place)
-    (may_any (g.C.Cells.sight s.cells) c.requires.role s.stands) (λ k among role m.
+    owing s c.requires.role (known_any s) (local_in z.first.config t i here c.requires.thread c.requires.place)
+    (λ k among role m.
     let at : local_at k.config t i ≡ c.local_at-at.result = ap (λ x. local_at x t i) (among.config) ∙ sym here in
     load_at k (ScannedLocal t i k) at (scans_local k role t i (subst (λ (x : Config). t < x.threads) (sym among.config)
     c.requires.thread) (subst (λ (x : Config). i < x.locals) (sym among.config) c.requires.place)))
 
 pub invariant_of-self : goal.invariant_of-self
-invariant_of-self g c =
-    let s = c.args.self.now in
-    record {
-      at = c.load-found.ensures.there;
-      stands = standing_next c.load-found.ensures.step (local_scan_leaves c.args.thread c.args.place) c.requires.role
-          (g.met.C.Cells.sound c.load-found.new.cells s.place c.load-found.ensures.there) s.stands
-          (may_any (g.C.Cells.sight s.cells) c.requires.role s.stands);
-    }
+invariant_of-self g c = let s = c.args.self.now in stood s c.requires.role (known_any s) g.met.C.Cells.sound
+    c.load-found.ensures.there c.load-found.ensures.step (local_scan_leaves c.args.thread c.args.place)
 
 pub unwrap-requires : goal.unwrap-requires
 unwrap-requires g c = let s = c.args.self.now in
-    word_read c.load-found.ensures.step (may_any (g.C.Cells.sight s.cells) c.requires.role s.stands)
+    word_read c.load-found.ensures.step (known_in s c.requires.role (known_any s))
     (λ k k' done t. (t.0, t.1, t.2)) c.parts.result c.parts.ensures.complete
 
 pub returns : goal.returns

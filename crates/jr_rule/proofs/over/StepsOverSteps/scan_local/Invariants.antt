@@ -1,8 +1,6 @@
-use Rattle.jr_model.specs.declared.event.Role.TheVariants.{Collecting}
 use Rattle.jr_steps.specs.Knowing.{anything}
-use Rattle.jr_rule.proofs.Told.{ScannedLocal}
-use Rattle.jr_rule.specs.Cells.{InRole}
+use Rattle.jr_rule.proofs.Told.{ScannedLocal, collecting}
 use Rattle.jr_rule.proofs.over.StepsOverSteps.scan_local.Given as goal
 
 abbrev pub ghosts-load : goal.ghosts-load
-ghosts-load g a = record { met = InRole Collecting anything; told = ScannedLocal a._about.0 a._about.1 }
+ghosts-load g a = collecting anything (ScannedLocal a._about.0 a._about.1)

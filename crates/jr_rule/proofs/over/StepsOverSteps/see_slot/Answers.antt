@@ -2,7 +2,7 @@ use Rattle.std.proofs.Common.{rules, refl, sym, subst, ◌<◌}
 use Rattle.jr_word.specs.declared.config.Config.{Config}
 use Rattle.jr_rule.proofs.ActEffects.{slot_load_role, slot_load_fresh}
 use Rattle.jr_rule.proofs.Readings.{one_slot, found_so}
-use Rattle.jr_rule.proofs.StepTaken.{load_at, may_any, owed, standing_next, took, its_acts}
+use Rattle.jr_rule.proofs.StepTaken.{its_acts, known_any, known_in, load_at, owing, stood, took}
 use Rattle.jr_rule.proofs.SlotOwed.{sees_slot}
 use Rattle.jr_rule.proofs.Told.{slot_load, slot_look_leaves, SawSlot}
 use Rattle.jr_rule.proofs.over.StepsOverSteps.see_slot.Goals as goal
@@ -11,23 +11,17 @@ pub load-found-requires-clause-owed : goal.load-found-requires-clause-owed
 load-found-requires-clause-owed g c =
     let s = c.args.self.now in
     let i = c.args.index in
-    owed (search rules) (may_any (g.C.Cells.sight s.cells) c.requires.role s.stands) (λ k among role m.
+    owing s c.requires.role (known_any s) (search rules) (λ k among role m.
     load_at k (SawSlot i c.args.name k) (sym c.slot_at-at.ensures) (sees_slot k role i c.args.name
     (subst (λ (z : Config). i < z.slots) (sym among.config) c.requires.row) c.requires.fits))
 
 pub invariant_of-self : goal.invariant_of-self
-invariant_of-self g c =
-    let s = c.args.self.now in
-    record {
-      at = c.load-found.ensures.there;
-      stands = standing_next c.load-found.ensures.step (slot_look_leaves c.args.index c.args.name) c.requires.role
-          (g.met.C.Cells.sound c.load-found.new.cells s.place c.load-found.ensures.there) s.stands
-          (may_any (g.C.Cells.sight s.cells) c.requires.role s.stands);
-    }
+invariant_of-self g c = let s = c.args.self.now in stood s c.requires.role (known_any s) g.met.C.Cells.sound
+    c.load-found.ensures.there c.load-found.ensures.step (slot_look_leaves c.args.index c.args.name)
 
 pub of_word-requires : goal.of_word-requires
 of_word-requires g c = let s = c.args.self.now in one_slot (found_so c.load-found.ensures.step
-    (may_any (g.C.Cells.sight s.cells) c.requires.role s.stands) (λ k k' done t. (t.0, t.1, t.2)))
+    (known_in s c.requires.role (known_any s)) (λ k k' done t. (t.0, t.1, t.2)))
 
 pub returns-clause-step : goal.returns-clause-step
 returns-clause-step g c =

@@ -1,8 +1,6 @@
-use Rattle.jr_model.specs.declared.event.Role.TheVariants.{Within}
 use Rattle.jr_steps.specs.Knowing.{anything}
-use Rattle.jr_rule.proofs.Told.{SawTop}
-use Rattle.jr_rule.specs.Cells.{InRole}
+use Rattle.jr_rule.proofs.Told.{SawTop, within}
 use Rattle.jr_rule.proofs.over.StepsOverSteps.see_top.Given as goal
 
 abbrev pub ghosts-load : goal.ghosts-load
-ghosts-load g a = record { met = InRole Within anything; told = SawTop a._about }
+ghosts-load g a = within anything (SawTop a._about)

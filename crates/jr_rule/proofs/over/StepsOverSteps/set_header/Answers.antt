@@ -3,7 +3,7 @@ use Rattle.jr_rule.specs.Image.{header_at}
 use Rattle.jr_rule.proofs.CollectOwed.{places_header}
 use Rattle.jr_rule.proofs.Told.{Placed, plainly}
 use Rattle.jr_rule.proofs.FromMayKnow.{place_is}
-use Rattle.jr_rule.proofs.StepTaken.{store_at, may_in, leaves, standing_next, took}
+use Rattle.jr_rule.proofs.StepTaken.{known_in, leaves, stood, store_at, took}
 use Rattle.jr_rule.proofs.StepTaken.AtPlaces.{header_owed}
 use Rattle.jr_rule.proofs.over.StepsOverSteps.set_header.Goals as goal
 
@@ -13,19 +13,13 @@ store-requires-clause-owed g c =
     let z = g.C.Cells.sight s.cells in
     let o = c.args.object in
     header_owed o (c.header_at-at.ensures ∙ ap (header_at z.first.config) c.from.ensures) c.requires.number
-    (may_in z c.requires.role c.requires.can)
+    (known_in s c.requires.role c.requires.can)
     (λ k role few m. store_at k (Placed o c.args.header c.args.place k) refl (sym c.pack-new.ensures)
     (places_header k role o c.args.header c.args.place c.requires.header (place_is k o c.args.header c.args.place m)))
 
 pub invariant_of-self : goal.invariant_of-self
-invariant_of-self g c =
-    let s = c.args.self.now in
-    record {
-      at = c.store.ensures.there;
-      stands = standing_next c.store.ensures.step (leaves (plainly (λ k k' done t. t)) (λ k. refl) (λ k. refl))
-          c.requires.role (g.met.C.Cells.sound c.store.new.cells s.place c.store.ensures.there) s.stands
-          (may_in (g.C.Cells.sight s.cells) c.requires.role c.requires.can);
-    }
+invariant_of-self g c = let s = c.args.self.now in stood s c.requires.role c.requires.can g.met.C.Cells.sound
+    c.store.ensures.there c.store.ensures.step (leaves (plainly (λ k k' done t. t)) (λ k. refl) (λ k. refl))
 
 pub returns : goal.returns
 returns g c = let s = c.args.self.now in

@@ -1,8 +1,6 @@
-use Rattle.jr_model.specs.declared.event.Role.TheVariants.{Collecting}
 use Rattle.jr_steps.specs.Collecting.{CanSettle}
-use Rattle.jr_rule.proofs.Told.{SettledTop}
-use Rattle.jr_rule.specs.Cells.{InRole}
+use Rattle.jr_rule.proofs.Told.{SettledTop, collecting}
 use Rattle.jr_rule.proofs.over.StepsOverSteps.set_top.Given as goal
 
 abbrev pub ghosts-store : goal.ghosts-store
-ghosts-store g a = record { met = InRole Collecting (CanSettle a._about); told = SettledTop a._about }
+ghosts-store g a = collecting (CanSettle a._about) (SettledTop a._about)

@@ -4,24 +4,18 @@ use Rattle.std.proofs.Math.Logic.{∥∥₁_elim}
 use Rattle.std.proofs.Props.{props}
 use Rattle.jr_rule.proofs.GateOwed.{reopens}
 use Rattle.jr_rule.proofs.Told.{reopening}
-use Rattle.jr_rule.proofs.StepTaken.{may_in, owed, leaves, standing_next, took, its_acts}
+use Rattle.jr_rule.proofs.StepTaken.{its_acts, leaves, owing, stood, took}
 use Rattle.jr_rule.proofs.over.StepsOverSteps.unbar.Goals as goal
 
 pub take-requires-clause-owed : goal.take-requires-clause-owed
 take-requires-clause-owed g c =
     let s = c.args.self.now in
-    owed (search rules) (may_in (g.C.Cells.sight s.cells) c.requires.role c.requires.closed) (λ k among role m.
+    owing s c.requires.role c.requires.closed (search rules) (λ k among role m.
     reopens k role (∥∥₁_elim m (hlevel props) (λ q. q.1)) (∥∥₁_map m (λ q. q.0)))
 
 pub invariant_of-self : goal.invariant_of-self
-invariant_of-self g c =
-    let s = c.args.self.now in
-    record {
-      at = c.take.ensures.there;
-      stands = standing_next c.take.ensures.step (leaves reopening (λ k. refl) (λ k. refl)) c.requires.role
-          (g.met.C.Cells.sound c.take.new.cells s.place c.take.ensures.there) s.stands
-          (may_in (g.C.Cells.sight s.cells) c.requires.role c.requires.closed);
-    }
+invariant_of-self g c = let s = c.args.self.now in stood s c.requires.role c.requires.closed g.met.C.Cells.sound
+    c.take.ensures.there c.take.ensures.step (leaves reopening (λ k. refl) (λ k. refl))
 
 pub returns-clause-step : goal.returns-clause-step
 returns-clause-step g c = let s = c.args.self.now in

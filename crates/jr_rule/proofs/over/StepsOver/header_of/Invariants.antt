@@ -1,0 +1,6 @@
+use Rattle.jr_steps.specs.Knowing.{anything}
+use Rattle.jr_rule.proofs.Told.{SawHeader, in_role}
+use Rattle.jr_rule.proofs.over.StepsOver.header_of.Given as goal
+
+abbrev pub ghosts-load : goal.ghosts-load
+ghosts-load g a = in_role a._about.1 anything (SawHeader a._about.0)
