@@ -17,7 +17,7 @@ ghost use Rattle.first_room.specs.Sites.{HasCome, IsPassOfThread, IsRoomOf};
 mod handing;
 
 use crate::handing::{First, Handed, Second, put, take, wait};
-use jr_env::Env;
+use jr_env::{Env, NativeInterface};
 use jr_rule::{Pass, Room, Site, SiteSteps, Steps, Summary};
 use jr_weak::{Collected, Marker};
 use jr_word::{Config, Fault, Handle, LAST_SERIAL};

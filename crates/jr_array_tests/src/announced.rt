@@ -7,7 +7,7 @@ use crate::courses::{By, Shown, overtakes};
 use crate::envs::refuses;
 use crate::overtaken::{Before, Overtaken};
 use crate::plans::{Neighbour, PLANS, Plan};
-use jr_env::Env;
+use jr_env::{Env, NativeInterface};
 use jr_model::Summary;
 use jr_rule::{Parts, StepsOver};
 use jr_steps::Steps;

@@ -4,7 +4,7 @@ use crate::cases::{Case, alone, in_a_room};
 use crate::envs::{TWO, has_elements, refuses};
 use crate::regions::no_arrays_of_chars;
 use jr_elements::{Elements, elements_of};
-use jr_env::Env;
+use jr_env::{Env, NativeInterface};
 use jr_model::Mode;
 use jr_steps::Steps;
 use jr_word::{Config, Elem, Fault, Handle};

@@ -1,7 +1,7 @@
 //! Two threads that delete the same references: round by round, each time at once.
 
 use crate::side_by_side::{Job, both_do};
-use jr_env::Env;
+use jr_env::{Env, NativeInterface};
 use jr_steps::Steps;
 use jr_word::{Config, Fault, Handle};
 use std::process::Abort;

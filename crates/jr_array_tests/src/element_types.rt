@@ -3,7 +3,7 @@
 use crate::at_a_level::{has, is_deep, is_not_put, is_not_read, is_told};
 use crate::cases::{Case, alone};
 use crate::envs::TWO;
-use jr_env::{Env, Region};
+use jr_env::{Env, NativeInterface, Region};
 use jr_model::Mode;
 use jr_steps::Steps;
 use jr_word::{Elem, Fault, Kind};

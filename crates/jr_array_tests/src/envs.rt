@@ -3,7 +3,7 @@ ghost use Rattle.std.specs.Prelude.{◌≡◌, All};
 ghost use Rattle.jr_model.specs.declared.event.Role.TheVariants.{Outside};
 ghost use Rattle.jr_rule.specs.Passes.{IsOpened};
 
-use jr_env::Env;
+use jr_env::{Env, NativeInterface};
 use jr_fixtures::{LAST, closed, next_pass};
 use jr_model::Summary;
 use jr_rule::{Pass, Room};

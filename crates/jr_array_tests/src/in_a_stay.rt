@@ -6,7 +6,7 @@ use crate::at_a_level::{
 };
 use crate::cases::{Case, alone, in_a_room};
 use crate::envs::{ONES, TWO, has_elements, is_outside};
-use jr_env::{Env, Region, Stay};
+use jr_env::{Env, NativeInterface, Region, Stay};
 use jr_model::Mode;
 use jr_steps::Steps;
 use jr_word::{Fault, Handle, Kind};

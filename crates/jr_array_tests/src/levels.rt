@@ -5,7 +5,7 @@ use crate::at_a_level::{
 };
 use crate::cases::{Case, alone};
 use crate::envs::{TWO, has_elements, is_outside};
-use jr_env::Env;
+use jr_env::{Env, NativeInterface};
 use jr_model::Mode;
 use jr_steps::Steps;
 use jr_word::Kind;

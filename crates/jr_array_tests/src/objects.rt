@@ -2,7 +2,7 @@
 
 use crate::cases::{Case, alone};
 use crate::envs::TWO;
-use jr_env::Env;
+use jr_env::{Env, NativeInterface};
 use jr_steps::Steps;
 use jr_word::{Handle, Kind};
 use std::process::Abort;

@@ -4,7 +4,7 @@ ghost use Rattle.std.specs.Prelude.{◌≡◌};
 use crate::courses::{By, Shown, overtakes};
 use crate::envs::refuses;
 use crate::plans::Planned;
-use jr_env::Env;
+use jr_env::{Env, NativeInterface};
 use jr_model::Summary;
 use jr_rule::{Cells, Parts, StepKind, StepsOver};
 use jr_steps::Steps;

@@ -6,7 +6,7 @@ ghost use Rattle.jr_gate.specs.Stays.{IsOwnAnnouncement};
 use crate::at_a_level::{give_up, has, nests_array, put};
 use crate::envs::{ONES, TWO, env_of, has_elements};
 use crate::not_opened::{opens_array, opens_string};
-use jr_env::Env;
+use jr_env::{Env, NativeInterface};
 use jr_fixtures::{LAST, next_steps};
 use jr_gate::{Announced, announce, shut_gate};
 use jr_model::Mode;

@@ -3,7 +3,7 @@
 use crate::cases::{Case, alone, in_a_room};
 use crate::envs::{FOREIGN, ONES, TWO, has_elements, refuses};
 use crate::objects::one_of_each;
-use jr_env::Env;
+use jr_env::{Env, NativeInterface};
 use jr_steps::Steps;
 use jr_word::{Config, Fault, Handle};
 use std::process::Abort;

@@ -2,7 +2,7 @@
 use crate::deletion_threads::{Side, delete_beside, make_contested};
 use crate::envs::leaves;
 use crate::overtaken::FIRST;
-use jr_env::Env;
+use jr_env::{Env, NativeInterface};
 use jr_fixtures::{LAST, next_env};
 use jr_gate::shut_gate;
 use jr_model::{Mode, Summary};

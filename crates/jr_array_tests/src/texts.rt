@@ -2,7 +2,7 @@
 
 use crate::cases::{Case, alone, in_a_room};
 use crate::envs::{TWO, refuses};
-use jr_env::Env;
+use jr_env::{Env, NativeInterface};
 use jr_steps::Steps;
 use jr_word::{Fault, Handle};
 use std::alloc::Global;

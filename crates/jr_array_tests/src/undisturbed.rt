@@ -5,7 +5,7 @@ ghost use Rattle.jr_env.specs.StandingRegions.{WasUndisturbed};
 
 use crate::cases::{Case, alone};
 use crate::envs::TWO;
-use jr_env::{Env, levels_beside};
+use jr_env::{Env, NativeInterface, levels_beside};
 use jr_steps::Steps;
 use jr_word::{Fault, Handle};
 use std::process::Abort;

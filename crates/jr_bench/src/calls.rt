@@ -1,7 +1,7 @@
 //! The calls, of which each is a type: so the loop that makes it is a loop of its own.
 
 use crate::case::FrameCase;
-use jr_env::Env;
+use jr_env::{Env, NativeInterface};
 use jr_steps::Steps;
 use jr_word::Handle;
 

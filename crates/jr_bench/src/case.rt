@@ -9,6 +9,7 @@ use crate::copies::CopyCase;
 use crate::criticals::CriticalCase;
 use crate::stays::StayCase;
 pub(crate) use jr_env::Env;
+use jr_env::NativeInterface;
 use jr_steps::Steps;
 use jr_word::Handle;
 use std::alloc::Global;

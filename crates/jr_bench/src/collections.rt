@@ -6,6 +6,7 @@ use crate::case::Env;
 use crate::measure::{print_times, times_of};
 use crate::round::{Done, Job, Signs};
 use jr_census::Census;
+use jr_env::NativeInterface;
 use jr_steps::Steps;
 use jr_weak::{Collected, Marker};
 use jr_word::{Config, Fault};

@@ -2,7 +2,7 @@
 
 use crate::calls::{Call, make_each};
 use crate::case::Env;
-use jr_env::Region;
+use jr_env::{NativeInterface, Region};
 use jr_model::Mode;
 use jr_steps::Steps;
 use jr_word::Handle;

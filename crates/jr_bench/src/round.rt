@@ -8,6 +8,7 @@ use crate::case::{Case, Env, FrameCase};
 use crate::collections::{Collections, Way};
 use crate::notes::note_all;
 use crate::owned;
+use jr_env::NativeInterface;
 use jr_rule::{Pass, Room, Site, SiteSteps, StepsIn, ThreadNumber};
 use jr_steps::Steps;
 use jr_word::{Config, LAST_SERIAL};

@@ -1,7 +1,7 @@
 //! The calls in stays of sixteen, of which each is a type: so the loop that makes it is a loop of its own.
 
 use crate::case::Env;
-use jr_env::Stay;
+use jr_env::{NativeInterface, Stay};
 use jr_steps::Steps;
 use jr_word::Handle;
 

@@ -25,8 +25,6 @@ use Rattle.jr_frames.specs.Steady.{IsSteady}
 use Rattle.jr_frames.proofs.StillReady.{ready_after}
 use Rattle.jr_env.specs.Requests.{Request, asks, gives, on_word, on_words, told_by}
 use Rattle.jr_env.specs.Deeds.{DoesDeed, DoesOutside, answered_by, whole, in_a_stay}
-use Rattle.jr_env.specs.declared.env.Env.{Env}
-use Rattle.jr_env.specs.LentStays.{DoesInside}
 use Rattle.jr_env.specs.OpenStays.{StaysOn}
 use Rattle.jr_env.specs.Works.{EndsStay, Serves}
 use Rattle.jr_env.proofs.Carrying.{did_answer, did_call, did_more, did_refuse}
@@ -161,12 +159,6 @@ module _ {S : Type 0} {facts : S → Facts} where
       → DoesOutside facts a b f g (whole (told_by form request)) answer
       → DoesOutside facts a b f g (whole request) (answer_in form answer)
   does_kept form request = does_more (λ k m x. x)
-
-module _ {S : Type 0} {G : Ghosts S} (old new : Env S G) where
-  pub keeps_inside : {A B : Type 0} (form : A → B) (request : Request B) {answer : Result A Fault}
-      → DoesInside old new (in_a_stay (told_by form request)) answer
-      → DoesInside old new (in_a_stay request) (answer_in form answer)
-  keeps_inside form request d = record { did = did_more (λ k m x. x) d.did; on = d.on }
 
 module _ {S : Type 0} {G : Ghosts S} (fits : AreOf G.facts) (old new : Held S G) where
   -- and the stay goes on

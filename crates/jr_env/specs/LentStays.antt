@@ -50,9 +50,10 @@ module _ {S : Type 0} {G : steps.Ghosts S} where
     pub did : WasDone old new deed answer
     pub on : StaysOn old.held new.held
 
-  -- THE STAY'S CALL DID THE DEED, with this answer, and the stay goes on
-  abbrev pub DoesWithin : {A : Type 0} → Stay S G → Stay S G → Deed A → Result A Fault → Type 0
-  DoesWithin old new deed answer = DoesInside (env_in old).now (env_in new).now deed answer
+  -- THE STAY'S CALL DID THE DEED, with this answer, and the stay goes on, over the same env
+  pub record DoesWithin {A : Type 0} (old new : Stay S G) (deed : Deed A) (answer : Result A Fault) : Type 0 where
+    pub same_reference : (env_in new).ghost_name ≡ (env_in old).ghost_name
+    pub call : DoesInside (env_in old).now (env_in new).now deed answer
 
 module _ (S : RattleType) (G : steps.Ghosts S.Denot) where
   -- who lent the env gets it back at the stay's end; where none was entered, at once, as the refusal left it

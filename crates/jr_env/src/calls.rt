@@ -14,7 +14,6 @@ mod objects;
 mod references;
 mod staying;
 mod texts;
-mod upgrades;
 
 pub use array_parts::SetArrayRegion;
 pub use explaining::Explain;

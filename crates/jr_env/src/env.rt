@@ -1,12 +1,13 @@
 //! A thread's env: how it is made over a fresh pass, and how the pass comes back.
 ghost use Rattle.jr_env.specs.Calling.{CanCall};
 
-use crate::native_call::NativeCall;
+use crate::calls::array_parts::copy_out;
+use crate::native_call::{NativeCall, NativeCaller};
 use crate::work::{make_whole, outside};
 use jr_frames::{Frames, Held};
 use jr_heap::Numbers;
 use jr_steps::Steps;
-use jr_word::Fault;
+use jr_word::{Elem, Fault, Handle};
 
 /// A thread's steps and its local references. The thread is outside the gate, or within where a region stands, and its pass is not fresh.
 #[derive(Drop)]
@@ -26,8 +27,7 @@ impl<S: Steps> Env<S> {
     ghost use Rattle.jr_model.specs.declared.event.Role.TheVariants.{Outside};
     ghost use Rattle.jr_model.specs.Frames.{fresh_frames};
     ghost use Rattle.jr_steps.specs.Knowing.{Spent, Took, anything, lets_go};
-    ghost use Rattle.jr_env.specs.Envs.{Does, IsOutside};
-    ghost use Rattle.jr_env.specs.Deeds.{whole};
+    ghost use Rattle.jr_env.specs.Envs.{IsOutside};
 
     /// The env of a thread, with one base frame, over a pass that is fresh, which is spent. The thread has to stand outside.
     ///
@@ -59,24 +59,6 @@ impl<S: Steps> Env<S> {
         Ok(Env { held, numbers })
     }
 
-    /// Makes a call: enters the gate, does what it asks for, and leaves. A stay that a region left is ended first.
-    ///
-    /// # Errors
-    ///
-    /// E13 where a thread is collecting at the entry, or has announced that it will; else those of the call.
-    ///
-    /// What stands then is what the call leaves, and the thread stands outside.
-    ///
-    /// # Operations
-    ///
-    /// Those of the call, its entry, and its exit.
-    #[inline(always)]
-    pub fn make<C: NativeCall<S> + Drop>(&mut self, call: C) -> Result<C::Answer, Fault>
-        ensures { Does self.old self.new (whole (C.request call)) result }
-    {
-        make_whole(&mut self.held, &mut self.numbers, call)
-    }
-
     /// The steps, whose pass is not fresh, so that no second env is made over it. Local references that stand stay in the row.
     ///
     /// # Operations
@@ -92,5 +74,25 @@ impl<S: Steps> Env<S> {
         outside(&mut held);
         let Held { steps, frames: _ } = held;
         steps
+    }
+}
+
+impl<S: Steps> NativeCaller<S> for Env<S> {
+    ghost use Rattle.jr_env.specs.Envs.{Does};
+    ghost use Rattle.jr_env.specs.Deeds.{whole};
+
+    ghost made = { λ old new request answer. Does old new (whole request) answer };
+
+    fn make<C: NativeCall<S> + Drop>(&mut self, call: C) -> Result<C::Answer, Fault> {
+        make_whole(&mut self.held, &mut self.numbers, call)
+    }
+
+    fn copy_part<E: Elem>(
+        &mut self,
+        array: Handle,
+        start: u32,
+        elements: &mut [E],
+    ) -> Result<(), Fault> {
+        copy_out(&mut self.held, array, start, elements)
     }
 }

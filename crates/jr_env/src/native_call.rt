@@ -1,10 +1,10 @@
-//! A call of native code as a value, which an env makes, and makes again, and which is made in a stay.
+//! A call of native code as a value, and who makes it: an env, and a stay.
 
 use jr_frames::Frames;
 use jr_gate::Inside;
 use jr_heap::Numbers;
 use jr_steps::Steps;
-use jr_word::Fault;
+use jr_word::{Elem, Fault, Handle};
 
 /// A call of native code, with the words that it is handed. One of the calls of `calls`, or one of your own: what it asks for is its `request`.
 pub trait NativeCall<S: Steps> {
@@ -39,4 +39,49 @@ pub trait NativeCall<S: Steps> {
         requires ready { StandsReady S.facts Within steps.old frames.old }
         ensures call { Serves S.facts steps.old steps.new frames.old.frames frames.new.frames (request self) result }
         ensures same { KeepsOwner frames.old frames.new };
+}
+
+/// Who makes calls of native code: an env, each by an entry and an exit of its own, and a stay, in which it goes on.
+pub trait NativeCaller<S: Steps>: Sized {
+    ghost use Rattle.std.specs.Prelude.{◌≡◌, IfErr, length, map, Result};
+    ghost use Rattle.jr_word.specs.declared.fault.Fault.{Fault};
+    ghost use Rattle.jr_env.specs.Deeds.{read_answer};
+    ghost use Rattle.jr_env.specs.Requests.{Request, for_get_array_region};
+
+    ghost made: { {A : Type 0} → Self → Self → Request A → Result A Fault → Type 0 };
+
+    /// Makes a call. An env enters the gate for it, does what it asks for, and leaves. A stay that a region left is ended first.
+    ///
+    /// # Errors
+    ///
+    /// Those of the call. Of an env before them E13 where a thread is collecting at the entry, or has announced that it will.
+    ///
+    /// What stands then is what the call leaves.
+    ///
+    /// # Operations
+    ///
+    /// Those of the call, and of an env its entry and its exit.
+    fn make<C: NativeCall<S> + Drop>(&mut self, call: C) -> Result<C::Answer, Fault>
+        ensures { made self.old self.new (C.request call) result };
+
+    /// Copies a part of an array out, as `get_array_region`. It is no value, since its answer is what a slice of its caller holds afterwards.
+    ///
+    /// # Errors
+    ///
+    /// E2 where the handle is malformed or lies outside the room; E3 where it is a local one of another thread; E2 where its reference does not stand; E1 where it is to null; E5 where it is to a plain object or a string; E6 where it is to an array of other elements; E7 where the part does not lie in the array.
+    ///
+    /// The slice is as it was, and nothing has changed.
+    ///
+    /// # Operations
+    ///
+    /// Those of `get_array_region`.
+    fn copy_part<E: Elem>(
+        &mut self,
+        array: Handle,
+        start: u32,
+        elements: &mut [E],
+    ) -> Result<(), Fault>
+        ensures call { made self.old self.new (for_get_array_region E.KIND array.0 start (length elements.old)) (read_answer result (map E.word_of elements.new)) }
+        ensures size { length elements.new ≡ length elements.old }
+        ensures err { IfErr result (λ _. elements.new ≡ elements.old) };
 }

@@ -1,12 +1,13 @@
 //! A stay of an env that goes on from call to call, as a value that borrows the env.
 ghost use Rattle.jr_gate.specs.Stays.{IsOwnStay};
 
+use crate::calls::array_parts::copy_inside;
 use crate::env::Env;
-use crate::native_call::NativeCall;
+use crate::native_call::{NativeCall, NativeCaller};
 use crate::work::{go_outside, make_within};
 use jr_gate::Inside;
 use jr_steps::Steps;
-use jr_word::Fault;
+use jr_word::{Elem, Fault, Handle};
 
 /// A stay: one entry at the gate and one exit for as many calls as are made in it. Each is the call of `Env` of its name without an entry and an exit of its own, and is refused as that is, but never by E13. While it stands no other call on its env compiles, no collection comes (E14), and it has to be ended.
 pub struct Stay<'e, S: Steps> {
@@ -16,9 +17,10 @@ pub struct Stay<'e, S: Steps> {
 }
 
 impl<S: Steps> Env<S> {
-    ghost use Rattle.std.specs.Prelude.{◌≡◌};
+    ghost use Rattle.std.specs.Prelude.{◌≡◌, IfErr, length, map};
     ghost use Rattle.jr_env.specs.Envs.{IsOutside};
-    ghost use Rattle.jr_env.specs.Deeds.{in_a_stay};
+    ghost use Rattle.jr_env.specs.Requests.{for_get_array_region};
+    ghost use Rattle.jr_env.specs.Deeds.{in_a_stay, read_answer};
     ghost use Rattle.jr_env.specs.LentStays.{DoesInside};
     ghost use Rattle.jr_env.specs.OpenStays.{EndsAsOneStay, LeavesOver};
 
@@ -40,6 +42,28 @@ impl<S: Steps> Env<S> {
         make_within(&mut self.held, &mut self.numbers, inside, call)
     }
 
+    /// Copies a part of an array out in a stay of the thread, which goes on.
+    ///
+    /// # Errors
+    ///
+    /// E1, E2, E3, E5, E6, E7.
+    #[inline(always)]
+    fn copy_within<E: Elem>(
+        &mut self,
+        inside: &Inside,
+        array: Handle,
+        start: u32,
+        elements: &mut [E],
+    ) -> Result<(), Fault>
+        requires { IsOwnStay inside.now (S.facts self.old.held.steps).stands }
+        ensures size { length elements.new ≡ length elements.old }
+        ensures call { DoesInside self.old self.new (in_a_stay (for_get_array_region E.KIND array.0 start (length elements.old))) (read_answer result (map E.word_of elements.new)) }
+        ensures own { IsOwnStay inside.now (S.facts self.new.held.steps).stands }
+        ensures err { IfErr result (λ _. elements.new ≡ elements.old) }
+    {
+        copy_inside(&mut self.held, inside, array, start, elements)
+    }
+
     /// Ends a stay of the thread.
     #[inline(always)]
     fn leave_stay(&mut self, inside: Inside)
@@ -57,8 +81,7 @@ impl<'e, S: Steps> Stay<'e, S> {
     ghost use Rattle.std.specs.Prelude.{◌≡◌};
     ghost use Rattle.jr_env.specs.Envs.{IsOutside};
     ghost use Rattle.jr_env.specs.OpenStays.{EndsAsOneStay, LeavesOver};
-    ghost use Rattle.jr_env.specs.LentStays.{env_in, frames_in, held_in, DoesWithin};
-    ghost use Rattle.jr_env.specs.Deeds.{in_a_stay};
+    ghost use Rattle.jr_env.specs.LentStays.{env_in, frames_in, held_in};
 
     /// The stay of an env whose thread is within.
     #[inline(always)]
@@ -68,25 +91,6 @@ impl<'e, S: Steps> Stay<'e, S> {
         ensures env { (env_in result).now ≡ env.old }
     {
         Stay { env, inside }
-    }
-
-    /// Makes a call in the stay, which goes on.
-    ///
-    /// # Errors
-    ///
-    /// Those of the call but E13.
-    ///
-    /// What stands then is what the call leaves, and the stay stands.
-    ///
-    /// # Operations
-    ///
-    /// Those of the call but its entry and its exit.
-    #[inline(always)]
-    pub fn make<C: NativeCall<S> + Drop>(&mut self, call: C) -> Result<C::Answer, Fault>
-        ensures same_reference { (env_in self.new).ghost_name ≡ (env_in self.old).ghost_name }
-        ensures call { DoesWithin self.old self.new (in_a_stay (C.request call)) result }
-    {
-        self.env.make_inside(&self.inside, call)
     }
 
     /// Ends the stay, and hands the env back: the thread has left the gate.
@@ -105,5 +109,27 @@ impl<'e, S: Steps> Stay<'e, S> {
         let Stay { env, inside } = self;
         env.leave_stay(inside);
         env
+    }
+}
+
+impl<S: Steps> NativeCaller<S> for Stay<'_, S> {
+    ghost use Rattle.jr_env.specs.LentStays.{DoesWithin};
+    ghost use Rattle.jr_env.specs.Deeds.{in_a_stay};
+
+    ghost made = { λ old new request answer. DoesWithin old new (in_a_stay request) answer };
+
+    #[inline(always)]
+    fn make<C: NativeCall<S> + Drop>(&mut self, call: C) -> Result<C::Answer, Fault> {
+        self.env.make_inside(&self.inside, call)
+    }
+
+    #[inline(always)]
+    fn copy_part<E: Elem>(
+        &mut self,
+        array: Handle,
+        start: u32,
+        elements: &mut [E],
+    ) -> Result<(), Fault> {
+        self.env.copy_within(&self.inside, array, start, elements)
     }
 }

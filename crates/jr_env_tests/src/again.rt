@@ -2,7 +2,7 @@
 
 use crate::plain::{Case, try_plain};
 use jr_env::calls::{DeleteLocalRef, NewArray, SetArrayRegion};
-use jr_env::{Env, Patience, with_patience};
+use jr_env::{Env, NativeInterface, Patience, with_patience};
 use jr_fixtures::is_refused;
 use jr_steps::Steps;
 use jr_weak::Marker;

@@ -1,7 +1,7 @@
 //! What words are told to be, as references are made, cleared and deleted.
 
 use jr::Explanation;
-use jr_env::Env;
+use jr_env::{Env, NativeInterface};
 use jr_fixtures::made;
 use jr_steps::Steps;
 use jr_word::{Handle, Kind, RefKind};

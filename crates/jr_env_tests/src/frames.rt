@@ -1,7 +1,7 @@
 //! What scripts can't show of frames: a capacity of 32 bits, and local references that are freed while their env goes on.
 
 use crate::plain::{Case, try_plain};
-use jr_env::Env;
+use jr_env::{Env, NativeInterface};
 use jr_fixtures::{has_type, is_refused, made};
 use jr_steps::Steps;
 use jr_word::{Config, Fault, Handle};

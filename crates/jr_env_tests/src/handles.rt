@@ -2,7 +2,7 @@
 
 use crate::frames::are_free;
 use crate::plain::{Case, has_words, try_plain};
-use jr_env::Env;
+use jr_env::{Env, NativeInterface};
 use jr_fixtures::{has_type, is_refused, made, opened_env};
 use jr_rule::PlainSteps;
 use jr_steps::Steps;

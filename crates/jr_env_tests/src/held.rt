@@ -1,7 +1,7 @@
 //! What an env holds, while the env itself is out of reach.
 ghost use Rattle.jr_env.specs.Envs.{IsOutside};
 
-use jr_env::Env;
+use jr_env::{Env, NativeInterface};
 use jr_fixtures::{made, plain_env};
 use jr_gate::enter;
 use jr_steps::Steps;

@@ -3,7 +3,7 @@ ghost use Rattle.std.specs.Prelude.{true, IfOk};
 ghost use Rattle.jr_env.specs.Deeds.{new_plain};
 ghost use Rattle.jr_threads.specs.Parts.{replied, RanTogether};
 
-use jr::{Config, Env, Fault, Handle, NativeCode, Ran, Steps, run_native};
+use jr::{Config, Env, Fault, Handle, NativeCode, NativeInterface, Ran, Steps, run_native};
 use std::alloc::Global;
 use std::test::Fail;
 use std::thread::Threads;

@@ -1,8 +1,8 @@
 //! Notes between threads that own their room: each thread takes over the array that its neighbour sent by a queue, with a note of it. No clause is written here, and no file of proofs.
 
 use jr::{
-    Config, Env, Fault, Handle, NoteOf, NoteQueue, OwnedCode, OwnedStepsOf, Site, Summary,
-    close_owned, of_any_site, spawn_owned,
+    Config, Env, Fault, Handle, NativeInterface, NoteOf, NoteQueue, OwnedCode, OwnedStepsOf, Site,
+    Summary, close_owned, of_any_site, spawn_owned,
 };
 use std::sync::Wait;
 use std::test::Fail;

@@ -1,7 +1,9 @@
 //! A room that its threads own: threads that were spawned hand references on by a queue, and whoever is the last closes the room.
 
 use jr::calls::NewArray;
-use jr::{Config, Fault, Handle, OwnedEnv, Patience, Summary, close_owned, open_envs};
+use jr::{
+    Config, Fault, Handle, NativeInterface, OwnedEnv, Patience, Summary, close_owned, open_envs,
+};
 use std::sync::{Arc, Mutex, Wait};
 use std::test::Fail;
 use std::thread;

@@ -7,7 +7,7 @@ ghost use Rattle.jr_rule.specs.Sites.{IsSiteOf};
 
 use crate::notes::learns;
 use crate::plain::{Case, has_words, try_plain};
-use jr_env::Env;
+use jr_env::{Env, NativeInterface};
 use jr_fixtures::{LAST, has_type, is_refused, made, next_pass, opened_env};
 use jr_rule::{Pass, PlainSteps, Room, RoomSteps, Site, SiteSteps, ThreadNumber};
 use jr_steps::Steps;

@@ -1,7 +1,7 @@
 //! Calls that are made of others: a frame round a closure, strong references made of weak ones, and a region that ends with all its levels.
 
 use crate::plain::{Case, try_plain};
-use jr_env::{Env, Patience, with_local_frame, with_local_frame_returning};
+use jr_env::{Env, NativeInterface, Patience, with_local_frame, with_local_frame_returning};
 use jr_fixtures::{has_type, made};
 use jr_steps::Steps;
 use jr_word::{Config, Fault, Handle};

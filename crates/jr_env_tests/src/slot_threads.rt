@@ -1,6 +1,6 @@
 //! Threads that fight for the last serials of two slots.
 
-use jr_env::Env;
+use jr_env::{Env, NativeInterface};
 use jr_fixtures::{NoPass, has_type, next_env};
 use jr_rule::Room;
 use jr_steps::{Role, SlotLoad, Steps};

@@ -1,7 +1,7 @@
 //! The ten lines of README.md, by one thread in a room of its own.
 ghost use Rattle.jr_rule.specs.Passes.{IsOpened};
 
-use jr::{Collected, Config, Env, Fault, Handle, Pass, Room, RoomSteps};
+use jr::{Collected, Config, Env, Fault, Handle, NativeInterface, Pass, Room, RoomSteps};
 use jr_fixtures::{LAST, next_pass};
 use std::alloc::Global;
 use std::test::Fail;

@@ -7,7 +7,7 @@ ghost use Rattle.jr_rule.specs.Passes.{IsOpened};
 ghost use Rattle.jr_rule.specs.Rooms.{IsOfRoom};
 ghost use Rattle.jr_steps.specs.Knowing.{Spent};
 
-use jr_env::Env;
+use jr_env::{Env, NativeInterface};
 use jr_model::Summary;
 use jr_rule::{Pass, PlainSteps, Room, RoomSteps};
 use jr_steps::Steps;

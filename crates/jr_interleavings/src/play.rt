@@ -5,7 +5,7 @@ use crate::counted::Counts;
 use crate::run::Baton;
 use crate::scheduled::Scheduled;
 use crate::seen::Answer;
-use jr_env::Env;
+use jr_env::{Env, NativeInterface};
 use jr_steps::Steps;
 use jr_weak::{Collected, Marker};
 use jr_word::{Fault, Handle};

@@ -2,7 +2,7 @@
 
 use crate::shared::{Case, in_a_room};
 use jr_census::Census;
-use jr_env::Env;
+use jr_env::{Env, NativeInterface};
 use jr_fixtures::{collected, made};
 use jr_steps::Steps;
 use jr_weak::Marker;

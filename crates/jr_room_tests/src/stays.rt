@@ -12,7 +12,7 @@ ghost use Rattle.jr_steps.specs.Knowing.{view};
 use crate::plain::try_plain;
 use crate::shared::in_a_room;
 use crate::{plain, shared};
-use jr_env::{Env, Stay};
+use jr_env::{Env, NativeInterface, Stay};
 use jr_fixtures::{LAST, collected, collects, has_type, is_refused, made, next_pass};
 use jr_gate::announce;
 use jr_model::{Mode, open_stays_exclude_collections};

@@ -11,10 +11,12 @@ use Rattle.jr_model.specs.declared.frames.Mode.TheVariants.{Copy, Commit, Abort}
 use Rattle.jr_model.specs.Frames.{Frames}
 use Rattle.jr_steps.specs.Knowing.{Facts}
 use Rattle.jr_elements.specs.Copies.{answer_in, kept}
-use Rattle.jr_env.specs.Deeds.{Deed, DoesDeed, DoesOutside, answered_by, decided, done, release_answer}
+use Rattle.jr_env.specs.Requests.{for_get_array_elements, told_by}
+use Rattle.jr_env.specs.Deeds.{Deed, DoesDeed, DoesOutside, answered_by, decided, done, release_answer, whole}
 use Rattle.jr_env.specs.Deeds.{release_array_elements, get_array_elements, kind_of, ◌>>◌, ◌>>=◌}
 use Rattle.jr_env.proofs.Carrying.{did_answer, did_more, did_refuse, does_nothing}
 use Rattle.jr_env.proofs.EnvCalls.{does_answer, does_refuse}
+use Rattle.jr_env.proofs.Served.{does_kept}
 use Rattle.jr_syntax.specs.declared.command.Command.TheVariants as commands
 use Rattle.jr_syntax.specs.declared.verb.OnNameAt.{OnNameAt}
 use Rattle.jr_syntax.specs.declared.verb.OnNameAt.TheVariants as on_name_at
@@ -59,17 +61,22 @@ module _ {S : Type 0} {facts : S → Facts} where
         (λ words. copy_of (kind_numbered x) words) (get_array_elements (kind_numbered x) w)) answer) (sym is)
 
     -- a copy by the call of a kind that is known
-    pub does_copied : (words : List ℕ) (copied : Copied) → copied ≡ copy_of (kind_numbered m) words
-        → DoesOutside facts a b f g (get_array_elements (kind_numbered m) w) (Ok words) → DoesOutside facts a b f g
+    pub does_copied : {A : Type 0} {form : A → List ℕ} (x : A) (copied : Copied)
+        → copied ≡ copy_of (kind_numbered m) (form x)
+        → DoesOutside facts a b f g (whole (told_by form (for_get_array_elements (kind_numbered m) w))) (Ok x)
+        → DoesOutside facts a b f g
         (answered_by (λ words. copy_of (kind_numbered n) words) (get_array_elements (kind_numbered n) w)) (Ok copied)
-    does_copied words copied made d =
-        same_kind (Ok copied) (does_answer (λ words. copy_of (kind_numbered m) words) made d)
+    does_copied {form = form} x copied made d = same_kind (Ok copied) (does_answer
+        (λ words. copy_of (kind_numbered m) words) made (does_kept form (for_get_array_elements (kind_numbered m) w) d))
 
-    pub does_not_copy : (e : Fault) (answer : Result Copied Fault) → IsErrAnd answer (λ y. y ≡ e)
-        → DoesOutside facts a b f g (get_array_elements (kind_numbered m) w) (Err e) → DoesOutside facts a b f g
+    pub does_not_copy : {A : Type 0} {form : A → List ℕ} (e : Fault) (answer : Result Copied Fault)
+        → IsErrAnd answer (λ y. y ≡ e)
+        → DoesOutside facts a b f g (whole (told_by form (for_get_array_elements (kind_numbered m) w))) (Err e)
+        → DoesOutside facts a b f g
         (answered_by (λ words. copy_of (kind_numbered n) words) (get_array_elements (kind_numbered n) w)) answer
-    does_not_copy e answer refused d =
-        same_kind answer (does_refuse (λ words. copy_of (kind_numbered m) words) answer refused d)
+    does_not_copy {form = form} e answer refused d =
+        same_kind answer (does_refuse (λ words. copy_of (kind_numbered m) words) answer refused
+        (does_kept form (for_get_array_elements (kind_numbered m) w) d))
 
 -- elements that a release leaves
 pub some_left : {V : Type 0} (k : Kind) (word_of : V → ℕ) (mode : Mode) (answer : Result Reply Fault)

@@ -4,7 +4,7 @@ ghost use Rattle.jr_env.specs.Envs.{IsOutside};
 
 use crate::printing::BEFORE;
 use crate::scripts::SIZES;
-use jr_env::Env;
+use jr_env::{Env, NativeInterface};
 use jr_model::Summary;
 use jr_rule::PlainSteps;
 use jr_scripts::{NoHold, Notes, Posts, run_to_end};

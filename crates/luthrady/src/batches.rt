@@ -7,7 +7,7 @@ use crate::behind::env_of;
 use crate::handles::EnvHandle;
 use crate::held::Native;
 use crate::reply::{Reply, of_bool, of_byte, of_nothing, of_number, of_optional};
-use jr_env::{Env, Stay};
+use jr_env::{Env, NativeInterface, Stay};
 use jr_steps::Steps;
 use jr_word::{Fault, Handle};
 

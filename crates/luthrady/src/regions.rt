@@ -13,6 +13,7 @@ use crate::calling::make;
 use crate::handles::EnvHandle;
 use crate::held::Native;
 use crate::reply::{Reply, of_nothing};
+use jr_env::NativeInterface;
 use jr_env::calls::SetArrayRegion;
 use jr_word::{Elem, Fault, Handle};
 

@@ -1,5 +1,5 @@
 //! A small room that leaks.
-use jr_env::Env;
+use jr_env::{Env, NativeInterface};
 use jr_rule::Steps;
 use jr_word::{Fault, Handle};
 

@@ -3,7 +3,7 @@
 use crate::board::Board;
 use crate::{PATIENCE, SYMBOLS};
 use jr::calls::{DeleteGlobalRef, FreeLocals, GetObjectArrayElement, NewWeakGlobalRef};
-use jr::{Env, EnvCall, Fault, Handle, Steps, with_local_frame, with_patience};
+use jr::{Env, EnvCall, Fault, Handle, NativeInterface, Steps, with_local_frame, with_patience};
 use std::alloc::Global;
 
 /// What the worker read.

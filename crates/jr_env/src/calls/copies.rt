@@ -1,7 +1,7 @@
 //! The calls of the Java Native Interface that copy all elements of an array or string out, and back, over any steps.
 use crate::calls::array_parts::same_element;
 use crate::env::Env;
-use crate::native_call::NativeCall;
+use crate::native_call::{NativeCall, NativeCaller};
 use crate::work::outside;
 use jr_elements::{Elements, elements_of, put_back, read_all};
 use jr_frames::{Frames, Reference, find};
@@ -15,36 +15,9 @@ use std::marker::PhantomData;
 
 impl<S: Steps> Env<S> {
     ghost use Rattle.std.specs.Prelude.{◌≡◌, IfOk, IfErr, map};
-    ghost use Rattle.jr_elements.specs.Copies.{answer_in, kept};
+    ghost use Rattle.jr_elements.specs.Copies.{kept};
     ghost use Rattle.jr_env.specs.Envs.{Does};
-    ghost use Rattle.jr_env.specs.Deeds.{release_answer, release_array_elements, whole};
-    ghost use Rattle.jr_env.specs.Requests.{for_get_array_elements, for_get_string_chars};
-
-    /// Copies all elements of an array, one after the other, rising. (JNI Specification, chapter 4, "Get<PrimitiveType>ArrayElements Routines")
-    ///
-    /// # Errors
-    ///
-    /// E13 where a thread is collecting at the entry, or has announced that it will; E2 where the handle is malformed or lies outside the room; E3 where it is a local one of another thread; E2 where its reference does not stand; E1 where it is to null; E5 where it is to a plain object or a string; E6 where it is to an array of other elements; E16 where the memory for them was refused.
-    ///
-    /// No element is read then, nothing has changed, and the thread stands outside.
-    ///
-    /// # Operations
-    ///
-    /// At most 4, and one for each element: the entry, a look at the slot of a global or weak handle, one at the array's header, a load for each element, and the exit.
-    pub fn get_array_elements<E: Elem>(
-        &mut self,
-        alloc: Global,
-        array: Handle,
-    ) -> Result<Elements<E>, Fault>
-        ensures { Does self.old self.new (whole (for_get_array_elements E.KIND array.0)) (answer_in (map E.word_of) result) }
-    {
-        let element = PhantomData;
-        self.make(GetArrayElements {
-            alloc,
-            array,
-            element,
-        })
-    }
+    ghost use Rattle.jr_env.specs.Deeds.{release_answer, release_array_elements};
 
     /// Releases copied elements by a mode. To copy writes them to the whole array, one after the other, rising, and gives them up; to commit writes them and hands them back, as they were; to abort gives them up, enters no gate, looks at no reference and is never refused. (JNI Specification, chapter 4, "Release<PrimitiveType>ArrayElements Routines")
     ///
@@ -79,23 +52,6 @@ impl<S: Steps> Env<S> {
             Ok(()) => Ok(elements.kept(mode)),
             Err(fault) => Err((elements, fault)),
         }
-    }
-
-    /// Copies all UTF-16 units of a string, one after the other, rising. (JNI Specification, chapter 4, "GetStringChars")
-    ///
-    /// # Errors
-    ///
-    /// E13 where a thread is collecting at the entry, or has announced that it will; E2 where the handle is malformed or lies outside the room; E3 where it is a local one of another thread; E2 where its reference does not stand; E1 where it is to null; E4 where it is to no string; E16 where the memory for them was refused.
-    ///
-    /// No unit is read then, nothing has changed, and the thread stands outside.
-    ///
-    /// # Operations
-    ///
-    /// At most 4, and one for each unit: the entry, a look at the slot of a global or weak handle, one at the string's header, a load for each unit, and the exit.
-    pub fn get_string_chars(&mut self, alloc: Global, string: Handle) -> Result<Vec<u16>, Fault>
-        ensures { Does self.old self.new (whole (for_get_string_chars string.0)) (answer_in (λ units. units.items) result) }
-    {
-        self.make(GetStringChars { alloc, string })
     }
 }
 

@@ -1,7 +1,7 @@
 //! The calls of the Java Native Interface for the frames of one thread, over any steps.
 use crate::env::Env;
 use crate::env_call::EnvCall;
-use crate::native_call::NativeCall;
+use crate::native_call::{NativeCall, NativeCaller};
 use crate::work::outside;
 use jr_frames::{Frames, Reference, free_all, pop_frame, resolve};
 use jr_gate::Inside;
@@ -12,8 +12,7 @@ use jr_word::{Fault, Handle};
 
 impl<S: Steps> Env<S> {
     ghost use Rattle.jr_env.specs.Envs.{Does};
-    ghost use Rattle.jr_env.specs.Deeds.{ensure_local_capacity, push_local_frame, whole};
-    ghost use Rattle.jr_env.specs.Requests.{for_free_locals, for_pop_local_frame};
+    ghost use Rattle.jr_env.specs.Deeds.{ensure_local_capacity, push_local_frame};
 
     /// Tells whether so many more local references can be made. It enters no gate. A negative capacity can't be handed in. (JNI Specification, chapter 4, "EnsureLocalCapacity")
     ///
@@ -60,40 +59,6 @@ impl<S: Steps> Env<S> {
         }
         self.held.frames.push();
         Ok(())
-    }
-
-    /// Takes the newest frame away with its local references, and makes one in the frame below to what the handle names, none for NULL and for a weak one that is cleared, which needs no place. (JNI Specification, chapter 4, "PopLocalFrame")
-    ///
-    /// # Errors
-    ///
-    /// E13 where a thread is collecting at the entry, or has announced that it will; E15 where no frame was pushed; E2 where the handle is malformed or lies outside the room; E3 where it is a local one of another thread; E2 where its reference does not stand; E9 where no place would be free for the result, once those of the frame are.
-    ///
-    /// Nothing is taken away then, and the thread stands outside.
-    ///
-    /// # Operations
-    ///
-    /// Just its events: the entry, a look at the slot of a global or weak handle, a store for each local reference of the frame, one for the result, and the exit.
-    pub fn pop_local_frame(&mut self, kept: Handle) -> Result<Option<Handle>, Fault>
-        ensures { Does self.old self.new (whole (for_pop_local_frame kept.0)) result }
-    {
-        self.make(PopLocalFrame(kept))
-    }
-
-    /// Frees all local references of the thread, as at the end of a native method. One empty frame is left. (JNI Specification, chapter 2, "Global and Local References")
-    ///
-    /// # Errors
-    ///
-    /// E13 where a thread is collecting at the entry, or has announced that it will.
-    ///
-    /// Nothing has changed then, and the thread stands outside.
-    ///
-    /// # Operations
-    ///
-    /// Just its events: the entry, a store for each local reference, and the exit.
-    pub fn free_locals(&mut self) -> Result<(), Fault>
-        ensures { Does self.old self.new (whole for_free_locals) result }
-    {
-        self.make(FreeLocals)
     }
 }
 

@@ -13,88 +13,13 @@ ghost use Rattle.jr_env.specs.Works.{Refers, MakesArray};
 use crate::calls::objects::element_word;
 use crate::env::Env;
 use crate::env_call::EnvCall;
-use crate::native_call::NativeCall;
+use crate::native_call::{NativeCall, NativeCaller};
 use jr_frames::{Frames, Reference, resolve};
 use jr_gate::Inside;
 use jr_heap::{Numbers, Range, fill, fill_from, publish, reserve};
 use jr_steps::Steps;
 use jr_word::{Elem, Fault, Handle, HandleParts, Kind};
 use std::marker::PhantomData;
-
-impl<S: Steps> Env<S> {
-    ghost use Rattle.jr_env.specs.Envs.{Does};
-    ghost use Rattle.jr_env.specs.Deeds.{whole};
-    ghost use Rattle.jr_env.specs.Requests.{for_new_plain, for_new_array, for_new_object_array, for_new_string};
-
-    /// Makes a plain object, which has no elements, and a local reference to it. The Java Native Interface has no such call.
-    ///
-    /// # Errors
-    ///
-    /// E13 where a thread is collecting at the entry, or has announced that it will; E9 where no local place is free; E11 where every object number was present at one moment of the call.
-    ///
-    /// Nothing has changed then, and the thread stands outside.
-    ///
-    /// # Operations
-    ///
-    /// At most 4, and one for each object number of the room: its events (the entry, the exchange of a header, the store of the local word, the exit), and an exchange for each number that is found present.
-    pub fn new_plain(&mut self) -> Result<Handle, Fault>
-        ensures { Does self.old self.new (whole for_new_plain) result }
-    {
-        self.make(NewPlain)
-    }
-
-    /// Makes an array of so many elements, each zero (false), and a local reference to it. (JNI Specification, chapter 4, "New<PrimitiveType>Array Routines")
-    ///
-    /// # Errors
-    ///
-    /// E13 where a thread is collecting at the entry, or has announced that it will; E9 where no local place is free; E10 with how many words are reserved, where so many more don't fit; E12 with how many words were looked at and how many were found, where another thread reserved some in between; E11 where every object number was present at one moment of the call.
-    ///
-    /// Nothing has changed then, and the thread stands outside; but after E11 the words of the array stay reserved until the next collection.
-    ///
-    /// # Operations
-    ///
-    /// At most 6, and one for each element and for each object number of the room: its events (the entry, the exchange of the top, that of a header, the store of the local word, the exit), the look at the top, a store for each element, and an exchange for each number that is found present. Without elements nothing is reserved.
-    pub fn new_array<E: Elem>(&mut self, length: u32) -> Result<Handle, Fault>
-        ensures { Does self.old self.new (whole (for_new_array E.KIND length)) result }
-    {
-        let element = PhantomData::<E>;
-        self.make(NewArray { length, element })
-    }
-
-    /// Makes an array of so many object references, each to what the handle names, null for NULL and for a weak one that is cleared, and a local reference to it. (JNI Specification, chapter 4, "NewObjectArray")
-    ///
-    /// # Errors
-    ///
-    /// E13 where a thread is collecting at the entry, or has announced that it will; E2 where the handle is malformed or lies outside the room; E3 where it is a local one of another thread; E2 where its reference does not stand; E9 where no local place is free; E10 with how many words are reserved, where so many more don't fit; E12 with how many words were looked at and how many were found, where another thread reserved some in between; E11 where every object number was present at one moment of the call.
-    ///
-    /// Nothing has changed then, and the thread stands outside; but after E11 the words of the array stay reserved until the next collection.
-    ///
-    /// # Operations
-    ///
-    /// At most 7, and one for each element and for each object number of the room: its events (the entry, a look at the slot of a global or weak handle, the exchange of the top, that of a header, the store of the local word, the exit), the look at the top, a store for each element, and an exchange for each number that is found present. Without elements nothing is reserved.
-    pub fn new_object_array(&mut self, length: u32, initial: Handle) -> Result<Handle, Fault>
-        ensures { Does self.old self.new (whole (for_new_object_array length initial.0)) result }
-    {
-        self.make(NewObjectArray(length, initial))
-    }
-
-    /// Makes a string of these UTF-16 units, and a local reference to it. (JNI Specification, chapter 4, "NewString")
-    ///
-    /// # Errors
-    ///
-    /// E13 where a thread is collecting at the entry, or has announced that it will; E9 where no local place is free; E10 with how many words are reserved, where so many more don't fit; E12 with how many words were looked at and how many were found, where another thread reserved some in between; E11 where every object number was present at one moment of the call.
-    ///
-    /// Nothing has changed then, and the thread stands outside; but after E11 the words of the string stay reserved until the next collection.
-    ///
-    /// # Operations
-    ///
-    /// At most 6, and one for each unit and for each object number of the room: its events (the entry, the exchange of the top, that of a header, the store of the local word, the exit), the look at the top, a store for each unit, and an exchange for each number that is found present. Without units nothing is reserved.
-    pub fn new_string(&mut self, units: &[u16]) -> Result<Handle, Fault>
-        ensures { Does self.old self.new (whole (for_new_string units.now)) result }
-    {
-        self.make(NewString(units))
-    }
-}
 
 /// A plain object and a local reference to it.
 #[derive(Clone, Copy)]

@@ -13,7 +13,7 @@ ghost use Rattle.jr_env.specs.Works.{Serves};
 
 use crate::env::Env;
 use crate::env_call::EnvCall;
-use crate::native_call::NativeCall;
+use crate::native_call::{NativeCall, NativeCaller};
 use jr_frames::{
     Frames, Reference, delete_local, lies_outside, names_kind, new_local, resolve, resolve_both,
     type_of,
@@ -23,153 +23,6 @@ use jr_heap::Numbers;
 use jr_row::{create, delete};
 use jr_steps::Steps;
 use jr_word::{Fault, Handle, HandleParts, RefKind};
-
-impl<S: Steps> Env<S> {
-    ghost use Rattle.jr_word.specs.declared.handle.RefKind.TheVariants.{Global, Weak};
-    ghost use Rattle.jr_env.specs.Envs.{Does};
-    ghost use Rattle.jr_env.specs.Deeds.{whole};
-    ghost use Rattle.jr_env.specs.Requests.{for_new_reference, for_new_local_ref, for_delete_reference, for_delete_local_ref, for_is_same_object, for_get_object_ref_type};
-
-    /// Makes a global reference to what the handle names, none for NULL and for a weak one that is cleared. (JNI Specification, chapter 4, "NewGlobalRef")
-    ///
-    /// # Errors
-    ///
-    /// E13 where a thread is collecting at the entry, or has announced that it will; E2 where the handle is malformed or lies outside the room; E3 where it is a local one of another thread; E2 where its reference does not stand; E8 where each slot was occupied when it was tried, or later in the call.
-    ///
-    /// Nothing has changed then, and the thread stands outside.
-    ///
-    /// # Operations
-    ///
-    /// Just its events: the entry, a look at the slot of a global or weak handle, a look at each slot that is tried and the exchange of each that was free, which are two for each slot of the room at the most, and the exit.
-    pub fn new_global_ref(&mut self, handle: Handle) -> Result<Option<Handle>, Fault>
-        ensures { Does self.old self.new (whole (for_new_reference Global handle.0)) result }
-    {
-        self.make(NewGlobalRef(handle))
-    }
-
-    /// Makes a weak global reference to what the handle names, none for NULL and for a weak one that is cleared. (JNI Specification, chapter 4, "NewWeakGlobalRef")
-    ///
-    /// # Errors
-    ///
-    /// E13 where a thread is collecting at the entry, or has announced that it will; E2 where the handle is malformed or lies outside the room; E3 where it is a local one of another thread; E2 where its reference does not stand; E8 where each slot was occupied when it was tried, or later in the call.
-    ///
-    /// Nothing has changed then, and the thread stands outside.
-    ///
-    /// # Operations
-    ///
-    /// Just its events: the entry, a look at the slot of a global or weak handle, a look at each slot that is tried and the exchange of each that was free, which are two for each slot of the room at the most, and the exit.
-    pub fn new_weak_global_ref(&mut self, handle: Handle) -> Result<Option<Handle>, Fault>
-        ensures { Does self.old self.new (whole (for_new_reference Weak handle.0)) result }
-    {
-        self.make(NewWeakGlobalRef(handle))
-    }
-
-    /// Makes a local reference to what the handle names, none for NULL and for a weak one that is cleared, which needs no place. (JNI Specification, chapter 4, "NewLocalRef")
-    ///
-    /// # Errors
-    ///
-    /// E13 where a thread is collecting at the entry, or has announced that it will; E2 where the handle is malformed or lies outside the room; E3 where it is a local one of another thread; E2 where its reference does not stand; E9 where no local place is free.
-    ///
-    /// Nothing has changed then, and the thread stands outside.
-    ///
-    /// # Operations
-    ///
-    /// Just its events, 2 to 4: the entry, a look at the slot of a global or weak handle, the store of the local word, and the exit.
-    pub fn new_local_ref(&mut self, handle: Handle) -> Result<Option<Handle>, Fault>
-        ensures { Does self.old self.new (whole (for_new_local_ref handle.0)) result }
-    {
-        self.make(NewLocalRef(handle))
-    }
-
-    /// Deletes a global reference. For NULL it deletes nothing, and is not refused. (JNI Specification, chapter 4, "DeleteGlobalRef")
-    ///
-    /// # Errors
-    ///
-    /// E13 where a thread is collecting at the entry, or has announced that it will; E2 where the handle is malformed; E4 where it is of another kind; E2 where it lies outside the room, its reference does not stand, or another thread deletes it first.
-    ///
-    /// Nothing has changed then, and the thread stands outside.
-    ///
-    /// # Operations
-    ///
-    /// Just its events, 2 to 4: the entry, a look at the slot, the exchange of a word that stands there, and the exit.
-    pub fn delete_global_ref(&mut self, handle: Handle) -> Result<(), Fault>
-        ensures { Does self.old self.new (whole (for_delete_reference Global handle.0)) result }
-    {
-        self.make(DeleteGlobalRef(handle))
-    }
-
-    /// Deletes a weak global reference, cleared or not. For NULL it deletes nothing, and is not refused. (JNI Specification, chapter 4, "DeleteWeakGlobalRef")
-    ///
-    /// # Errors
-    ///
-    /// E13 where a thread is collecting at the entry, or has announced that it will; E2 where the handle is malformed; E4 where it is of another kind; E2 where it lies outside the room, its reference does not stand, or another thread deletes it first.
-    ///
-    /// Nothing has changed then, and the thread stands outside.
-    ///
-    /// # Operations
-    ///
-    /// Just its events, 2 to 4: the entry, a look at the slot, the exchange of a word that stands there, and the exit.
-    pub fn delete_weak_global_ref(&mut self, handle: Handle) -> Result<(), Fault>
-        ensures { Does self.old self.new (whole (for_delete_reference Weak handle.0)) result }
-    {
-        self.make(DeleteWeakGlobalRef(handle))
-    }
-
-    /// Deletes a local reference of the thread, whichever frame has it. For NULL it deletes nothing, and is not refused. (JNI Specification, chapter 4, "DeleteLocalRef")
-    ///
-    /// # Errors
-    ///
-    /// E13 where a thread is collecting at the entry, or has announced that it will; E2 where the handle is malformed; E4 where it is of another kind; E2 where it lies outside the room; E3 where it is one of another thread; E2 where its reference does not stand.
-    ///
-    /// Nothing has changed then, and the thread stands outside.
-    ///
-    /// # Operations
-    ///
-    /// Just its events, 2 or 3: the entry, the store of the local word, and the exit.
-    pub fn delete_local_ref(&mut self, handle: Handle) -> Result<(), Fault>
-        ensures { Does self.old self.new (whole (for_delete_local_ref handle.0)) result }
-    {
-        self.make(DeleteLocalRef(handle))
-    }
-
-    /// Whether two references are to one object, or both to null. The look at the first and the look at the second are two moments. Each check is made of the first handle and then of the second, before the next check. (JNI Specification, chapter 4, "IsSameObject")
-    ///
-    /// # Errors
-    ///
-    /// E13 where a thread is collecting at the entry, or has announced that it will; E2 where a handle is malformed or lies outside the room; E3 where one is a local one of another thread; E2 where the reference of one does not stand.
-    ///
-    /// Nothing has changed then, and the thread stands outside.
-    ///
-    /// # Operations
-    ///
-    /// Just its events, 2 to 4: the entry, a look at the slot of each handle that is global or weak, and the exit.
-    pub fn is_same_object(&mut self, left: Handle, right: Handle) -> Result<bool, Fault>
-        ensures { Does self.old self.new (whole (for_is_same_object left.0 right.0)) result }
-    {
-        if left.is_shared() && right.is_shared() {
-            // (the same, in a place of its own: there the compiler knows how most of the tests end)
-            return self.make(IsSameObject(left, right));
-        }
-        self.make(IsSameObject(left, right))
-    }
-
-    /// The type of a reference: 1 local, 2 global, 3 weak global, be it cleared, and 0 for NULL, a malformed handle, one that lies outside the room, a local one of another thread, and one whose reference does not stand. (JNI Specification, chapter 4, "GetObjectRefType")
-    ///
-    /// # Errors
-    ///
-    /// E13 where a thread is collecting at the entry, or has announced that it will.
-    ///
-    /// Nothing has changed then, and the thread stands outside.
-    ///
-    /// # Operations
-    ///
-    /// Just its events, 2 or 3: the entry, a look at the slot of a global or weak handle, and the exit.
-    pub fn get_object_ref_type(&mut self, handle: Handle) -> Result<u8, Fault>
-        ensures { Does self.old self.new (whole (for_get_object_ref_type handle.0)) result }
-    {
-        self.make(GetObjectRefType(handle))
-    }
-}
 
 /// A global reference to what a handle names, none for NULL.
 #[derive(Clone, Copy)]
@@ -416,10 +269,11 @@ impl<S: Steps> NativeCall<S> for IsSameObject {
         frames: &mut Frames,
         _numbers: &mut Numbers,
     ) -> Result<bool, Fault> {
-        let left = Reference::of(self.0);
-        let right = Reference::of(self.1);
-        let (first, second) = resolve_both(steps, inside, frames, left, right)?;
-        Ok(first == second)
+        if self.0.is_shared() && self.1.is_shared() {
+            // (the same, in a place of its own: there the compiler knows how most of the tests end)
+            return compare(steps, inside, frames, self.0, self.1);
+        }
+        compare(steps, inside, frames, self.0, self.1)
     }
 }
 
@@ -469,6 +323,25 @@ impl<S: Steps> EnvCall<S> for GetObjectRefType {
     fn make(&self, env: &mut Env<S>) -> Result<u8, Fault> {
         env.make(*self)
     }
+}
+
+/// Whether two handles name one object, or both none.
+#[inline(always)]
+fn compare<S: Steps>(
+    steps: &mut S,
+    inside: &Inside,
+    frames: &Frames,
+    left: Handle,
+    right: Handle,
+) -> Result<bool, Fault>
+    requires stay { IsOwnStay inside.now (S.facts steps.old).stands }
+    requires ready { StandsReady S.facts Within steps.old frames.now }
+    ensures { Serves S.facts steps.old steps.new frames.now.frames frames.now.frames (for_is_same_object left.0 right.0) result }
+{
+    let left = Reference::of(left);
+    let right = Reference::of(right);
+    let (first, second) = resolve_both(steps, inside, frames, left, right)?;
+    Ok(first == second)
 }
 
 /// Makes a reference of the kind to what a handle names, none for NULL.

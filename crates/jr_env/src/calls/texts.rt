@@ -1,5 +1,6 @@
 //! Strings of the machine from a text of Rust's, and back.
 use crate::env::Env;
+use crate::native_interface::NativeInterface;
 use jr_elements::{text_of, utf16_of};
 use jr_steps::Steps;
 use jr_word::{Fault, Handle};

@@ -1,46 +1,17 @@
 //! The calls that copy all elements of an array or string out, and back, in a stay, over any steps.
-use crate::calls::copies::{CopyBack, GetArrayElements, GetStringChars};
+use crate::calls::copies::CopyBack;
+use crate::native_call::NativeCaller;
 use crate::stay::Stay;
 use jr_elements::Elements;
 use jr_model::Mode;
 use jr_steps::Steps;
 use jr_word::{Elem, Fault, Handle};
-use std::alloc::Global;
-use std::marker::PhantomData;
 
 impl<S: Steps> Stay<'_, S> {
     ghost use Rattle.std.specs.Prelude.{◌≡◌, IfOk, IfErr, map};
-    ghost use Rattle.jr_elements.specs.Copies.{answer_in, kept};
-    ghost use Rattle.jr_env.specs.Deeds.{release_answer, release_within, in_a_stay};
-    ghost use Rattle.jr_env.specs.LentStays.{env_in, DoesWithin};
-    ghost use Rattle.jr_env.specs.Requests.{for_get_array_elements, for_get_string_chars};
-
-    /// Copies all elements of an array, one after the other, rising. (JNI Specification, chapter 4, "Get<PrimitiveType>ArrayElements Routines")
-    ///
-    /// # Errors
-    ///
-    /// E2 where the handle is malformed or lies outside the room; E3 where it is a local one of another thread; E2 where its reference does not stand; E1 where it is to null; E5 where it is to a plain object or a string; E6 where it is to an array of other elements; E16 where the memory for them was refused.
-    ///
-    /// No element is read then, nothing has changed, and the stay stands.
-    ///
-    /// # Operations
-    ///
-    /// At most 2, and one for each element: a look at the slot of a global or weak handle, one at the array's header, and a load for each element.
-    pub fn get_array_elements<E: Elem>(
-        &mut self,
-        alloc: Global,
-        array: Handle,
-    ) -> Result<Elements<E>, Fault>
-        ensures same_reference { (env_in self.new).ghost_name ≡ (env_in self.old).ghost_name }
-        ensures call { DoesWithin self.old self.new (in_a_stay (for_get_array_elements E.KIND array.0)) (answer_in (map E.word_of) result) }
-    {
-        let element = PhantomData;
-        self.make(GetArrayElements {
-            alloc,
-            array,
-            element,
-        })
-    }
+    ghost use Rattle.jr_elements.specs.Copies.{kept};
+    ghost use Rattle.jr_env.specs.Deeds.{release_answer, release_within};
+    ghost use Rattle.jr_env.specs.LentStays.{DoesWithin};
 
     /// Releases copied elements by a mode. To copy writes them to the whole array, one after the other, rising, and gives them up; to commit writes them and hands them back, as they were; to abort gives them up, enters no gate, looks at no reference and is never refused. (JNI Specification, chapter 4, "Release<PrimitiveType>ArrayElements Routines")
     ///
@@ -59,7 +30,6 @@ impl<S: Steps> Stay<'_, S> {
         elements: Elements<E>,
         mode: Mode,
     ) -> Result<Option<Elements<E>>, (Elements<E>, Fault)>
-        ensures same_reference { (env_in self.new).ghost_name ≡ (env_in self.old).ghost_name }
         ensures call { DoesWithin self.old self.new (release_within E.KIND array.0 (map E.word_of elements) mode) (release_answer (map E.word_of) result) }
         ensures ok { IfOk result (λ left. left ≡ kept mode elements) }
         ensures err { IfErr result (λ refused. refused.0 ≡ elements) }
@@ -75,23 +45,5 @@ impl<S: Steps> Stay<'_, S> {
             Ok(()) => Ok(elements.kept(mode)),
             Err(fault) => Err((elements, fault)),
         }
-    }
-
-    /// Copies all UTF-16 units of a string, one after the other, rising. (JNI Specification, chapter 4, "GetStringChars")
-    ///
-    /// # Errors
-    ///
-    /// E2 where the handle is malformed or lies outside the room; E3 where it is a local one of another thread; E2 where its reference does not stand; E1 where it is to null; E4 where it is to no string; E16 where the memory for them was refused.
-    ///
-    /// No unit is read then, nothing has changed, and the stay stands.
-    ///
-    /// # Operations
-    ///
-    /// At most 2, and one for each unit: a look at the slot of a global or weak handle, one at the string's header, and a load for each unit.
-    pub fn get_string_chars(&mut self, alloc: Global, string: Handle) -> Result<Vec<u16>, Fault>
-        ensures same_reference { (env_in self.new).ghost_name ≡ (env_in self.old).ghost_name }
-        ensures call { DoesWithin self.old self.new (in_a_stay (for_get_string_chars string.0)) (answer_in (λ units. units.items) result) }
-    {
-        self.make(GetStringChars { alloc, string })
     }
 }

@@ -46,7 +46,7 @@ impl<S: Steps> Env<S> {
 }
 
 impl<S: Steps> Stay<'_, S> {
-    ghost use Rattle.jr_env.specs.LentStays.{DoesWithin, env_in};
+    ghost use Rattle.jr_env.specs.LentStays.{DoesWithin};
     ghost use Rattle.jr_env.specs.Words.{explaining};
 
     /// What a word is that native code hands in as a handle: NULL, malformed, outside the room, another thread's local one, standing (of which kind, and for an object of which kind or cleared), of another kind than the reference that stands under its serial, given and gone, or not given yet. What it tells of the room was so at its one look. It changes nothing.
@@ -60,8 +60,7 @@ impl<S: Steps> Stay<'_, S> {
     /// At most 2: a look at the slot of a global or weak handle that lies in the room, and one at the header of an object that stands there.
     #[inline(always)]
     pub fn explain(&mut self, handle: Handle) -> Result<Explanation, Fault>
-        ensures same_reference { (env_in self.new).ghost_name ≡ (env_in self.old).ghost_name }
-        ensures call { DoesWithin self.old self.new (explaining handle.0) result }
+        ensures { DoesWithin self.old self.new (explaining handle.0) result }
     {
         let target = Reference::of(handle);
         Ok(self.env.explain_within(&self.inside, target))

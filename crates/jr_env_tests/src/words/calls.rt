@@ -1,7 +1,7 @@
 //! Each call that takes a reference, and with what it is refused.
 
 use jr_elements::{Elements, elements_of};
-use jr_env::{Env, levels_beside};
+use jr_env::{Env, NativeInterface, levels_beside};
 use jr_model::Mode;
 use jr_steps::Steps;
 use jr_word::{Fault, Handle, RefKind};

@@ -2,7 +2,7 @@
 
 use crate::words::calls::{CALLS, Call, DELETIONS, Given, INTS, NESTING, OF_TWO, refused_by};
 use crate::words::known::Known;
-use jr_env::Env;
+use jr_env::{Env, NativeInterface};
 use jr_fixtures::{LAST, NoPass, closed, collects, has_type, made, next_env, next_pass, plain_env};
 use jr_model::Summary;
 use jr_rule::Room;

@@ -5,7 +5,7 @@ ghost use Rattle.jr_env.specs.Collections.{FitsRoom};
 ghost use Rattle.jr_env.specs.Envs.{IsOutside};
 
 use crate::shared::{Case, in_a_room};
-use jr_env::Env;
+use jr_env::{Env, NativeInterface};
 use jr_fixtures::{is_refused, made};
 use jr_gate::{announce, enter};
 use jr_steps::Steps;

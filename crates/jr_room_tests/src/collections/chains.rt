@@ -1,7 +1,7 @@
 //! Chains of as many arrays as there may be, each of which names the one before, followed without recursion.
 
 use crate::plain::{Case, try_plain};
-use jr_env::Env;
+use jr_env::{Env, NativeInterface};
 use jr_fixtures::{collects, has_type, made};
 use jr_steps::Steps;
 use jr_word::{Config, Handle};

@@ -1,5 +1,5 @@
 use jr_env::calls::NewPlain;
-use jr_env::{Env, Patience};
+use jr_env::{Env, NativeInterface, Patience};
 use jr_fixtures::{is_refused, plain_env};
 use jr_steps::Steps;
 use jr_weak::Marker;

@@ -1,7 +1,7 @@
 //! The words that a collection leaves.
 
 use crate::plain::{Case, leaves_words};
-use jr_env::Env;
+use jr_env::{Env, NativeInterface};
 use jr_fixtures::{collects, made};
 use jr_steps::Steps;
 use jr_word::Config;

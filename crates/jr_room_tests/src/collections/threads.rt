@@ -3,7 +3,7 @@ ghost use Rattle.std.specs.Prelude.{All};
 ghost use Rattle.jr_rule.specs.Passes.{IsOpened};
 
 use jr_env::calls::{DeleteGlobalRef, DeleteLocalRef, GetObjectRefType, SetArrayRegion};
-use jr_env::{Env, Patience, with_patience};
+use jr_env::{Env, NativeInterface, Patience, with_patience};
 use jr_fixtures::{LAST, NoPass, closed, collected, next_env, next_pass};
 use jr_model::Summary;
 use jr_rule::{Pass, Room};

@@ -3,7 +3,7 @@
 use crate::buffer::{Buffer, CopiedElements, buffer_of};
 use crate::copied_units::CopiedUnits;
 use crate::number::NumberKind;
-use jr_env::{Env, EnvCall};
+use jr_env::{Env, EnvCall, NativeInterface};
 use jr_steps::Steps;
 use jr_word::{Fault, Handle};
 use std::alloc::Global;

@@ -6,7 +6,7 @@ ghost use Rattle.jr_env.specs.Envs.{Does};
 ghost use Rattle.jr_scripts.specs.Numbers.{first_number};
 
 use crate::number::{Element, Number, NumberKind};
-use jr_env::{Env, EnvCall};
+use jr_env::{Env, EnvCall, NativeInterface};
 use jr_steps::Steps;
 use jr_syntax::MakeSized;
 use jr_word::{Fault, Handle};

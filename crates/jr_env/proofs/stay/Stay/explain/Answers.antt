@@ -1,8 +1,12 @@
+use Rattle.std.proofs.Common.{rules}
 use Rattle.jr_frames.specs.Reading.{word_of}
 use Rattle.jr_env.proofs.ExplainedWords.{explained_inside}
 use Rattle.jr_env.proofs.stay.Stay.explain.Goals as goal
 
-pub returns-clause-call : goal.returns-clause-call
-returns-clause-call g c = explained_inside g.met.S.Steps.fits c.args.self.now.env.now c.explain_within.new.self
-    c.args.handle.0 (word_of c.of-target.result) c.explain_within.result c.of-target.ensures.reads
-    c.explain_within.ensures.frames c.explain_within.ensures.call c.explain_within.ensures.on
+pub returns : goal.returns
+returns g c = record {
+  same_reference = search rules;
+  call = explained_inside g.met.S.Steps.fits c.args.self.now.env.now c.explain_within.new.self
+      c.args.handle.0 (word_of c.of-target.result) c.explain_within.result c.of-target.ensures.reads
+      c.explain_within.ensures.frames c.explain_within.ensures.call c.explain_within.ensures.on;
+}
