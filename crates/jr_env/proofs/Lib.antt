@@ -19,6 +19,7 @@ pub mod ElementReading
 pub mod ArrayParts
 pub mod ElementWriting
 pub mod WholeCopies
+pub mod Watching
 pub mod ReleasedElements
 pub mod WholeCollections
 pub mod WholeCensuses

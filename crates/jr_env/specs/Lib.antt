@@ -10,6 +10,7 @@ pub mod Tries
 pub mod Scopes
 pub mod Texts
 pub mod Works
+pub mod Watching
 pub mod Words
 pub mod LentStays
 pub mod Moving

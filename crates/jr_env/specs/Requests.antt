@@ -27,6 +27,8 @@ use Rattle.jr_model.specs.References.{popping, resolved}
 use Rattle.jr_model.specs.References as references
 use Rattle.jr_model.specs.Objects as objects
 use Rattle.jr_model.specs.AllCalls.{AnswerKind, AnswerOf, CallOf, means}
+use Rattle.jr_env.specs.declared.native_call.Handed.{Handed}
+use Rattle.jr_env.specs.declared.native_call.Handed.TheVariants.{Nothing, One, Both}
 use Rattle.jr_model.proofs.EachCall.{calls_move_frames, whole_stays}
 
 -- the word of a handle, as native code holds it
@@ -76,6 +78,20 @@ pub data Request : Type 0 → Type 1 where
   on_words : {A : Type 0} → ℕ → ℕ → (Word → Word → Request A) → Request A
   gives : {A B : Type 0} → (B → A) → Request B → Request A
   told_by : {A B : Type 0} → (A → B) → Request B → Request A
+
+-- the words that a request reads as references, in their order
+abbrev pub words_of : {A : Type 0} → Request A → List ℕ
+words_of (asks silent work law) = []
+words_of (on_word w next) = w ∷ []
+words_of (on_words v w next) = v ∷ w ∷ []
+words_of (gives form first) = words_of first
+words_of (told_by form first) = words_of first
+
+-- the words that a call hands in
+abbrev pub handed_words : Handed → List ℕ
+handed_words Nothing = []
+handed_words (One h) = h.0 ∷ []
+handed_words (Both g h) = g.0 ∷ h.0 ∷ []
 
 -- a new array or string of n words may take a look at the top, a store
 -- for each word and an exchange for each object number, beside its events

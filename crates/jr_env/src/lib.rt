@@ -2,6 +2,7 @@
 #![tactic(auto)]
 
 pub mod calls;
+mod checked;
 mod critical_region;
 mod env;
 mod env_call;
@@ -10,17 +11,19 @@ pub mod levels_beside;
 mod native_call;
 mod native_interface;
 mod patience;
+mod reporting;
 mod retrying;
 mod scope;
 mod stay;
 mod stays;
 mod work;
 
+pub use checked::{Checked, Evidence, Examined, Explains, Refusal, Watcher};
 pub use critical_region::Region;
 pub use env::Env;
 pub use env_call::EnvCall;
 pub use jr_frames::Explanation;
-pub use native_call::{NativeCall, NativeCaller};
+pub use native_call::{Handed, NativeCall, NativeCaller};
 pub use native_interface::NativeInterface;
 pub use patience::{Patience, with_patience};
 pub use retrying::{is_made_again, is_short_of_room};

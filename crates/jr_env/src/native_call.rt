@@ -6,18 +6,37 @@ use jr_heap::Numbers;
 use jr_steps::Steps;
 use jr_word::{Elem, Fault, Handle};
 
+/// The words that a call is handed as references, in their order.
+#[derive(Clone, Copy, Debug, PartialEq, Eq)]
+pub enum Handed {
+    /// None.
+    Nothing,
+    /// One.
+    One(Handle),
+    /// Two.
+    Both(Handle, Handle),
+}
+
 /// A call of native code, with the words that it is handed. One of the calls of `calls`, or one of your own: what it asks for is its `request`.
 pub trait NativeCall<S: Steps> {
     ghost use Rattle.jr_model.specs.declared.event.Role.TheVariants.{Within};
     ghost use Rattle.jr_gate.specs.Stays.{IsOwnStay};
     ghost use Rattle.jr_frames.specs.Ready.{StandsReady, KeepsOwner};
-    ghost use Rattle.jr_env.specs.Requests.{Request};
+    ghost use Rattle.std.specs.Prelude.{◌≡◌};
+    ghost use Rattle.jr_env.specs.Requests.{Request, handed_words, words_of};
     ghost use Rattle.jr_env.specs.Works.{Serves};
 
     /// What it answers.
     type Answer: Drop;
 
+    /// What it is called: as the Java Native Interface does, where that has it.
+    const NAME: &'static str;
+
     ghost request: { Self → Request Self.Answer };
+
+    /// The words that it is handed as references.
+    fn handed(&self) -> Handed
+        ensures { handed_words result ≡ words_of (request self.now) };
 
     /// Does what it asks for, in a stay of the thread. An env makes a call, and so does a stay: it is they who call this.
     ///

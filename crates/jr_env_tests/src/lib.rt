@@ -4,6 +4,7 @@
 #[cfg(test)]
 mod again;
 #[cfg(test)]
+mod checked;
 mod explained;
 #[cfg(test)]
 mod frames;

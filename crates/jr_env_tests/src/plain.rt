@@ -1,6 +1,7 @@
 //! What is tried of an env over plain words, in one function that makes the env: one that a test makes itself is dear to prove.
 
 use crate::again::is_made_behind;
+use crate::checked::are_told;
 use crate::explained::are_explained;
 use crate::frames::frees_all;
 use crate::handles::{place_gives_more, slot_gives_more};
@@ -21,6 +22,8 @@ pub(crate) enum Case {
     ByKind,
     /// What words are told to be.
     Explained,
+    /// Refusals that a watcher is told.
+    Checked,
     /// Searches for a free slot.
     Round,
     /// Local references that are freed.
@@ -45,6 +48,7 @@ fn try_case<S: Steps>(
     match case {
         Case::ByKind => are_deleted_by_kind(rt, env),
         Case::Explained => are_explained(rt, alloc, env),
+        Case::Checked => are_told(rt, alloc, env),
         Case::Round => goes_round(rt, env),
         Case::Frees => frees_all(rt, env),
         Case::Slot => slot_gives_more(rt, env),

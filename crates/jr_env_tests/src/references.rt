@@ -136,6 +136,11 @@ fn each_word_is_told_what_it_is(rt: HostRuntime) -> Result<(), Fail> {
     try_plain(&rt, rt.alloc(), TWO, Case::Explained)
 }
 
+#[test]
+fn each_refusal_is_told_with_what_its_words_are(rt: HostRuntime) -> Result<(), Fail> {
+    try_plain(&rt, rt.alloc(), TWO, Case::Checked)
+}
+
 /// The steps, handed back by a refusal of an env.
 fn refused<S: Steps + Drop>(rt: &impl Abort, env: Result<Env<S>, (S, Fault)>) -> Result<S, Fail> {
     match env {

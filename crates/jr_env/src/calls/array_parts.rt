@@ -16,7 +16,7 @@ ghost use Rattle.jr_env.specs.Works.{Serves, ServesWhole, ServesWithin};
 
 use crate::env::Env;
 use crate::env_call::EnvCall;
-use crate::native_call::{NativeCall, NativeCaller};
+use crate::native_call::{Handed, NativeCall, NativeCaller};
 use crate::work::outside;
 use jr_frames::{Frames, Held, Reference, find};
 use jr_gate::{Inside, enter};
@@ -35,6 +35,13 @@ impl<S: Steps, E: Elem> NativeCall<S> for SetArrayRegion<'_, E> {
     type Answer = ();
 
     ghost request = { λ c. for_set_array_region E.KIND c.0.0 c.1 (map E.word_of c.2.now) };
+
+    const NAME: &'static str = "Set<PrimitiveType>ArrayRegion";
+
+    #[inline(always)]
+    fn handed(&self) -> Handed {
+        Handed::One(self.0)
+    }
 
     #[inline(always)]
     fn work(

@@ -1,7 +1,7 @@
 //! The calls of the Java Native Interface that copy all elements of an array or string out, and back, over any steps.
 use crate::calls::array_parts::same_element;
 use crate::env::Env;
-use crate::native_call::{NativeCall, NativeCaller};
+use crate::native_call::{Handed, NativeCall, NativeCaller};
 use crate::work::outside;
 use jr_elements::{Elements, elements_of, put_back, read_all};
 use jr_frames::{Frames, Reference, find};
@@ -74,6 +74,13 @@ impl<S: Steps, E: Elem> NativeCall<S> for GetArrayElements<E> {
 
     ghost request = { λ c. told_by (map E.word_of) (for_get_array_elements E.KIND c.array.0) };
 
+    const NAME: &'static str = "Get<PrimitiveType>ArrayElements";
+
+    #[inline(always)]
+    fn handed(&self) -> Handed {
+        Handed::One(self.array)
+    }
+
     #[inline(always)]
     fn work(
         self,
@@ -111,6 +118,13 @@ impl<S: Steps> NativeCall<S> for GetStringChars {
 
     ghost request = { λ c. told_by (λ units. units.items) (for_get_string_chars c.string.0) };
 
+    const NAME: &'static str = "GetStringChars";
+
+    #[inline(always)]
+    fn handed(&self) -> Handed {
+        Handed::One(self.string)
+    }
+
     #[inline(always)]
     fn work(
         self,
@@ -144,6 +158,13 @@ impl<S: Steps, E: Elem> NativeCall<S> for CopyBack<'_, E> {
     type Answer = ();
 
     ghost request = { λ c. for_copy_back E.KIND c.array.0 (map E.word_of c.elements.now) };
+
+    const NAME: &'static str = "Release<PrimitiveType>ArrayElements";
+
+    #[inline(always)]
+    fn handed(&self) -> Handed {
+        Handed::One(self.array)
+    }
 
     #[inline(always)]
     fn work(

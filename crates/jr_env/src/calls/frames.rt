@@ -1,7 +1,7 @@
 //! The calls of the Java Native Interface for the frames of one thread, over any steps.
 use crate::env::Env;
 use crate::env_call::EnvCall;
-use crate::native_call::{NativeCall, NativeCaller};
+use crate::native_call::{Handed, NativeCall, NativeCaller};
 use crate::work::outside;
 use jr_frames::{Frames, Reference, free_all, pop_frame, resolve};
 use jr_gate::Inside;
@@ -105,6 +105,13 @@ impl<S: Steps> NativeCall<S> for PopLocalFrame {
 
     ghost request = { λ c. for_pop_local_frame c.0.0 };
 
+    const NAME: &'static str = "PopLocalFrame";
+
+    #[inline(always)]
+    fn handed(&self) -> Handed {
+        Handed::One(self.0)
+    }
+
     #[inline(always)]
     fn work(
         self,
@@ -146,6 +153,13 @@ impl<S: Steps> NativeCall<S> for FreeLocals {
     type Answer = ();
 
     ghost request = { λ _. for_free_locals };
+
+    const NAME: &'static str = "FreeLocals";
+
+    #[inline(always)]
+    fn handed(&self) -> Handed {
+        Handed::Nothing
+    }
 
     #[inline(always)]
     fn work(

@@ -13,7 +13,7 @@ ghost use Rattle.jr_env.specs.Works.{Refers, MakesArray};
 use crate::calls::objects::element_word;
 use crate::env::Env;
 use crate::env_call::EnvCall;
-use crate::native_call::{NativeCall, NativeCaller};
+use crate::native_call::{Handed, NativeCall, NativeCaller};
 use jr_frames::{Frames, Reference, resolve};
 use jr_gate::Inside;
 use jr_heap::{Numbers, Range, fill, fill_from, publish, reserve};
@@ -31,6 +31,13 @@ impl<S: Steps> NativeCall<S> for NewPlain {
     type Answer = Handle;
 
     ghost request = { λ _. for_new_plain };
+
+    const NAME: &'static str = "NewPlain";
+
+    #[inline(always)]
+    fn handed(&self) -> Handed {
+        Handed::Nothing
+    }
 
     #[inline(always)]
     fn work(
@@ -71,6 +78,13 @@ impl<S: Steps> NativeCall<S> for NewObjectArray {
 
     ghost request = { λ c. for_new_object_array c.0 c.1.0 };
 
+    const NAME: &'static str = "NewObjectArray";
+
+    #[inline(always)]
+    fn handed(&self) -> Handed {
+        Handed::One(self.1)
+    }
+
     #[inline(always)]
     fn work(
         self,
@@ -109,6 +123,13 @@ impl<S: Steps> NativeCall<S> for NewString<'_> {
     type Answer = Handle;
 
     ghost request = { λ c. for_new_string c.0.now };
+
+    const NAME: &'static str = "NewString";
+
+    #[inline(always)]
+    fn handed(&self) -> Handed {
+        Handed::Nothing
+    }
 
     #[inline(always)]
     fn work(
@@ -160,6 +181,13 @@ impl<S: Steps, E: Elem> NativeCall<S> for NewArray<E> {
     type Answer = Handle;
 
     ghost request = { λ c. for_new_array E.KIND c.length };
+
+    const NAME: &'static str = "New<PrimitiveType>Array";
+
+    #[inline(always)]
+    fn handed(&self) -> Handed {
+        Handed::Nothing
+    }
 
     #[inline(always)]
     fn work(

@@ -6,7 +6,7 @@ ghost use Rattle.jr_env.specs.Elements.{element_checks};
 
 use crate::env::Env;
 use crate::env_call::EnvCall;
-use crate::native_call::{NativeCall, NativeCaller};
+use crate::native_call::{Handed, NativeCall, NativeCaller};
 use jr_frames::{Frames, Reference, find, new_local, resolve_both};
 use jr_gate::Inside;
 use jr_heap::{Numbers, header, is_array, is_objects, is_text};
@@ -23,6 +23,13 @@ impl<S: Steps> NativeCall<S> for KindOf {
     type Answer = Kind;
 
     ghost request = { λ c. for_kind_of c.0.0 };
+
+    const NAME: &'static str = "KindOf";
+
+    #[inline(always)]
+    fn handed(&self) -> Handed {
+        Handed::One(self.0)
+    }
 
     #[inline(always)]
     fn work(
@@ -60,6 +67,13 @@ impl<S: Steps> NativeCall<S> for GetArrayLength {
     type Answer = u32;
 
     ghost request = { λ c. for_get_array_length c.0.0 };
+
+    const NAME: &'static str = "GetArrayLength";
+
+    #[inline(always)]
+    fn handed(&self) -> Handed {
+        Handed::One(self.0)
+    }
 
     #[inline(always)]
     fn work(
@@ -101,6 +115,13 @@ impl<S: Steps> NativeCall<S> for GetStringLength {
 
     ghost request = { λ c. for_get_string_length c.0.0 };
 
+    const NAME: &'static str = "GetStringLength";
+
+    #[inline(always)]
+    fn handed(&self) -> Handed {
+        Handed::One(self.0)
+    }
+
     #[inline(always)]
     fn work(
         self,
@@ -140,6 +161,13 @@ impl<S: Steps> NativeCall<S> for GetObjectArrayElement {
     type Answer = Option<Handle>;
 
     ghost request = { λ c. for_get_object_array_element c.0.0 c.1 };
+
+    const NAME: &'static str = "GetObjectArrayElement";
+
+    #[inline(always)]
+    fn handed(&self) -> Handed {
+        Handed::One(self.0)
+    }
 
     #[inline(always)]
     fn work(
@@ -181,6 +209,13 @@ impl<S: Steps> NativeCall<S> for SetObjectArrayElement {
     type Answer = ();
 
     ghost request = { λ c. for_set_object_array_element c.0.0 c.1 c.2.0 };
+
+    const NAME: &'static str = "SetObjectArrayElement";
+
+    #[inline(always)]
+    fn handed(&self) -> Handed {
+        Handed::Both(self.0, self.2)
+    }
 
     #[inline(always)]
     fn work(

@@ -13,7 +13,7 @@ ghost use Rattle.jr_env.specs.Works.{Serves};
 
 use crate::env::Env;
 use crate::env_call::EnvCall;
-use crate::native_call::{NativeCall, NativeCaller};
+use crate::native_call::{Handed, NativeCall, NativeCaller};
 use jr_frames::{
     Frames, Reference, delete_local, lies_outside, names_kind, new_local, resolve, resolve_both,
     type_of,
@@ -35,6 +35,13 @@ impl<S: Steps> NativeCall<S> for NewGlobalRef {
     type Answer = Option<Handle>;
 
     ghost request = { λ c. for_new_reference Global c.0.0 };
+
+    const NAME: &'static str = "NewGlobalRef";
+
+    #[inline(always)]
+    fn handed(&self) -> Handed {
+        Handed::One(self.0)
+    }
 
     #[inline(always)]
     fn work(
@@ -73,6 +80,13 @@ impl<S: Steps> NativeCall<S> for NewWeakGlobalRef {
 
     ghost request = { λ c. for_new_reference Weak c.0.0 };
 
+    const NAME: &'static str = "NewWeakGlobalRef";
+
+    #[inline(always)]
+    fn handed(&self) -> Handed {
+        Handed::One(self.0)
+    }
+
     #[inline(always)]
     fn work(
         self,
@@ -108,6 +122,13 @@ impl<S: Steps> NativeCall<S> for NewLocalRef {
     type Answer = Option<Handle>;
 
     ghost request = { λ c. for_new_local_ref c.0.0 };
+
+    const NAME: &'static str = "NewLocalRef";
+
+    #[inline(always)]
+    fn handed(&self) -> Handed {
+        Handed::One(self.0)
+    }
 
     #[inline(always)]
     fn work(
@@ -148,6 +169,13 @@ impl<S: Steps> NativeCall<S> for DeleteGlobalRef {
 
     ghost request = { λ c. for_delete_reference Global c.0.0 };
 
+    const NAME: &'static str = "DeleteGlobalRef";
+
+    #[inline(always)]
+    fn handed(&self) -> Handed {
+        Handed::One(self.0)
+    }
+
     #[inline(always)]
     fn work(
         self,
@@ -185,6 +213,13 @@ impl<S: Steps> NativeCall<S> for DeleteWeakGlobalRef {
 
     ghost request = { λ c. for_delete_reference Weak c.0.0 };
 
+    const NAME: &'static str = "DeleteWeakGlobalRef";
+
+    #[inline(always)]
+    fn handed(&self) -> Handed {
+        Handed::One(self.0)
+    }
+
     #[inline(always)]
     fn work(
         self,
@@ -220,6 +255,13 @@ impl<S: Steps> NativeCall<S> for DeleteLocalRef {
     type Answer = ();
 
     ghost request = { λ c. for_delete_local_ref c.0.0 };
+
+    const NAME: &'static str = "DeleteLocalRef";
+
+    #[inline(always)]
+    fn handed(&self) -> Handed {
+        Handed::One(self.0)
+    }
 
     #[inline(always)]
     fn work(
@@ -261,6 +303,13 @@ impl<S: Steps> NativeCall<S> for IsSameObject {
 
     ghost request = { λ c. for_is_same_object c.0.0 c.1.0 };
 
+    const NAME: &'static str = "IsSameObject";
+
+    #[inline(always)]
+    fn handed(&self) -> Handed {
+        Handed::Both(self.0, self.1)
+    }
+
     #[inline(always)]
     fn work(
         self,
@@ -299,6 +348,13 @@ impl<S: Steps> NativeCall<S> for GetObjectRefType {
     type Answer = u8;
 
     ghost request = { λ c. for_get_object_ref_type c.0.0 };
+
+    const NAME: &'static str = "GetObjectRefType";
+
+    #[inline(always)]
+    fn handed(&self) -> Handed {
+        Handed::One(self.0)
+    }
 
     #[inline(always)]
     fn work(

@@ -1,0 +1,32 @@
+-- A call with a watcher, of the call of the caller beneath.
+use Rattle.std.proofs.Common.{◌≡◌, ℕ, List, Result, Ok, Err, refl, subst, ◌∙◌}
+use Rattle.jr_word.specs.declared.fault.Fault.{Fault}
+use Rattle.jr_frames.specs.declared.explaining.Explanation.{Explanation}
+use Rattle.jr_env.specs.declared.checked.Checked.{Checked}
+use Rattle.jr_env.specs.declared.checked.Refusal.{Refusal}
+use Rattle.jr_env.specs.Requests.{Request, words_of}
+use Rattle.jr_env.specs.Watching.{HasTold, WasWatched}
+
+module _ {N W A : Type 0} {explained : N → N → ℕ → Result Explanation Fault → Type 0} {thread : N → ℕ}
+    {hears : W → W → Refusal → Type 0} {made : N → N → Request A → Result A Fault → Type 0} {old : Checked N W}
+    {request : Request A} (mid : Checked N W) where
+  -- where it was not refused nobody was told
+  pub unrefused : (x : A) → made old.caller.now mid.caller.now request (Ok x)
+      → mid.caller.ghost_name ≡ old.caller.ghost_name → mid.watcher ≡ old.watcher
+      → WasWatched explained thread hears made old mid request (Ok x)
+  unrefused x call same watcher =
+      record { same_reference = same; mid = mid; call = call; watcher = watcher; tells = refl }
+
+  -- where it was, the watcher was
+  pub refused : {new : Checked N W} {words : List ℕ} (e : Fault) → made old.caller.now mid.caller.now request (Err e)
+      → mid.caller.ghost_name ≡ old.caller.ghost_name → mid.watcher ≡ old.watcher
+      → new.caller.ghost_name ≡ mid.caller.ghost_name → words ≡ words_of request
+      → HasTold explained thread hears mid new words e
+      → WasWatched explained thread hears made old new request (Err e)
+  refused {new} e call same watcher then are told = record {
+    same_reference = then ∙ same;
+    mid = mid;
+    call = call;
+    watcher = watcher;
+    tells = subst (λ ws. HasTold explained thread hears mid new ws e) are told;
+  }

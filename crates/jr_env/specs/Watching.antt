@@ -1,0 +1,51 @@
+-- What a checked caller did: the call as the caller beneath makes it, and of a refusal what a watcher is told.
+use Rattle.std.specs.Prelude.{◌≡◌, ℕ, Result, Ok, Err, List, [], ◌∷◌}
+use Rattle.jr_word.specs.declared.fault.Fault.{Fault}
+use Rattle.jr_frames.specs.declared.explaining.Explanation.{Explanation}
+use Rattle.jr_env.specs.declared.checked.Checked.{Checked}
+use Rattle.jr_env.specs.declared.checked.Evidence.{Evidence}
+use Rattle.jr_env.specs.declared.checked.Evidence.TheVariants.{Nothing, One, Both}
+use Rattle.jr_env.specs.declared.checked.Examined.{Examined}
+use Rattle.jr_env.specs.declared.checked.Refusal.{Refusal}
+use Rattle.jr_env.specs.Requests.{Request, words_of}
+
+-- the words that a watcher is told of, with what each is
+abbrev pub evidence_of : Evidence → List Examined
+evidence_of Nothing = []
+evidence_of (One x) = x ∷ []
+evidence_of (Both x y) = x ∷ y ∷ []
+
+module _ {N : Type 0} (explained : N → N → ℕ → Result Explanation Fault → Type 0) where
+  -- the caller told what a word is
+  pub record Examines (old new : N) (w : ℕ) (x : Examined) : Type 0 where
+    pub word : x.handle.0 ≡ w
+    pub is : explained old new w x.is
+
+  -- it told so of each of these words in turn
+  abbrev pub ExaminesEach : N → N → List ℕ → List Examined → Type 0
+  ExaminesEach old new [] xs = (xs ≡ []) × (new ≡ old)
+  ExaminesEach old new (w ∷ ws) xs = (x : Examined) × (rest : List Examined) × (mid : N) × (xs ≡ x ∷ rest)
+      × Examines old mid w x × ExaminesEach mid new ws rest
+
+  module _ {W : Type 0} (thread : N → ℕ) (hears : W → W → Refusal → Type 0) where
+    -- THE WATCHER WAS TOLD of one refusal: whose it is, why, and of each word that was handed in what it is
+    pub record HasTold (old new : Checked N W) (words : List ℕ) (fault : Fault) : Type 0 where
+      pub refusal : Refusal
+      pub heard : hears old.watcher new.watcher refusal
+      pub whose : refusal.thread ≡ thread old.caller.now
+      pub why : refusal.fault ≡ fault
+      pub looks : ExaminesEach old.caller.now new.caller.now words (evidence_of refusal.evidence)
+
+    -- what stands behind the call beneath: where it was not refused that, and nothing was told; and else what was told
+    abbrev pub TellsOf : {A : Type 0} → Checked N W → Checked N W → List ℕ → Result A Fault → Type 0
+    TellsOf old new words (Ok x) = new ≡ old
+    TellsOf old new words (Err e) = HasTold old new words e
+
+    -- THE CALL'S ANSWER IS THAT OF THE CALLER BENEATH, and the watcher was told of it just where it is a refusal
+    pub record WasWatched {A : Type 0} (made : N → N → Request A → Result A Fault → Type 0) (old new : Checked N W)
+        (request : Request A) (answer : Result A Fault) : Type 0 where
+      pub same_reference : new.caller.ghost_name ≡ old.caller.ghost_name
+      pub mid : Checked N W
+      pub call : made old.caller.now mid.caller.now request answer
+      pub watcher : mid.watcher ≡ old.watcher
+      pub tells : TellsOf mid new (words_of request) answer

@@ -1,0 +1,203 @@
+//! Calls with a watcher, who is told each refusal: whose, of which call, of which words, and why.
+ghost use Rattle.std.specs.Prelude.{◌≡◌};
+ghost use Rattle.jr_env.specs.Watching.{Examines};
+
+use crate::env::Env;
+use crate::native_call::{Handed, NativeCall, NativeCaller};
+use crate::stay::Stay;
+use jr_frames::Explanation;
+use jr_steps::Steps;
+use jr_word::{Elem, Fault, Handle};
+
+/// A word that a refused call was handed, and what it is.
+#[derive(Clone, Copy, Debug, PartialEq, Eq)]
+pub struct Examined {
+    /// The word.
+    pub handle: Handle,
+    /// What it is, as a look behind the refusal tells; E13 where the gate was shut by then.
+    pub is: Result<Explanation, Fault>,
+}
+
+/// The words that a refused call was handed, in their order, and what each is.
+#[derive(Clone, Copy, Debug, PartialEq, Eq)]
+pub enum Evidence {
+    /// It was handed none.
+    Nothing,
+    /// It was handed one.
+    One(Examined),
+    /// It was handed two.
+    Both(Examined, Examined),
+}
+
+/// What a watcher is told.
+#[derive(Clone, Copy, Debug, PartialEq, Eq)]
+pub struct Refusal {
+    /// The number of the thread whose call was refused.
+    pub thread: u8,
+    /// The call's name.
+    pub call: &'static str,
+    /// What it was handed as references.
+    pub evidence: Evidence,
+    /// Why it was refused.
+    pub fault: Fault,
+}
+
+/// Who is told each refusal: it may write a line, count, or end the program.
+pub trait Watcher {
+    ghost use Rattle.jr_env.specs.declared.checked.Refusal.{Refusal};
+
+    ghost hears: { Self → Self → Refusal → Type 0 };
+
+    /// Is told a refusal.
+    fn refused(&mut self, refusal: Refusal)
+        ensures { hears self.old self.new refusal };
+}
+
+/// Who can tell what a word is: an env by a call of its own, and a stay.
+pub trait Explains: Sized {
+    ghost use Rattle.std.specs.Prelude.{ℕ, Result};
+    ghost use Rattle.jr_frames.specs.declared.explaining.Explanation.{Explanation};
+    ghost use Rattle.jr_word.specs.declared.fault.Fault.{Fault};
+
+    ghost explained: { Self → Self → ℕ → Result Explanation Fault → Type 0 };
+
+    ghost thread: { Self → ℕ };
+
+    /// The number of its thread.
+    fn thread(&self) -> u8
+        ensures { result ≡ thread self.now };
+
+    /// What a word is that native code hands in as a handle.
+    ///
+    /// # Errors
+    ///
+    /// Of an env E13 where a thread is collecting at the entry, or has announced that it will.
+    ///
+    /// # Operations
+    ///
+    /// Those of `explain` of an env or a stay.
+    fn examine(&mut self, handle: Handle) -> Result<Explanation, Fault>
+        ensures { explained self.old self.new handle.0 result };
+}
+
+impl<S: Steps> Explains for Env<S> {
+    ghost use Rattle.jr_env.specs.Envs.{Does};
+    ghost use Rattle.jr_env.specs.Words.{explain as explanation};
+
+    ghost explained = { λ old new w answer. Does old new (explanation w) answer };
+
+    ghost thread = { λ env. (S.facts env.held.steps).stands.thread };
+
+    fn thread(&self) -> u8 {
+        self.held.steps.thread()
+    }
+
+    fn examine(&mut self, handle: Handle) -> Result<Explanation, Fault> {
+        self.explain(handle)
+    }
+}
+
+impl<S: Steps> Explains for Stay<'_, S> {
+    ghost use Rattle.jr_env.specs.LentStays.{DoesWithin, held_in};
+    ghost use Rattle.jr_env.specs.Words.{explaining};
+
+    ghost explained = { λ old new w answer. DoesWithin old new (explaining w) answer };
+
+    ghost thread = { λ stay. (S.facts (held_in stay).steps).stands.thread };
+
+    fn thread(&self) -> u8 {
+        self.env.held.steps.thread()
+    }
+
+    fn examine(&mut self, handle: Handle) -> Result<Explanation, Fault> {
+        self.explain(handle)
+    }
+}
+
+/// What a word is, beside it.
+fn look_at<N: Explains>(caller: &mut N, handle: Handle) -> Examined
+    ensures { Examines N.explained caller.old caller.new handle.0 result }
+{
+    let is = caller.examine(handle);
+    Examined { handle, is }
+}
+
+/// An env or a stay with a watcher. It answers each call as the caller beneath does. Where a call is refused, it asks what each word is that the call was handed, and tells the watcher. So a refusal takes the operations of `explain` for each of them, and a call that isn't refused none.
+pub struct Checked<'e, N, W> {
+    /// Who makes the calls.
+    pub caller: &'e mut N,
+    /// Who is told the refusals.
+    pub watcher: W,
+}
+
+impl<N: Explains, W: Watcher> Checked<'_, N, W> {
+    ghost use Rattle.std.specs.Prelude.{IfErr, IfOk};
+    ghost use Rattle.jr_env.specs.Requests.{handed_words};
+    ghost use Rattle.jr_env.specs.Watching.{ExaminesEach, HasTold, evidence_of};
+
+    /// What each word is that a refused call was handed.
+    fn gather(&mut self, handed: Handed) -> Evidence
+        ensures same_reference { self.new.caller.ghost_name ≡ self.old.caller.ghost_name }
+        ensures looks { ExaminesEach N.explained self.old.caller.now self.new.caller.now (handed_words handed) (evidence_of result) }
+        ensures watcher { self.new.watcher ≡ self.old.watcher }
+    {
+        match handed {
+            Handed::Nothing => Evidence::Nothing,
+            Handed::One(word) => Evidence::One(look_at(self.caller, word)),
+            Handed::Both(first, second) => {
+                let first = look_at(self.caller, first);
+                Evidence::Both(first, look_at(self.caller, second))
+            }
+        }
+    }
+
+    /// Tells the watcher of a refusal.
+    #[cold]
+    fn tell(&mut self, call: &'static str, handed: Handed, fault: Fault)
+        ensures same_reference { self.new.caller.ghost_name ≡ self.old.caller.ghost_name }
+        ensures told { HasTold N.explained N.thread W.hears self.old self.new (handed_words handed) fault }
+    {
+        let thread = self.caller.thread();
+        let evidence = self.gather(handed);
+        self.watcher.refused(Refusal {
+            thread,
+            call,
+            evidence,
+            fault,
+        });
+    }
+}
+
+impl<S: Steps, N: NativeCaller<S> + Explains, W: Watcher> NativeCaller<S> for Checked<'_, N, W> {
+    ghost use Rattle.jr_env.specs.Watching.{WasWatched};
+
+    ghost made = { λ old new request answer. WasWatched N.explained N.thread W.hears N.made old new request answer };
+
+    #[inline(always)]
+    fn make<C: NativeCall<S> + Drop>(&mut self, call: C) -> Result<C::Answer, Fault> {
+        let handed = call.handed();
+        match self.caller.make(call) {
+            Ok(answer) => Ok(answer),
+            Err(fault) => {
+                self.tell(C::NAME, handed, fault);
+                Err(fault)
+            }
+        }
+    }
+
+    #[inline(always)]
+    fn copy_part<E: Elem>(
+        &mut self,
+        array: Handle,
+        start: u32,
+        elements: &mut [E],
+    ) -> Result<(), Fault> {
+        match self.caller.copy_part(array, start, elements) {
+            Ok(()) => Ok(()),
+            Err(fault) => {
+                self.tell("Get<PrimitiveType>ArrayRegion", Handed::One(array), fault);
+                Err(fault)
+            }
+        }
+    }
+}

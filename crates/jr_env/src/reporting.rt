@@ -1,0 +1,86 @@
+//! A refused call as a line of a log.
+use crate::checked::{Evidence, Examined, Refusal};
+use jr_frames::Explanation;
+use jr_word::{Kind, RefKind};
+use std::fmt;
+
+/// A reference of the kind.
+fn reference_of(kind: RefKind) -> &'static str {
+    match kind {
+        RefKind::Local => "local",
+        RefKind::Global => "global",
+        RefKind::Weak => "weak",
+    }
+}
+
+/// What an object of the kind is called, as Java does.
+fn object_of(kind: Kind) -> &'static str {
+    match kind {
+        Kind::Plain => "a plain object",
+        Kind::Boolean => "a boolean[]",
+        Kind::Byte => "a byte[]",
+        Kind::Char => "a char[]",
+        Kind::Short => "a short[]",
+        Kind::Int => "an int[]",
+        Kind::Long => "a long[]",
+        Kind::Objects => "an Object[]",
+        Kind::Text => "a String",
+    }
+}
+
+/// What a word is that is no reference which stands.
+fn no_reference(explanation: Explanation) -> &'static str {
+    match explanation {
+        Explanation::Null => "is NULL",
+        Explanation::Malformed => "is no handle",
+        Explanation::Outside => "lies outside the room",
+        Explanation::Foreign => "is a local handle of another thread",
+        Explanation::OtherKind => "has the serial of a reference of the other kind",
+        Explanation::Gone => "is the handle of a reference that was deleted",
+        Explanation::NotGiven => "was not given yet",
+        Explanation::Standing { .. } => "is a reference",
+    }
+}
+
+/// The word, and what it is.
+impl fmt::Display for Examined {
+    fn fmt<W: fmt::Write>(&self, f: &mut fmt::Formatter<W>) -> fmt::Result {
+        let word = self.handle.0;
+        match self.is {
+            Ok(Explanation::Standing { kind, object }) => {
+                let kind = reference_of(kind);
+                match object {
+                    Some(object) => {
+                        let object = object_of(object);
+                        write!(f, "{word:#x} is a {kind} reference to {object}")
+                    }
+                    None => write!(f, "{word:#x} is a {kind} reference that is cleared"),
+                }
+            }
+            Ok(other) => {
+                let told = no_reference(other);
+                write!(f, "{word:#x} {told}")
+            }
+            Err(fault) => write!(f, "{word:#x} was not looked at ({fault})"),
+        }
+    }
+}
+
+/// Whose call it was, why it was refused, and what the words were.
+impl fmt::Display for Refusal {
+    fn fmt<W: fmt::Write>(&self, f: &mut fmt::Formatter<W>) -> fmt::Result {
+        let Refusal {
+            thread,
+            call,
+            evidence,
+            fault,
+        } = *self;
+        let meaning = fault.meaning();
+        write!(f, "thread {thread}: {call}: {fault}, {meaning}")?;
+        match evidence {
+            Evidence::Nothing => Ok(()),
+            Evidence::One(word) => write!(f, "; {word}"),
+            Evidence::Both(first, second) => write!(f, "; {first}; {second}"),
+        }
+    }
+}

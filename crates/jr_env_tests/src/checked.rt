@@ -1,0 +1,76 @@
+//! Refusals, as a watcher is told them.
+
+use jr_env::{Checked, Env, NativeInterface, Refusal, Watcher};
+use jr_steps::Steps;
+use jr_word::{Fault, Handle};
+use std::alloc::Global;
+use std::process::Abort;
+use std::test::Fail;
+
+/// Counts refusals by their numbers, and keeps the last.
+struct Tally {
+    counts: [u32; 24],
+    last: Option<Refusal>,
+}
+
+impl Watcher for Tally {
+    ghost use Rattle.std.specs.Prelude.{◌≡◌, Some};
+
+    ghost hears = { λ old new refusal. new.last ≡ Some refusal };
+
+    fn refused(&mut self, refusal: Refusal) {
+        if let Some(count) = self.counts.get_mut(refusal.fault.number() as usize) {
+            *count = count.wrapping_add(1);
+        }
+        self.last = Some(refusal);
+    }
+}
+
+/// Checks the line of the last refusal.
+fn said(rt: &impl Abort, alloc: Global, tally: &Tally, wanted: &str) -> Result<(), Fail> {
+    let Some(last) = tally.last else {
+        Err("no refusal was told")?
+    };
+    assert_eq!(rt; format!(in alloc; "{last}")?.as_str(), wanted);
+    Ok(())
+}
+
+/// Each refused call is told with what its words are, and one that is not refused isn't.
+pub(crate) fn are_told<S: Steps>(
+    rt: &impl Abort,
+    alloc: Global,
+    env: &mut Env<S>,
+) -> Result<(), Fail> {
+    let string = env.new_string(&[7])?;
+    let array = env.new_array::<i32>(2)?;
+    let watcher = Tally {
+        counts: [0; 24],
+        last: None,
+    };
+    let mut checked = Checked {
+        caller: env,
+        watcher,
+    };
+    checked.get_array_length(array)?;
+    assert!(rt; checked.watcher.last.is_none());
+    let refused = checked.get_array_length(string);
+    assert!(rt; refused == Err(Fault::NotArray));
+    said(
+        rt,
+        alloc,
+        &checked.watcher,
+        "thread 0: GetArrayLength: E5, the object is not an array; 0x1 is a local reference to a String",
+    )?;
+    let refused = checked.is_same_object(array, Handle(u64::MAX));
+    assert!(rt; refused == Err(Fault::Stale));
+    said(
+        rt,
+        alloc,
+        &checked.watcher,
+        "thread 0: IsSameObject: E2, no reference of this word stands; 0x100000001 is a local reference to an int[]; 0xffffffffffffffff is no handle",
+    )?;
+    let refused = checked.new_array::<i64>(u32::MAX);
+    assert!(rt; refused.is_err());
+    assert!(rt; checked.watcher.counts[2] == 1 && checked.watcher.counts[5] == 1);
+    Ok(())
+}
