@@ -123,6 +123,7 @@ fn look_at<N: Explains>(caller: &mut N, handle: Handle) -> Examined
 }
 
 /// An env or a stay with a watcher. It answers each call as the caller beneath does. Where a call is refused, it asks what each word is that the call was handed, and tells the watcher. So a refusal takes the operations of `explain` for each of them, and a call that isn't refused none.
+#[derive(Drop)]
 pub struct Checked<'e, N, W> {
     /// Who makes the calls.
     pub caller: &'e mut N,
@@ -131,7 +132,6 @@ pub struct Checked<'e, N, W> {
 }
 
 impl<N: Explains, W: Watcher> Checked<'_, N, W> {
-    ghost use Rattle.std.specs.Prelude.{IfErr, IfOk};
     ghost use Rattle.jr_env.specs.Requests.{handed_words};
     ghost use Rattle.jr_env.specs.Watching.{ExaminesEach, HasTold, evidence_of};
 

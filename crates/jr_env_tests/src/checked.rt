@@ -8,6 +8,7 @@ use std::process::Abort;
 use std::test::Fail;
 
 /// Counts refusals by their numbers, and keeps the last.
+#[derive(Drop)]
 struct Tally {
     counts: [u32; 24],
     last: Option<Refusal>,
@@ -28,10 +29,10 @@ impl Watcher for Tally {
 
 /// Checks the line of the last refusal.
 fn said(rt: &impl Abort, alloc: Global, tally: &Tally, wanted: &str) -> Result<(), Fail> {
-    let Some(last) = tally.last else {
-        Err("no refusal was told")?
-    };
-    assert_eq!(rt; format!(in alloc; "{last}")?.as_str(), wanted);
+    match tally.last {
+        Some(last) => assert_eq!(rt; format!(in alloc; "{last}")?.as_str(), wanted),
+        None => Err("no refusal was told")?,
+    }
     Ok(())
 }
 
@@ -67,7 +68,7 @@ pub(crate) fn are_told<S: Steps>(
         rt,
         alloc,
         &checked.watcher,
-        "thread 0: IsSameObject: E2, no reference of this word stands; 0x100000001 is a local reference to an int[]; 0xffffffffffffffff is no handle",
+        "thread 0: IsSameObject: E2, no reference of this word stands; 0x400000001 is a local reference to an int[]; 0xffffffffffffffff is no handle",
     )?;
     let refused = checked.new_array::<i64>(u32::MAX);
     assert!(rt; refused.is_err());

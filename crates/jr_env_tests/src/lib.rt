@@ -5,6 +5,7 @@
 mod again;
 #[cfg(test)]
 mod checked;
+#[cfg(test)]
 mod explained;
 #[cfg(test)]
 mod frames;
