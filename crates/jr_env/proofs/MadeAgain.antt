@@ -17,6 +17,10 @@ module _ {M A : Type 0} {one : M → Result A Fault → M → Type 0} {waits : B
   tries_from_first {old} {new} {answer} n t = let e : n - 0 ≡ n = omega arith in
       subst (λ m. MadeAgain waits one m old answer new) e t
 
+  pub tries_settled : {old new : M} {once answer : Result A Fault} {n : ℕ} → once ≡ answer → one old once new
+      → is_worth_a_try waits answer ≡ false → MadeAgain waits one n old answer new
+  tries_settled {old} {new} e o is = settled (subst (λ r. one old r new) e o) is
+
   pub tries_once_more : {old mid new : M} {answer : Result A Fault} (once : Result A Fault) (n k : ℕ) → k < n
       → one old once mid → is_worth_a_try waits once ≡ true → MadeAgain waits one (n - (k + 1)) mid answer new
       → MadeAgain waits one (n - k) old answer new
@@ -30,25 +34,17 @@ module _ {M A : Type 0} {one : M → Result A Fault → M → Type 0} {waits : B
 
 module _ {S : Type 0} {facts : S → Facts} where
   module _ {A : Type 0} {deed : Deed A} {waits : Bool} where
-    pub again_from_first : {a b : S} {f g : Frames} {answer : Result A Fault} (n : ℕ)
-        → DoesOutside facts a b f g (made_again waits (n - 0) deed) answer
-        → DoesOutside facts a b f g (made_again waits n deed) answer
-    again_from_first n d = does_more (λ p q t. tries_from_first n t) d
-
-    pub again_settled : {a b : S} {f g : Frames} {answer : Result A Fault} (n : ℕ)
-        → DoesOutside facts a b f g deed answer → is_worth_a_try waits answer ≡ false
-        → DoesOutside facts a b f g (made_again waits n deed) answer
-    again_settled n d is = does_more (λ p q o. settled o is) d
-
-    pub again_once_more : {a b c : S} {f g h : Frames} {once answer : Result A Fault} (n k : ℕ) → k < n
-        → DoesOutside facts a b f g deed once → is_worth_a_try waits once ≡ true
-        → DoesOutside facts b c g h (made_again waits (n - (k + 1)) deed) answer
-        → DoesOutside facts a c f h (made_again waits (n - k) deed) answer
-    again_once_more n k l d is more = does_next (λ p m q o t. tries_once_more _ n k l o is t) d more
-
-    pub again_the_last : {a b : S} {f g : Frames} {answer : Result A Fault} (n k : ℕ) → n ≤ k
-        → DoesOutside facts a b f g deed answer → DoesOutside facts a b f g (made_again waits (n - k) deed) answer
-    again_the_last n k l d = does_more (λ p q o. tries_the_last n k l o) d
+    -- what each try did, as long as what `kept` says stays so
+    pub does_again : {M : Type 0} {one : M → Result A Fault → M → Type 0} (steps : M → S) (frames : M → Frames)
+        (kept : M → Type 0) → ((x y : M) (r : Result A Fault) → kept x → one x r y
+        → DoesOutside facts (steps x) (steps y) (frames x) (frames y) deed r × kept y) → {n : ℕ} {old new : M}
+        {answer : Result A Fault} → kept old → MadeAgain waits one n old answer new
+        → DoesOutside facts (steps old) (steps new) (frames old) (frames new) (made_again waits n deed) answer
+    does_again steps frames kept turn k (settled o is) = does_more (λ p q d. settled d is) (turn _ _ _ k o).0
+    does_again steps frames kept turn k (once_more o is t) =
+        let x = turn _ _ _ k o in
+        does_next (λ p m q d e. once_more d is e) x.0 (does_again steps frames kept turn x.1 t)
+    does_again steps frames kept turn k (the_last o) = does_more (λ p q d. the_last d) (turn _ _ _ k o).0
 
     pub was_served : {a b : S} {f g : Frames} {answer : Result A Fault} (n : ℕ)
         → DoesOutside facts a b f g (made_again waits n deed) answer → lacks_room answer ≡ false

@@ -19,7 +19,7 @@ pub struct Patience {
 }
 
 impl Patience {
-    ghost use Rattle.std.specs.Prelude.{◌≡◌, true, false};
+    ghost use Rattle.std.specs.Prelude.{◌≡◌, true, false, Err};
     ghost use Rattle.jr_env.specs.Tries.{is_worth_a_try};
 
     /// The patience for most programs: 4,194,304 more tries, each behind a yield, and none for want of room.
@@ -65,15 +65,16 @@ impl Patience {
         }
     }
 
-    /// Whether an answer is worth another try.
-    pub(crate) fn is_for_later<A>(self, answer: &Result<A, Fault>) -> bool
-        ensures { result ≡ is_worth_a_try self.waits_for_room answer.now }
+    /// Whether a refusal is worth another try.
+    fn is_for_later(self, fault: Fault) -> bool
+        ensures { result ≡ is_worth_a_try {A = Unit {0}} self.waits_for_room (Err fault) }
     {
-        is_made_again(answer) || self.waits_for_room && is_short_of_room(answer)
+        let refused = Err::<(), Fault>(fault);
+        is_made_again(&refused) || self.waits_for_room && is_short_of_room(&refused)
     }
 
     /// Lets others run before the next try, where that is wanted.
-    pub(crate) fn pause(self) {
+    fn pause(self) {
         if self.yields {
             thread::yield_now();
         }
@@ -93,7 +94,7 @@ impl Patience {
 /// # Operations
 ///
 /// Those of each call of the closure.
-pub fn with_patience<E, T: Drop, F: FnMut(&mut E) -> Result<T, Fault>>(
+pub fn with_patience<E, T, F: FnMut(&mut E) -> Result<T, Fault>>(
     env: &mut E,
     patience: Patience,
     mut body: F,
@@ -102,11 +103,15 @@ pub fn with_patience<E, T: Drop, F: FnMut(&mut E) -> Result<T, Fault>>(
     ensures { (left : F) × CalledAgain F.FnMut patience.waits_for_room patience.more (body, env.old) result (left, env.new) }
 {
     for _ in 0..patience.more {
-        let answer = body(env);
-        if !patience.is_for_later(&answer) {
-            return answer;
+        match body(env) {
+            Ok(made) => return Ok(made),
+            Err(fault) => {
+                if !patience.is_for_later(fault) {
+                    return Err(fault);
+                }
+                patience.pause();
+            }
         }
-        patience.pause();
     }
     body(env)
 }

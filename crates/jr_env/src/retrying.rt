@@ -5,7 +5,7 @@ ghost use Rattle.jr_env.specs.Tries.{is_tried_again, lacks_room};
 
 use crate::env::Env;
 use crate::env_call::EnvCall;
-use crate::patience::Patience;
+use crate::patience::{Patience, with_patience};
 use jr_steps::Steps;
 use jr_weak::Marker;
 use jr_word::Fault;
@@ -49,14 +49,7 @@ impl<S: Steps> Env<S> {
     pub fn retry<C: EnvCall<S>>(&mut self, call: &C, patience: Patience) -> Result<C::Answer, Fault>
         ensures { Does self.old self.new (made_again patience.waits_for_room patience.more (C.deed call.now)) result }
     {
-        for _ in 0..patience.more {
-            let answer = call.make(self);
-            if !patience.is_for_later(&answer) {
-                return answer;
-            }
-            patience.pause();
-        }
-        call.make(self)
+        with_patience(self, patience, |env| call.make(env))
     }
 
     /// Makes a call as `retry` does, and where it is refused for want of words or of object numbers (E10, E11), collects once, and makes it as `retry` does once more.
@@ -83,24 +76,6 @@ impl<S: Steps> Env<S> {
         if !self.has_marker(marker) {
             return Err(Fault::Size);
         }
-        self.retry_collecting_by(marker, call, patience)
-    }
-
-    /// Makes a call as `retry_collecting` does, by a marker that fits.
-    ///
-    /// # Errors
-    ///
-    /// E14, and those of the call.
-    fn retry_collecting_by<C: EnvCall<S>>(
-        &mut self,
-        marker: &mut Marker,
-        call: &C,
-        patience: Patience,
-    ) -> Result<C::Answer, Fault>
-        requires { FitsRoom marker.old self.old }
-        ensures call { Does self.old self.new (made_collecting patience.waits_for_room patience.more (C.deed call.now)) result }
-        ensures room { room_of marker.new ≡ room_of marker.old }
-    {
         let answer = self.retry(call, patience);
         if !is_short_of_room(&answer) {
             return answer;

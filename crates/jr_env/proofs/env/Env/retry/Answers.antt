@@ -1,16 +1,7 @@
-use Rattle.std.proofs.Common.{rules, arith}
-use Rattle.jr_env.proofs.MadeAgain.{again_from_first, again_settled, again_once_more, again_the_last}
+use Rattle.std.proofs.Common.{◌≡◌, rules, of_calls, refl}
+use Rattle.jr_env.proofs.MadeAgain.{does_again}
 use Rattle.jr_env.proofs.env.Env.retry.Goals as goal
 
-pub loop-init : goal.loop-init
-loop-init g c = λ answer last frames d. again_from_first c.args.patience.more d
-
-pub returns-then-not-is_for_later : goal.returns-then-not-is_for_later
-returns-then-not-is_for_later g c = c.loop.invariant _ _ _ (again_settled _ c.make-answer.ensures (search rules))
-
-pub loop-preserved : goal.loop-preserved
-loop-preserved g c = λ answer last frames d. c.loop.invariant _ _ _
-    (again_once_more c.args.patience.more c.loop.counter (omega arith) c.make-answer.ensures (search rules) d)
-
 pub returns : goal.returns
-returns g c = c.loop.invariant _ _ _ (again_the_last c.args.patience.more c.loop.counter (omega arith) c.make.ensures)
+returns g c = does_again (λ x. x.1.held.steps) (λ x. x.1.held.frames.frames) (λ x. x.0.0.now ≡ c.args.call.now)
+    (λ x y r s o. search (rules, of_calls)) refl c.with_patience.ensures.1
