@@ -17,6 +17,7 @@ mod texts;
 mod upgrades;
 
 pub use array_parts::SetArrayRegion;
+pub use copies::{CopyBack, GetArrayElements, GetStringChars};
 pub use explaining::Explain;
 pub use frames::{EnsureLocalCapacity, FreeLocals, PopLocalFrame, PushLocalFrame};
 pub use making::{NewArray, NewObjectArray, NewPlain, NewString};

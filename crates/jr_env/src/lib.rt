@@ -2,6 +2,7 @@
 #![tactic(auto)]
 
 pub mod calls;
+mod copying;
 mod critical_region;
 mod env;
 mod env_call;
@@ -15,6 +16,7 @@ mod stay;
 mod stays;
 mod work;
 
+pub use copying::{Unreleased, with_array_elements};
 pub use critical_region::Region;
 pub use env::Env;
 pub use env_call::EnvCall;
