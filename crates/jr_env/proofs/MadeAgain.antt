@@ -1,10 +1,12 @@
 -- Calls that are made again, counted from the first, and a collection between, for whatever was known.
-use Rattle.std.proofs.Common.{◌≡◌, ◌<◌, ◌≤◌, ◌-◌, ◌+◌, ℕ, suc, Bool, true, false, Result, Ok, Err, subst, arith}
+use Rattle.std.proofs.Common.{◌≡◌, ◌<◌, ◌≤◌, ◌-◌, ◌+◌, ℕ, suc, Bool, true, false, Result, Ok, Err, refl, ◌∙◌, subst}
+use Rattle.std.proofs.Common.{arith}
 use Rattle.jr_word.specs.declared.fault.Fault.{Fault}
 use Rattle.jr_model.specs.Frames.{Frames}
 use Rattle.jr_steps.specs.Knowing.{Facts}
 use Rattle.jr_gate.specs.Performing.{ThreadState}
 use Rattle.jr_weak.specs.declared.collecting.Collected.{Collected}
+use Rattle.jr_elements.specs.Copies.{answer_in}
 use Rattle.jr_env.specs.Collections.{collection}
 use Rattle.jr_env.specs.Deeds.{Deed, DoesOutside}
 use Rattle.jr_env.proofs.EnvCalls.{does_more, does_next}
@@ -31,6 +33,24 @@ module _ {M A : Type 0} {one : M → Result A Fault → M → Type 0} {waits : B
       → MadeAgain waits one (n - k) old answer new
   tries_the_last {old} {new} {answer} n k l o = let e : 0 ≡ n - k = omega arith in
       subst (λ m. MadeAgain waits one m old answer new) e (the_last o)
+
+-- an answer in another form is worth another try where it is
+worth_formed : {A B : Type 0} (waits : Bool) (form : A → B) (answer : Result A Fault)
+    → is_worth_a_try waits (answer_in form answer) ≡ is_worth_a_try waits answer
+worth_formed true form (Ok x) = refl
+worth_formed true form (Err e) = refl
+worth_formed false form (Ok x) = refl
+worth_formed false form (Err e) = refl
+
+-- what is made again, with each answer in another form
+pub tries_formed : {M A B : Type 0} {one : M → Result A Fault → M → Type 0} {two : M → Result B Fault → M → Type 0}
+    {waits : Bool} {n : ℕ} {old new : M} {answer : Result A Fault} (form : A → B)
+    → ((p q : M) (r : Result A Fault) → one p r q → two p (answer_in form r) q)
+    → MadeAgain waits one n old answer new → MadeAgain waits two n old (answer_in form answer) new
+tries_formed {waits = waits} form to (settled o is) = settled (to _ _ _ o) (worth_formed waits form _ ∙ is)
+tries_formed {waits = waits} form to (once_more o is t) =
+    once_more (to _ _ _ o) (worth_formed waits form _ ∙ is) (tries_formed form to t)
+tries_formed form to (the_last o) = the_last (to _ _ _ o)
 
 module _ {S : Type 0} {facts : S → Facts} where
   module _ {A : Type 0} {deed : Deed A} {waits : Bool} where

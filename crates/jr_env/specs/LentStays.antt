@@ -29,12 +29,12 @@ module _ {S : Type 0} {G : steps.Ghosts S} where
   frames_in r = (held_in r).frames
 
   -- A STAY WAS ENTERED, from outside; and the thread is within, and the frames are as they were
-  pub record WasEntered (old : Env S G) (r : Stay S G) : Type 0 where
-    pub enters : IsOutside old → EntersOver old.held (held_in r) (Ok tt)
-    pub left : BehindExit old.held (λ mid. Enters G.facts mid (held_in r).steps old.held.frames.frames (Ok tt))
-    pub since : IsOutside old → StaysSince old.held (held_in r)
-    pub frames : frames_in r ≡ old.held.frames
-    pub within : (G.facts (held_in r).steps).stands.role ≡ Within
+  pub record WasEntered (old new : Env S G) : Type 0 where
+    pub enters : IsOutside old → EntersOver old.held new.held (Ok tt)
+    pub left : BehindExit old.held (λ mid. Enters G.facts mid new.held.steps old.held.frames.frames (Ok tt))
+    pub since : IsOutside old → StaysSince old.held new.held
+    pub frames : new.held.frames ≡ old.held.frames
+    pub within : (G.facts new.held.steps).stands.role ≡ Within
 
   -- NO STAY WAS ENTERED: the entry was refused by E13, from outside;
   -- and afterwards the thread stands outside, with the frames as they were

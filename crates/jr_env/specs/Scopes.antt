@@ -1,9 +1,12 @@
--- A closure that runs in a frame of local references of its own.
-use Rattle.std.specs.Prelude.{◌≡◌, ℕ, Option, Result, Ok, Err}
+-- A closure that runs in a frame of local references of its own, or over a copy of an array's elements.
+use Rattle.std.specs.Prelude.{◌≡◌, ℕ, List, Option, Result, Ok, Err, length}
 use Rattle.std.specs.Fn.{FnOnceReturnsAtMut, Once}
+use Rattle.std.specs.List.{refill}
 use denote.Ref.{MutBor}
 use Rattle.jr_word.specs.declared.fault.Fault.{Fault}
 use Rattle.jr_word.specs.declared.handle.Handle.{Handle}
+use Rattle.jr_env.specs.declared.copying.Unreleased.{Unreleased}
+use Rattle.jr_env.specs.declared.copying.Unreleased.TheVariants.{NotCopied, NotReleased}
 use Rattle.jr_env.specs.declared.scope.Unscoped.{Unscoped}
 use Rattle.jr_env.specs.declared.scope.Unscoped.TheVariants.{NotOpened, NotPopped}
 
@@ -42,3 +45,22 @@ RanReturning opens closes g body old new capacity x popped = (kept : Handle) × 
 abbrev pub handed_on : Result Handle Fault → Option Handle → Result (Option Handle) Fault
 handed_on (Ok h) below = Ok below
 handed_on (Err e) below = Err e
+
+-- the one holds of elements that were not copied out, the other of an answer, and of elements that were not released
+abbrev pub IfUnreleased : {T V : Type 0} → (Fault → Type 0) → (T → V → Fault → Type 0) → Unreleased T V → Type 0
+IfUnreleased copying releasing (NotCopied e) = copying e
+IfUnreleased copying releasing (NotReleased x left e) = releasing x left e
+
+-- the refusal in it
+abbrev pub refusal_of_copy : {T V : Type 0} → Unreleased T V → Fault
+refusal_of_copy (NotCopied e) = e
+refusal_of_copy (NotReleased x left e) = e
+
+-- A CLOSURE RAN OVER A COPY, with this answer: the elements were copied out, the closure was called once with a slice
+-- of them, and they were released with what the slice showed then, as many as they were, with this outcome
+abbrev pub RanOverCopy : {M F V T R : Type 0} → (M → Result (List V) Fault → M → Type 0)
+    → (List V → M → R → M → Type 0) → Once F (MutBor (List V) × Unit {0}) (T × (MutBor (List V) × Unit {0})) → F → M
+    → M → T → List V → R → Type 0
+RanOverCopy {M} {V = V} copies releases g body old new x left released = (begun : M) × (copied shown : List V)
+    × copies old (Ok copied) begun × FnOnceReturnsAtMut g body copied x shown
+    × (left ≡ refill (length copied) copied shown) × releases left begun released new

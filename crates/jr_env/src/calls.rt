@@ -16,6 +16,7 @@ mod staying;
 mod texts;
 
 pub use array_parts::SetArrayRegion;
+pub use copies::{CopyBack, GetArrayElements, GetStringChars};
 pub use explaining::Explain;
 pub use frames::{EnsureLocalCapacity, FreeLocals, PopLocalFrame, PushLocalFrame};
 pub use making::{NewArray, NewObjectArray, NewPlain, NewString};

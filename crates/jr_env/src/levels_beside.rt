@@ -7,8 +7,10 @@ ghost use Rattle.jr_critical.specs.Levels.{objects_of, in_words, GivesUpAllOver,
 ghost use Rattle.jr_env.specs.Envs.{IsOutside};
 ghost use Rattle.jr_env.specs.StandingRegions.{EndsUndisturbed, StandsOn, StandsSince};
 ghost use Rattle.jr_env.specs.Criticals.{HasEntered, WasRefused};
+ghost use Rattle.jr_env.specs.Turns.{TriesAgainToOpen, TriesToOpen};
 
 use crate::env::Env;
+use crate::patience::Patience;
 use crate::work::outside;
 use jr_critical::Levels;
 use jr_model::Mode;
@@ -55,6 +57,58 @@ pub fn open_string<S: Steps>(env: &mut Env<S>, string: Handle) -> Result<Levels,
 {
     outside(&mut env.held);
     Levels::open_string(&mut env.held, string)
+}
+
+/// What the first level of a region is over.
+#[derive(Clone, Copy)]
+pub enum First {
+    /// An array whose elements are no objects.
+    Array(Handle),
+    /// A string.
+    Text(Handle),
+}
+
+/// Opens a critical region, by the call for what its first level is over.
+fn open<S: Steps>(env: &mut Env<S>, first: First) -> Result<Levels, Fault>
+    ensures { TriesToOpen first env.old result env.new }
+{
+    match first {
+        First::Array(array) => open_array(env, array),
+        First::Text(string) => open_string(env, string),
+    }
+}
+
+/// Opens a critical region as `open_array` and `open_string` do, and again as long as it is refused by E13, but no more than so many times more.
+///
+/// # Errors
+///
+/// Those of `open_array`, and of `open_string`, at the last try.
+///
+/// Nothing has changed then, and the thread stands outside.
+///
+/// # Operations
+///
+/// Those of each try.
+pub fn retry_open<S: Steps>(
+    env: &mut Env<S>,
+    first: First,
+    patience: Patience,
+) -> Result<Levels, Fault>
+    ensures tried { TriesAgainToOpen patience first env.old result env.new }
+    ensures stand { IfOk result (λ v. StandOver v env.new.held) }
+{
+    for _ in 0..patience.more {
+        match open(env, first) {
+            Ok(levels) => return Ok(levels),
+            Err(fault) => {
+                if !patience.is_for_later::<()>(&Err(fault)) {
+                    return Err(fault);
+                }
+            }
+        }
+        patience.pause();
+    }
+    open(env, first)
 }
 
 /// Adds a level over an array whose elements are no objects, and answers its number. An array may stand at several levels. The levels have to stand over the env. (JNI Specification, chapter 4, "GetPrimitiveArrayCritical")

@@ -3,6 +3,7 @@
 
 pub mod calls;
 mod checked;
+mod copying;
 mod critical_region;
 mod env;
 mod env_call;
@@ -19,6 +20,7 @@ mod stays;
 mod work;
 
 pub use checked::{Checked, Evidence, Examined, Explains, Refusal, Watcher};
+pub use copying::{Unreleased, with_array_elements};
 pub use critical_region::Region;
 pub use env::Env;
 pub use env_call::EnvCall;

@@ -53,7 +53,7 @@ fn try_case<S: Steps>(
         Case::Frees => frees_all(rt, env),
         Case::Slot => slot_gives_more(rt, env),
         Case::Place => place_gives_more(rt, env),
-        Case::OfOthers => are_made(rt, env),
+        Case::OfOthers => are_made(rt, alloc, env),
         Case::Again => is_made_behind(rt, alloc, env),
     }
 }

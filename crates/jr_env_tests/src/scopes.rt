@@ -1,10 +1,12 @@
-//! Calls that are made of others: a frame round a closure, strong references made of weak ones, and a region that ends with all its levels.
+//! Calls that are made of others: a frame and a copy round a closure, stays and regions that are opened with patience, strong references made of weak ones, and a region that ends with all its levels.
 
 use crate::plain::{Case, try_plain};
-use jr_env::{Env, NativeInterface, Patience, with_local_frame, with_local_frame_returning};
+use jr_env::{Env, NativeInterface, Patience, with_array_elements, with_local_frame, with_local_frame_returning};
 use jr_fixtures::{has_type, made};
+use jr_model::Mode;
 use jr_steps::Steps;
 use jr_word::{Config, Fault, Handle};
+use std::alloc::Global;
 use std::process::Abort;
 use std::test::Fail;
 
@@ -69,11 +71,56 @@ fn becomes_strong<S: Steps>(rt: &impl Abort, env: &mut Env<S>, array: Handle) ->
     ends_with_both(rt, env, local, global)
 }
 
+/// The numbers of an array are turned round in a copy, which is released.
+fn is_turned_round<S: Steps>(
+    rt: &impl Abort,
+    alloc: Global,
+    env: &mut Env<S>,
+    array: Handle,
+) -> Result<(), Fail> {
+    env.set_array_region(array, 0, &[1, 2])?;
+    let count = with_array_elements(
+        env,
+        alloc,
+        array,
+        Mode::Copy,
+        Patience::LONG,
+        |numbers: &mut [i32]| {
+            numbers.reverse();
+            numbers.len()
+        },
+    )
+    .map_err(|unreleased| unreleased.fault())?;
+    assert_eq!(rt; count, 2);
+    Ok(())
+}
+
+/// A stay and two regions are opened with patience.
+fn are_opened<S: Steps>(rt: &impl Abort, env: &mut Env<S>, array: Handle) -> Result<(), Fail> {
+    let mut stay = env.retry_stay(Patience::LONG)?;
+    let string = stay.new_string(&[104]);
+    stay.end();
+    let mut region = env.retry_array_critical(array, Patience::LONG)?;
+    let first = region.get::<i32>(0, 0);
+    region.release_all();
+    let mut region = env.retry_string_critical(string?, Patience::LONG)?;
+    let unit = region.get::<u16>(0, 0);
+    region.release_all();
+    assert_eq!(rt; (first, unit), (Ok(2), Ok(104)));
+    Ok(())
+}
+
 /// Tries these calls.
-pub(crate) fn are_made<S: Steps>(rt: &impl Abort, env: &mut Env<S>) -> Result<(), Fail> {
+pub(crate) fn are_made<S: Steps>(
+    rt: &impl Abort,
+    alloc: Global,
+    env: &mut Env<S>,
+) -> Result<(), Fail> {
     leaves_its_frame(env)?;
     hands_on_from_its_frame(rt, env)?;
     let array = env.new_array::<i32>(2)?;
+    is_turned_round(rt, alloc, env, array)?;
+    are_opened(rt, env, array)?;
     becomes_strong(rt, env, array)
 }
 

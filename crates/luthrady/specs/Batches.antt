@@ -13,7 +13,7 @@ use Rattle.jr_env.specs.Requests.{for_is_same_object}
 use Rattle.jr_env.specs.Requests.{for_new_local_ref, for_new_reference, for_set_object_array_element}
 use Rattle.jr_env.specs.Deeds.{in_a_stay}
 use Rattle.jr_env.specs.Envs.{IsOutside}
-use Rattle.jr_env.specs.LentStays.{frames_in, held_in, DoesWithin, WasBarred, WasEntered}
+use Rattle.jr_env.specs.LentStays.{env_in, frames_in, held_in, DoesWithin, WasBarred, WasEntered}
 use Rattle.jr_env.specs.OpenStays.{EndsAsOneStay, LeavesOver}
 use Rattle.luthrady.specs.declared.batches.Call.{Call}
 use Rattle.luthrady.specs.declared.batches.Operation.{Operation}
@@ -87,7 +87,7 @@ module _ {S : Type 0} {G : Ghosts S} where
 
   -- THE CALLS WERE MADE IN ONE STAY, between an entry and an exit; or none was entered (E13), and none was made
   abbrev pub WasStayed : Env S G → Env S G → List Call → List Call → Result (Unit {0}) Fault → Type 0
-  WasStayed old new cs after (Ok u) = (first last : Stay S G) × WasEntered old first × AreMade first last cs after
+  WasStayed old new cs after (Ok u) = (first last : Stay S G) × WasEntered old (env_in first).now × AreMade first last cs after
       × LeavesOver (held_in last) new.held × EndsAsOneStay (held_in last) new.held
       × (new.held.frames ≡ frames_in last) × IsOutside new
   WasStayed old new cs after (Err e) = WasBarred old new e × (after ≡ cs)

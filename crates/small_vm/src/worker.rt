@@ -2,8 +2,10 @@
 
 use crate::board::Board;
 use crate::{PATIENCE, SYMBOLS};
-use jr::calls::{DeleteGlobalRef, FreeLocals, GetObjectArrayElement, NewWeakGlobalRef};
-use jr::{Env, EnvCall, Fault, Handle, NativeInterface, Steps, with_local_frame, with_patience};
+use jr::calls::{
+    DeleteGlobalRef, FreeLocals, GetObjectArrayElement, GetStringChars, NewWeakGlobalRef,
+};
+use jr::{Env, EnvCall, Fault, Handle, NativeInterface, Steps, with_local_frame};
 use std::alloc::Global;
 
 /// What the worker read.
@@ -53,10 +55,10 @@ fn work<S: Steps>(
     symbol: u32,
     shared: Handle,
 ) -> Result<Found, Fault> {
-    let name = made(env, &GetObjectArrayElement(shared, 0))?;
+    let string = made(env, &GetObjectArrayElement(shared, 0))?;
     let numbers = made(env, &GetObjectArrayElement(shared, 1))?;
-    let units = with_patience(env, PATIENCE, |env| env.get_string_chars(alloc, name))?;
-    let sum = with_patience(env, PATIENCE, |env| added(env, numbers))?;
+    let units = env.retry(&GetStringChars { alloc, string }, PATIENCE)?;
+    let sum = added(env, numbers)?;
     board.keep(symbol, made(env, &NewWeakGlobalRef(numbers))?);
     Ok(Found {
         units: units.len(),
@@ -66,7 +68,7 @@ fn work<S: Steps>(
 
 /// The sum of an array's first numbers, in a critical region.
 fn added<S: Steps>(env: &mut Env<S>, numbers: Handle) -> Result<i64, Fault> {
-    let mut region = env.get_array_critical(numbers)?;
+    let mut region = env.retry_array_critical(numbers, PATIENCE)?;
     let first = region.get::<i32>(0, 0);
     let second = region.get::<i32>(0, 1);
     region.release_all();

@@ -1,7 +1,9 @@
 //! The calls of the Java Native Interface that copy all elements of an array or string out, and back, over any steps.
 use crate::calls::array_parts::same_element;
 use crate::env::Env;
+use crate::env_call::EnvCall;
 use crate::native_call::{Handed, NativeCall, NativeCaller};
+use crate::patience::Patience;
 use crate::work::outside;
 use jr_elements::{Elements, elements_of, put_back, read_all};
 use jr_frames::{Frames, Reference, find};
@@ -18,6 +20,7 @@ impl<S: Steps> Env<S> {
     ghost use Rattle.jr_elements.specs.Copies.{kept};
     ghost use Rattle.jr_env.specs.Envs.{Does};
     ghost use Rattle.jr_env.specs.Deeds.{release_answer, release_array_elements};
+    ghost use Rattle.jr_env.specs.Turns.{releasing_again};
 
     /// Releases copied elements by a mode. To copy writes them to the whole array, one after the other, rising, and gives them up; to commit writes them and hands them back, as they were; to abort gives them up, enters no gate, looks at no reference and is never refused. (JNI Specification, chapter 4, "Release<PrimitiveType>ArrayElements Routines")
     ///
@@ -53,6 +56,42 @@ impl<S: Steps> Env<S> {
             Err(fault) => Err((elements, fault)),
         }
     }
+
+    /// Releases copied elements as `release_array_elements` does, and again as long as it is refused by E13, but no more than so many times more.
+    ///
+    /// # Errors
+    ///
+    /// Those of `release_array_elements` at the last try.
+    ///
+    /// The elements are handed back as they were, nothing is written, and the thread stands outside.
+    ///
+    /// # Operations
+    ///
+    /// Those of each try. To abort takes none.
+    pub fn retry_release<E: Elem>(
+        &mut self,
+        array: Handle,
+        elements: Elements<E>,
+        mode: Mode,
+        patience: Patience,
+    ) -> Result<Option<Elements<E>>, (Elements<E>, Fault)>
+        ensures call { Does self.old self.new (releasing_again patience E.KIND array.0 (map E.word_of elements) mode) (release_answer (map E.word_of) result) }
+        ensures ok { IfOk result (λ left. left ≡ kept mode elements) }
+        ensures err { IfErr result (λ refused. refused.0 ≡ elements) }
+    {
+        if !mode.copies_back() {
+            outside(&mut self.held);
+            return Ok(None);
+        }
+        let call = CopyBack {
+            array,
+            elements: &elements,
+        };
+        match self.retry(&call, patience) {
+            Ok(()) => Ok(elements.kept(mode)),
+            Err(fault) => Err((elements, fault)),
+        }
+    }
 }
 
 /// A copy of all elements of an array.
@@ -64,6 +103,22 @@ pub struct GetArrayElements<E> {
     pub array: Handle,
     /// The type of its elements.
     pub element: PhantomData<E>,
+}
+
+impl<E: Elem> GetArrayElements<E> {
+    ghost use Rattle.std.specs.Prelude.{◌≡◌};
+
+    /// The call that copies the elements of an array.
+    pub fn of(alloc: Global, array: Handle) -> GetArrayElements<E>
+        ensures { result.array ≡ array }
+    {
+        let element = PhantomData::<E>;
+        GetArrayElements {
+            alloc,
+            array,
+            element,
+        }
+    }
 }
 
 impl<S: Steps, E: Elem> NativeCall<S> for GetArrayElements<E> {
@@ -99,6 +154,20 @@ impl<S: Steps, E: Elem> NativeCall<S> for GetArrayElements<E> {
         }
         let items = read_all(self.alloc, steps, object, header)?;
         Ok(elements_of(items))
+    }
+}
+
+impl<S: Steps, E: Elem> EnvCall<S> for GetArrayElements<E> {
+    ghost use Rattle.std.specs.Prelude.{map};
+    ghost use Rattle.jr_env.specs.Deeds.{whole};
+    ghost use Rattle.jr_env.specs.Requests.{for_get_array_elements, told_by};
+
+    type Answer = Elements<E>;
+
+    ghost deed = { λ c. whole (told_by (map E.word_of) (for_get_array_elements E.KIND c.array.0)) };
+
+    fn make(&self, env: &mut Env<S>) -> Result<Elements<E>, Fault> {
+        env.make(*self)
     }
 }
 
@@ -139,6 +208,19 @@ impl<S: Steps> NativeCall<S> for GetStringChars {
             return Err(Fault::WrongKind);
         }
         read_all(self.alloc, steps, object, header)
+    }
+}
+
+impl<S: Steps> EnvCall<S> for GetStringChars {
+    ghost use Rattle.jr_env.specs.Deeds.{whole};
+    ghost use Rattle.jr_env.specs.Requests.{for_get_string_chars, told_by};
+
+    type Answer = Vec<u16>;
+
+    ghost deed = { λ c. whole (told_by (λ units. units.items) (for_get_string_chars c.string.0)) };
+
+    fn make(&self, env: &mut Env<S>) -> Result<Vec<u16>, Fault> {
+        env.make(*self)
     }
 }
 
@@ -191,5 +273,19 @@ impl<S: Steps, E: Elem> NativeCall<S> for CopyBack<'_, E> {
         }
         put_back(steps, object, header, elements);
         Ok(())
+    }
+}
+
+impl<S: Steps, E: Elem> EnvCall<S> for CopyBack<'_, E> {
+    ghost use Rattle.std.specs.Prelude.{map};
+    ghost use Rattle.jr_env.specs.Deeds.{whole};
+    ghost use Rattle.jr_env.specs.Requests.{for_copy_back};
+
+    type Answer = ();
+
+    ghost deed = { λ c. whole (for_copy_back E.KIND c.array.0 (map E.word_of c.elements.now)) };
+
+    fn make(&self, env: &mut Env<S>) -> Result<(), Fault> {
+        env.make(*self)
     }
 }

@@ -1,5 +1,6 @@
-//! The call that enters a stay, over any steps.
+//! The calls that enter a stay, over any steps.
 use crate::env::Env;
+use crate::patience::Patience;
 use crate::stay::Stay;
 use crate::work::go_inside;
 use jr_gate::Inside;
@@ -7,7 +8,7 @@ use jr_steps::Steps;
 use jr_word::Fault;
 
 impl<S: Steps> Env<S> {
-    ghost use Rattle.std.specs.Prelude.{◌≡◌, IfOk, IfErr};
+    ghost use Rattle.std.specs.Prelude.{◌≡◌, Ok, IfOk, IfErr};
     ghost use Rattle.std.specs.Borrow.{sem};
     ghost use Rattle.jr_word.specs.declared.fault.Fault.TheVariants.{Barred};
     ghost use Rattle.jr_elements.specs.Copies.{answer_in};
@@ -15,6 +16,7 @@ impl<S: Steps> Env<S> {
     ghost use Rattle.jr_env.specs.Envs.{IsOutside};
     ghost use Rattle.jr_env.specs.OpenStays.{BehindExit, Enters, EntersOver, StaysSince};
     ghost use Rattle.jr_env.specs.LentStays.{env_in, rests_within, WasEntered};
+    ghost use Rattle.jr_env.specs.Turns.{rests_trying, TriesAgainToStay};
 
     /// Enters a stay, in which calls are made without an entry and an exit of their own. The thread is within until it is ended, so that collections are kept out.
     ///
@@ -31,10 +33,49 @@ impl<S: Steps> Env<S> {
     pub fn stay(&mut self) -> Result<Stay<'_, S>, Fault>
         ensures* rests { sem 𝓛 (rests_within S.row S.Steps self.entry result) }
         ensures same_reference { IfOk result (λ r. (env_in r).ghost_name ≡ self.entry.ghost_name) }
-        ensures entered { IfOk result (λ r. WasEntered self.old r) }
+        ensures entered { IfOk result (λ r. WasEntered self.old (env_in r).now) }
     {
         let inside = self.enter_stay()?;
         Ok(Stay::over(self, inside))
+    }
+
+    /// Enters a stay as `stay` does, and again as long as it is refused, but no more than so many times more.
+    ///
+    /// # Errors
+    ///
+    /// That of `stay` at the last try.
+    ///
+    /// Nothing has changed then, and the thread stands outside.
+    ///
+    /// # Operations
+    ///
+    /// Those of `stay` at each try.
+    pub fn retry_stay(&mut self, patience: Patience) -> Result<Stay<'_, S>, Fault>
+        ensures* rests { sem 𝓛 (rests_trying S.row S.Steps patience self.entry result) }
+        ensures same_reference { IfOk result (λ r. (env_in r).ghost_name ≡ self.entry.ghost_name) }
+        ensures entered { IfOk result (λ r. TriesAgainToStay patience self.old (Ok tt) (env_in r).now) }
+    {
+        let inside = self.retry_enter_stay(patience)?;
+        Ok(Stay::over(self, inside))
+    }
+
+    /// Enters the gate for a stay, and again as long as the entry is refused.
+    fn retry_enter_stay(&mut self, patience: Patience) -> Result<Inside, Fault>
+        ensures tried { TriesAgainToStay patience self.old (answer_in (λ i. tt) result) self.new }
+        ensures own { IfOk result (λ i. IsOwnStay i (S.facts self.new.held.steps).stands) }
+    {
+        for _ in 0..patience.more {
+            match self.enter_stay() {
+                Ok(inside) => return Ok(inside),
+                Err(fault) => {
+                    if !patience.is_for_later::<()>(&Err(fault)) {
+                        return Err(fault);
+                    }
+                }
+            }
+            patience.pause();
+        }
+        self.enter_stay()
     }
 
     /// Enters the gate for a stay. One that a region left is ended first.
