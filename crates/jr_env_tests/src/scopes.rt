@@ -1,7 +1,10 @@
 //! Calls that are made of others: a frame and a copy round a closure, stays and regions that are opened with patience, strong references made of weak ones, and a region that ends with all its levels.
 
 use crate::plain::{Case, try_plain};
-use jr_env::{Env, NativeInterface, Patience, with_array_elements, with_local_frame, with_local_frame_returning};
+use jr_env::{
+    Env, NativeInterface, Patience, with_array_elements, with_local_frame,
+    with_local_frame_returning,
+};
 use jr_fixtures::{has_type, made};
 use jr_model::Mode;
 use jr_steps::Steps;
