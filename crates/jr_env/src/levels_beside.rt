@@ -101,7 +101,7 @@ pub fn retry_open<S: Steps>(
         match open(env, first) {
             Ok(levels) => return Ok(levels),
             Err(fault) => {
-                if !patience.is_for_later::<()>(&Err(fault)) {
+                if !patience.is_for_later(fault) {
                     return Err(fault);
                 }
             }

@@ -68,7 +68,7 @@ impl<S: Steps> Env<S> {
             match self.enter_stay() {
                 Ok(inside) => return Ok(inside),
                 Err(fault) => {
-                    if !patience.is_for_later::<()>(&Err(fault)) {
+                    if !patience.is_for_later(fault) {
                         return Err(fault);
                     }
                 }
