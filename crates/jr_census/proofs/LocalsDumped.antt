@@ -12,7 +12,7 @@ use Rattle.jr_steps.specs.declared.known.Holdings.{Holdings}
 use Rattle.jr_steps.specs.Collecting.{ShowsLocal}
 use Rattle.jr_steps.specs.Knowing.{Facts, Standing, AreOf, Took, anything, keeps, state_of}
 use Rattle.jr_steps.specs.Says.{local_parts}
-use Rattle.jr_weak.proofs.RootMarks.{all_threads, one_thread}
+use Rattle.jr_weak.proofs.RootMarks.{one_thread}
 use Rattle.jr_census.specs.Dumps.{HasPlaces, HasPlacesOf}
 use Rattle.jr_census.specs.Telling.{LoadsTell}
 use Rattle.jr_census.proofs.Turns.{told_none, told_so, told_then, told_turn}
@@ -73,11 +73,6 @@ module _ {S : Type 0} {facts : S → Facts} (fits : AreOf facts) where
       (end ∙ (sym (ap (λ (z : Standing). z.config.locals) p.stands_is)
       ∙ sym (ap (λ (z : Config). z.locals) (fits b k s).config))) was) p
 
-  pub threads_kept_none : (xs : List LocalParts) (a : S)
-      → LoadsTell facts (λ j. 0 * j.config.locals) a a (ThreadsKept 0 xs)
-  threads_kept_none xs a = told_so fits (λ j. 0 * j.config.locals) (λ k s. omega arith) (λ k s h. h)
-      (told_none fits a {tells = ThreadsKept 0 xs} (λ k s t l. absurd (omega arith)))
-
   pub threads_kept_next : {a b c : S} (n start : ℕ) (xs xs' : List LocalParts) → (facts a).stands.role ≡ Collecting
       → start ≡ n * (facts a).stands.config.locals → SamePlaces start xs xs'
       → LoadsTell facts (λ j. n * j.config.locals) a b (ThreadsKept n xs)
@@ -99,12 +94,3 @@ module _ {S : Type 0} {facts : S → Facts} (fits : AreOf facts) where
       (λ j. (sym config j, sym same.locals j)) (was t (omega arith)) in
       let row = next_row t n k'.config.locals (omega arith) in
       here r m ∙ sym (before (t * k'.config.locals + r) (omega (arith, row, end, m)))))
-
-  pub threads_kept_all : {a b : S} (n : ℕ) (xs : List LocalParts) → n ≡ (facts a).stands.config.threads
-      → LoadsTell facts (λ j. n * j.config.locals) a b (ThreadsKept n xs)
-      → LoadsTell facts (λ j. j.config.threads * j.config.locals) a b (λ k.
-      HasPlaces k.config.threads k.config.locals (state_of k) xs)
-  threads_kept_all {a} {b} n xs end p = told_so fits (λ j. j.config.threads * j.config.locals) (λ k s.
-      all_threads n k (end ∙ sym (ap (λ (c : Config). c.threads) (fits a k s).config)))
-      (λ k s was. subst (λ n. ThreadsKept n xs k) (end ∙ (sym (ap (λ (z : Standing). z.config.threads) p.stands_is)
-      ∙ sym (ap (λ (z : Config). z.threads) (fits b k s).config))) was) p

@@ -14,10 +14,6 @@ use Rattle.jr_gate.specs.Performing.{IsAsBefore, IsMade, Performed, ThreadState,
 use Rattle.jr_env.specs.Deeds.{CarriedOut, Deed, DoesDeed, answered_by, decided, ◌>>=◌}
 use Rattle.jr_env.specs.Deeds.{within_by}
 
--- the same room and thread, and this role
-pub in_role : {s t : Standing} (r : Role) → IsAsBefore s t → s.role ≡ r → IsAsBefore (record s { role = r }) t
-in_role r b is = record { room = b.room; config = b.config; last = b.last; thread = b.thread; role = b.role ∙ is }
-
 -- one and then the other
 pub role_then : (s t u : Standing) (q r : Role) → IsAsBefore (record s { role = q }) t
     → IsAsBefore (record t { role = r }) u → IsAsBefore (record s { role = r }) u

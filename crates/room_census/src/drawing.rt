@@ -1,5 +1,5 @@
 //! A dump as a drawing for Graphviz.
-use crate::notes::Notes;
+use crate::dump::Dump;
 use jr_word::{Handle, HandleParts, HeaderParts, Kind, LocalParts, RefKind, SlotParts};
 use std::io;
 use std::io::Write;
@@ -14,27 +14,27 @@ const LEGEND: &str = "  subgraph cluster_legend {
     \"unreached\" [shape=box, style=filled, fillcolor=lightgrey, label=\"object that nothing reaches\"];
   }";
 
-/// Writes the drawing of the notes, whose objects of these numbers are reached.
+/// Writes the drawing of a dump, whose objects of these numbers are reached.
 pub(crate) fn draw<W: Write>(
     out: &mut W,
-    notes: &Notes,
+    dump: &Dump,
     reached: &[bool],
     locals: u32,
 ) -> io::Result<()> {
     writeln!(out, "digraph room {{\n  rankdir=LR;\n{LEGEND}")?;
-    for (index, slot) in notes.slots.iter().enumerate() {
+    for (index, slot) in dump.slots.iter().enumerate() {
         if let Ok(index) = u16::try_from(index) {
             draw_slot(out, index, *slot)?;
         }
     }
-    for (index, local) in notes.locals.iter().enumerate() {
+    for (index, local) in dump.locals.iter().enumerate() {
         draw_local(out, index, locals as usize, *local)?;
     }
-    for (index, header) in notes.headers.iter().enumerate() {
+    for (index, header) in dump.headers.iter().enumerate() {
         if let Some(header) = header {
             let is_reached = reached.get(index).copied().unwrap_or(false);
             draw_object(out, index + 1, *header, is_reached)?;
-            draw_elements(out, index + 1, *header, notes)?;
+            draw_elements(out, index + 1, *header, dump)?;
         }
     }
     writeln!(out, "}}")
@@ -128,13 +128,13 @@ fn draw_elements<W: Write>(
     out: &mut W,
     number: usize,
     header: HeaderParts,
-    notes: &Notes,
+    dump: &Dump,
 ) -> io::Result<()> {
     if header.kind != Kind::Objects {
         return Ok(());
     }
     for index in 0..header.length {
-        match notes.element(header, index) {
+        match dump.element(header, index) {
             0 => {}
             named => writeln!(
                 out,

@@ -2,12 +2,12 @@
 #![tactic(auto)]
 
 mod drawing;
+mod dump;
 mod leak;
-mod notes;
 
 use crate::drawing::draw;
+use crate::dump::Dump;
 use crate::leak::leak;
-use crate::notes::Notes;
 use jr_env::Env;
 use jr_rule::{Room, RoomSteps, Steps};
 use jr_word::{Config, Fault, LAST_SERIAL};
@@ -58,8 +58,8 @@ fn tell_by<S: Steps, W: Write>(
     let mut marker = env.marker(alloc)?;
     let census = env.census(&mut marker)?;
     writeln!(out, "{census}")?;
-    let notes = Notes::of(alloc, env)?;
-    let reached = notes.reached(alloc)?;
-    draw(out, &notes, &reached, SIZES.locals)?;
+    let dump = Dump::of(alloc, env)?;
+    let reached = dump.reached(alloc)?;
+    draw(out, &dump, &reached, SIZES.locals)?;
     Ok(())
 }

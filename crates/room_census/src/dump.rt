@@ -1,4 +1,4 @@
-//! The notes of a dump, and what they say of the objects that references reach.
+//! A dump of a room, and what it says of the objects that references reach.
 ghost use Rattle.std.specs.Prelude.{◌≡◌, IfOk, vec_len};
 
 use jr_env::Env;
@@ -6,9 +6,9 @@ use jr_rule::Steps;
 use jr_word::{Config, Fault, HeaderParts, Kind, LocalParts, SlotParts};
 use std::alloc::Global;
 
-/// What stands in a room, noted.
+/// What stands in a room, as a dump notes it.
 #[derive(Drop)]
-pub(crate) struct Notes {
+pub(crate) struct Dump {
     pub(crate) slots: Vec<SlotParts>,
     pub(crate) locals: Vec<LocalParts>,
     pub(crate) headers: Vec<Option<HeaderParts>>,
@@ -22,7 +22,7 @@ fn blank<T: Copy>(alloc: Global, blank: T, count: u32) -> Result<Vec<T>, Fault>
     vec![in alloc; blank; count as usize].map_err(|_| Fault::Memory)
 }
 
-impl Notes {
+impl Dump {
     /// Notes what stands in the room of an env.
     pub(crate) fn of<S: Steps>(alloc: Global, env: &mut Env<S>) -> Result<Self, Fault> {
         let config = env.held.steps.config();
@@ -34,7 +34,7 @@ impl Notes {
         let mut headers = blank(alloc, None, config.objects)?;
         let mut words = blank(alloc, 0u64, config.words)?;
         env.dump(&mut slots, &mut locals, &mut headers, &mut words)?;
-        Ok(Notes {
+        Ok(Dump {
             slots,
             locals,
             headers,
@@ -50,7 +50,7 @@ fn mark(reached: &mut [bool], object: u64) {
     }
 }
 
-impl Notes {
+impl Dump {
     /// Of each object number, from 1 upward, whether references that aren't weak lead to the object.
     pub(crate) fn reached(&self, alloc: Global) -> Result<Vec<bool>, Fault> {
         let mut reached = vec![in alloc; false; self.headers.len()].map_err(|_| Fault::Memory)?;

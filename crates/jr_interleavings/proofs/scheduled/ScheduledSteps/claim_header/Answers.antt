@@ -1,5 +1,0 @@
-use Rattle.jr_interleavings.proofs.Forwarded.{forwarded}
-use Rattle.jr_interleavings.proofs.scheduled.ScheduledSteps.claim_header.Goals as goal
-
-pub returns : goal.returns
-returns g c = forwarded c.claim_header-reply.ensures

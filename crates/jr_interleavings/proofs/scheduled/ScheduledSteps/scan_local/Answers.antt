@@ -1,5 +1,0 @@
-use Rattle.jr_interleavings.proofs.Forwarded.{forwarded}
-use Rattle.jr_interleavings.proofs.scheduled.ScheduledSteps.scan_local.Goals as goal
-
-pub returns : goal.returns
-returns g c = forwarded c.scan_local-reply.ensures

@@ -1,5 +1,0 @@
-use Rattle.jr_interleavings.proofs.Forwarded.{forwarded}
-use Rattle.jr_interleavings.proofs.scheduled.ScheduledSteps.see_header.Goals as goal
-
-pub returns : goal.returns
-returns g c = forwarded c.see_header-reply.ensures
