@@ -8,6 +8,11 @@ pub mod MeaningCalls
 pub mod MeaningScopes
 pub mod MeaningDeeds
 pub mod MeaningStands
+pub mod CommandSteps
+pub mod ObjectCommands
+pub mod ReferenceCommands
+pub mod FrameCommands
+pub mod NoteCommands
 pub mod MeaningCommands
 pub mod MeaningRun
 use Rattle.std.proofs.Common.{◌≡◌, ℕ, Option, List, [], ◌∷◌}

@@ -52,6 +52,7 @@ use Rattle.jr_scripts.proofs.LoneRun.MeaningFrames.{Pairing, no_frame, no_local,
 use Rattle.jr_scripts.proofs.LoneRun.MeaningFits.{Fits, RefFits}
 use Rattle.jr_scripts.proofs.LoneRun.MeaningScopes.{SameTables, drops_keep}
 use Rattle.jr_scripts.proofs.LoneRun.MeaningDeeds.{BindingFits, IsPass, call_made, made_once, now}
+use Rattle.jr_scripts.proofs.LoneRun.CommandSteps.{Turn}
 use Rattle.jr_scripts.proofs.LoneRun.MeaningCommands.{step}
 use Rattle.jr_scripts.proofs.LoneRun.MeaningStands.{Stands, Stepped, left_before, left_then}
 
@@ -206,8 +207,15 @@ module _ (c : Config) (last turns : ℕ) (one : c.threads ≡ 1) (some_turns : t
       answers.0 (all_front IsCovered before (x ∷ []) firsts)
       (led_alone y alone) (all_prefix IsUnbarred mid.pass.seen new.pass.seen y.begins all) in
       let t = told_from c 3 before (first_told memory) in
-      let stepped = step c last turns some_turns some_threads small few k x i.pairing t.world mid new stood t.place
-      had t.words i.stands alone all answer first did said answers.1 in
+      let stepped = step {k = k} x (record {
+        some_turns = some_turns;
+        some = some_threads;
+        small = small;
+        few = few;
+        stands = i.stands;
+        alone = alone;
+        all = all;
+      }) answer first did said answers.1 in
       let so = tells_so k t (3 + length before) x answer lines new stood had i.text_is stepped in
       let whole = told_snoc c 3 before x (first_told memory) in
       record {
