@@ -1,10 +1,13 @@
 -- A script of one thread that is run as one of several: its run is that of the thread alone.
 pub mod MadeCalls
 pub mod MeaningFrames
+pub mod MeaningSlots
 pub mod MeaningFits
 pub mod MeaningCounts
 pub mod MeaningParts
+pub mod MeaningRefs
 pub mod MeaningCalls
+pub mod MeaningRow
 pub mod MeaningScopes
 pub mod MeaningDeeds
 pub mod MeaningStands

@@ -12,12 +12,16 @@ use Rattle.jr_model.specs.History.{state}
 use Rattle.jr_model.specs.Calls.{Call}
 use Rattle.jr_model.specs.Checks.{Word}
 use Rattle.jr_gate.specs.Performing.{IsMade, ThreadState}
-use Rattle.jr_env.specs.Deeds.{Deed, decided, ◌>>=◌, call_on_by}
+use Rattle.jr_env.specs.Deeds.{Deed, answered_by, decided, ◌>>=◌, call_on_by}
 use Rattle.jr_env.specs.Requests.{packed, packed_if}
 use Rattle.jr_syntax.specs.declared.name.Reference.{Reference}
 use Rattle.jr_syntax.specs.declared.name.Reference.TheVariants as refers
 use Rattle.jr_syntax.specs.declared.command.Command.{Command}
+use Rattle.jr_syntax.specs.declared.command.Command.TheVariants as commands
+use Rattle.jr_syntax.specs.declared.verb.MakeFrom.{MakeFrom}
+use Rattle.jr_scripts.specs.Commands.{makes_reference, tried}
 use Rattle.jr_scripts.specs.Meaning.{World, Meaning, goes_on, reply_made}
+use Rattle.jr_scripts.specs.Meaning as meaning
 use Rattle.jr_scripts.proofs.LoneRun.MeaningCalls.{MaybeFits, WordFits}
 use Rattle.jr_scripts.specs.declared.reply.Reply.{Reply}
 use Rattle.jr_scripts.specs.declared.reply.Reply.TheVariants as replies
@@ -29,13 +33,13 @@ use Rattle.jr_scripts.specs.Posting.{Words, words_after}
 use Rattle.jr_scripts.specs.Text.{names_after, printed, reference_made, says}
 use Rattle.jr_scripts.specs.AloneAnswers.{IsCommandFault}
 use Rattle.jr_scripts.specs.Runs.{IsUnbarred}
-use Rattle.jr_scripts.proofs.AloneCalls.{IsAlone}
+use Rattle.jr_scripts.proofs.AloneCalls.{IsAlone, LeadsAlone}
 use Rattle.jr_scripts.proofs.LoneRun.MadeCalls.{IsSo}
 use Rattle.jr_scripts.proofs.LoneRun.MeaningFrames.{Pairing}
 use Rattle.jr_scripts.proofs.LoneRun.MeaningFits.{Later, Fits, Fitting, Means, Outcome, fits_less, later_self}
 use Rattle.jr_scripts.proofs.LoneRun.MeaningDeeds.{IsPass, NamesFit, BindingFits, HandleFits, WordsFit, after_decided}
-use Rattle.jr_scripts.proofs.LoneRun.MeaningDeeds.{call_made, formed, names_later, names_set_fit, now, own_handle}
-use Rattle.jr_scripts.proofs.LoneRun.MeaningDeeds.{read_fits, words_later}
+use Rattle.jr_scripts.proofs.LoneRun.MeaningDeeds.{call_made, formed, given_handle, names_later, names_set_fit, now}
+use Rattle.jr_scripts.proofs.LoneRun.MeaningDeeds.{formed_both, made_once, read_fits, was_formed, words_later}
 use Rattle.jr_scripts.proofs.LoneRun.MeaningStands.{Keeps, Sets, IsSilent, Stands, Stepped, err_formed, err_map}
 use Rattle.jr_scripts.proofs.LoneRun.MeaningStands.{pass_later, so_of}
 
@@ -45,6 +49,7 @@ pub record Turn (c : Config) (last turns j k : ℕ) (P : Pairing) (w : World) (o
   pub some_turns : turns ≢ 0
   pub some : 1 ≤ c.threads
   pub small : c.locals ≤ 4096
+  pub slots : c.slots ≤ 65536
   pub few : last < 2 ^ 32
   pub stands : Stands c last j P w old p q had told
   pub alone : IsAlone new.pass
@@ -71,7 +76,7 @@ module _ {c : Config} {last turns j k : ℕ} {P : Pairing} {w : World} {old new 
       (so_of turns p.names x new.pass new.frames e h))) fault
 
   pub handles : (i : ℕ) → i < length w.refs → IsHandle (P.handle i)
-  handles i l = own_handle c last (P.handle i) s.small s.few (s.stands.fits.locals.own i l)
+  handles i l = given_handle c last (P.handle i) s.small s.slots s.few (s.stands.fits.refs.given i l)
 
   -- where the moment is as a later world
   pub record IsThen (Q : Pairing) (v : World) : Type 0 where
@@ -255,3 +260,35 @@ module _ {c : Config} {last turns j k : ℕ} {P : Pairing} {w : World} {old new 
         → Steps (goes_on then (goes_on (λ h v. (Ok h.0, v)) (wanted (referent q.names r), w)))
     wanted_step le next then r quiet d found =
         bound_step le next then (referent p.names r) (referent q.names r) (referent_fits r) quiet d found
+
+  -- A COMMAND THAT MAKES A REFERENCE, or NULL, from one, by one call
+  pub made_of_step : k ≤ j → (v : MakeFrom) (n : List ℕ) (r : Reference) (answer : Result Reply Fault)
+      → IfErr answer (IsCommandFault turns p.names (commands.MakeFrom v n r) new.pass new.frames)
+      → (asked : Config → ℕ → ℕ → Word → Call (Option Handle)) (meant : ℕ → Meaning ℕ)
+      → ((z h : ℕ) → LeadsAlone z (p.names, commands.MakeFrom v n r)
+      (answered_by packed_if (call_on_by (λ c. 0) h (λ c l t y a. asked c l t a))))
+      → ((a : Word) (g : ℕ) → WordFits P w a g → Means c last j k MaybeFits P w (asked c last 0 a) (meant g))
+      → (decided (wanted (referent p.names r)) >>= (λ h. makes_reference turns
+      (answered_by packed_if (call_on_by (λ c. 0) h.0 (λ c l t y a. asked c l t a))))) old answer new
+      → Steps (commands.MakeFrom v n r) answer (goes_on (λ m. meaning.makes (meant m))
+      (goes_on (λ h z. (Ok h.0, z)) (wanted (referent q.names r), w)))
+  made_of_step le v n r answer fault asked meant led means d =
+      wanted_step (commands.MakeFrom v n r) answer le
+      (λ h. makes_reference turns (answered_by packed_if (call_on_by (λ c. 0) h.0 (λ c l t y a. asked c l t a))))
+      (λ m. meaning.makes (meant m)) r (λ e names os ws. (refl, refl, refl)) d found
+    where
+      found : (h g : HandleWord) → HandleFits P w h.0 g.0
+          → makes_reference turns (answered_by packed_if (call_on_by (λ c. 0) h.0 (λ c l t y a. asked c l t a))) old
+          answer new → Steps (commands.MakeFrom v n r) answer (meaning.makes (meant g.0) w)
+      found h g same d' =
+          let x = commands.MakeFrom v n r in
+          let call = call_on_by (λ c. 0) h.0 (λ c l t y a. asked c l t a) in
+          let f = was_formed (λ z. replies.Made z) (tried turns (answered_by packed_if call)) old new answer d' in
+          let once = made_once (p.names, x) (λ z. led z h.0) turns old new f.once s.alone s.some_turns f.did in
+          let y = was_formed packed_if call old new f.once once in
+          let is : answer ≡ formed (λ z. replies.Made (packed_if z)) y.once =
+          f.is ∙ (ap (formed (λ z. replies.Made z)) y.is ∙ formed_both (λ z. replies.Made z) packed_if y.once) in
+          let i = word_call x answer fault {V = MaybeFits} (λ z. replies.Made (packed_if z))
+          (λ z l t u a. asked z l t a) (meant g.0) y.once h.0 g.0 same (λ a z word. means a g.0 word) y.did is in
+          makes_after x answer n (λ z names os ws. (refl, refl, refl)) (λ z u. refl) (λ e names os ws.
+          (refl, refl, refl)) y.once (meant g.0 w) i is

@@ -1,15 +1,13 @@
 -- What a lone thread's commands of frames mean.
-use Rattle.std.proofs.Common.{◌≡◌, ℕ, suc, List, Result, IfErr, refl, sym, ap, subst, ◌∙◌, arith}
+use Rattle.std.proofs.Common.{◌≡◌, ℕ, suc, List, Result, IfErr, refl, sym, subst, arith}
 use Rattle.jr_word.specs.declared.config.Config.{Config}
 use Rattle.jr_word.specs.declared.fault.Fault.{Fault}
-use Rattle.jr_word.specs.declared.handle.Handle.{Handle as HandleWord}
 use Rattle.jr_model.specs.References as references
 use Rattle.jr_gate.specs.Performing.{ThreadState}
-use Rattle.jr_env.specs.Deeds.{ensure_local_capacity, pop_local_frame, push_local_frame, call_on_by}
-use Rattle.jr_env.specs.Requests.{packed_if}
+use Rattle.jr_env.specs.Deeds.{ensure_local_capacity, push_local_frame}
 use Rattle.jr_syntax.specs.declared.name.Reference.{Reference}
 use Rattle.jr_syntax.specs.declared.command.Command.TheVariants as commands
-use Rattle.jr_scripts.specs.Commands.{deed, makes_reference, tried}
+use Rattle.jr_scripts.specs.Commands.{deed, tried}
 use Rattle.jr_scripts.proofs.AloneDeeds.{ensure_alone, pop_alone, push_alone}
 use Rattle.jr_scripts.specs.Meaning.{World}
 use Rattle.jr_scripts.proofs.LoneRun.MeaningCalls.{MaybeFits}
@@ -17,7 +15,6 @@ use Rattle.jr_syntax.specs.declared.verb.MakeFrom.TheVariants as make_from
 use Rattle.jr_syntax.specs.declared.verb.WithCount.TheVariants as with_count
 use Rattle.jr_scripts.specs.declared.reply.Reply.{Reply}
 use Rattle.jr_scripts.specs.declared.reply.Reply.TheVariants as replies
-use Rattle.jr_scripts.specs.Names.{referent}
 use Rattle.jr_scripts.specs.Places.{Place}
 use Rattle.jr_scripts.specs.Posting.{Words}
 use Rattle.jr_scripts.specs.AloneAnswers.{IsCommandFault}
@@ -27,9 +24,8 @@ use Rattle.jr_scripts.proofs.LoneRun.MeaningFrames.{Pairing}
 use Rattle.jr_scripts.proofs.LoneRun.MeaningFits.{IsDone, Means}
 use Rattle.jr_scripts.proofs.LoneRun.MeaningParts.{room_means}
 use Rattle.jr_scripts.proofs.LoneRun.MeaningScopes.{pop_means, push_means}
-use Rattle.jr_scripts.proofs.LoneRun.MeaningDeeds.{BindingFits, HandleFits, formed, formed_both, made_once, was_formed}
-use Rattle.jr_scripts.proofs.LoneRun.CommandSteps.{Turn, Steps, made_call, word_call, same_after, makes_after}
-use Rattle.jr_scripts.proofs.LoneRun.CommandSteps.{wanted_step, even}
+use Rattle.jr_scripts.proofs.LoneRun.MeaningDeeds.{made_once, was_formed}
+use Rattle.jr_scripts.proofs.LoneRun.CommandSteps.{Turn, Steps, made_call, same_after, even}
 
 module _ {c : Config} {last turns j k : ℕ} {P : Pairing} {w : World} {old new : ThreadState} {p q : Place}
     {had told : Words} (s : Turn c last turns j k P w old new p q had told) where
@@ -72,34 +68,13 @@ module _ {c : Config} {last turns j k : ℕ} {P : Pairing} {w : World} {old new 
 
   -- POP
 
-  module _ (spent : j ≡ suc k) (n : List ℕ) (r : Reference) (answer : Result Reply Fault)
-      (fault : IfErr answer (IsCommandFault turns p.names (commands.MakeFrom make_from.Pop n r) new.pass
-      new.frames))
-    where
-      pop_found : (h g : HandleWord) → HandleFits P w h.0 g.0
-          → makes_reference turns (pop_local_frame h.0) old answer new
-          → Steps s (commands.MakeFrom make_from.Pop n r) answer
-          (meaning.made_from c q.names told make_from.Pop g.0 w)
-      pop_found h g same d =
-          let x = commands.MakeFrom make_from.Pop n r in
-          let f = was_formed (λ z. replies.Made z) (tried turns (pop_local_frame h.0)) old new answer d in
-          let once = made_once (p.names, x) (λ z. pop_alone z p.names n r h.0) turns old new f.once s.alone s.some_turns
-          f.did in
-          let y = was_formed packed_if (call_on_by (λ z. 0) h.0 (λ z l t u a. references.pop_local_frame z l t a))
-          old new f.once once in
-          let is : answer ≡ formed (λ z. replies.Made (packed_if z)) y.once =
-          f.is ∙ (ap (formed (λ z. replies.Made z)) y.is ∙ formed_both (λ z. replies.Made z) packed_if y.once) in
-          let i = word_call s x answer fault {V = MaybeFits} (λ z. replies.Made (packed_if z))
-          (λ z l t u a. references.pop_local_frame z l t a) (meaning.pop c g.0) y.once h.0 g.0 same
-          (λ a z word. subst (λ l. Means c last l k MaybeFits P w (references.pop_local_frame c last 0 a)
-          (meaning.pop c g.0)) (sym spent) (pop_means c last k P w a g.0 s.some word)) y.did is in
-          makes_after s x answer n (λ z names os ws. (refl, refl, refl)) (λ z v. refl) (λ e names os ws.
-          (refl, refl, refl)) y.once (meaning.pop c g.0 w) i is
-
-      pub pop_step : deed turns p.names (commands.MakeFrom make_from.Pop n r) old answer new
-          → Steps s (commands.MakeFrom make_from.Pop n r) answer
-          (meaning.outside c q.names told (commands.MakeFrom make_from.Pop n r) w)
-      pop_step d =
-          wanted_step s (commands.MakeFrom make_from.Pop n r) answer (omega arith)
-          (λ h. makes_reference turns (pop_local_frame h.0)) (meaning.made_from c q.names told make_from.Pop)
-          r (λ e names os ws. (refl, refl, refl)) d pop_found
+  pub pop_step : j ≡ suc k → (n : List ℕ) (r : Reference) (answer : Result Reply Fault)
+      → IfErr answer (IsCommandFault turns p.names (commands.MakeFrom make_from.Pop n r) new.pass new.frames)
+      → deed turns p.names (commands.MakeFrom make_from.Pop n r) old answer new
+      → Steps s (commands.MakeFrom make_from.Pop n r) answer
+      (meaning.outside c q.names told (commands.MakeFrom make_from.Pop n r) w)
+  pop_step spent n r answer fault d =
+      made_of_step s (omega arith) make_from.Pop n r answer fault (λ z l t a. references.pop_local_frame z l t a)
+      (meaning.pop c) (λ z h. pop_alone z p.names n r h) (λ a m word. subst (λ l. Means c last l k MaybeFits P w
+      (references.pop_local_frame c last 0 a) (meaning.pop c m)) (sym spent)
+      (pop_means c last k P w a m s.some word)) d

@@ -49,6 +49,9 @@ module _ {c : Config} {last turns j k : ℕ} {P : Pairing} {w : World} {old new 
       → Steps s x answer (meaning.outside c q.names told x w)
   one_step (commands.Make make.Plain n) one answer covered d said fault = plain_step s one n answer fault d
   one_step (commands.Make make.Wait n) one answer covered d said fault = wait_step s one n answer said d
+  one_step (commands.MakeFrom make_from.Global n r) one answer covered d said fault =
+      global_step s one n r answer fault d
+  one_step (commands.MakeFrom make_from.Weak n r) one answer covered d said fault = weak_step s one n r answer fault d
   one_step (commands.MakeFrom make_from.Local n r) one answer covered d said fault = local_step s one n r answer fault d
   one_step (commands.MakeFrom make_from.Pop n r) one answer covered d said fault = pop_step s one n r answer fault d
   one_step (commands.On on.Type r) one answer covered d said fault =

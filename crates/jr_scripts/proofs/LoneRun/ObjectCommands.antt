@@ -32,8 +32,8 @@ use Rattle.jr_scripts.proofs.AloneCalls.{LeadsAlone}
 use Rattle.jr_scripts.specs.Meaning as meaning
 use Rattle.jr_scripts.proofs.LoneRun.MeaningFrames.{Pairing}
 use Rattle.jr_scripts.proofs.LoneRun.MeaningFits.{Outcome}
-use Rattle.jr_scripts.proofs.LoneRun.MeaningDeeds.{BindingFits, HandleFits, formed, formed_both, made_once, now}
-use Rattle.jr_scripts.proofs.LoneRun.MeaningDeeds.{read_fits, was_formed}
+use Rattle.jr_scripts.proofs.LoneRun.MeaningDeeds.{HandleFits, formed, formed_both, made_once, now, read_fits}
+use Rattle.jr_scripts.proofs.LoneRun.MeaningDeeds.{was_formed}
 use Rattle.jr_scripts.proofs.LoneRun.MeaningStands.{Keeps, Sets, IsSilent}
 use Rattle.jr_scripts.proofs.LoneRun.CommandSteps.{Turn, Steps, CallMeant, made_call, makes_after, wanted_step, handles}
 use Rattle.jr_scripts.proofs.LoneRun.CommandSteps.{even, at_most}
