@@ -107,7 +107,7 @@ module _ (turns : ℕ) (command : Asked) where
       references.making c last t) (λ c last t s one first. making_uncontended s command c last t one first (full last))
       (λ c last t s. refusals_change_nothing c last t s _ CallOf.new_plain))
 
-  reference_alone : (k : RefKind) (w : ℕ) → LeadsAlone turns command (new_reference k w)
+  pub reference_alone : (k : RefKind) (w : ℕ) → LeadsAlone turns command (new_reference k w)
   reference_alone k w = answered_alone turns command _
       (on_alone turns command (λ c. 0) w (λ c last t s a. references.creation c last t k a)
       (λ c last t s a reads one first. creation_uncontended s command c last t one first k a) (λ c last t s a.
@@ -120,7 +120,7 @@ module _ (turns : ℕ) (command : Asked) where
       (λ c last t s a reads one first. local_creation_uncontended s command c last t one first (full last) a)
       (λ c last t s a. refusals_change_nothing c last t s _ (CallOf.new_local_ref a)))
 
-  delete_alone : (k : RefKind) (w : ℕ) → ((a : Word) → IsReadAs w a → is_of_kind k a ≡ true)
+  pub delete_alone : (k : RefKind) (w : ℕ) → ((a : Word) → IsReadAs w a → is_of_kind k a ≡ true)
       → LeadsAlone turns command (delete_reference k w)
   delete_alone k w is = on_alone turns command (λ c. 0) w (λ c last t s a. references.removal c k a)
       (λ c last t s a reads one first. removal_uncontended s command c last t one first k a (is a reads))

@@ -1,13 +1,21 @@
 -- A script of one thread that is run as one of several: its run is that of the thread alone.
 pub mod MadeCalls
 pub mod MeaningFrames
+pub mod MeaningSlots
 pub mod MeaningFits
 pub mod MeaningCounts
 pub mod MeaningParts
+pub mod MeaningRefs
 pub mod MeaningCalls
+pub mod MeaningRow
 pub mod MeaningScopes
 pub mod MeaningDeeds
 pub mod MeaningStands
+pub mod CommandSteps
+pub mod ObjectCommands
+pub mod ReferenceCommands
+pub mod FrameCommands
+pub mod NoteCommands
 pub mod MeaningCommands
 pub mod MeaningRun
 use Rattle.std.proofs.Common.{◌≡◌, ℕ, Option, List, [], ◌∷◌}

@@ -614,6 +614,8 @@ gives_up _ = false
 -- the commands of which it is proved so far that they print what they mean
 abbrev pub IsCovered : Command → Type 0
 IsCovered (commands.Make v n) = Unit {0}
+IsCovered (commands.MakeFrom make_from.Global n r) = Unit {0}
+IsCovered (commands.MakeFrom make_from.Weak n r) = Unit {0}
 IsCovered (commands.MakeFrom make_from.Local n r) = Unit {0}
 IsCovered (commands.MakeFrom make_from.Pop n r) = Unit {0}
 IsCovered (commands.On on.Type r) = Unit {0}

@@ -1,21 +1,23 @@
 -- A call that a lone thread made, taken apart.
 use Rattle.std.proofs.Common.{◌≡◌, ◌⊎◌, inl, inr, ℕ, ◌<◌, Bool, true, false, List, [], ◌∷◌, ◌++◌, map, Result, Ok, Err}
-use Rattle.std.proofs.Common.{IfErr, refl, ap, subst, ◌∙◌}
+use Rattle.std.proofs.Common.{IfErr, refl, sym, ap, subst, ◌∙◌}
 use Rattle.std.proofs.lemmas.List.{map-append}
 use Rattle.std.specs.List.{AllByRecursion}
 use Rattle.jr_word.specs.declared.config.Config.{Config}
 use Rattle.jr_word.specs.declared.fault.Fault.{Fault}
 use Rattle.jr_word.specs.declared.fault.Fault.TheVariants.{RowFull, ObjectsFull}
 use Rattle.jr_model.specs.declared.event.Act.{Act}
-use Rattle.jr_model.specs.declared.event.Act.TheVariants.{Gate, ShutBusy, ReserveLost}
+use Rattle.jr_model.specs.declared.event.Act.TheVariants.{Gate, Look, ShutBusy, ReserveLost}
 use Rattle.jr_model.specs.declared.event.GateAct.{GateAct}
 use Rattle.jr_model.specs.declared.event.GateAct.TheVariants.{Enter, Knock, Leave}
-use Rattle.jr_model.specs.State.{State, EachPresent, IsOccupied}
+use Rattle.jr_model.specs.declared.event.Found.{Found}
+use Rattle.jr_model.specs.State.{Handle, State, EachPresent, IsOccupied}
 use Rattle.jr_model.specs.Steps.{act_after}
 use Rattle.jr_model.specs.Frames.{Frames}
-use Rattle.jr_model.specs.History.{by, state_from, IsLegalFrom}
+use Rattle.jr_model.specs.History.{History, by, state, state_from, IsLegal, IsLegalFrom}
 use Rattle.jr_model.specs.Calls.{Call, ◌>>=◌, entered}
-use Rattle.jr_model.proofs.Histories.{legal_from_append, state_from_append}
+use Rattle.jr_model.specs.Parts.{look}
+use Rattle.jr_model.proofs.Histories.{legal_append, legal_from_append, state_append, state_from_append}
 use Rattle.jr_scripts.proofs.AloneHistories.{all_front, all_back}
 
 -- a moment of a lone thread
@@ -45,9 +47,26 @@ moment s f = record { state = s; frames = f }
 pub moment_is : (s s' : State) (f f' : Frames) → s ≡ s' → f ≡ f' → moment s f ≡ moment s' f'
 moment_is s s' f f' a b = cc
 
+-- a legal history leads to the state
+pub record IsLed (c : Config) (last : ℕ) (s : State) : Type 0 where
+  pub past : History
+  pub lawful : IsLegal c last past
+  pub leads : s ≡ state past
+
 module _ (c : Config) (last t : ℕ) where
+  -- .. and goes on
+  led_on : (s : State) (acts : List Act) → IsLed c last s → IsLegalFrom c last s (map (by t) acts)
+      → IsLed c last (state_from s (map (by t) acts))
+  led_on s acts i legal = record {
+    past = i.past ++ map (by t) acts;
+    lawful = (legal_append c last i.past (map (by t) acts)).1
+        (i.lawful, subst (λ z. IsLegalFrom c last z (map (by t) acts)) i.leads legal);
+    leads = ap (λ z. state_from z (map (by t) acts)) i.leads ∙ sym (state_append i.past (map (by t) acts));
+  }
+
   -- THE CALL WAS MADE by a thread that is alone
   pub record Made {A : Type 0} (call : Call A) (m : Moment) (answer : Result A Fault) (n : Moment) : Type 0 where
+    pub led : IsLed c last m.state
     pub acts : List Act
     pub is : call m.frames acts answer n.frames
     pub legal : IsLegalFrom c last m.state (map (by t) acts)
@@ -78,6 +97,7 @@ module _ (c : Config) (last t : ℕ) where
             d.0,
             moment (state_from m.state xs) d.1,
             record {
+              led = r.led;
               acts = d.2;
               is = d.5;
               legal = l.0;
@@ -87,6 +107,7 @@ module _ (c : Config) (last t : ℕ) where
               so = tt;
             },
             record {
+              led = led_on m.state d.2 r.led l.0;
               acts = d.3;
               is = d.6;
               legal = l.1;
@@ -102,6 +123,7 @@ module _ (c : Config) (last t : ℕ) where
             d.0,
             d.1,
             record {
+              led = r.led;
               acts = acts;
               is = d.2;
               legal = legal;
@@ -123,6 +145,29 @@ module _ (c : Config) (last t : ℕ) where
       (by t) acts)
       → n.state ≡ act_after m.state t a
   stepped m n acts a is leads = leads ∙ ap (λ l. state_from m.state (map (by t) l)) is
+
+  -- A LOOK only tells what stands there
+  pub looked_first : {B : Type 0} (h : Handle) (next : Found → Call B) (m n : Moment) (answer : Result B Fault)
+      → Made (look h >>= next) m answer n → Made (next (m.state.refs h)) m answer n
+  looked_first {B} h next m n answer r = go (split (look h) next m n answer r)
+    where
+      told : (mid : Moment) (y : Found) → Made (look h) m (Ok y) mid → (y ≡ m.state.refs h) × (mid ≡ m)
+      told mid y one =
+          let z = (one.is).0 in
+          let l : IsLegalFrom c last m.state (by t (Look h z) ∷ []) =
+          subst (λ acts. IsLegalFrom c last m.state (map (by t) acts)) (one.is).1 one.legal in
+          let same : m.state.refs h ≡ z = (l.0.1).1 in
+          let answered : y ≡ z = (let is = (one.is).2 in cc) in (
+            answered ∙ sym same,
+            moment_is mid.state m.state mid.frames m.frames (stepped m mid one.acts (Look h z) (one.is).1 one.leads)
+                (one.is).3,
+          )
+
+      go : WasMadeOf (look h) next m answer n → Made (next (m.state.refs h)) m answer n
+      go (inl d) =
+          let f = told d.1 d.0 d.2 in
+          subst (λ y. Made (next y) m answer n) f.0 (subst (λ z. Made (next d.0) z answer n) f.1 d.3)
+      go (inr d) = absurd (let bad = (d.2.is).2 in cc)
 
   -- IN A STAY OF ITS OWN
 
@@ -168,6 +213,8 @@ module _ (c : Config) (last t : ℕ) where
           record {
             end = end;
             made = record {
+              led = led_on m.state (Gate Enter ∷ []) r.led
+                  ((subst (IsLegalFrom c last m.state) whole legal).0, tt);
               acts = d.0;
               is = d.2;
               legal = l.0;

@@ -1,7 +1,8 @@
 -- What is counted in a room and in the world of what a script means.
 use Rattle.std.proofs.Common.{◌≡◌, ◌≢◌, ℕ, zero, suc, ◌<◌, ◌≤◌, ◌+◌, ◌==◌, ◌&&◌, Bool, true, false, cond, not, nat_eq}
-use Rattle.std.proofs.Common.{nat_le, Option, Some, None, is_some, List, [], ◌∷◌, ◌++◌, length, slice_index}
-use Rattle.std.proofs.Common.{slice_set, refl, sym, ap, subst, ◌∙◌, arith, get_or-set_other, get_or-set_same}
+use Rattle.std.proofs.Common.{nat_le, Option, Some, None, is_some, List, [], ◌∷◌, ◌++◌, length, slice_index, slice_set}
+use Rattle.std.proofs.Common.{refl, sym, ap, subst, ◌∙◌, arith, get_or-set_other, get_or-set_same}
+use Rattle.std.specs.List.{filter}
 use Rattle.std.proofs.lemmas.List.{length-set}
 use Rattle.std.proofs.lemmas.Bool.Decides.{nat_tests}
 use Rattle.jr_model.specs.declared.frames.LocalRef.{LocalRef}
@@ -13,7 +14,7 @@ use Rattle.jr_model.proofs.Updates.{at_number, at_number_self, eq_false, eq_othe
 use Rattle.jr_model.proofs.Updates.{handle_true, and_right}
 use Rattle.jr_model.proofs.Agreement.{joined_last, object_last, standing_held}
 use Rattle.jr_model.proofs.Locals.{IsPast}
-use Rattle.jr_scripts.specs.Meaning.{standing}
+use Rattle.jr_scripts.specs.Meaning.{how_many, standing_at}
 
 -- NUMBERS OF OBJECTS
 
@@ -60,11 +61,73 @@ count_more n objects o x small none =
     (at_number_self objects o (Some x)) in
     omega arith
 
--- one more thing that stands
-pub standing_more : {A : Type 0} (xs : List (Option A)) (x : A) → standing (xs ++ Some x ∷ []) ≡ standing xs + 1
-standing_more [] x = refl
-standing_more (None ∷ xs) x = standing_more xs x
-standing_more (Some y ∷ xs) x = let rest = standing_more xs x in omega arith
+-- what is so of each number below and of the next one
+pub below_next : (Q : ℕ → Type 0) (n : ℕ) → ((i : ℕ) → i < n → Q i) → Q n → (i : ℕ) → i < n + 1 → Q i
+below_next Q n old new i small = go (i == n) refl
+  where
+    go : (b : Bool) → (i == n) ≡ b → Q i
+    go true e = subst Q (sym (eq_true i n e)) new
+    go false e = old i (let ne : i ≢ n = eq_false i n e in omega arith)
+
+-- what stands once another thing is put at a number
+pub at_set : {A : Type 0} (xs : List (Option A)) (i j : ℕ) (y : Option A) (Q : Option A → Type 0) → (i ≡ j → Q y)
+    → (i ≢ j → Q (standing_at xs j)) → i < length xs → Q (standing_at (slice_set xs i y) j)
+at_set xs i j y Q here stays small = go (i == j) refl
+  where
+    go : (b : Bool) → (i == j) ≡ b → Q (standing_at (slice_set xs i y) j)
+    go true e =
+        let same : i ≡ j = eq_true i j e in
+        let put : standing_at (slice_set xs i y) j ≡ y =
+        ap (λ z. standing_at (slice_set xs i y) z) (sym same) ∙ get_or-set_same xs i y None small in
+        subst Q (sym put) (here same)
+    go false e =
+        let other : i ≢ j = eq_false i j e in
+        subst Q (sym (get_or-set_other xs i j y None (λ z. other (sym z)))) (stays other)
+
+-- HOW MANY PASS, with one more, and without one
+pub how_many_more : {A : Type 0} (p : A → Bool) (xs : List A) (x : A)
+    → how_many p (xs ++ x ∷ []) ≡ how_many p xs + bit (p x)
+how_many_more p [] x = go (p x)
+  where
+    go : (b : Bool) → length (cond b (x ∷ []) []) ≡ 0 + bit b
+    go true = refl
+    go false = refl
+how_many_more p (y ∷ ys) x = go (p y) (how_many_more p ys x)
+  where
+    go : (b : Bool) → how_many p (ys ++ x ∷ []) ≡ how_many p ys + bit (p x)
+        → length (cond b (y ∷ filter p (ys ++ x ∷ [])) (filter p (ys ++ x ∷ [])))
+        ≡ length (cond b (y ∷ filter p ys) (filter p ys)) + bit (p x)
+    go true rest = omega (arith, rest)
+    go false rest = rest
+
+pub how_many_less : {A : Type 0} (p : Option A → Bool) → p None ≡ false → (xs : List (Option A)) (i : ℕ) → i < length xs
+    → how_many p (slice_set xs i None) + bit (p (standing_at xs i)) ≡ how_many p xs
+how_many_less p none [] i small = absurd (omega arith)
+how_many_less p none (x ∷ xs) zero small =
+    ap (λ b. length (cond b (None ∷ filter p xs) (filter p xs)) + bit (p x)) none ∙ go (p x)
+  where
+    go : (b : Bool) → how_many p xs + bit b ≡ length (cond b (x ∷ filter p xs) (filter p xs))
+    go true = omega arith
+    go false = omega arith
+how_many_less p none (x ∷ xs) (suc i) small = go (p x) (how_many_less p none xs i (omega arith))
+  where
+    go : (b : Bool) → how_many p (slice_set xs i None) + bit (p (standing_at xs i)) ≡ how_many p xs
+        → length (cond b (x ∷ filter p (slice_set xs i None)) (filter p (slice_set xs i None)))
+        + bit (p (standing_at xs i)) ≡ length (cond b (x ∷ filter p xs) (filter p xs))
+    go true rest = omega (arith, rest)
+    go false rest = rest
+
+pub more_of : {A : Type 0} (p : A → Bool) (xs : List A) (x : A) → p x ≡ false
+    → how_many p (xs ++ x ∷ []) ≡ how_many p xs
+more_of p xs x none =
+    let more = how_many_more p xs x in let bit_is : bit (p x) ≡ 0 = ap bit none in omega (arith, more, bit_is)
+
+pub less_of : {A : Type 0} (p : Option A → Bool) → p None ≡ false → (xs : List (Option A)) (i : ℕ) → i < length xs
+    → p (standing_at xs i) ≡ false → how_many p (slice_set xs i None) ≡ how_many p xs
+less_of p none xs i small other =
+    let less = how_many_less p none xs i small in
+    let bit_is : bit (p (standing_at xs i)) ≡ 0 = ap bit other in
+    omega (arith, less, bit_is)
 
 -- PLACES
 

@@ -11,6 +11,8 @@ use Rattle.std.specs.Str.{bytes_eq}
 use Rattle.jr_word.specs.declared.config.Config.{Config}
 use Rattle.jr_word.specs.declared.fault.Fault.{Fault}
 use Rattle.jr_word.specs.declared.handle.HandleParts.{HandleParts}
+use Rattle.jr_word.specs.declared.handle.RefKind.{RefKind}
+use Rattle.jr_word.specs.declared.handle.RefKind.TheVariants.{Local, Global, Weak}
 use Rattle.jr_word.specs.Handle.{handle_word, owner_limit, IsHandle}
 use Rattle.jr_word.proofs.OneWord.{handle_word-injective}
 use Rattle.jr_model.specs.declared.event.Act.{Act}
@@ -20,6 +22,7 @@ use Rattle.jr_model.specs.declared.event.GateAct.TheVariants.{Knock}
 use Rattle.jr_model.specs.State.{Handle, State}
 use Rattle.jr_model.specs.History.{History, PassView, by, state, IsLegal}
 use Rattle.jr_model.specs.Calls.{Call}
+use Rattle.jr_model.specs.Frames.{Frames}
 use Rattle.jr_model.specs.Checks.{Word, Nothing, Malformed, Parts}
 use Rattle.jr_model.proofs.Histories.{legal_append, state_append}
 use Rattle.jr_model.proofs.Stays.{mine_did, sees_its_own_acts}
@@ -39,7 +42,7 @@ use Rattle.jr_scripts.proofs.Uncontended.{Asked}
 use Rattle.jr_scripts.specs.Meaning.{World}
 use Rattle.jr_scripts.proofs.LoneRun.MadeCalls.{Moment, Made, AreUnopposed, IsSo, is_opposed, moment}
 use Rattle.jr_scripts.proofs.LoneRun.MeaningFrames.{Pairing}
-use Rattle.jr_scripts.proofs.LoneRun.MeaningFits.{Later, IsOwn}
+use Rattle.jr_scripts.proofs.LoneRun.MeaningFits.{Later, IsGiven, by_place, by_row}
 use Rattle.jr_scripts.proofs.LoneRun.MeaningCalls.{WordFits}
 
 -- ANSWERS IN ANOTHER FORM
@@ -134,6 +137,7 @@ module _ (c : Config) (last : ℕ) where
       let rest = all_back (λ e. is_opposed e.act ≡ false) old.pass.seen did.begins.0
       (subst (AllByRecursion (λ e. is_opposed e.act ≡ false)) (sym did.begins.1) (all_unopposed new.pass.seen all)) in
       record {
+        led = record { past = old.pass.seen; lawful = cut.0; leads = refl };
         acts = ran.acts;
         is = subst (λ t. asked c last t (state new.pass.seen) old.frames ran.acts answer new.frames) p.thread
             (subst (λ l. asked c l old.pass.thread (state new.pass.seen) old.frames ran.acts answer new.frames)
@@ -291,10 +295,27 @@ read_fits P w word (suc i) Malformed handles reads is = absurd (reads.1 (P.handl
 read_fits P w word (suc i) (Parts h) handles reads is =
     (is.0, handle_word-injective h (P.handle i) reads.0 (handles i is.0) (sym reads.1 ∙ is.1))
 
--- a thread's own handle is one
-pub own_handle : (c : Config) (last : ℕ) (h : Handle) → c.locals ≤ 4096 → last < 2 ^ 32 → IsOwn c last h → IsHandle h
-own_handle c last h small few own = record {
-  serial = (let le = own.serial in omega arith);
-  index = (let le = own.place in omega arith);
-  owner = subst (λ k. h.owner < owner_limit k) (sym own.kind) (let none = own.owner in omega arith);
-}
+-- a handle that was given is one
+pub given_handle : (c : Config) (last : ℕ) {f : Frames} {given : Handle → Bool} (h : Handle) → c.locals ≤ 4096
+    → c.slots ≤ 65536 → last < 2 ^ 32 → IsGiven c last f given h → IsHandle h
+given_handle c last h small slots few is = go is
+  where
+    some_owner : (k : RefKind) → 0 < owner_limit k
+    some_owner Local = omega arith
+    some_owner Global = omega arith
+    some_owner Weak = omega arith
+
+    no_owner : h.owner ≡ 0 → h.owner < owner_limit h.kind
+    no_owner none = let some = some_owner h.kind in omega (arith, some, none)
+
+    go : {f : Frames} {given : Handle → Bool} → IsGiven c last f given h → IsHandle h
+    go (by_place own past) = record {
+      serial = (let le = own.serial in omega arith);
+      index = (let le = own.place in omega arith);
+      owner = no_owner own.owner;
+    }
+    go (by_row row given) = record {
+      serial = (let le = row.3 in omega arith);
+      index = (let le = row.2 in omega arith);
+      owner = no_owner row.1;
+    }

@@ -1,22 +1,29 @@
 -- When a lone thread's moment is as the world of what its script means.
-use Rattle.std.proofs.Common.{◌≡◌, inl, inr, ℕ, ◌<◌, ◌≤◌, ◌+◌, Bool, true, false, cond, Option, Some, None, is_some}
-use Rattle.std.proofs.Common.{List, length, slice_index, Result, Ok, Err, IsSome, refl, sym, ap, subst, ◌∙◌, arith}
+use Rattle.std.proofs.Common.{◌≡◌, ◌≢◌, inl, inr, ℕ, ◌<◌, ◌≤◌, ◌+◌, Bool, true, false, cond, Option, Some, None}
+use Rattle.std.proofs.Common.{is_some, List, length, slice_index, Result, Ok, Err, IsSome, refl, sym, ap, subst, ◌∙◌}
+use Rattle.std.proofs.Common.{arith}
 use Rattle.jr_word.specs.declared.config.Config.{Config}
 use Rattle.jr_word.specs.declared.fault.Fault.{Fault}
-use Rattle.jr_word.specs.declared.handle.RefKind.TheVariants.{Local}
-use Rattle.jr_model.specs.declared.event.Found.TheVariants.{Stale}
+use Rattle.jr_word.specs.declared.handle.RefKind.{RefKind}
+use Rattle.jr_word.specs.declared.handle.RefKind.TheVariants.{Local, Global, Weak}
+use Rattle.jr_model.specs.declared.event.Found.{Found}
+use Rattle.jr_model.specs.declared.event.Found.TheVariants.{Object, Cleared, Stale}
 use Rattle.jr_model.specs.declared.event.GateAct.{GateAct}
 use Rattle.jr_model.specs.declared.event.GateAct.TheVariants.{Enter, Leave}
 use Rattle.jr_model.specs.declared.frames.LocalRef.{LocalRef}
 use Rattle.jr_model.specs.Maps.{count_below}
-use Rattle.jr_model.specs.State.{Handle, Contents}
+use Rattle.jr_model.specs.State.{Handle, Contents, is_there, same_kind}
+use Rattle.jr_model.specs.Steps.{IsInRow}
+use Rattle.jr_model.specs.Checks.{is_local}
 use Rattle.jr_model.specs.Frames.{Frames, AreSound, all_refs, free_places, is_held, object_of}
 use Rattle.jr_model.specs.Calls.{Call, ◌>>=◌, ◌>>◌, decided, done, entered, refuse_if}
 use Rattle.jr_model.proofs.Counts.{bit}
 use Rattle.jr_model.proofs.Locals.{IsPast}
-use Rattle.jr_scripts.specs.Meaning.{World, Ref, Meaning, goes_on, standing, standing_at, refused_if}
+use Rattle.jr_scripts.specs.Meaning.{World, Ref, Meaning, goes_on, is_ref_of, refs_of, refused_if, standing}
+use Rattle.jr_scripts.specs.Meaning.{standing_at}
 use Rattle.jr_scripts.proofs.LoneRun.MadeCalls.{Moment, Made, WasMadeOf, split, still, gone, stayed}
 use Rattle.jr_scripts.proofs.LoneRun.MeaningFrames.{Pairing, AreFrames, all_places, frames_all}
+use Rattle.jr_scripts.proofs.LoneRun.MeaningSlots.{in_row, taken_at}
 
 -- a later pairing means the same by the numbers that were there, of which none goes
 pub record Later (P : Pairing) (w : World) (Q : Pairing) (v : World) : Type 0 where
@@ -42,11 +49,20 @@ later_then {w = w} {v = v} {u = u} a b = record {
   objects_grow = (let x = a.objects_grow in let y = b.objects_grow in omega arith);
 }
 
--- what stands there is what is meant, or nothing stands there and what was meant is gone
-abbrev pub RefFits : Pairing → ℕ → Option Ref → Option ℕ → Type 0
-RefFits P n (Some r) (Some p) = (r.kind ≡ Local) × (o : ℕ) × (r.object ≡ Some o) × (o < n) × (P.object o ≡ p)
-RefFits P n None None = Unit {0}
-RefFits P n _ _ = ⊥
+-- what stands at a handle: of a local one in the frames, of any other in the row
+abbrev pub found_local : Option ℕ → Found
+found_local None = Stale
+found_local (Some p) = Object p
+
+abbrev pub found_of : Frames → (Handle → Found) → Handle → Found
+found_of f row h = cond (is_local h) (found_local (object_of f h)) (row h)
+
+-- what stands there is what is meant, of the handle's kind, or nothing stands there and what was meant is gone
+abbrev pub RefFits : (ℕ → ℕ) → ℕ → RefKind → Option Ref → Found → Type 0
+RefFits means n k (Some r) (Object p) = (r.kind ≡ k) × (o : ℕ) × (r.object ≡ Some o) × (o < n) × (means o ≡ p)
+RefFits means n k (Some r) Cleared = (r.kind ≡ k) × (r.object ≡ None)
+RefFits means n k None Stale = Unit {0}
+RefFits means n k _ _ = ⊥
 
 -- the handle of a local reference of the one thread
 pub record IsOwn (c : Config) (last : ℕ) (h : Handle) : Type 0 where
@@ -55,86 +71,175 @@ pub record IsOwn (c : Config) (last : ℕ) (h : Handle) : Type 0 where
   pub owner : h.owner ≡ 0
   pub serial : h.serial ≤ last
 
--- THE LOCAL REFERENCES ARE THOSE OF THE FRAMES, to objects of which there are n. No handle is given twice, and
--- though k times more some are given up, each free place has a handle left
-pub record LocalsFit (c : Config) (last k : ℕ) (P : Pairing) (n : ℕ) (refs : List (Option Ref))
-    (frames : List (List ℕ)) (f : Frames) : Type 0 where
-  pub framed : AreFrames P (length refs) frames f.frames
-  pub own : (i : ℕ) → i < length refs → IsOwn c last (P.handle i)
-  pub past : (i : ℕ) → i < length refs → IsPast (P.handle i) f
+-- a handle that a place of the thread, or the row, has given
+pub data IsGiven (c : Config) (last : ℕ) (f : Frames) (given : Handle → Bool) (h : Handle) : Type 0 where
+  by_place : IsOwn c last h → IsPast h f → IsGiven c last f given h
+  by_row : IsInRow c last h → given h ≡ true → IsGiven c last f given h
+
+-- .. and goes on to be one
+pub given_then : {c : Config} {last : ℕ} {f g : Frames} {given given' : Handle → Bool} {h : Handle}
+    → (IsPast h f → IsPast h g) → (given h ≡ true → given' h ≡ true) → IsGiven c last f given h
+    → IsGiven c last g given' h
+given_then past row (by_place own is) = by_place own (past is)
+given_then past row (by_row in_room is) = by_row in_room (row is)
+
+-- where it stands
+pub found_own : (f : Frames) (row : Handle → Found) (h : Handle) → h.kind ≡ Local
+    → found_of f row h ≡ found_local (object_of f h)
+found_own f row h local = ap (λ k. cond (same_kind Local k) (found_local (object_of f h)) (row h)) local
+
+pub not_local : (h : Handle) → h.kind ≢ Local → is_local h ≡ false
+not_local h other = go h.kind refl
+  where
+    go : (k : RefKind) → h.kind ≡ k → same_kind Local k ≡ false
+    go Local is = absurd (other is)
+    go _ is = refl
+
+pub found_row : (f : Frames) (row : Handle → Found) (h : Handle) → h.kind ≢ Local → found_of f row h ≡ row h
+found_row f row h other = ap (λ b. cond b (found_local (object_of f h)) (row h)) (not_local h other)
+
+pub own_of : {c : Config} {last : ℕ} {f : Frames} {given : Handle → Bool} {h : Handle} → IsGiven c last f given h
+    → h.kind ≡ Local → IsOwn c last h
+own_of (by_place own past) local = own
+own_of (by_row row is) local = absurd (row.0 local)
+
+-- THE REFERENCES ARE THOSE THAT STAND, to objects of which there are n. No handle is given twice
+pub record RefsFit (c : Config) (last : ℕ) (P : Pairing) (n : ℕ) (refs : List (Option Ref)) (f : Frames)
+    (row : Handle → Found) (was_given : Handle → Bool) : Type 0 where
+  pub given : (i : ℕ) → i < length refs → IsGiven c last f was_given (P.handle i)
   pub once : (i j : ℕ) → i < length refs → j < length refs → P.handle i ≡ P.handle j → i ≡ j
-  pub stands : (i : ℕ) → i < length refs → RefFits P n (standing_at refs i) (object_of f (P.handle i))
+  pub stands : (i : ℕ) → i < length refs
+      → RefFits P.object n (P.handle i).kind (standing_at refs i) (found_of f row (P.handle i))
+
+-- a reference is of its handle's kind alone
+pub kind_of_ref : (means : ℕ → ℕ) (n : ℕ) (kind : RefKind) (r : Option Ref) (l : Found) (other : RefKind)
+    → RefFits means n kind r l → same_kind other kind ≡ false → is_ref_of other r ≡ false
+kind_of_ref means n kind None l other fits is = refl
+kind_of_ref means n kind (Some r) (Object p) other fits is = ap (λ z. same_kind other z) fits.0 ∙ is
+kind_of_ref means n kind (Some r) Cleared other fits is = ap (λ z. same_kind other z) fits.0 ∙ is
+kind_of_ref means n kind (Some r) Stale other fits is = absurd fits
+
+pub ref_there : (means : ℕ → ℕ) (n : ℕ) (kind : RefKind) (r : Option Ref) (l : Found) (other : RefKind)
+    → RefFits means n kind r l → l ≢ Stale → is_ref_of other r ≡ same_kind other kind
+ref_there means n kind (Some r) (Object p) other fits there = ap (λ z. same_kind other z) fits.0
+ref_there means n kind (Some r) Cleared other fits there = ap (λ z. same_kind other z) fits.0
+ref_there means n kind None l other fits there = go l fits there
+  where
+    go : (l : Found) → RefFits means n kind None l → l ≢ Stale → false ≡ same_kind other kind
+    go Stale fits there = absurd (there refl)
+    go (Object p) fits there = absurd fits
+    go Cleared fits there = absurd fits
+ref_there means n kind (Some r) Stale other fits there = absurd fits
+
+-- THE FRAMES ARE THOSE of the world, of which there are n references. Though k times more some are given up, each free
+-- place has a handle left
+pub record LocalsFit (c : Config) (last k : ℕ) (P : Pairing) (n : ℕ) (frames : List (List ℕ)) (f : Frames)
+    : Type 0 where
+  pub framed : AreFrames P n frames f.frames
   pub sound : AreSound f
   pub few : (p : ℕ) → slice_index f.given p + k ≤ last + bit (is_held (all_refs f) p)
   pub given : length f.given ≡ c.locals
 
+-- THE SLOTS hold so many global and weak references, one at most at an index. Though k times more some are given up,
+-- each free index has a handle left
+pub record SlotsFit (c : Config) (last k globals weaks : ℕ) (row : Handle → Found) (given : Handle → Bool)
+    : Type 0 where
+  pub globals_are : in_row c.slots last (λ h. is_there (row h)) Global ≡ globals
+  pub weaks_are : in_row c.slots last (λ h. is_there (row h)) Weak ≡ weaks
+  pub one : (i : ℕ) → taken_at last (λ h. is_there (row h)) i ≤ 1
+  pub few : (i : ℕ) → taken_at last given i + k ≤ last + taken_at last (λ h. is_there (row h)) i
+
 -- THE OBJECTS ARE THOSE THAT ARE THERE, one for each number
-pub record ObjectsFit (c : Config) (P : Pairing) (objects : List (Option Contents))
+pub record ObjectsFit (c : Config) (object : ℕ → ℕ) (objects : List (Option Contents))
     (there : ℕ → Option Contents) : Type 0 where
   pub count : count_below (c.objects + 1) (λ o. is_some (there o)) ≡ length objects
   pub all_objects : standing objects ≡ length objects
   pub no_zero : there 0 ≡ None
-  pub present : (o : ℕ) → o < length objects → IsSome (there (P.object o))
-  pub apart : (o p : ℕ) → o < length objects → p < length objects → P.object o ≡ P.object p → o ≡ p
+  pub present : (o : ℕ) → o < length objects → IsSome (there (object o))
+  pub apart : (o p : ℕ) → o < length objects → p < length objects → object o ≡ object p → o ≡ p
 
 -- THE MOMENT IS AS THE WORLD
 pub record Fits (c : Config) (last k : ℕ) (P : Pairing) (w : World) (m : Moment) : Type 0 where
-  pub locals : LocalsFit c last k P (length w.objects) w.refs w.frames m.frames
-  pub objects : ObjectsFit c P w.objects m.state.objects
-  pub slots : (h : Handle) → m.state.refs h ≡ Stale
+  pub refs : RefsFit c last P (length w.objects) w.refs m.frames m.state.refs m.state.given
+  pub locals : LocalsFit c last k P (length w.refs) w.frames m.frames
+  pub slots : SlotsFit c last k (refs_of Global w) (refs_of Weak w) m.state.refs m.state.given
+  pub objects : ObjectsFit c P.object w.objects m.state.objects
   pub used : m.state.used ≡ w.used
   pub space : w.used ≤ c.words
 
 pub gone_fits : {c : Config} {last k : ℕ} {P : Pairing} {w : World} (m : Moment) (t : ℕ) (a : GateAct)
     → Fits c last k P w m → Fits c last k P w (gone c last t m a)
 gone_fits m t a f = record {
+  refs = f.refs;
   locals = f.locals;
-  objects = f.objects;
   slots = f.slots;
+  objects = f.objects;
   used = f.used;
   space = f.space;
 }
 
 -- fewer are given up
+pub locals_less : {c : Config} {last j k n : ℕ} {P : Pairing} {frames : List (List ℕ)} {f : Frames} → k ≤ j
+    → LocalsFit c last j P n frames f → LocalsFit c last k P n frames f
+locals_less le l = record {
+  framed = l.framed;
+  sound = l.sound;
+  few = λ p. let was = l.few p in omega arith;
+  given = l.given;
+}
+
+pub slots_less : {c : Config} {last j k g v : ℕ} {row : Handle → Found} {given : Handle → Bool} → k ≤ j
+    → SlotsFit c last j g v row given → SlotsFit c last k g v row given
+slots_less le s = record {
+  globals_are = s.globals_are;
+  weaks_are = s.weaks_are;
+  one = s.one;
+  few = λ i. let was = s.few i in omega arith;
+}
+
+-- so many of each kind are counted
+pub slots_count : {c : Config} {last k g v g' v' : ℕ} {row : Handle → Found} {given : Handle → Bool} → g' ≡ g
+    → v' ≡ v → SlotsFit c last k g v row given → SlotsFit c last k g' v' row given
+slots_count globals weaks s = record {
+  globals_are = s.globals_are ∙ sym globals;
+  weaks_are = s.weaks_are ∙ sym weaks;
+  one = s.one;
+  few = s.few;
+}
+
 pub fits_less : {c : Config} {last j k : ℕ} {P : Pairing} {w : World} {m : Moment} → k ≤ j → Fits c last j P w m
     → Fits c last k P w m
-fits_less le f =
-    let l = f.locals in
-    record {
-      locals = record {
-        framed = l.framed;
-        own = l.own;
-        past = l.past;
-        once = l.once;
-        stands = l.stands;
-        sound = l.sound;
-        few = λ p. let was = l.few p in omega arith;
-        given = l.given;
-      };
-      objects = f.objects;
-      slots = f.slots;
-      used = f.used;
-      space = f.space;
-    }
+fits_less le f = record {
+  refs = f.refs;
+  locals = locals_less le f.locals;
+  slots = slots_less le f.slots;
+  objects = f.objects;
+  used = f.used;
+  space = f.space;
+}
+
+-- the place of a reference in a frame is one of the thread's
+pub at_place : {c : Config} {last k : ℕ} {P : Pairing} {w : World} {m : Moment} → Fits c last k P w m → (r : LocalRef)
+    (i : ℕ) → i < length w.refs → r.handle ≡ P.handle i → r.handle.kind ≡ Local
+    → r.handle.index < length m.frames.given
+at_place {c} {last} {k} {P} {w} {m} f r i small is local =
+    let own = own_of (f.refs.given i small) (ap (λ (h : Handle). h.kind) (sym is) ∙ local) in
+    let place : (P.handle i).index < c.locals = own.place in
+    let here : r.handle.index ≡ (P.handle i).index = ap (λ (h : Handle). h.index) is in
+    let long : length m.frames.given ≡ c.locals = f.locals.given in
+    omega arith
 
 -- as many places are free as no local reference has
-pub free_and_held : {c : Config} {last k n : ℕ} {P : Pairing} {refs : List (Option Ref)} {frames : List (List ℕ)}
-    {f : Frames} → LocalsFit c last k P n refs frames f → free_places last f + length (all_refs f) ≡ c.locals
-free_and_held {c} {last} {k} {n} {P} {refs} {frames} {f} l = all_places last f l.sound few (frames_all
-    (λ r. r.handle.index < length f.given) within l.framed) ∙ l.given
+pub free_and_held : {c : Config} {last k : ℕ} {P : Pairing} {w : World} {m : Moment} → Fits c last k P w m
+    → free_places last m.frames + length (all_refs m.frames) ≡ c.locals
+free_and_held {c} {last} {k} {P} {w} {m} f =
+    all_places last m.frames f.locals.sound few (frames_all (λ r. r.handle.index < length m.frames.given) (at_place f)
+    f.locals.framed) ∙ f.locals.given
   where
-    few : (p : ℕ) → is_held (all_refs f) p ≡ false → slice_index f.given p ≤ last
+    few : (p : ℕ) → is_held (all_refs m.frames) p ≡ false → slice_index m.frames.given p ≤ last
     few p none =
-        let was : slice_index f.given p + k ≤ last + bit (is_held (all_refs f) p) = l.few p in
-        let free : bit (is_held (all_refs f) p) ≡ 0 = ap bit none in
-        omega arith
-
-    within : (r : LocalRef) (i : ℕ) → i < length refs
-        → r.handle ≡ P.handle i → r.handle.index < length f.given
-    within r i small is =
-        let place : (P.handle i).index < c.locals = (l.own i small).place in
-        let here : r.handle.index ≡ (P.handle i).index = ap (λ (h : Handle). h.index) is in
-        let long : length f.given ≡ c.locals = l.given in
+        let was : slice_index m.frames.given p + k ≤ last + bit (is_held (all_refs m.frames) p) = f.locals.few p in
+        let free : bit (is_held (all_refs m.frames) p) ≡ 0 = ap bit none in
         omega arith
 
 -- WHAT AN ANSWER MEANS

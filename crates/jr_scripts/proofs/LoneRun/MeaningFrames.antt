@@ -5,6 +5,7 @@ use Rattle.std.specs.List.{AllByRecursion, filter, sum_by}
 use Rattle.std.proofs.lemmas.List.{length-append}
 use Rattle.std.proofs.lemmas.List.Sums.{sum_by-cons}
 use Rattle.std.proofs.lemmas.Bool.Decides.{nat_tests}
+use Rattle.jr_word.specs.declared.handle.RefKind.TheVariants.{Local}
 use Rattle.jr_model.specs.declared.frames.LocalRef.{LocalRef}
 use Rattle.jr_model.specs.Maps.{sum_below, count_below}
 use Rattle.jr_model.specs.State.{Handle, same_handle}
@@ -21,11 +22,11 @@ pub record Pairing : Type 0 where
   pub handle : ℕ → Handle
   pub object : ℕ → ℕ
 
--- the references of a frame are those that the numbers mean, each below n
+-- the references of a frame are those that the numbers mean, each below n, and local
 pub data AreLocals (P : Pairing) (n : ℕ) : List ℕ → List LocalRef → Type 0 where
   no_local : AreLocals P n [] []
   one_local : {i : ℕ} {is : List ℕ} {r : LocalRef} {rs : List LocalRef} → i < n → r.handle ≡ P.handle i
-      → AreLocals P n is rs → AreLocals P n (i ∷ is) (r ∷ rs)
+      → r.handle.kind ≡ Local → AreLocals P n is rs → AreLocals P n (i ∷ is) (r ∷ rs)
 
 -- and so are those of all frames
 pub data AreFrames (P : Pairing) (n : ℕ) : List (List ℕ) → List (List LocalRef) → Type 0 where
@@ -37,7 +38,7 @@ pub data AreFrames (P : Pairing) (n : ℕ) : List (List ℕ) → List (List Loca
 
 locals_long : {P : Pairing} {n : ℕ} {is : List ℕ} {rs : List LocalRef} → AreLocals P n is rs → length is ≡ length rs
 locals_long no_local = refl
-locals_long (one_local small same rest) = ap suc (locals_long rest)
+locals_long (one_local small same local rest) = ap suc (locals_long rest)
 
 pub frames_long : {P : Pairing} {n : ℕ} {fs : List (List ℕ)} {gs : List (List LocalRef)} → AreFrames P n fs gs
     → length fs ≡ length gs
@@ -62,10 +63,10 @@ all_both Q [] ys front back = back
 all_both Q (x ∷ xs) ys front back = (front.0, all_both Q xs ys front.1 back)
 
 module _ {P : Pairing} {n : ℕ} (Q : LocalRef → Type 0)
-    (so : (r : LocalRef) (i : ℕ) → i < n → r.handle ≡ P.handle i → Q r) where
+    (so : (r : LocalRef) (i : ℕ) → i < n → r.handle ≡ P.handle i → r.handle.kind ≡ Local → Q r) where
   locals_all : {is : List ℕ} {rs : List LocalRef} → AreLocals P n is rs → AllByRecursion Q rs
   locals_all no_local = tt
-  locals_all (one_local {i = i} {r = r} small same rest) = (so r i small same, locals_all rest)
+  locals_all (one_local {i = i} {r = r} small same local rest) = (so r i small same local, locals_all rest)
 
   pub frames_all : {fs : List (List ℕ)} {gs : List (List LocalRef)} → AreFrames P n fs gs → AllByRecursion Q (joined gs)
   frames_all no_frame = tt
@@ -76,7 +77,8 @@ module _ {P : Pairing} {n : ℕ} (Q : LocalRef → Type 0)
 module _ {P Q : Pairing} {n k : ℕ} (same : (i : ℕ) → i < n → Q.handle i ≡ P.handle i) (more : n ≤ k) where
   locals_later : {is : List ℕ} {rs : List LocalRef} → AreLocals P n is rs → AreLocals Q k is rs
   locals_later no_local = no_local
-  locals_later (one_local {i = i} small is rest) = one_local (omega arith) (is ∙ sym (same i small)) (locals_later rest)
+  locals_later (one_local {i = i} small is local rest) =
+      one_local (omega arith) (is ∙ sym (same i small)) local (locals_later rest)
 
   pub frames_later : {fs : List (List ℕ)} {gs : List (List LocalRef)} → AreFrames P n fs gs → AreFrames Q k fs gs
   frames_later no_frame = no_frame
@@ -84,10 +86,11 @@ module _ {P Q : Pairing} {n k : ℕ} (same : (i : ℕ) → i < n → Q.handle i 
 
 -- ONE MORE, in the last frame
 
-module _ {P : Pairing} {n : ℕ} (i : ℕ) (r : LocalRef) (small : i < n) (same : r.handle ≡ P.handle i) where
+module _ {P : Pairing} {n : ℕ} (i : ℕ) (r : LocalRef) (small : i < n) (same : r.handle ≡ P.handle i)
+    (local : r.handle.kind ≡ Local) where
   locals_put : {is : List ℕ} {rs : List LocalRef} → AreLocals P n is rs → AreLocals P n (is ++ i ∷ []) (rs ++ r ∷ [])
-  locals_put no_local = one_local small same no_local
-  locals_put (one_local below is rest) = one_local below is (locals_put rest)
+  locals_put no_local = one_local small same local no_local
+  locals_put (one_local below is kind rest) = one_local below is kind (locals_put rest)
 
   pub frames_put : {fs : List (List ℕ)} {gs : List (List LocalRef)} → AreFrames P n fs gs
       → AreFrames P n (put_last fs i) (with_last gs r)
@@ -114,7 +117,7 @@ module _ (P : Pairing) {n : ℕ} (once : (i j : ℕ) → i < n → j < n → P.h
   locals_less : {is : List ℕ} {rs : List LocalRef} → AreLocals P n is rs
       → AreLocals P n (filter (λ j. not (j == i)) is) (filter (other_than (P.handle i)) rs)
   locals_less no_local = no_local
-  locals_less (one_local {i = j} {is = is} {r = r} {rs = rs} below same rest) =
+  locals_less (one_local {i = j} {is = is} {r = r} {rs = rs} below same local rest) =
       go (j == i) (same_handle r.handle (P.handle i)) (same_test r j below same) (locals_less rest)
     where
       go : (b d : Bool) → b ≡ d
@@ -122,7 +125,7 @@ module _ (P : Pairing) {n : ℕ} (once : (i j : ℕ) → i < n → j < n → P.h
           → AreLocals P n (cond (not b) (j ∷ filter (λ j. not (j == i)) is) (filter (λ j. not (j == i)) is))
           (cond (not d) (r ∷ filter (other_than (P.handle i)) rs) (filter (other_than (P.handle i)) rs))
       go true true e less = less
-      go false false e less = one_local below same less
+      go false false e less = one_local below same local less
       go true false e less = absurd cc
       go false true e less = absurd cc
 
@@ -130,6 +133,22 @@ module _ (P : Pairing) {n : ℕ} (once : (i j : ℕ) → i < n → j < n → P.h
       → AreFrames P n (map (filter (λ j. not (j == i))) fs) (map (filter (other_than (P.handle i))) gs)
   frames_less no_frame = no_frame
   frames_less (one_frame here rest) = one_frame (locals_less here) (frames_less rest)
+
+-- no frame has a number that means no local reference
+module _ (P : Pairing) {n : ℕ} (i : ℕ) (other : (P.handle i).kind ≢ Local) where
+  locals_apart : {is : List ℕ} {rs : List LocalRef} → AreLocals P n is rs → filter (λ j. not (j == i)) is ≡ is
+  locals_apart no_local = refl
+  locals_apart (one_local {i = j} {is = is} {r = r} below same local rest) =
+      ap (λ b. cond (not b) (j ∷ filter (λ j. not (j == i)) is) (filter (λ j. not (j == i)) is))
+      (eq_other j i (λ e. other (ap (λ (h : Handle). h.kind) (sym (same ∙ ap P.handle e)) ∙ local)))
+      ∙ ap (λ l. j ∷ l) (locals_apart rest)
+
+  pub frames_apart : {fs : List (List ℕ)} {gs : List (List LocalRef)} → AreFrames P n fs gs
+      → map (filter (λ j. not (j == i))) fs ≡ fs
+  frames_apart no_frame = refl
+  frames_apart (one_frame {is = is} {fs = fs} here rest) =
+      ap (λ l. l ∷ map (filter (λ j. not (j == i))) fs) (locals_apart here)
+      ∙ ap (λ l. is ∷ l) (frames_apart rest)
 
 -- A FRAME MORE, AND ONE LESS
 
@@ -180,7 +199,7 @@ held_places n (r ∷ rs) apart small =
     here : is_held (r ∷ rs) r.handle.index ≡ true
     here = rw (eq_self r.handle.index) refl
 
-each_one : (n : ℕ) → sum_below n (λ p. 1) ≡ n
+pub each_one : (n : ℕ) → sum_below n (λ p. 1) ≡ n
 unfolding sum_below
 each_one zero = refl
 each_one (suc n) = let rest : sum_below n (λ p. 1) ≡ n = each_one n in omega arith

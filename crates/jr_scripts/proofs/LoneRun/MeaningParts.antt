@@ -8,13 +8,16 @@ use Rattle.std.proofs.lemmas.Bool.Decides.{nat_tests}
 use Rattle.jr_word.specs.declared.config.Config.{Config}
 use Rattle.jr_word.specs.declared.fault.Fault.{Fault}
 use Rattle.jr_word.specs.declared.fault.Fault.TheVariants.{LocalsFull, ObjectsFull, SpaceFull}
+use Rattle.jr_word.specs.declared.handle.RefKind.{RefKind}
 use Rattle.jr_word.specs.declared.kind.Kind.{Kind}
 use Rattle.jr_model.specs.declared.event.Act.{Act}
+use Rattle.jr_model.specs.declared.event.Found.{Found}
+use Rattle.jr_model.specs.declared.event.Found.TheVariants.{Object, Cleared, Stale}
 use Rattle.jr_model.specs.declared.event.Act.TheVariants.{New, Reserve, ReserveFull, ReserveLost}
 use Rattle.jr_model.specs.Maps.{update}
 use Rattle.jr_model.specs.State.{Contents, State, EachPresent}
 use Rattle.jr_model.specs.Steps.{act_after}
-use Rattle.jr_model.specs.Frames.{all_refs, free_places, object_of}
+use Rattle.jr_model.specs.Frames.{all_refs, free_places}
 use Rattle.jr_model.specs.Calls.{Call}
 use Rattle.jr_model.specs.History.{by, state_from, IsLegalFrom}
 use Rattle.jr_model.specs.Parts.{publish, reserve}
@@ -23,10 +26,10 @@ use Rattle.jr_model.proofs.Updates.{at_number, at_number_self, eq_self}
 use Rattle.jr_scripts.specs.Meaning.{World, Ref, Meaning, goes_on, standing, standing_at, refused_if, held}
 use Rattle.jr_scripts.specs.Meaning as meaning
 use Rattle.jr_scripts.proofs.LoneRun.MadeCalls.{Moment, AreUnopposed, Made, moment, moment_is, stepped, still}
-use Rattle.jr_scripts.proofs.LoneRun.MeaningCounts.{count_most, count_full, count_more, standing_more}
+use Rattle.jr_scripts.proofs.LoneRun.MeaningCounts.{count_most, count_full, count_more, how_many_more}
 use Rattle.jr_scripts.proofs.LoneRun.MeaningFrames.{Pairing, frames_held, frames_later}
 use Rattle.jr_scripts.proofs.LoneRun.MeaningFits.{Later, RefFits, Fits, Fitting, SameAnswer, IsDone, Outcome, Means}
-use Rattle.jr_scripts.proofs.LoneRun.MeaningFits.{free_and_held, unmoved, test_means}
+use Rattle.jr_scripts.proofs.LoneRun.MeaningFits.{found_of, free_and_held, unmoved, test_means}
 
 -- an object
 abbrev pub ObjectFits : Fitting ℕ ℕ
@@ -50,13 +53,15 @@ option_later l None (Some o) fits = absurd fits
 option_later l (Some p) None fits = absurd fits
 
 -- what a reference is to stays so
-pub ref_later : (P Q : Pairing) (n k : ℕ) (r : Option Ref) (l : Option ℕ) → n ≤ k
-    → ((o : ℕ) → o < n → Q.object o ≡ P.object o) → RefFits P n r l → RefFits Q k r l
-ref_later P Q n k None None le same fits = tt
-ref_later P Q n k (Some r) (Some p) le same fits =
+pub ref_later : (means means' : ℕ → ℕ) (n k : ℕ) (kind : RefKind) (r : Option Ref) (l : Found) → n ≤ k
+    → ((o : ℕ) → o < n → means' o ≡ means o) → RefFits means n kind r l → RefFits means' k kind r l
+ref_later means means' n k kind None Stale le same fits = tt
+ref_later means means' n k kind (Some r) (Object p) le same fits =
     (fits.0, fits.1, fits.2, (let small = fits.3 in omega arith), same fits.1 fits.3 ∙ fits.4)
-ref_later P Q n k None (Some p) le same fits = absurd fits
-ref_later P Q n k (Some r) None le same fits = absurd fits
+ref_later means means' n k kind (Some r) Cleared le same fits = fits
+ref_later means means' n k kind None (Object p) le same fits = absurd fits
+ref_later means means' n k kind None Cleared le same fits = absurd fits
+ref_later means means' n k kind (Some r) Stale le same fits = absurd fits
 
 module _ (c : Config) (last k : ℕ) where
   -- ROOM FOR LOCAL REFERENCES
@@ -67,7 +72,7 @@ module _ (c : Config) (last k : ℕ) where
       → free_places last m.frames + held w ≡ c.locals
   places_taken {w = w} {m = m} f =
       let taken : held w ≡ length (all_refs m.frames) = frames_held f.locals.framed in
-      let all : free_places last m.frames + length (all_refs m.frames) ≡ c.locals = free_and_held f.locals in
+      let all : free_places last m.frames + length (all_refs m.frames) ≡ c.locals = free_and_held f in
       omega arith
 
   -- there is no room for so many more
@@ -87,6 +92,7 @@ module _ (c : Config) (last k : ℕ) where
           (test_means c last (nat_lt (free_places last m.frames) n) (nat_lt c.locals
           (held w + n)) LocalsFull (room_lacks n f)).outcome
           m m' x f (record {
+            led = r.led;
             acts = r.acts;
             is = r.is;
             legal = r.legal;
@@ -162,29 +168,31 @@ module _ (c : Config) (last k : ℕ) where
           let l = f.locals in
           let old = f.objects in
           record {
+            refs = record {
+              given = f.refs.given;
+              once = f.refs.once;
+              stands = λ i small. ref_later P.object (object_named o).object (length w.objects)
+                  (length (with_object ws').objects) (P.handle i).kind (standing_at w.refs i)
+                  (found_of m.frames m.state.refs (P.handle i)) (let long = one_longer ws' in omega arith)
+                  (object_before o) (f.refs.stands i small);
+            };
             locals = record {
               framed = frames_later (λ i small. refl) (omega arith) l.framed;
-              own = l.own;
-              past = l.past;
-              once = l.once;
-              stands = λ i small. ref_later P (object_named o) (length w.objects) (length (with_object ws').objects)
-                  (standing_at w.refs i) (object_of m.frames (P.handle i)) (let long = one_longer ws' in omega arith)
-                  (object_before o) (l.stands i small);
               sound = l.sound;
               few = l.few;
               given = l.given;
             };
+            slots = f.slots;
             objects = record {
               count = count_more (c.objects + 1) m.state.objects o (record { kind = kind; words = ws }) (omega arith)
                   none ∙ (ap (λ n. n + 1) old.count ∙ sym (one_longer ws'));
-              all_objects = standing_more w.objects (record { kind = kind; words = ws' })
+              all_objects = how_many_more (λ x. is_some x) w.objects (Some (record { kind = kind; words = ws' }))
                   ∙ (ap (λ n. n + 1) old.all_objects ∙ sym (one_longer ws'));
               no_zero = at_number (λ y. y ≡ None) m.state.objects o 0 (Some (record { kind = kind; words = ws }))
                   (λ e. absurd (omega arith)) (λ ne. old.no_zero);
               present = present_then;
               apart = apart_then;
             };
-            slots = f.slots;
             used = f.used;
             space = f.space;
           }
@@ -291,14 +299,9 @@ module _ (c : Config) (last k : ℕ) where
       };
       fits = subst (Fits c last k P (with_words n)) (sym (moment_is m'.state
           (record m.state { used = m.state.used + n }) m'.frames m.frames state_is frames_are)) (record {
+            refs = f.refs;
             locals = f.locals;
-            objects = record {
-              count = f.objects.count;
-              all_objects = f.objects.all_objects;
-              no_zero = f.objects.no_zero;
-              present = f.objects.present;
-              apart = f.objects.apart;
-            };
+            objects = f.objects;
             slots = f.slots;
             used = ap (λ u. u + n) f.used;
             space = within;

@@ -1,7 +1,7 @@
 -- The text of a run is what its script means.
-use Rattle.std.proofs.Common.{◌≡◌, ◌≢◌, ℕ, zero, suc, ◌<◌, ◌≤◌, ◌+◌, ◌^◌, Bool, true, false, cond, Option, Some, None}
-use Rattle.std.proofs.Common.{is_some, List, [], ◌∷◌, ◌++◌, map, length, replicate, get_or, Result, Ok, IfErr, refl}
-use Rattle.std.proofs.Common.{sym, ap, subst, ◌∙◌, arith}
+use Rattle.std.proofs.Common.{◌≡◌, ◌≢◌, ℕ, zero, suc, ◌<◌, ◌≤◌, ◌+◌, ◌^◌, Bool, true, false, cond, Option, is_some}
+use Rattle.std.proofs.Common.{List, [], ◌∷◌, ◌++◌, map, length, replicate, get_or, Result, Ok, IfErr, refl, sym, ap}
+use Rattle.std.proofs.Common.{subst, ◌∙◌, arith}
 use Rattle.std.proofs.lemmas.List.{length-replicate}
 use Rattle.std.specs.FinMap.{get-empty}
 use Rattle.std.specs.List.{AllByRecursion, filter}
@@ -13,18 +13,16 @@ use Rattle.jr_word.specs.Config.{in_limits}
 use Rattle.jr_word.proofs.Limits.{limited}
 use Rattle.jr_model.specs.declared.event.Act.TheVariants.{Gate}
 use Rattle.jr_model.specs.declared.event.GateAct.TheVariants.{Enter, Leave}
-use Rattle.jr_model.specs.declared.event.Found.TheVariants.{Stale}
 use Rattle.jr_model.specs.declared.summary.Summary.{Summary}
 use Rattle.jr_model.specs.Maps.{count_below}
-use Rattle.jr_model.specs.State.{Handle, State, is_there, references, same_kind, summary}
+use Rattle.jr_model.specs.State.{State, is_there, references, summary}
 use Rattle.jr_model.specs.Steps.{act_after}
-use Rattle.jr_model.specs.Frames.{all_refs, drop_all, object_of}
+use Rattle.jr_model.specs.Frames.{all_refs, drop_all}
 use Rattle.jr_model.specs.History.{PassView, by, state, state_from}
 use Rattle.jr_model.specs.References.{freeing}
 use Rattle.jr_model.specs.References as calls
 use Rattle.jr_model.proofs.Agreement.{fresh_are_sound}
-use Rattle.jr_model.proofs.Counts.{bit}
-use Rattle.jr_model.proofs.Lengths.{sum_zero}
+use Rattle.jr_model.proofs.Lengths.{sum_none, sum_zero}
 use Rattle.jr_gate.specs.Performing.{ThreadState}
 use Rattle.jr_syntax.specs.declared.command.Command.{Command}
 use Rattle.jr_syntax.specs.declared.thread.ThreadPart.{ThreadPart}
@@ -44,12 +42,13 @@ use Rattle.jr_scripts.proofs.AloneParts.{tries_alone, was_alone}
 use Rattle.jr_scripts.proofs.AloneAnswers.{all_map, given_up_alone, place_alone}
 use Rattle.jr_scripts.proofs.AloneWithin.{led_alone}
 use Rattle.jr_scripts.proofs.FreedAlone.{free_alone, plainly}
-use Rattle.jr_scripts.specs.Meaning.{IsCovered, MeansText, World, Ref, Told, gives_up, how_many, first_told}
-use Rattle.jr_scripts.specs.Meaning.{is_ref_of, meaning_at, refs_of, standing, standing_at, summary_of, tells}
-use Rattle.jr_scripts.specs.Meaning.{told_after, told_from, text_of_part, first_world}
+use Rattle.jr_scripts.specs.Meaning.{IsCovered, MeansText, World, Told, gives_up, how_many, first_told, meaning_at}
+use Rattle.jr_scripts.specs.Meaning.{refs_of, standing, summary_of, tells, told_after, told_from, text_of_part}
+use Rattle.jr_scripts.specs.Meaning.{first_world}
 use Rattle.jr_scripts.proofs.LoneRun.MadeCalls.{Moment, IsSo, stayed}
 use Rattle.jr_scripts.proofs.LoneRun.MeaningFrames.{Pairing, no_frame, no_local, one_frame}
-use Rattle.jr_scripts.proofs.LoneRun.MeaningFits.{Fits, RefFits}
+use Rattle.jr_scripts.proofs.LoneRun.MeaningSlots.{at_index, in_row, taken_at}
+use Rattle.jr_scripts.proofs.LoneRun.MeaningFits.{Fits}
 use Rattle.jr_scripts.proofs.LoneRun.MeaningScopes.{SameTables, drops_keep}
 use Rattle.jr_scripts.proofs.LoneRun.MeaningDeeds.{BindingFits, IsPass, call_made, made_once, now}
 use Rattle.jr_scripts.proofs.LoneRun.MeaningCommands.{step}
@@ -85,34 +84,13 @@ get_zero zero p = refl
 get_zero (suc n) zero = refl
 get_zero (suc n) (suc p) = get_zero n p
 
--- no reference of another kind stands
-IsLocalOne : Option Ref → Type 0
-IsLocalOne None = Unit {0}
-IsLocalOne (Some r) = r.kind ≡ Local
-
-none_of : (k : RefKind) → same_kind k Local ≡ false → (xs : List (Option Ref))
-    → ((i : ℕ) → i < length xs → IsLocalOne (standing_at xs i)) → how_many (is_ref_of k) xs ≡ 0
-unfolding IsLocalOne
-none_of k other [] all = refl
-none_of k other (None ∷ xs) all = none_of k other xs (λ i l. all (suc i) (omega arith))
-none_of k other (Some r ∷ xs) all =
-    let here : same_kind k r.kind ≡ false = ap (λ z. same_kind k z) (all 0 (omega arith)) ∙ other in
-    ap (λ b. length (cond b (Some r ∷ filter (is_ref_of k) xs) (filter (is_ref_of k) xs))) here
-    ∙ none_of k other xs (λ i l. all (suc i) (omega arith))
-
-local_one : (P : Pairing) (n : ℕ) (r : Option Ref) (l : Option ℕ) → RefFits P n r l → IsLocalOne r
-unfolding IsLocalOne
-local_one P n None l fits = tt
-local_one P n (Some r) (Some p) fits = fits.0
-local_one P n (Some r) None fits = absurd fits
-
 same_summary : (g w l u g' w' l' u' : ℕ) → g ≡ g' → w ≡ w' → l ≡ l' → u ≡ u'
     → ◌≡◌ {A = Summary} (record { globals = g; weaks = w; live = l; used = u })
     (record { globals = g'; weaks = w'; live = l'; used = u' })
 same_summary g w l u g' w' l' u' a b x y = cc
 
 module _ (c : Config) (last turns : ℕ) (one : c.threads ≡ 1) (some_turns : turns ≢ 0) (small : c.locals ≤ 4096)
-    (few : last < 2 ^ 32) (memory : List Bool) where
+    (rows : c.slots ≤ 65536) (few : last < 2 ^ 32) (memory : List Bool) where
   some_threads : 1 ≤ c.threads
   some_threads = omega arith
 
@@ -122,12 +100,13 @@ module _ (c : Config) (last turns : ℕ) (one : c.threads ≡ 1) (some_turns : t
   opening_fits : (k : ℕ) → k ≤ last
       → Fits c last k first_pairing (first_world memory) (now (opening_moment c last))
   opening_fits k le = record {
-    locals = record {
-      framed = one_frame no_local no_frame;
-      own = λ i l. absurd (omega arith);
-      past = λ i l. absurd (omega arith);
+    refs = record {
+      given = λ i l. absurd (omega arith);
       once = λ i j l m. absurd (omega arith);
       stands = λ i l. absurd (omega arith);
+    };
+    locals = record {
+      framed = one_frame no_local no_frame;
       sound = fresh_are_sound c.locals;
       few = λ p. let none = get_zero c.locals p in omega arith;
       given = length-replicate c.locals 0;
@@ -139,10 +118,21 @@ module _ (c : Config) (last turns : ℕ) (one : c.threads ≡ 1) (some_turns : t
       present = λ o l. absurd (omega arith);
       apart = λ o p l m. absurd (omega arith);
     };
-    slots = λ h. refl;
+    slots = record {
+      globals_are = sum_zero c.slots (at_index last (λ h. false) Global) (λ i. none_passes Global i);
+      weaks_are = sum_zero c.slots (at_index last (λ h. false) Weak) (λ i. none_passes Weak i);
+      one = λ i. (let none = none_taken i in omega (arith, none));
+      few = λ i. (let none = none_taken i in omega (arith, none));
+    };
     used = refl;
     space = omega arith;
   }
+    where
+      none_passes : (kind : RefKind) (i : ℕ) → at_index last (λ h. false) kind i ≡ 0
+      none_passes kind i = sum_none (last + 1)
+
+      none_taken : (i : ℕ) → taken_at last (λ h. false) i ≡ 0
+      none_taken i = let a = none_passes Global i in let b = none_passes Weak i in omega (arith, a, b)
 
   -- what is told of commands is what was printed
   record IsTold (k : ℕ) (commands : List Command) (text : List ℕ) (new : ThreadState) (place : Place)
@@ -206,8 +196,16 @@ module _ (c : Config) (last turns : ℕ) (one : c.threads ≡ 1) (some_turns : t
       answers.0 (all_front IsCovered before (x ∷ []) firsts)
       (led_alone y alone) (all_prefix IsUnbarred mid.pass.seen new.pass.seen y.begins all) in
       let t = told_from c 3 before (first_told memory) in
-      let stepped = step c last turns some_turns some_threads small few k x i.pairing t.world mid new stood t.place
-      had t.words i.stands alone all answer first did said answers.1 in
+      let stepped = step {k = k} x (record {
+        some_turns = some_turns;
+        some = some_threads;
+        small = small;
+        slots = rows;
+        few = few;
+        stands = i.stands;
+        alone = alone;
+        all = all;
+      }) answer first did said answers.1 in
       let so = tells_so k t (3 + length before) x answer lines new stood had i.text_is stepped in
       let whole = told_snoc c 3 before x (first_told memory) in
       record {
@@ -237,25 +235,18 @@ module _ (c : Config) (last turns : ℕ) (one : c.threads ≡ 1) (some_turns : t
       record {
         objects = ap (λ (s : State). s.objects) left_is ∙ (ap (λ (s : State). s.objects) inside ∙ keep.objects);
         refs = ap (λ (s : State). s.refs) left_is ∙ (ap (λ (s : State). s.refs) inside ∙ keep.refs);
+        given = ap (λ (s : State). s.given) left_is ∙ (ap (λ (s : State). s.given) inside ∙ keep.given);
         used = ap (λ (s : State). s.used) left_is ∙ (ap (λ (s : State). s.used) inside ∙ keep.used);
       }
-
-  no_slots : (k : RefKind) (s : State) → ((h : Handle) → s.refs h ≡ Stale) → references c last k s ≡ 0
-  no_slots k s none = sum_zero c.slots _ (λ i. sum_zero (last + 1) _ (λ n.
-      ap (λ r. bit (is_there r)) (none (record { kind = k; serial = n; index = i; owner = 0 }))))
 
   ends_so : (k : ℕ) (P : Pairing) (w : World) (m : Moment) (s : State) → Fits c last k P w m → SameTables m.state s
       → summary c last s ≡ summary_of w
   ends_so k P w m s f same =
-      let none : (h : Handle) → s.refs h ≡ Stale = λ h. ap (λ r. r h) same.refs ∙ f.slots h in
-      let locals : (i : ℕ) → i < length w.refs → IsLocalOne (standing_at w.refs i) =
-      λ i l. local_one P (length w.objects) (standing_at w.refs i) (object_of m.frames (P.handle i))
-      (f.locals.stands i l) in
-      same_summary (references c last Global s) (references c last Weak s) (count_below (c.objects + 1) (λ o. is_some
-      (s.objects o)))
-      s.used (refs_of Global w) (refs_of Weak w) (standing w.objects) w.used
-      (no_slots Global s none ∙ sym (none_of Global refl w.refs locals))
-      (no_slots Weak s none ∙ sym (none_of Weak refl w.refs locals))
+      same_summary (references c last Global s) (references c last Weak s)
+      (count_below (c.objects + 1) (λ o. is_some (s.objects o))) s.used (refs_of Global w) (refs_of Weak w)
+      (standing w.objects) w.used
+      (ap (λ z. in_row c.slots last (λ h. is_there (z h)) Global) same.refs ∙ f.slots.globals_are)
+      (ap (λ z. in_row c.slots last (λ h. is_there (z h)) Weak) same.refs ∙ f.slots.weaks_are)
       (ap (λ t. count_below (c.objects + 1) (λ o. is_some (t o))) same.objects
       ∙ (f.objects.count ∙ sym f.objects.all_objects))
       (same.used ∙ f.used)
@@ -297,4 +288,5 @@ pub meant : (turns last : ℕ) (c : Config) (part : ThreadPart) (text : List ℕ
     → IsRun turns last c part text → MeansText turns last c part text
 meant turns last c part text one limits r some few within covered =
     let most : c.locals ≤ 4096 = (limited c limits).locals.1 in
-    ([], run_means c last turns one some most few [] part text within covered r)
+    let rows : c.slots ≤ 65536 = (limited c limits).slots.1 in
+    ([], run_means c last turns one some most rows few [] part text within covered r)

@@ -8,16 +8,18 @@ use Rattle.std.proofs.lemmas.Bool.Decides.{nat_tests}
 use Rattle.jr_word.specs.declared.config.Config.{Config}
 use Rattle.jr_word.specs.declared.fault.Fault.{Fault}
 use Rattle.jr_word.specs.declared.fault.Fault.TheVariants.{LocalsFull, NoFrame}
+use Rattle.jr_word.specs.declared.handle.RefKind.{RefKind}
+use Rattle.jr_word.specs.declared.handle.RefKind.TheVariants.{Local, Global, Weak}
 use Rattle.jr_model.specs.declared.event.Act.TheVariants.{LocalDrop}
 use Rattle.jr_model.specs.declared.frames.LocalRef.{LocalRef}
 use Rattle.jr_model.specs.declared.frames.TheConstants.{FRAMES}
-use Rattle.jr_model.specs.State.{Handle, State, same_handle}
+use Rattle.jr_model.specs.State.{Handle, State, same_handle, same_kind}
 use Rattle.jr_model.specs.Steps.{act_after}
 use Rattle.jr_model.specs.Frames.{Frames, all_refs, drop_all, frames_before, free_places, is_held, joined, last_frame}
 use Rattle.jr_model.specs.Frames.{object_of, object_where, popped, pushed}
 use Rattle.jr_model.specs.History.{by, state_from}
 use Rattle.jr_model.specs.Calls.{Call, ◌>>◌, refuse_if}
-use Rattle.jr_model.specs.Checks.{Word}
+use Rattle.jr_model.specs.Checks.{Word, is_local}
 use Rattle.jr_model.specs.Parts.{new_frame, take_frame}
 use Rattle.jr_model.specs.References as references
 use Rattle.jr_model.proofs.Agreement.{joined_before, joined_push, popped_sound, pushed_sound}
@@ -25,16 +27,18 @@ use Rattle.jr_model.proofs.Counts.{bit}
 use Rattle.jr_model.proofs.Gone.{taken_is_gone}
 use Rattle.jr_model.proofs.Updates.{eq_true, eq_false, eq_other, eq_self}
 use Rattle.jr_scripts.specs.Places.{all_but_last}
-use Rattle.jr_scripts.specs.Meaning.{World, Ref, Meaning, goes_on, held, newest_frame, refused_if, standing_at}
-use Rattle.jr_scripts.specs.Meaning.{without}
+use Rattle.jr_scripts.specs.Meaning.{World, Ref, Meaning, goes_on, held, how_many, is_ref_of, newest_frame, refs_of}
+use Rattle.jr_scripts.specs.Meaning.{refused_if, standing_at, without}
 use Rattle.jr_scripts.specs.Meaning as meaning
 use Rattle.jr_scripts.proofs.LoneRun.MadeCalls.{Moment, Made, WasMadeOf, moment, moment_is, split, still}
-use Rattle.jr_scripts.proofs.LoneRun.MeaningCounts.{bit_most}
+use Rattle.jr_scripts.proofs.LoneRun.MeaningCounts.{at_set, bit_most, less_of}
 use Rattle.jr_scripts.proofs.LoneRun.MeaningFrames.{Pairing, AreLocals, no_local, one_local, all_places, frames_all}
 use Rattle.jr_scripts.proofs.LoneRun.MeaningFrames.{frames_later, frames_long, frames_popped, frames_pushed}
 use Rattle.jr_scripts.proofs.LoneRun.MeaningFrames.{newest_fits, newest_held, same_test}
-use Rattle.jr_scripts.proofs.LoneRun.MeaningFits.{RefFits, LocalsFit, ObjectsFit, Fits, Fitting, SameAnswer, IsDone}
-use Rattle.jr_scripts.proofs.LoneRun.MeaningFits.{Outcome, Means, bind_spends, entered_means, fits_less, unmoved}
+use Rattle.jr_scripts.proofs.LoneRun.MeaningFits.{RefFits, RefsFit, LocalsFit, SlotsFit, ObjectsFit, Fits, Fitting}
+use Rattle.jr_scripts.proofs.LoneRun.MeaningFits.{SameAnswer, IsDone, Outcome, Means, at_place, bind_spends}
+use Rattle.jr_scripts.proofs.LoneRun.MeaningFits.{entered_means, fits_less, found_local, found_of, found_own}
+use Rattle.jr_scripts.proofs.LoneRun.MeaningFits.{given_then, kind_of_ref, slots_count, slots_less, unmoved}
 use Rattle.jr_scripts.proofs.LoneRun.MeaningParts.{OptionFits, option_later, room_lacks}
 use Rattle.jr_scripts.proofs.LoneRun.MeaningCalls.{MaybeFits, WordFits, new_local_means, resolved_means}
 
@@ -42,13 +46,14 @@ use Rattle.jr_scripts.proofs.LoneRun.MeaningCalls.{MaybeFits, WordFits, new_loca
 pub record SameTables (s s' : State) : Type 0 where
   pub objects : s'.objects ≡ s.objects
   pub refs : s'.refs ≡ s.refs
+  pub given : s'.given ≡ s.given
   pub used : s'.used ≡ s.used
 
 pub drops_keep : (s : State) (rs : List LocalRef) → SameTables s (state_from s (map (by 0) (drop_all rs)))
-drops_keep s [] = record { objects = refl; refs = refl; used = refl }
+drops_keep s [] = record { objects = refl; refs = refl; given = refl; used = refl }
 drops_keep s (r ∷ rs) =
     let rest = drops_keep (act_after s 0 (LocalDrop r.handle.index)) rs in
-    record { objects = rest.objects; refs = rest.refs; used = rest.used }
+    record { objects = rest.objects; refs = rest.refs; given = rest.given; used = rest.used }
 
 -- FRAMES
 
@@ -120,14 +125,16 @@ module _ (c : Config) (last k : ℕ) where
           let long : length w.frames ≡ length m.frames.frames = frames_long l.framed in
           let fewer : length m.frames.frames < FRAMES = grind (arith, nat_tests) in
           record {
+            refs = record {
+              given = λ i small. given_then (λ is. is) (λ is. is) (f.refs.given i small);
+              once = f.refs.once;
+              stands = λ i small. subst (λ z. RefFits P.object (length w.objects) (P.handle i).kind
+                  (standing_at w.refs i) (cond (is_local (P.handle i)) (found_local z) (m.state.refs (P.handle i))))
+                  (sym (ap (object_where (λ r. same_handle r.handle (P.handle i))) (joined_push m.frames.frames)))
+                  (f.refs.stands i small);
+            };
             locals = record {
               framed = frames_pushed l.framed;
-              own = l.own;
-              past = l.past;
-              once = l.once;
-              stands = λ i small. subst (RefFits P (length w.objects) (standing_at w.refs i))
-                  (sym (ap (object_where (λ r. same_handle r.handle (P.handle i))) (joined_push m.frames.frames)))
-                  (l.stands i small);
               sound = pushed_sound m.frames l.sound fewer;
               few = λ p. subst (λ b. slice_index m.frames.given p + k ≤ last + bit b) (sym (more_held m.frames p))
                   (l.few p);
@@ -165,9 +172,9 @@ where_front : (p : LocalRef → Bool) (xs ys : List LocalRef) → object_where p
 where_front p [] ys none = none
 where_front p (x ∷ xs) ys none = ap (λ z. cond (p x) (Some x.object) z) (where_front p xs ys none)
 
--- a number is one of those that go, and its handle is found among theirs; or neither
+-- a number is one of those that go, and its handle is local and found among theirs; or neither
 abbrev IsLeft : Pairing → ℕ → List ℕ → List LocalRef → List (Option Ref) → Type 0
-IsLeft P j is rs refs = ((standing_at (without is refs) j ≡ None)
+IsLeft P j is rs refs = ((standing_at (without is refs) j ≡ None) × ((P.handle j).kind ≡ Local)
     × IsSome (object_where (λ r. same_handle r.handle (P.handle j)) rs))
     ⊎ ((standing_at (without is refs) j ≡ standing_at refs j)
     × (object_where (λ r. same_handle r.handle (P.handle j)) rs ≡ None))
@@ -177,7 +184,7 @@ module _ (P : Pairing) (n : ℕ) (once : (i j : ℕ) → i < n → j < n → P.h
   left_of : {is : List ℕ} {rs : List LocalRef} → AreLocals P n is rs → (refs : List (Option Ref)) → length refs ≡ n
       → IsLeft P j is rs refs
   left_of no_local refs long = inr (refl, refl)
-  left_of (one_local {i = i} {is = is} {r = r} {rs = rs} below same rest) refs long =
+  left_of (one_local {i = i} {is = is} {r = r} {rs = rs} below same local rest) refs long =
       go (i == j) refl (sym (same_test P once j small r i below same))
       (left_of rest (slice_set refs i None) (length-set refs i None ∙ long))
     where
@@ -185,6 +192,7 @@ module _ (P : Pairing) (n : ℕ) (once : (i j : ℕ) → i < n → j < n → P.h
           → IsLeft P j is rs (slice_set refs i None) → IsLeft P j (i ∷ is) (r ∷ rs) refs
       go true e f (inl x) = inl (
         x.0,
+        x.1,
         subst (λ b. IsSome (cond b (Some r.object)
             (object_where (λ r. same_handle r.handle (P.handle j)) rs))) (sym (f ∙ e)) refl,
       )
@@ -194,13 +202,15 @@ module _ (P : Pairing) (n : ℕ) (once : (i j : ℕ) → i < n → j < n → P.h
           ∙ get_or-set_same refs i None None (omega arith) in
           inl (
             x.0 ∙ here,
+            ap (λ (h : Handle). h.kind) (sym (same ∙ ap P.handle (eq_true i j e))) ∙ local,
             subst (λ b. IsSome (cond b (Some r.object)
                 (object_where (λ r. same_handle r.handle (P.handle j)) rs))) (sym (f ∙ e)) refl,
           )
       go false e f (inl x) = inl (
         x.0,
+        x.1,
         subst (λ b. IsSome (cond b (Some r.object)
-            (object_where (λ r. same_handle r.handle (P.handle j)) rs))) (sym (f ∙ e)) x.1,
+            (object_where (λ r. same_handle r.handle (P.handle j)) rs))) (sym (f ∙ e)) x.2,
       )
       go false e f (inr x) =
           let other : i ≢ j = eq_false i j e in
@@ -208,6 +218,18 @@ module _ (P : Pairing) (n : ℕ) (once : (i j : ℕ) → i < n → j < n → P.h
             x.0 ∙ get_or-set_other refs i j None None (λ z. other (sym z)),
             ap (λ b. cond b (Some r.object) (object_where (λ r. same_handle r.handle (P.handle j)) rs)) (f ∙ e) ∙ x.1,
           )
+
+-- as many references of no local kind stand
+without_count : (P : Pairing) (n : ℕ) (p : Option Ref → Bool) → p None ≡ false → {is : List ℕ} {rs : List LocalRef}
+    → AreLocals P n is rs → (refs : List (Option Ref)) → length refs ≡ n
+    → ((j : ℕ) → j < n → (P.handle j).kind ≡ Local → p (standing_at refs j) ≡ false)
+    → how_many p (without is refs) ≡ how_many p refs
+without_count P n p none no_local refs long apart = refl
+without_count P n p none (one_local {i = i} below same local rest) refs long apart =
+    without_count P n p none rest (slice_set refs i None) (length-set refs i None ∙ long)
+    (λ j small kind. at_set refs i j None (λ z. p z ≡ false) (λ e. none) (λ ne. apart j small kind) (omega arith))
+    ∙ less_of p none refs i (omega arith)
+    (apart i below (ap (λ (h : Handle). h.kind) (sym same) ∙ local))
 
 -- no place is left once those of a frame are free, where as many are held beside them as there are
 both_full : (free rest newest all places : ℕ) → free + rest ≡ places → all ≡ rest + newest
@@ -247,51 +269,59 @@ module _ (c : Config) (last k : ℕ) where
         let free : free_places last (popped m.frames) + length (joined (frames_before m.frames.frames)) ≡ c.locals =
         all_places last (popped m.frames) (popped_sound m.frames l.sound (two_frames m f))
         (λ p none. let few = popped_few m f p in omega arith)
-        (frames_all (λ r. r.handle.index < length m.frames.given) (λ r i small is. within r i small is)
-        (frames_popped l.framed)) ∙ l.given in
+        (frames_all (λ r. r.handle.index < length m.frames.given) (at_place f) (frames_popped l.framed)) ∙ l.given in
         both_full (free_places last (popped m.frames)) (length (joined (frames_before m.frames.frames)))
         (length (newest_frame w.frames)) (held w) c.locals free (newest_held l.framed)
-      where
-        within : (r : LocalRef) (i : ℕ) → i < length w.refs → r.handle ≡ P.handle i
-            → r.handle.index < length m.frames.given
-        within r i small is =
-            let place : (P.handle i).index < c.locals = (f.locals.own i small).place in
-            let here : r.handle.index ≡ (P.handle i).index = ap (λ (h : Handle). h.index) is in
-            let long : length m.frames.given ≡ c.locals = f.locals.given in
-            omega arith
 
     popped_locals : (m : Moment) → Fits c last (suc k) P w m
-        → LocalsFit c last k P (length w.objects) (taken w).refs (taken w).frames (popped m.frames)
-    popped_locals m f =
-        let l = f.locals in
-        record {
-          framed = frames_later (λ j below. refl) (let long = as_many in omega arith) (frames_popped l.framed);
-          own = λ j below. l.own j (let long = as_many in omega arith);
-          past = λ j below. l.past j (let long = as_many in omega arith);
-          once = λ j n below below'. l.once j n (let long = as_many in omega arith)
-              (let long = as_many in omega arith);
-          stands = λ j below. stands j (let long = as_many in omega arith);
-          sound = popped_sound m.frames l.sound (two_frames m f);
-          few = λ p. let few = popped_few m f p in omega arith;
-          given = l.given;
-        }
+        → LocalsFit c last k P (length (taken w).refs) (taken w).frames (popped m.frames)
+    popped_locals m f = record {
+      framed = frames_later (λ j below. refl) (let long = as_many in omega arith) (frames_popped f.locals.framed);
+      sound = popped_sound m.frames f.locals.sound (two_frames m f);
+      few = λ p. let few = popped_few m f p in omega arith;
+      given = f.locals.given;
+    }
+
+    popped_refs : (m : Moment) → Fits c last (suc k) P w m
+        → RefsFit c last P (length w.objects) (taken w).refs (popped m.frames) m.state.refs m.state.given
+    popped_refs m f = record {
+      given = λ j below. given_then (λ is. is) (λ is. is) (f.refs.given j (let long = as_many in omega arith));
+      once = λ j n below below'. f.refs.once j n (let long = as_many in omega arith)
+          (let long = as_many in omega arith);
+      stands = λ j below. stands j (let long = as_many in omega arith);
+    }
       where
-        stands : (j : ℕ) → j < length w.refs → RefFits P (length w.objects)
-            (standing_at (without (newest_frame w.frames) w.refs) j) (object_of (popped m.frames) (P.handle j))
-        stands j below = go (left_of P (length w.refs) f.locals.once j below (newest_fits f.locals.framed) w.refs refl)
+        stands : (j : ℕ) → j < length w.refs → RefFits P.object (length w.objects) (P.handle j).kind
+            (standing_at (without (newest_frame w.frames) w.refs) j)
+            (found_of (popped m.frames) m.state.refs (P.handle j))
+        stands j below = go (left_of P (length w.refs) f.refs.once j below (newest_fits f.locals.framed) w.refs refl)
           where
-            go : IsLeft P j (newest_frame w.frames) (last_frame m.frames.frames) w.refs → RefFits P (length w.objects)
-                (standing_at (without (newest_frame w.frames) w.refs) j) (object_of (popped m.frames) (P.handle j))
-            go (inl x) = subst (λ z. RefFits P (length w.objects) z (object_of (popped m.frames) (P.handle j)))
-                (sym x.0) (subst (RefFits P (length w.objects) None)
-                (sym ((taken_is_gone m.frames (P.handle j) f.locals.sound).1 x.1)) tt)
+            go : IsLeft P j (newest_frame w.frames) (last_frame m.frames.frames) w.refs
+                → RefFits P.object (length w.objects) (P.handle j).kind
+                (standing_at (without (newest_frame w.frames) w.refs) j)
+                (found_of (popped m.frames) m.state.refs (P.handle j))
+            go (inl x) = subst (λ z. RefFits P.object (length w.objects) (P.handle j).kind z
+                (found_of (popped m.frames) m.state.refs (P.handle j))) (sym x.0)
+                (subst (RefFits P.object (length w.objects) (P.handle j).kind None)
+                (sym (found_own (popped m.frames) m.state.refs (P.handle j) x.1
+                ∙ ap found_local ((taken_is_gone m.frames (P.handle j) f.locals.sound).1 x.2))) tt)
             go (inr x) =
                 let same : object_of m.frames (P.handle j) ≡ object_of (popped m.frames) (P.handle j) =
                 ap (object_where (λ r. same_handle r.handle (P.handle j))) (joined_before m.frames.frames)
                 ∙ where_front (λ r. same_handle r.handle (P.handle j)) (joined (frames_before m.frames.frames))
                 (last_frame m.frames.frames) x.1 in
-                subst (λ z. RefFits P (length w.objects) z (object_of (popped m.frames) (P.handle j))) (sym x.0)
-                (subst (RefFits P (length w.objects) (standing_at w.refs j)) same (f.locals.stands j below))
+                subst (λ z. RefFits P.object (length w.objects) (P.handle j).kind z
+                (found_of (popped m.frames) m.state.refs (P.handle j))) (sym x.0)
+                (subst (λ z. RefFits P.object (length w.objects) (P.handle j).kind (standing_at w.refs j)
+                (cond (is_local (P.handle j)) (found_local z) (m.state.refs (P.handle j)))) same
+                (f.refs.stands j below))
+
+    popped_count : (m : Moment) (f : Fits c last (suc k) P w m) (kind : RefKind) → same_kind kind Local ≡ false
+        → refs_of kind (taken w) ≡ refs_of kind w
+    popped_count m f kind other = without_count P (length w.refs) (is_ref_of kind) refl (newest_fits f.locals.framed)
+        w.refs refl (λ j small local. kind_of_ref P.object (length w.objects) (P.handle j).kind (standing_at w.refs j)
+        (found_of m.frames m.state.refs (P.handle j)) kind (f.refs.stands j small)
+        (ap (λ z. same_kind kind z) local ∙ other))
 
     take_means : Means c last (suc k) k (IsDone {A = Unit {0}} {B = Unit {0}}) P w take_frame (λ v. (Ok tt, taken v))
     take_means = record {
@@ -308,10 +338,17 @@ module _ (c : Config) (last k : ℕ) where
               objects_grow = omega arith;
             };
             fits = record {
-              locals = subst (LocalsFit c last k P (length w.objects) (taken w).refs (taken w).frames)
+              refs = subst (λ z. RefsFit c last P (length w.objects) (taken w).refs n.frames z n.state.given)
+                  (sym tables.refs) (subst (RefsFit c last P (length w.objects) (taken w).refs n.frames m.state.refs)
+                  (sym tables.given) (subst (λ z. RefsFit c last P (length w.objects) (taken w).refs z m.state.refs
+                  m.state.given) (sym (r.is).2) (popped_refs m f)));
+              locals = subst (LocalsFit c last k P (length (taken w).refs) (taken w).frames)
                   (sym (r.is).2) (popped_locals m f);
-              objects = subst (ObjectsFit c P w.objects) (sym tables.objects) f.objects;
-              slots = λ h. ap (λ t. t h) tables.refs ∙ f.slots h;
+              slots = slots_count (popped_count m f Global refl) (popped_count m f Weak refl)
+                  (subst (λ z. SlotsFit c last k (refs_of Global w) (refs_of Weak w) z n.state.given) (sym tables.refs)
+                  (subst (SlotsFit c last k (refs_of Global w) (refs_of Weak w) m.state.refs) (sym tables.given)
+                  (slots_less (omega arith) f.slots)));
+              objects = subst (ObjectsFit c P.object w.objects) (sym tables.objects) f.objects;
               used = tables.used ∙ f.used;
               space = f.space;
             };

@@ -1,0 +1,294 @@
+-- What comes of a lone thread's command: of its calls, and of its reply.
+use Rattle.std.proofs.Common.{◌≡◌, ◌≢◌, ℕ, zero, suc, ◌<◌, ◌≤◌, ◌^◌, Option, Some, None, List, length, Result, Ok, Err}
+use Rattle.std.proofs.Common.{IfErr, refl, sym, ap, subst, ◌∙◌, arith}
+use Rattle.std.specs.List.{AllByRecursion}
+use Rattle.jr_word.specs.declared.config.Config.{Config}
+use Rattle.jr_word.specs.declared.fault.Fault.{Fault}
+use Rattle.jr_word.specs.declared.fault.Fault.TheVariants.{Stale}
+use Rattle.jr_word.specs.declared.handle.Handle.{Handle as HandleWord}
+use Rattle.jr_word.specs.Handle.{handle_word, IsHandle}
+use Rattle.jr_model.specs.State.{Handle, State}
+use Rattle.jr_model.specs.History.{state}
+use Rattle.jr_model.specs.Calls.{Call}
+use Rattle.jr_model.specs.Checks.{Word}
+use Rattle.jr_gate.specs.Performing.{IsMade, ThreadState}
+use Rattle.jr_env.specs.Deeds.{Deed, answered_by, decided, ◌>>=◌, call_on_by}
+use Rattle.jr_env.specs.Requests.{packed, packed_if}
+use Rattle.jr_syntax.specs.declared.name.Reference.{Reference}
+use Rattle.jr_syntax.specs.declared.name.Reference.TheVariants as refers
+use Rattle.jr_syntax.specs.declared.command.Command.{Command}
+use Rattle.jr_syntax.specs.declared.command.Command.TheVariants as commands
+use Rattle.jr_syntax.specs.declared.verb.MakeFrom.{MakeFrom}
+use Rattle.jr_scripts.specs.Commands.{makes_reference, tried}
+use Rattle.jr_scripts.specs.Meaning.{World, Meaning, goes_on, reply_made}
+use Rattle.jr_scripts.specs.Meaning as meaning
+use Rattle.jr_scripts.proofs.LoneRun.MeaningCalls.{MaybeFits, WordFits}
+use Rattle.jr_scripts.specs.declared.reply.Reply.{Reply}
+use Rattle.jr_scripts.specs.declared.reply.Reply.TheVariants as replies
+use Rattle.jr_scripts.specs.declared.binding.Binding.{Binding}
+use Rattle.jr_scripts.specs.declared.binding.Binding.TheVariants as bound
+use Rattle.jr_scripts.specs.Names.{referent, wanted, with_name}
+use Rattle.jr_scripts.specs.Places.{Place, objects_after}
+use Rattle.jr_scripts.specs.Posting.{Words, words_after}
+use Rattle.jr_scripts.specs.Text.{names_after, printed, reference_made, says}
+use Rattle.jr_scripts.specs.AloneAnswers.{IsCommandFault}
+use Rattle.jr_scripts.specs.Runs.{IsUnbarred}
+use Rattle.jr_scripts.proofs.AloneCalls.{IsAlone, LeadsAlone}
+use Rattle.jr_scripts.proofs.LoneRun.MadeCalls.{IsSo}
+use Rattle.jr_scripts.proofs.LoneRun.MeaningFrames.{Pairing}
+use Rattle.jr_scripts.proofs.LoneRun.MeaningFits.{Later, Fits, Fitting, Means, Outcome, fits_less, later_self}
+use Rattle.jr_scripts.proofs.LoneRun.MeaningDeeds.{IsPass, NamesFit, BindingFits, HandleFits, WordsFit, after_decided}
+use Rattle.jr_scripts.proofs.LoneRun.MeaningDeeds.{call_made, formed, given_handle, names_later, names_set_fit, now}
+use Rattle.jr_scripts.proofs.LoneRun.MeaningDeeds.{formed_both, made_once, read_fits, was_formed, words_later}
+use Rattle.jr_scripts.proofs.LoneRun.MeaningStands.{Keeps, Sets, IsSilent, Stands, Stepped, err_formed, err_map}
+use Rattle.jr_scripts.proofs.LoneRun.MeaningStands.{pass_later, so_of}
+
+-- A COMMAND'S TURN: the thread stands as in the world before it, and is alone in its room behind it
+pub record Turn (c : Config) (last turns j k : ℕ) (P : Pairing) (w : World) (old new : ThreadState) (p q : Place)
+    (had told : Words) : Type 0 where
+  pub some_turns : turns ≢ 0
+  pub some : 1 ≤ c.threads
+  pub small : c.locals ≤ 4096
+  pub slots : c.slots ≤ 65536
+  pub few : last < 2 ^ 32
+  pub stands : Stands c last j P w old p q had told
+  pub alone : IsAlone new.pass
+  pub all : AllByRecursion IsUnbarred new.pass.seen
+
+pub at_most : {j k : ℕ} → j ≡ k → k ≤ j
+at_most one = omega arith
+
+-- what a call means that gives up nothing
+pub even : {c : Config} {last j k : ℕ} {P : Pairing} {w : World} {A B : Type 0} {V : Fitting A B} {call : Call A}
+    {meant : Meaning B} → j ≡ k → Means c last j j V P w call meant → Means c last j k V P w call meant
+even {c = c} {last = last} {j = j} {P = P} {w = w} {V = V} {call = call} {meant = meant} one means =
+    subst (λ z. Means c last j z V P w call meant) one means
+
+module _ {c : Config} {last turns j k : ℕ} {P : Pairing} {w : World} {old new : ThreadState} {p q : Place}
+    {had told : Words} (s : Turn c last turns j k P w old new p q had told) where
+  -- what a refusal says of the room is so at the end
+  so_then : (x : Command) (answer : Result Reply Fault) → IsPass c last new.pass
+      → IfErr answer (IsCommandFault turns p.names x new.pass new.frames)
+      → IfErr answer (IsSo c last (state new.pass.seen))
+  so_then x answer pass fault = err_map answer (λ e h.
+      subst (λ z. IsSo z last (state new.pass.seen) e) pass.config
+      (subst (λ l. IsSo new.pass.config l (state new.pass.seen) e) pass.last_is
+      (so_of turns p.names x new.pass new.frames e h))) fault
+
+  pub handles : (i : ℕ) → i < length w.refs → IsHandle (P.handle i)
+  handles i l = given_handle c last (P.handle i) s.small s.slots s.few (s.stands.fits.refs.given i l)
+
+  -- where the moment is as a later world
+  pub record IsThen (Q : Pairing) (v : World) : Type 0 where
+    pub later : Later P w Q v
+    pub pass : IsPass c last new.pass
+    pub fits : Fits c last k Q v (now new)
+
+  -- nothing has happened
+  pub nothing_then : new ≡ old → k ≤ j → IsThen P w
+  nothing_then same le = record {
+    later = later_self P w;
+    pass = subst (λ (m : ThreadState). IsPass c last m.pass) (sym same) s.stands.pass;
+    fits = subst (λ (m : ThreadState). Fits c last k P w (now m)) (sym same)
+        (fits_less le s.stands.fits);
+  }
+
+  -- A CALL THAT WAS MADE, and what it means
+  pub record CallMeant {A B : Type 0} (V : Fitting A B) (once : Result A Fault)
+      (r : Result B Fault × World) : Type 0 where
+    pub pass : IsPass c last new.pass
+    pub outcome : Outcome c last k V P w once r (now new)
+
+  pub referent_fits : (r : Reference) → BindingFits P w (referent p.names r) (referent q.names r)
+  referent_fits refers.Null = refl
+  referent_fits (refers.Named n) = s.stands.names n
+
+  module _ (x : Command) (answer : Result Reply Fault) where
+    -- this is what comes of it
+    abbrev pub Steps : Result Reply Fault × World → Type 0
+    Steps r = Stepped c last k x new p q had told answer r
+
+    -- a command that keeps all
+    pub kept_step : (Q : Pairing) (v : World) (a b : Result Reply Fault) → IsThen Q v → answer ≡ a → Keeps x a
+        → Keeps x b → ((line : ℕ) → printed line x a ≡ printed line x b) → Steps (b, v)
+    kept_step Q v a b i is keeps keeps' text =
+        subst (λ z. Stepped c last k x new p q had told z (b, v)) (sym is) (record {
+          pairing = Q;
+          stands = record {
+            pass = i.pass;
+            fits = i.fits;
+            names = subst (λ n. NamesFit Q v n (names_after x b q.names)) (sym one.0)
+                (subst (λ n. NamesFit Q v p.names n) (sym two.0) (names_later i.later p.names q.names s.stands.names));
+            outside = one.1 ∙ s.stands.outside;
+            outside_then = two.1 ∙ s.stands.outside_then;
+            words = subst (λ l. WordsFit Q v l (words_after q.names x b told)) (sym one.2)
+                (subst (λ l. WordsFit Q v had l) (sym two.2) (words_later i.later had told s.stands.words));
+          };
+          text = text;
+        })
+      where
+        one : (names_after x a p.names ≡ p.names) × (objects_after x a p.objects ≡ p.objects)
+            × (words_after p.names x a had ≡ had)
+        one = keeps p.names p.objects had
+
+        two : (names_after x b q.names ≡ q.names) × (objects_after x b q.objects ≡ q.objects)
+            × (words_after q.names x b told ≡ told)
+        two = keeps' q.names q.objects told
+
+    -- one that makes a reference, or NULL
+    pub made_step : (n : List ℕ) (Q : Pairing) (v : World) (h g : Option HandleWord) → IsThen Q v
+        → answer ≡ Ok (replies.Made h) → Sets x n → says x (replies.Made h) ≡ says x (replies.Made g)
+        → HandleFits Q v (reference_made h).0 (reference_made g).0 → Steps (Ok (replies.Made g), v)
+    made_step n Q v h g i is sets text fits =
+        subst (λ z. Stepped c last k x new p q had told z (Ok (replies.Made g), v)) (sym is) (record {
+          pairing = Q;
+          stands = record {
+            pass = i.pass;
+            fits = i.fits;
+            names = subst (λ l. NamesFit Q v l (names_after x (Ok (replies.Made g)) q.names)) (sym one.0)
+                (subst (λ l. NamesFit Q v (with_name p.names n (bound.Reference (reference_made h))) l) (sym two.0)
+                (names_set_fit Q v p.names q.names n (bound.Reference (reference_made h))
+                (bound.Reference (reference_made g)) (names_later i.later p.names q.names s.stands.names) fits));
+            outside = one.1 ∙ s.stands.outside;
+            outside_then = two.1 ∙ s.stands.outside_then;
+            words = subst (λ l. WordsFit Q v l (words_after q.names x (Ok (replies.Made g)) told)) (sym one.2)
+                (subst (λ l. WordsFit Q v had l) (sym two.2) (words_later i.later had told s.stands.words));
+          };
+          text = λ line. text;
+        })
+      where
+        one : (names_after x (Ok (replies.Made h)) p.names
+            ≡ with_name p.names n (bound.Reference (reference_made h)))
+            × (objects_after x (Ok (replies.Made h)) p.objects ≡ p.objects)
+            × (words_after p.names x (Ok (replies.Made h)) had ≡ had)
+        one = sets h p.names p.objects had
+
+        two : (names_after x (Ok (replies.Made g)) q.names
+            ≡ with_name q.names n (bound.Reference (reference_made g)))
+            × (objects_after x (Ok (replies.Made g)) q.objects ≡ q.objects)
+            × (words_after q.names x (Ok (replies.Made g)) told ≡ told)
+        two = sets g q.names q.objects told
+
+    module _ (fault : IfErr answer (IsCommandFault turns p.names x new.pass new.frames)) where
+      pub made_call : {A B : Type 0} {V : Fitting A B} (form : A → Reply) (n : ℕ)
+          (asked : Config → ℕ → ℕ → State → Call A) (meant : Meaning B) (once : Result A Fault)
+          → ((z : State) → Means c last j k V P w (asked c last 0 z) meant)
+          → IsMade n old new (asked old.pass.config old.pass.last old.pass.thread (state new.pass.seen)) once
+          → answer ≡ formed form once → CallMeant V once (meant w)
+      made_call form n asked meant once means made is =
+          let pass = pass_later c last old.pass new.pass made.ran.acts made.ran.did s.stands.pass in
+          let so = err_formed (IsSo c last (state new.pass.seen)) form once
+          (subst (λ z. IfErr z (IsSo c last (state new.pass.seen))) is (so_then x answer pass fault)) in
+          record {
+            pass = pass;
+            outcome = (means (state new.pass.seen)).outcome (now old) (now new) once s.stands.fits
+                (call_made c last asked old new once s.stands.pass s.alone s.all so n made);
+          }
+
+      -- one that is handed a word
+      pub word_call : {A B : Type 0} {V : Fitting A B} (form : A → Reply)
+          (asked : Config → ℕ → ℕ → State → Word → Call A) (meant : Meaning B) (once : Result A Fault) (h g : ℕ)
+          → HandleFits P w h g
+          → ((a : Word) (z : State) → WordFits P w a g → Means c last j k V P w (asked c last 0 z a) meant)
+          → call_on_by (λ c. 0) h asked old once new → answer ≡ formed form once → CallMeant V once (meant w)
+      word_call {V = V} form asked meant once h g fits means d is =
+          let a = d.0 in
+          made_call {V = V} form 0 (λ l m t z. asked l m t z a) meant once
+          (λ z. means a z (read_fits P w h g a handles d.1 fits)) (d.2).0 is
+
+    -- what comes of an answer whose reply is the same
+    pub same_after : {A B : Type 0} {V : Fitting A B} (form : A → Reply) (form' : B → Reply)
+        → ((Q : Pairing) (v : World) (y : A) (z : B) → V Q v y z → form y ≡ form' z)
+        → ((y : A) → Keeps x (Ok (form y))) → ((z : B) → Keeps x (Ok (form' z))) → ((e : Fault) → Keeps x (Err e))
+        → (once : Result A Fault) (r : Result B Fault × World) → CallMeant V once r → answer ≡ formed form once
+        → Steps (goes_on (λ z v. (Ok (form' z), v)) r)
+    same_after form form' same keeps keeps' quiet (Ok y) (Ok z, v) i is =
+        let o = i.outcome in
+        kept_step o.pairing v (Ok (form y)) (Ok (form' z))
+        (record { later = o.later; pass = i.pass; fits = o.fits }) is (keeps y) (keeps' z)
+        (λ line. ap (λ a. says x a) (same o.pairing v y z o.answers))
+    same_after form form' same keeps keeps' quiet (Err e) (Err d, v) i is =
+        let o = i.outcome in
+        kept_step o.pairing v (Err e) (Err d) (record { later = o.later; pass = i.pass; fits = o.fits }) is
+        (quiet e) (quiet d) (λ line. ap (λ a. printed line x (Err a)) o.answers)
+    same_after form form' same keeps keeps' quiet (Ok y) (Err d, v) i is = absurd i.outcome.answers
+    same_after form form' same keeps keeps' quiet (Err e) (Ok z, v) i is = absurd i.outcome.answers
+
+    -- what comes of an answer that makes a reference, or NULL
+    pub makes_after : (n : List ℕ) → Sets x n → IsSilent x → ((e : Fault) → Keeps x (Err e))
+        → (once : Result (Option Handle) Fault) (r : Result ℕ Fault × World) → CallMeant MaybeFits once r
+        → answer ≡ formed (λ h. replies.Made (packed_if h)) once
+        → Steps (goes_on (λ z v. (Ok (reply_made z), v)) r)
+    makes_after n sets silent quiet (Ok None) (Ok zero, v) i is =
+        let o = i.outcome in
+        made_step n o.pairing v None None (record { later = o.later; pass = i.pass; fits = o.fits }) is sets refl
+        refl
+    makes_after n sets silent quiet (Ok (Some h)) (Ok (suc z), v) i is =
+        let o = i.outcome in
+        made_step n o.pairing v (Some (packed h)) (Some (record { 0 = suc z }))
+        (record { later = o.later; pass = i.pass; fits = o.fits }) is sets
+        (silent (packed h) (record { 0 = suc z }))
+        ((o.answers).0, ap handle_word (o.answers).1)
+    makes_after n sets silent quiet (Err e) (Err d, v) i is =
+        let o = i.outcome in
+        kept_step o.pairing v (Err e) (Err d) (record { later = o.later; pass = i.pass; fits = o.fits }) is
+        (quiet e) (quiet d) (λ line. ap (λ a. printed line x (Err a)) o.answers)
+    makes_after n sets silent quiet (Ok None) (Ok (suc z), v) i is = absurd i.outcome.answers
+    makes_after n sets silent quiet (Ok (Some h)) (Ok zero, v) i is = absurd i.outcome.answers
+    makes_after n sets silent quiet (Ok y) (Err d, v) i is = absurd i.outcome.answers
+    makes_after n sets silent quiet (Err e) (Ok z, v) i is = absurd i.outcome.answers
+
+    -- a reference that is wanted
+    bound_step : k ≤ j → (next : HandleWord → Deed Reply) (then : ℕ → Meaning Reply) (b b' : Binding)
+        → BindingFits P w b b' → ((e : Fault) → Keeps x (Err e)) → (decided (wanted b) >>= next) old answer new
+        → ((h g : HandleWord) → HandleFits P w h.0 g.0 → next h old answer new → Steps (then g.0 w))
+        → Steps (goes_on then (goes_on (λ h v. (Ok h.0, v)) (wanted b', w)))
+    bound_step le next then bound.Nothing bound.Nothing fits quiet d found =
+        let r = after_decided next old new answer (wanted bound.Nothing) d in
+        kept_step P w (Err Stale) (Err Stale) (nothing_then r.1 le) r.0 (quiet _) (quiet _) (λ line. refl)
+    bound_step le next then (bound.Reference h) (bound.Reference g) fits quiet d found =
+        found h g fits (after_decided next old new answer (wanted (bound.Reference h)) d)
+    bound_step le next then bound.Nothing (bound.Reference g) fits quiet d found = absurd fits
+    bound_step le next then bound.Nothing (bound.Buffer b) fits quiet d found = absurd fits
+    bound_step le next then (bound.Reference h) bound.Nothing fits quiet d found = absurd fits
+    bound_step le next then (bound.Reference h) (bound.Buffer b) fits quiet d found = absurd fits
+    bound_step le next then (bound.Buffer b) b' fits quiet d found = absurd fits
+
+    pub wanted_step : k ≤ j → (next : HandleWord → Deed Reply) (then : ℕ → Meaning Reply) (r : Reference)
+        → ((e : Fault) → Keeps x (Err e)) → (decided (wanted (referent p.names r)) >>= next) old answer new
+        → ((h g : HandleWord) → HandleFits P w h.0 g.0 → next h old answer new → Steps (then g.0 w))
+        → Steps (goes_on then (goes_on (λ h v. (Ok h.0, v)) (wanted (referent q.names r), w)))
+    wanted_step le next then r quiet d found =
+        bound_step le next then (referent p.names r) (referent q.names r) (referent_fits r) quiet d found
+
+  -- A COMMAND THAT MAKES A REFERENCE, or NULL, from one, by one call
+  pub made_of_step : k ≤ j → (v : MakeFrom) (n : List ℕ) (r : Reference) (answer : Result Reply Fault)
+      → IfErr answer (IsCommandFault turns p.names (commands.MakeFrom v n r) new.pass new.frames)
+      → (asked : Config → ℕ → ℕ → Word → Call (Option Handle)) (meant : ℕ → Meaning ℕ)
+      → ((z h : ℕ) → LeadsAlone z (p.names, commands.MakeFrom v n r)
+      (answered_by packed_if (call_on_by (λ c. 0) h (λ c l t y a. asked c l t a))))
+      → ((a : Word) (g : ℕ) → WordFits P w a g → Means c last j k MaybeFits P w (asked c last 0 a) (meant g))
+      → (decided (wanted (referent p.names r)) >>= (λ h. makes_reference turns
+      (answered_by packed_if (call_on_by (λ c. 0) h.0 (λ c l t y a. asked c l t a))))) old answer new
+      → Steps (commands.MakeFrom v n r) answer (goes_on (λ m. meaning.makes (meant m))
+      (goes_on (λ h z. (Ok h.0, z)) (wanted (referent q.names r), w)))
+  made_of_step le v n r answer fault asked meant led means d =
+      wanted_step (commands.MakeFrom v n r) answer le
+      (λ h. makes_reference turns (answered_by packed_if (call_on_by (λ c. 0) h.0 (λ c l t y a. asked c l t a))))
+      (λ m. meaning.makes (meant m)) r (λ e names os ws. (refl, refl, refl)) d found
+    where
+      found : (h g : HandleWord) → HandleFits P w h.0 g.0
+          → makes_reference turns (answered_by packed_if (call_on_by (λ c. 0) h.0 (λ c l t y a. asked c l t a))) old
+          answer new → Steps (commands.MakeFrom v n r) answer (meaning.makes (meant g.0) w)
+      found h g same d' =
+          let x = commands.MakeFrom v n r in
+          let call = call_on_by (λ c. 0) h.0 (λ c l t y a. asked c l t a) in
+          let f = was_formed (λ z. replies.Made z) (tried turns (answered_by packed_if call)) old new answer d' in
+          let once = made_once (p.names, x) (λ z. led z h.0) turns old new f.once s.alone s.some_turns f.did in
+          let y = was_formed packed_if call old new f.once once in
+          let is : answer ≡ formed (λ z. replies.Made (packed_if z)) y.once =
+          f.is ∙ (ap (formed (λ z. replies.Made z)) y.is ∙ formed_both (λ z. replies.Made z) packed_if y.once) in
+          let i = word_call x answer fault {V = MaybeFits} (λ z. replies.Made (packed_if z))
+          (λ z l t u a. asked z l t a) (meant g.0) y.once h.0 g.0 same (λ a z word. means a g.0 word) y.did is in
+          makes_after x answer n (λ z names os ws. (refl, refl, refl)) (λ z u. refl) (λ e names os ws.
+          (refl, refl, refl)) y.once (meant g.0 w) i is
