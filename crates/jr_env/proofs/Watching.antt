@@ -4,7 +4,7 @@ use Rattle.jr_word.specs.declared.fault.Fault.{Fault}
 use Rattle.jr_frames.specs.declared.explaining.Explanation.{Explanation}
 use Rattle.jr_env.specs.declared.checked.Checked.{Checked}
 use Rattle.jr_env.specs.declared.checked.Refusal.{Refusal}
-use Rattle.jr_env.specs.Requests.{Request, words_of}
+use Rattle.jr_env.specs.Requests.{Request, request_words}
 use Rattle.jr_env.specs.Watching.{HasTold, WasWatched}
 
 module _ {N W A : Type 0} {explained : N → N → ℕ → Result Explanation Fault → Type 0} {thread : N → ℕ}
@@ -20,7 +20,7 @@ module _ {N W A : Type 0} {explained : N → N → ℕ → Result Explanation Fa
   -- where it was, the watcher was
   pub refused : {new : Checked N W} {words : List ℕ} (e : Fault) → made old.caller.now mid.caller.now request (Err e)
       → mid.caller.ghost_name ≡ old.caller.ghost_name → mid.watcher ≡ old.watcher
-      → new.caller.ghost_name ≡ mid.caller.ghost_name → words ≡ words_of request
+      → new.caller.ghost_name ≡ mid.caller.ghost_name → words ≡ request_words request
       → HasTold explained thread hears mid new words e
       → WasWatched explained thread hears made old new request (Err e)
   refused {new} e call same watcher then are told = record {

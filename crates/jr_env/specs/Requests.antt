@@ -80,12 +80,12 @@ pub data Request : Type 0 → Type 1 where
   told_by : {A B : Type 0} → (A → B) → Request B → Request A
 
 -- the words that a request reads as references, in their order
-abbrev pub words_of : {A : Type 0} → Request A → List ℕ
-words_of (asks silent work law) = []
-words_of (on_word w next) = w ∷ []
-words_of (on_words v w next) = v ∷ w ∷ []
-words_of (gives form first) = words_of first
-words_of (told_by form first) = words_of first
+abbrev pub request_words : {A : Type 0} → Request A → List ℕ
+request_words (asks silent work law) = []
+request_words (on_word w next) = w ∷ []
+request_words (on_words v w next) = v ∷ w ∷ []
+request_words (gives form first) = request_words first
+request_words (told_by form first) = request_words first
 
 -- the words that a call hands in
 abbrev pub handed_words : Handed → List ℕ

@@ -7,7 +7,7 @@ use Rattle.jr_env.specs.declared.checked.Evidence.{Evidence}
 use Rattle.jr_env.specs.declared.checked.Evidence.TheVariants.{Nothing, One, Both}
 use Rattle.jr_env.specs.declared.checked.Examined.{Examined}
 use Rattle.jr_env.specs.declared.checked.Refusal.{Refusal}
-use Rattle.jr_env.specs.Requests.{Request, words_of}
+use Rattle.jr_env.specs.Requests.{Request, request_words}
 
 -- the words that a watcher is told of, with what each is
 abbrev pub evidence_of : Evidence → List Examined
@@ -48,4 +48,4 @@ module _ {N : Type 0} (explained : N → N → ℕ → Result Explanation Fault 
       pub mid : Checked N W
       pub call : made old.caller.now mid.caller.now request answer
       pub watcher : mid.watcher ≡ old.watcher
-      pub tells : TellsOf mid new (words_of request) answer
+      pub tells : TellsOf mid new (request_words request) answer

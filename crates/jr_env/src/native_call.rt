@@ -23,7 +23,7 @@ pub trait NativeCall<S: Steps> {
     ghost use Rattle.jr_gate.specs.Stays.{IsOwnStay};
     ghost use Rattle.jr_frames.specs.Ready.{StandsReady, KeepsOwner};
     ghost use Rattle.std.specs.Prelude.{◌≡◌};
-    ghost use Rattle.jr_env.specs.Requests.{Request, handed_words, words_of};
+    ghost use Rattle.jr_env.specs.Requests.{Request, handed_words, request_words};
     ghost use Rattle.jr_env.specs.Works.{Serves};
 
     /// What it answers.
@@ -36,7 +36,7 @@ pub trait NativeCall<S: Steps> {
 
     /// The words that it is handed as references.
     fn handed(&self) -> Handed
-        ensures { handed_words result ≡ words_of (request self.now) };
+        ensures { handed_words result ≡ request_words (request self.now) };
 
     /// Does what it asks for, in a stay of the thread. An env makes a call, and so does a stay: it is they who call this.
     ///

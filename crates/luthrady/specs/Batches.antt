@@ -87,7 +87,8 @@ module _ {S : Type 0} {G : Ghosts S} where
 
   -- THE CALLS WERE MADE IN ONE STAY, between an entry and an exit; or none was entered (E13), and none was made
   abbrev pub WasStayed : Env S G → Env S G → List Call → List Call → Result (Unit {0}) Fault → Type 0
-  WasStayed old new cs after (Ok u) = (first last : Stay S G) × WasEntered old (env_in first).now × AreMade first last cs after
+  WasStayed old new cs after (Ok u) = (first last : Stay S G) × WasEntered old (env_in first).now
+      × AreMade first last cs after
       × LeavesOver (held_in last) new.held × EndsAsOneStay (held_in last) new.held
       × (new.held.frames ≡ frames_in last) × IsOutside new
   WasStayed old new cs after (Err e) = WasBarred old new e × (after ≡ cs)

@@ -6,4 +6,5 @@ pub returns-in-Ok : goal.returns-in-Ok
 returns-in-Ok g c = unrefused _ _ c.in-Ok.ensures refl refl
 
 pub returns-in-Err : goal.returns-in-Err
-returns-in-Err g c = refused _ _ c.in-Err.ensures refl refl c.tell.ensures.same_reference c.handed-handed.ensures c.tell.ensures.told
+returns-in-Err g c =
+    refused _ _ c.in-Err.ensures refl refl c.tell.ensures.same_reference c.handed-handed.ensures c.tell.ensures.told

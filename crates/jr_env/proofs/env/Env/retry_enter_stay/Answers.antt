@@ -14,7 +14,8 @@ returns-then-not-is_for_later-clause-tried g c = c.loop.invariant _ _ (settled (
 
 pub loop-preserved : goal.loop-preserved
 loop-preserved g c = λ answer last t. c.loop.invariant _ _
-    (tries_once_more (Err c.in-Err.fault) c.args.patience.more c.loop.counter (omega arith) (search rules) (search rules) t)
+    (tries_once_more (Err c.in-Err.fault) c.args.patience.more c.loop.counter (omega arith) (search rules) (search rules)
+    t)
 
 pub returns-clause-tried : goal.returns-clause-tried
 returns-clause-tried g c =
