@@ -10,17 +10,18 @@ use Rattle.jr_model.specs.declared.frames.LocalRef.{LocalRef}
 use Rattle.jr_model.specs.Frames.{Frames, object_at}
 use Rattle.jr_model.proofs.Updates.{eq_true, eq_false, eq_self, eq_other}
 use Rattle.jr_frames.specs.declared.place.Place.{Place}
-use Rattle.jr_frames.specs.declared.rings.Rings.{Rings}
 use Rattle.jr_frames.specs.declared.frames.Frames.TheInside.{Inside as Fields}
 use Rattle.jr_frames.specs.Table.{IsOnly}
 use Rattle.jr_frames.specs.Places.{given_of, unused, place_at, ref_at}
-use Rattle.jr_frames.specs.Arrangements.{times, flat, table_of, IsArranged}
-use Rattle.jr_frames.proofs.Times.{not_first, none_left, none_right}
+use Rattle.linked_lists.specs.Lists.{times, Lists}
+use Rattle.std.specs.List.{concat}
+use Rattle.jr_frames.specs.Arrangements.{table, IsTable}
+use Rattle.linked_lists.proofs.Times.{not_first, none_left, none_right}
 use Rattle.jr_frames.proofs.Places.{object_in, object_at_place}
 
 -- the parts with others in place of those that change
-abbrev pub changed : Fields → ℕ → ArrayVec Place → Rings → Fields
-changed a free places rings = record { thread = a.thread; last = a.last; free = free; places = places; rings = rings }
+abbrev pub changed : Fields → ℕ → ArrayVec Place → Lists → Fields
+changed a free places order = record { thread = a.thread; last = a.last; free = free; places = places; order = order }
 
 -- what holds of the new place, and of the others, holds of each place after the change
 pub after_set : (R : ℕ → Place → Type 0) (places new : List Place) (p : ℕ) (x : Place) → p < length places
@@ -54,12 +55,12 @@ frame_same : (r s : List LocalRef) (xs ys : List (List LocalRef)) → r ≡ s �
 frame_same r s xs ys e f = cc
 
 pub frames_other : (thread : ℕ) (places new : List Place) (p : ℕ)
-    → ((q : ℕ) → q ≢ p → place_at new q ≡ place_at places q) → (rs : List (List ℕ)) → times p (flat rs) ≡ 0
+    → ((q : ℕ) → q ≢ p → place_at new q ≡ place_at places q) → (rs : List (List ℕ)) → times p (concat rs) ≡ 0
     → map (map (ref_at thread new)) rs ≡ map (map (ref_at thread places)) rs
 frames_other thread places new p same [] none = refl
 frames_other thread places new p same (xs ∷ rest) none =
-    frame_same _ _ _ _ (refs_other thread places new p same xs (none_left p xs (flat rest) none))
-    (frames_other thread places new p same rest (none_right p xs (flat rest) none))
+    frame_same _ _ _ _ (refs_other thread places new p same xs (none_left p xs (concat rest) none))
+    (frames_other thread places new p same rest (none_right p xs (concat rest) none))
 
 pub frames_same : (xs ys : List (List LocalRef)) (ns ms : List ℕ) → xs ≡ ys → ns ≡ ms
     → ◌≡◌ {A = Frames} (record { frames = xs; given = ns }) (record { frames = ys; given = ms })
@@ -78,16 +79,15 @@ with_place_is places seen i j change same is =
     ∙ (ap (λ ps. slice_set ps i (change (place_at ps i))) same
     ∙ ap (λ k. slice_set places.items k (change (place_at places.items k))) is)
 
-module _ (a : Fields) (free : List ℕ) (order : List (List ℕ)) (is : IsArranged a free order) (p : ℕ)
+module _ (a : Fields) (is : IsTable a) (p : ℕ)
     (l : p < length a.places.items) (x : Place) (places : ArrayVec Place)
     (set : places.items ≡ slice_set a.places.items p x) where
-  pub changed_only : (free_now : List ℕ) (order_now : List (List ℕ)) (n : ℕ) (rings : Rings)
-      → IsArranged (changed a n places rings) free_now order_now
-      → IsOnly (table_of a order).frames p (object_in x) (table_of (changed a n places rings) order_now).frames
-  changed_only free_now order_now n rings now q =
-      object_at_place (changed a n places rings) free_now order_now now q
-      ∙ after_set (λ q y. object_in y ≡ cond (p == q) (object_in x) (object_at (table_of a order).frames q))
+  pub changed_only : (n : ℕ) (order : Lists) → IsTable (changed a n places order)
+      → IsOnly (table a).frames p (object_in x) (table (changed a n places order)).frames
+  changed_only n order now q =
+      object_at_place (changed a n places order) now q
+      ∙ after_set (λ q y. object_in y ≡ cond (p == q) (object_in x) (object_at (table a).frames q))
       a.places.items places.items p x l set
-      (sym (ap (λ b. cond b (object_in x) (object_at (table_of a order).frames p)) (eq_self p)))
-      (λ q ne. sym (object_at_place a free order is q)
-      ∙ sym (ap (λ b. cond b (object_in x) (object_at (table_of a order).frames q)) (eq_other p q (λ e. ne (sym e))))) q
+      (sym (ap (λ b. cond b (object_in x) (object_at (table a).frames p)) (eq_self p)))
+      (λ q ne. sym (object_at_place a is q)
+      ∙ sym (ap (λ b. cond b (object_in x) (object_at (table a).frames q)) (eq_other p q (λ e. ne (sym e))))) q

@@ -1,5 +1,5 @@
 -- A reference is deleted from the table.
-use Rattle.std.proofs.Common.{◌≡◌, ◌≢◌, ◌==◌, ◌&&◌, ◌+◌, ◌<◌, ◌≤◌, ℕ, suc, Bool, true, false}
+use Rattle.std.proofs.Common.{◌≡◌, ◌≢◌, ◌==◌, ◌&&◌, ◌+◌, ◌<◌, ◌≤◌, ℕ, Bool, true, false}
 use Rattle.std.proofs.Common.{not, cond, if◌then◌else◌, nat_le, IsSome, List, [], ◌∷◌, map}
 use Rattle.std.proofs.Common.{filter, length, slice_set, refl, sym, ap, subst, ◌∙◌, arith}
 use Rattle.std.proofs.lemmas.List.{length-map, get_or-set_other}
@@ -11,23 +11,17 @@ use Rattle.jr_model.specs.State.{Handle, same_handle}
 use Rattle.jr_model.specs.Frames.{object_of, without_local}
 use Rattle.jr_model.proofs.Updates.{eq_true, handle_self}
 use Rattle.jr_frames.specs.declared.place.Place.{Place}
-use Rattle.jr_frames.specs.declared.rings.Link.{Link}
-use Rattle.jr_frames.specs.declared.rings.Rings.{Rings}
 use Rattle.jr_frames.specs.declared.frames.Frames.TheInside.{Inside as Fields}
-use Rattle.jr_frames.specs.Rings.{newer_at, older_at, IsJoined, IsPutFirst, AreRings}
 use Rattle.jr_frames.specs.Places.{given_of, unused, place_at, is_taken, ref_at}
-use Rattle.jr_frames.specs.Arrangements.{times, flat, table_of, IsArranged}
-use Rattle.jr_frames.proofs.Times.{times_append, times_here, times_there, without, without_none}
-use Rattle.jr_frames.proofs.Times.{times_without_other, times_without_self, flat_without}
-use Rattle.jr_frames.proofs.Following.{next_back}
-use Rattle.jr_frames.proofs.Putting.{first_keeps, follow_first, rings_other}
-use Rattle.jr_frames.proofs.Showing.{times_below}
+use Rattle.linked_lists.specs.Lists.{times, without_number, Lists, all_numbers, lists_without, with_free}
+use Rattle.std.specs.List.{concat}
+use Rattle.jr_frames.specs.Arrangements.{table, IsTable}
+use Rattle.linked_lists.proofs.Times.{times_append, times_here, times_there, without_none, times_without_other}
+use Rattle.linked_lists.proofs.Times.{times_without_self, concat_without}
 use Rattle.jr_frames.proofs.Places.{index_differs}
 use Rattle.jr_frames.proofs.Named.{stands, taken_index}
 use Rattle.jr_frames.proofs.Changing.{changed, frames_other, frames_same}
-use Rattle.jr_frames.proofs.Still.{still_shows, rings_out}
-use Rattle.jr_frames.proofs.RingLists.{all_lower}
-use Rattle.jr_frames.proofs.Times.{all_below, none_left, none_right}
+use Rattle.jr_frames.proofs.Still.{still_shows}
 
 -- a test of references keeps those of the places that a test of places keeps
 map_kept : (show : ℕ → LocalRef) (x : ℕ) (keep passes : Bool) (ys : List ℕ) (rs : List LocalRef) → passes ≡ keep
@@ -55,10 +49,9 @@ filter_frames show keep passes alike (xs ∷ rest) =
 abbrev pub emptied : Fields → ℕ → Place
 emptied a p = record { low = (place_at a.places.items p).low; high = (place_at a.places.items p).high; object = 0 }
 
-module _ (a : Fields) (free : List ℕ) (order : List (List ℕ)) (is : IsArranged a free order) (h : Handle)
-    (some : IsSome (object_of (table_of a order).frames h)) where
+module _ (a : Fields) (is : IsTable a) (h : Handle) (some : IsSome (object_of (table a).frames h)) where
   pub standing_taken : is_taken a.places.items h.index ≡ true
-  standing_taken = (stands a free order is h some).0
+  standing_taken = (stands a is h some).0
 
   pub standing_index : h.index < length a.places.items
   standing_index = taken_index a.places.items h.index standing_taken
@@ -69,16 +62,16 @@ module _ (a : Fields) (free : List ℕ) (order : List (List ℕ)) (is : IsArrang
     where
       go : (b : Bool) → (q == h.index) ≡ b → same_handle (ref_at a.thread a.places.items q).handle h ≡ b
       go true e = ap (λ i. same_handle (ref_at a.thread a.places.items i).handle h) (eq_true q h.index e)
-          ∙ (ap (λ k. same_handle k h) (stands a free order is h some).1 ∙ handle_self h)
+          ∙ (ap (λ k. same_handle k h) (stands a is h some).1 ∙ handle_self h)
       go false e = index_differs _ (q == h.index) _ e
 
   -- the frames without the handle
-  pub frames_without : (without_local (table_of a order).frames h).frames
-      ≡ map (map (ref_at a.thread a.places.items)) (map (without h.index) order)
+  pub frames_without : (without_local (table a).frames h).frames
+      ≡ map (map (ref_at a.thread a.places.items)) (map (without_number h.index) a.order.lists)
   frames_without = sym (filter_frames (ref_at a.thread a.places.items) (λ q. not (q == h.index))
-      (λ r. not (same_handle r.handle h)) (λ q. ap not (alike q)) order)
+      (λ r. not (same_handle r.handle h)) (λ q. ap not (alike q)) a.order.lists)
 
-  pub standing_once : times h.index (flat order) ≡ 1
+  pub standing_once : times h.index (concat a.order.lists) ≡ 1
   standing_once = is.once h.index ∙ ap (λ b. if b then 1 else 0) standing_taken
 
   taken_not_idle : (b t c : Bool) → t ≡ true → (b && (not t && c)) ≡ false
@@ -86,98 +79,69 @@ module _ (a : Fields) (free : List ℕ) (order : List (List ℕ)) (is : IsArrang
   taken_not_idle false true c e = refl
   taken_not_idle b false c e = absurd cc
 
-  pub not_free : times h.index free ≡ 0
+  not_free : times h.index a.order.free ≡ 0
   not_free = is.idle h.index ∙ ap (λ b. if b then 1 else 0) (taken_not_idle
       (nat_le (h.index + 1) (length a.places.items)) (is_taken a.places.items h.index) _ standing_taken)
 
-  pub in_rings : 1 ≤ times h.index (flat (free ∷ order))
-  in_rings = let e = times_append h.index free (flat order) in let f = standing_once in omega arith
+  pub in_order : 1 ≤ times h.index (all_numbers a.order)
+  in_order = omega (arith, times_append h.index a.order.free (concat a.order.lists), standing_once)
 
-  order_out : (q : ℕ) → times q (flat (map (without h.index) order)) ≡ times q (without h.index (flat order))
-  order_out q = ap (times q) (flat_without h.index order)
+  order_out : (q : ℕ) → times q (concat (map (without_number h.index) a.order.lists))
+      ≡ times q (without_number h.index (concat a.order.lists))
+  order_out q = ap (times q) (concat_without h.index a.order.lists)
 
-  gone : times h.index (flat (map (without h.index) order)) ≡ 0
-  gone = order_out h.index ∙ times_without_self h.index (flat order)
+  gone : times h.index (concat (map (without_number h.index) a.order.lists)) ≡ 0
+  gone = order_out h.index ∙ times_without_self h.index (concat a.order.lists)
 
-  spared : (q : ℕ) → q ≢ h.index → times q (flat (map (without h.index) order)) ≡ times q (flat order)
-  spared q ne = order_out q ∙ times_without_other h.index q ne (flat order)
+  spared : (q : ℕ) → q ≢ h.index
+      → times q (concat (map (without_number h.index) a.order.lists)) ≡ times q (concat a.order.lists)
+  spared q ne = order_out q ∙ times_without_other h.index q ne (concat a.order.lists)
 
-  module _ (mid : List Link) (joined : IsJoined a.rings.links.items (older_at a.rings.links.items h.index)
-      (newer_at a.rings.links.items h.index) mid) where
-    others_out : AreRings mid (length a.places.items) (free ∷ map (without h.index) order)
-    others_out = subst (λ f. AreRings mid (length a.places.items) (f ∷ map (without h.index) order))
-        (without_none h.index free not_free)
-        (rings_out a free order is h.index in_rings mid joined)
+  free_out : without_number h.index a.order.free ≡ a.order.free
+  free_out = without_none h.index a.order.free not_free
 
-    below_now : (q : ℕ) → length a.places.items ≤ q
-        → (times q free ≡ 0) × (times q (flat (map (without h.index) order)) ≡ 0)
-    below_now q g =
-        let low = standing_index in
-        let other : q ≢ h.index = λ e. absurd (omega arith) in
-        let none = times_below is q g in
-        (none_left q free (flat order) none, spared q other ∙ none_right q free (flat order) none)
+  -- the order once the place is the first of the free ones
+  abbrev pub order_freed : Lists
+  order_freed = with_free (lists_without a.order h.index) (h.index ∷ without_number h.index a.order.free)
 
-    -- the end of the free places
-    pub around_end : (older_at mid (newer_at mid (length a.places.items)) ≡ length a.places.items)
-        × (newer_at mid (length a.places.items) < length mid)
-    around_end =
-        let size = is.size in
-        let same = joined.size in
-        let fits : length a.places.items < length mid = omega arith in
-        next_back mid (length mid) (length a.places.items) fits (length a.places.items) free
-        (all_lower (length a.places.items) (length mid) free (omega arith)
-        (all_below (length a.places.items) free (λ q g. (below_now q g).0))) others_out.0
+  module _ (places : ArrayVec Place) (set : places.items ≡ slice_set a.places.items h.index (emptied a h.index)) where
+    -- the place was given its last handle, and is retired
+    pub retired_shows : (order : Lists) → order ≡ lists_without a.order h.index
+        → a.last < given_of (place_at a.places.items h.index) → IsTable (changed a a.free places order)
+    retired_shows order is_out above = subst (λ l. IsTable (changed a a.free places l)) (sym is_out)
+        (still_shows a is h.index standing_index (emptied a h.index) places set a.free
+        (lists_without a.order h.index) refl (length-map a.order.lists (without_number h.index)) (λ e. absurd cc)
+        (is.within h.index) gone spared
+        (times_without_self h.index a.order.free
+        ∙ sym (ap (λ b. if b then 1 else 0) (high (nat_le (h.index + 1) (length a.places.items))
+        (given_of (place_at a.places.items h.index)) a.last above)))
+        (λ q ne. times_without_other h.index q ne a.order.free) (is.count ∙ sym (ap length free_out)))
+      where
+        high : (b : Bool) (n m : ℕ) → m < n → (b && nat_le n m) ≡ false
+        high true n m l = grind (arith, nat_tests)
+        high false n m l = refl
 
-    module _ (places : ArrayVec Place) (set : places.items ≡ slice_set a.places.items h.index (emptied a h.index)) where
-      -- the place was given its last handle, and is retired
-      pub retired_shows : (rings : Rings) → rings.links.items ≡ mid
-          → a.last < given_of (place_at a.places.items h.index)
-          → IsArranged (changed a a.free places rings) free (map (without h.index) order)
-      retired_shows rings now above = still_shows a free order is h.index standing_index (emptied a h.index) places set
-          a.free rings free (map (without h.index) order)
-          (ap length now ∙ joined.size) (length-map order (without h.index))
-          (subst (λ ls. AreRings ls (length a.places.items) (free ∷ map (without h.index) order)) (sym now) others_out)
-          (λ e. absurd cc) (is.within h.index) gone spared
-          (not_free ∙ sym (ap (λ b. if b then 1 else 0) (high (nat_le (h.index + 1) (length a.places.items))
-          (given_of (place_at a.places.items h.index)) a.last above)))
-          (λ q ne. refl) is.count
-        where
-          high : (b : Bool) (n m : ℕ) → m < n → (b && nat_le n m) ≡ false
-          high true n m l = grind (arith, nat_tests)
-          high false n m l = refl
+    -- the place is free again
+    pub freed_shows : (order : Lists) → order ≡ order_freed → given_of (place_at a.places.items h.index) ≤ a.last
+        → IsTable (changed a (a.free + 1) places order)
+    freed_shows order is_freed low = subst (λ l. IsTable (changed a (a.free + 1) places l)) (sym is_freed)
+        (still_shows a is h.index standing_index (emptied a h.index) places set (a.free + 1) order_freed
+        refl (length-map a.order.lists (without_number h.index)) (λ e. absurd cc) (is.within h.index) gone spared
+        (times_here h.index _ ∙ (ap (λ n. 1 + n) (times_without_self h.index a.order.free)
+        ∙ sym (ap (λ b. if b then 1 else 0) (there h.index (length a.places.items)
+        (given_of (place_at a.places.items h.index)) a.last standing_index low))))
+        (λ q ne. times_there q h.index _ (λ e. ne (sym e)) ∙ times_without_other h.index q ne a.order.free)
+        (omega (arith, is.count, ap length free_out)))
+      where
+        there : (p k n m : ℕ) → p < k → n ≤ m → (nat_le (p + 1) k && nat_le n m) ≡ true
+        there p k n m l low = grind (arith, nat_tests)
 
-      -- the place is free again
-      pub returned_shows : (rings : Rings) → IsPutFirst mid (length a.places.items) h.index rings.links.items
-          → given_of (place_at a.places.items h.index) ≤ a.last
-          → IsArranged (changed a (a.free + 1) places rings) (h.index ∷ free) (map (without h.index) order)
-      returned_shows rings put low =
-          let index = standing_index in
-          let other : length a.places.items ≢ h.index = λ e. absurd (omega arith) in
-          still_shows a free order is h.index standing_index (emptied a h.index) places set (a.free + 1) rings
-          (h.index ∷ free) (map (without h.index) order)
-          (put.2.size ∙ (put.1.size ∙ joined.size)) (length-map order (without h.index)) (
-            follow_first mid rings.links.items (length a.places.items) h.index put around_end.0 other free not_free
-                (below_now (length a.places.items) (omega arith)).0 others_out.0,
-            rings_other mid rings.links.items (length a.places.items) h.index
-                (first_keeps mid rings.links.items (length a.places.items) h.index put around_end.0 other)
-                (suc (length a.places.items)) (map (without h.index) order) (omega arith) (omega arith) gone
-                (below_now (length a.places.items) (omega arith)).1 others_out.1,
-          )
-          (λ e. absurd cc) (is.within h.index) gone spared
-          (times_here h.index free ∙ (ap (λ n. 1 + n) not_free
-          ∙ sym (ap (λ b. if b then 1 else 0)
-          (there h.index (length a.places.items) (given_of (place_at a.places.items h.index)) a.last index low))))
-          (λ q ne. times_there q h.index free (λ e. ne (sym e)))
-          (let was = is.count in omega arith)
-        where
-          there : (p k n m : ℕ) → p < k → n ≤ m → (nat_le (p + 1) k && nat_le n m) ≡ true
-          there p k n m l low = grind (arith, nat_tests)
-
-      pub is_deleted : (n : ℕ) (rings : Rings)
-          → (table_of (changed a n places rings) (map (without h.index) order)).frames
-          ≡ without_local (table_of a order).frames h
-      is_deleted n rings = frames_same _ _ _ _
-          (frames_other a.thread a.places.items places.items h.index (λ q ne. ap (λ ps. place_at ps q) set
-          ∙ get_or-set_other a.places.items h.index q (emptied a h.index) unused ne) (map (without h.index) order) gone
-          ∙ sym frames_without)
-          (ap (map given_of) set ∙ map-set_same given_of a.places.items h.index (emptied a h.index) unused refl)
+    pub is_deleted : (n : ℕ) (order : Lists) → order.lists ≡ map (without_number h.index) a.order.lists
+        → (table (changed a n places order)).frames ≡ without_local (table a).frames h
+    is_deleted n order are = frames_same _ _ _ _
+        (ap (map (map (ref_at a.thread places.items))) are
+        ∙ frames_other a.thread a.places.items places.items h.index (λ q ne. ap (λ ps. place_at ps q) set
+        ∙ get_or-set_other a.places.items h.index q (emptied a h.index) unused ne)
+        (map (without_number h.index) a.order.lists) gone
+        ∙ sym frames_without)
+        (ap (map given_of) set ∙ map-set_same given_of a.places.items h.index (emptied a h.index) unused refl)

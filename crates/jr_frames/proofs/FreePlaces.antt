@@ -1,6 +1,6 @@
 -- The free places that the table shows.
 use Rattle.std.proofs.Common.{◌≡◌, ◌==◌, ◌&&◌, ◌+◌, ◌<◌, ◌≤◌, ℕ, List, [], ◌∷◌, Bool, true, false}
-use Rattle.std.proofs.Common.{not, nat_le, if◌then◌else◌, length, refl, sym, ap, subst, ◌∙◌, arith}
+use Rattle.std.proofs.Common.{Some, None, not, nat_le, if◌then◌else◌, length, refl, sym, ap, ◌∙◌, arith}
 use Rattle.std.proofs.lemmas.List.{length-map}
 use Rattle.std.proofs.lemmas.Bool.Decides.{nat_tests}
 use Rattle.std.proofs.Math.ListN.{get_or-map}
@@ -8,15 +8,16 @@ use Rattle.jr_word.specs.declared.handle.RefKind.TheVariants.{Local}
 use Rattle.jr_model.specs.State.{Handle}
 use Rattle.jr_model.specs.Maps.{sum_below}
 use Rattle.jr_model.specs.Frames.{is_free, free_places}
-use Rattle.jr_model.proofs.Lengths.{sum_same}
+use Rattle.jr_model.proofs.Lengths.{sum_same, sum_none}
+use Rattle.jr_model.proofs.Counts.{sum_at}
 use Rattle.jr_frames.specs.declared.place.Place.{Place}
 use Rattle.jr_frames.specs.declared.frames.Frames.TheInside.{Inside as Fields}
 use Rattle.jr_frames.specs.Table.{IsNext}
-use Rattle.jr_frames.specs.Rings.{newer_at}
 use Rattle.jr_frames.specs.Places.{given_of, unused, place_at, is_idle}
-use Rattle.jr_frames.specs.Arrangements.{times, flat, table_of, IsArranged}
-use Rattle.jr_frames.proofs.Times.{sum_times, few_numbers, times_append, times_here, none_left}
-use Rattle.jr_frames.proofs.Showing.{times_below, times_one}
+use Rattle.linked_lists.specs.Lists.{first_listed, times}
+use Rattle.jr_frames.specs.Arrangements.{table, IsTable}
+use Rattle.linked_lists.proofs.Times.{times_here, times_there, not_first, all_below, few_numbers}
+use Rattle.jr_frames.proofs.Showing.{not_idle}
 use Rattle.jr_frames.proofs.Places.{is_free_place}
 
 within : (p n : ℕ) (b : Bool) → p < n → (nat_le (p + 1) n && b) ≡ b
@@ -45,47 +46,66 @@ bit_true : (b : Bool) (n : ℕ) → 1 + n ≡ (if b then 1 else 0) → b ≡ tru
 bit_true true n e = refl
 bit_true false n e = absurd (omega arith)
 
-module _ (a : Fields) (free : List ℕ) (order : List (List ℕ)) (is : IsArranged a free order) where
-  -- as many places are free as are in the ring of the free ones
-  pub free_counted : free_places a.last (table_of a order).frames ≡ a.free
+-- a list of numbers below n is as long as the times that they are in it, added up
+sum_times : (n : ℕ) (xs : List ℕ) → ((p : ℕ) → n ≤ p → times p xs ≡ 0) → sum_below n (λ p. times p xs) ≡ length xs
+sum_times n [] below = sum_none n
+sum_times n (x ∷ xs) below =
+    omega (
+      arith,
+      times_here x xs,
+      sum_at n (λ p. times p xs) (λ p. times p (x ∷ xs)) x
+          (all_below n n (x ∷ xs) (omega arith) below).0 (λ p ne. times_there p x xs ne),
+      sum_times n xs (λ p g. (not_first p x xs (below p g)).1),
+    )
+
+at_most_one : (b : Bool) → (if b then 1 else 0) ≤ 1
+at_most_one true = omega arith
+at_most_one false = omega arith
+
+module _ (a : Fields) (is : IsTable a) where
+  free_below : (q : ℕ) → length a.places.items ≤ q → times q a.order.free ≡ 0
+  free_below q g = is.idle q ∙ ap (λ b. if b then 1 else 0) (not_idle a.last a.places.items q g)
+
+  -- as many places are free as are counted
+  pub free_counted : free_places a.last (table a).frames ≡ a.free
   free_counted =
-      let n : length (table_of a order).frames.given ≡ length a.places.items = length-map a.places.items given_of in
-      ap (λ k. sum_below k (λ p. if is_free a.last (table_of a order).frames p then 1 else 0)) n
-      ∙ sum_same (length a.places.items) (λ p. times p free) (λ p. if is_free a.last (table_of a order).frames p then 1
-      else 0)
+      let n : length (table a).frames.given ≡ length a.places.items = length-map a.places.items given_of in
+      ap (λ k. sum_below k (λ p. if is_free a.last (table a).frames p then 1 else 0)) n
+      ∙ sum_same (length a.places.items) (λ p. times p a.order.free)
+      (λ p. if is_free a.last (table a).frames p then 1 else 0)
       (λ p l. ap (λ b. if b then 1 else 0)
-      (is_free_place a free order is a.last p ∙ sym (within p (length a.places.items) _ l)) ∙ sym (is.idle p))
-      ∙ sum_times (length a.places.items) free (λ q g. none_left q free (flat order) (times_below is q g))
+      (is_free_place a is a.last p ∙ sym (within p (length a.places.items) _ l)) ∙ sym (is.idle p))
+      ∙ sum_times (length a.places.items) a.order.free free_below
       ∙ sym is.count
 
   pub free_few : a.free ≤ length a.places.items
-  free_few =
-      let few = few_numbers (length a.places.items) free (λ q g. none_left q free (flat order) (times_below is q g))
-      (λ q. let both = times_append q free (flat order) in let one = times_one is q in omega arith) in
-      let was = is.count in
-      omega arith
+  free_few = omega (
+    arith,
+    is.count,
+    few_numbers (length a.places.items) a.order.free free_below
+        (λ q. omega (arith, is.idle q, at_most_one (is_idle a.last a.places.items q))),
+  )
 
-  -- the first place of the ring of the free ones
-  first_of : (xs : List ℕ) → free ≡ xs → 1 ≤ length xs
-      → IsIdle a.last a.places.items (newer_at a.rings.links.items (length a.places.items))
-  first_of [] e l = absurd (omega arith)
-  first_of (x ∷ xs) e l =
-      let shows : IsArranged a (x ∷ xs) order = subst (λ f. IsArranged a f order) e is in
-      let here : newer_at a.rings.links.items (length a.places.items) ≡ x = shows.rings.0.0 in
-      let idle : is_idle a.last a.places.items x ≡ true =
-      bit_true _ (times x xs) (sym (times_here x xs) ∙ shows.idle x) in
-      subst (λ p. IsIdle a.last a.places.items p) (sym here) (idle_true a.last a.places.items x idle)
+  pub first_idle : (p : ℕ) (xs : List ℕ) → a.order.free ≡ p ∷ xs → IsIdle a.last a.places.items p
+  first_idle p xs e = idle_true a.last a.places.items p
+      (bit_true _ (times p xs) (sym (times_here p xs) ∙ (sym (ap (times p) e) ∙ is.idle p)))
 
-  pub first_idle : 1 ≤ a.free → IsIdle a.last a.places.items (newer_at a.rings.links.items (length a.places.items))
-  first_idle l = let c = is.count in first_of free refl (omega arith)
+  -- where none is the first of the free places, none is free, and the first is
+  pub none_free : (xs : List ℕ) → a.order.free ≡ xs → None ≡ first_listed xs → a.free ≡ 0
+  none_free [] e f = is.count ∙ ap length e
+  none_free (x ∷ xs) e f = absurd cc
+
+  pub next_idle : (p : ℕ) (xs : List ℕ) → a.order.free ≡ xs → Some p ≡ first_listed xs → IsIdle a.last a.places.items p
+  next_idle p [] e f = absurd cc
+  next_idle p (x ∷ xs) e f = first_idle p xs (e ∙ ap (λ y. y ∷ xs) (let same : x ≡ p = cc in same))
 
   -- the place is given its next handle
   pub free_next : (p : ℕ) → IsIdle a.last a.places.items p
-      → IsNext (table_of a order)
+      → IsNext (table a)
       (record { kind = Local; serial = given_of (place_at a.places.items p); index = p; owner = a.thread })
   free_next p idle = record {
     place = let l = idle.place in rw length-map l;
-    free = is_free_place a free order is a.last p ∙ free_true _ _ a.last idle.empty idle.low;
+    free = is_free_place a is a.last p ∙ free_true _ _ a.last idle.empty idle.low;
     handle = ap next_handle (sym (get_or-map given_of a.places.items p unused));
   }
     where

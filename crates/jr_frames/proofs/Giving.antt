@@ -1,30 +1,45 @@
--- A ring is walked round until a place of it would give a handle again.
-use Rattle.std.proofs.Common.{◌≡◌, ◌≢◌, ◌||◌, ◌<◌, ◌≤◌, ℕ, suc, Bool, true, false, nat_le}
+-- The places of a frame are gone through until one would give a handle again.
+use Rattle.std.proofs.Common.{◌≡◌, ◌==◌, ◌||◌, ◌<◌, ◌≤◌, ℕ, suc, Bool, true, false, nat_le, cond, Option, Some, None}
 use Rattle.std.proofs.Common.{List, [], ◌∷◌, ◌++◌, length, refl, sym, ap, subst, ◌∙◌, arith}
-use Rattle.std.specs.List.{AllByRecursion}
 use Rattle.std.proofs.lemmas.Bool.Decides.{nat_tests}
+use Rattle.std.proofs.lemmas.List.{append_assoc}
+use Rattle.std.specs.List.{concat}
+use Rattle.linked_lists.specs.Lists.{Lists, all_numbers, first_listed, list_at, times}
+use Rattle.linked_lists.proofs.Times.{not_first, pick_other, pick_self, times_append, times_here}
+use Rattle.linked_lists.proofs.Shown.{times_at}
 use Rattle.jr_frames.specs.declared.place.Place.{Place}
-use Rattle.jr_frames.specs.declared.rings.Link.{Link}
 use Rattle.jr_frames.specs.Places.{given_of, place_at}
-use Rattle.jr_frames.specs.Rings.{newer_at, Follow, until, ring_of}
-use Rattle.jr_frames.specs.Giving.{IsRing, gives_again}
-use Rattle.jr_frames.proofs.Following.{until_end}
+use Rattle.jr_frames.specs.Giving.{IsFrame, gives_again}
 
--- what is left of a ring to walk
-pub record IsLeft (links : List Link) (places : List Place) (last end place : ℕ) : Type 0 where
+-- a list from a number on
+abbrev pub from_number : ℕ → List ℕ → List ℕ
+from_number p [] = []
+from_number p (x ∷ xs) = cond (x == p) (x ∷ xs) (from_number p xs)
+
+-- how many numbers of a list are left, from the next on
+abbrev pub left_from : Option ℕ → List ℕ → ℕ
+left_from None xs = 0
+left_from (Some p) xs = length (from_number p xs)
+
+found_behind : (p : ℕ) (done ys : List ℕ) → times p done ≡ 0 → from_number p (done ++ p ∷ ys) ≡ p ∷ ys
+found_behind p [] ys none = pick_self p (p ∷ ys) _
+found_behind p (x ∷ xs) ys none = let n = not_first p x xs none in
+    pick_other x p (x ∷ xs ++ p ∷ ys) _ n.0 ∙ found_behind p xs ys n.1
+
+-- what is left of a list to go through
+pub record IsLeft (places : List Place) (last : ℕ) (all : List ℕ) (next : Option ℕ) : Type 0 where
+  pub done : List ℕ
   pub rest : List ℕ
-  pub from : ℕ
-  pub follows : Follow links from (rest ++ end ∷ [])
-  pub at : place ≡ newer_at links from
-  pub low : AllByRecursion (λ p. p < length places) rest
-  pub short : length rest ≤ length places
-  pub past : length places ≤ end
-  pub within : end < length links
-  pub same : gives_again last places (ring_of links (length places) end) ≡ gives_again last places rest
+  pub parts : all ≡ done ++ rest
+  pub at : next ≡ first_listed rest
+  pub same : gives_again last places all ≡ gives_again last places rest
 
-all_apart : (n end : ℕ) (xs : List ℕ) → n ≤ end → AllByRecursion (λ p. p < n) xs → AllByRecursion (λ p. p ≢ end) xs
-all_apart n end [] l all = tt
-all_apart n end (x ∷ xs) l all = ((λ e. absurd (let low = all.0 in omega arith)), all_apart n end xs l all.1)
+-- a number of it, and what stands behind
+pub record IsAtNumber (places : List Place) (last : ℕ) (all : List ℕ) (p : ℕ) : Type 0 where
+  pub done : List ℕ
+  pub rest : List ℕ
+  pub parts : all ≡ done ++ p ∷ rest
+  pub same : gives_again last places all ≡ gives_again last places (p ∷ rest)
 
 gives_here : (given last : ℕ) (rest : Bool) → given ≤ last → (nat_le given last || rest) ≡ true
 gives_here given last rest l = ap (λ b. b || rest) (let e : nat_le given last ≡ true = grind (arith, nat_tests) in e)
@@ -32,86 +47,76 @@ gives_here given last rest l = ap (λ b. b || rest) (let e : nat_le given last �
 gives_later : (given last : ℕ) (rest : Bool) → last < given → (nat_le given last || rest) ≡ rest
 gives_later given last rest l = ap (λ b. b || rest) (let e : nat_le given last ≡ false = grind (arith, nat_tests) in e)
 
-module _ (links : List Link) (places : List Place) (last end : ℕ) where
-  pub left_begins : (place : ℕ) → IsRing links (length places) end → place ≡ newer_at links end
-      → IsLeft links places last end place
-  left_begins place ring at = record {
-    rest = ring_of links (length places) end;
-    from = end;
-    follows = ring.follows;
-    at = at;
-    low = ring.low;
-    short = ring.short;
-    past = ring.past;
-    within = ring.within;
-    same = refl;
-  }
+module _ {places : List Place} {last : ℕ} {all : List ℕ} where
+  pub left_begins : {next : Option ℕ} → next ≡ first_listed all → IsLeft places last all next
+  left_begins e = record { done = []; rest = all; parts = refl; at = e; same = refl }
 
-  module _ (place : ℕ) (left : IsLeft links places last end place) where
-    -- nothing is left at the end
-    pub left_none : place ≡ end → false ≡ gives_again last places (ring_of links (length places) end)
-    left_none is = go left.rest refl
-      where
-        go : (xs : List ℕ) → left.rest ≡ xs → false ≡ gives_again last places (ring_of links (length places) end)
-        go [] e = sym (left.same ∙ ap (gives_again last places) e)
-        go (p ∷ ps) e =
-            let f = subst (λ l. Follow links left.from (l ++ end ∷ [])) e left.follows in
-            let low = (subst (AllByRecursion (λ q. q < length places)) e left.low).0 in
-            let here : end ≡ p = sym is ∙ (left.at ∙ f.0) in
-            let past = left.past in
-            absurd (omega arith)
+  -- nothing is left at the end
+  pub left_none : {next : Option ℕ} → IsLeft places last all next → next ≡ None → false ≡ gives_again last places all
+  left_none {next} left e = sym (left.same ∙ ap (gives_again last places) (none left.rest (sym e ∙ left.at)))
+    where
+      none : (xs : List ℕ) → None ≡ first_listed xs → xs ≡ []
+      none [] f = refl
+      none (x ∷ xs) f = absurd cc
 
-    module _ (other : place ≢ end) where
-      next_of : (xs : List ℕ) → left.rest ≡ xs → (ps : List ℕ) × (left.rest ≡ place ∷ ps)
-      next_of [] e = absurd (other (left.at ∙ (subst (λ l. Follow links left.from (l ++ end ∷ [])) e left.follows).0))
-      next_of (p ∷ ps) e =
-          let f = subst (λ l. Follow links left.from (l ++ end ∷ [])) e left.follows in
-          (ps, e ∙ ap (λ q. q ∷ ps) (let here : p ≡ place = sym f.0 ∙ sym left.at in here))
-
-      pub left_low : place < length places
-      left_low = (subst (AllByRecursion (λ q. q < length places)) (next_of left.rest refl).1 left.low).0
-
-      pub left_within : place < length links
-      left_within = let low = left_low in let past = left.past in let within = left.within in omega arith
-
-      pub left_found : given_of (place_at places place) ≤ last
-          → true ≡ gives_again last places (ring_of links (length places) end)
-      left_found l = let next = next_of left.rest refl in
-          sym (left.same ∙ (ap (gives_again last places) next.1 ∙ gives_here _ last _ l))
-
-      pub left_goes_on : (q : ℕ) → last < given_of (place_at places place) → q ≡ newer_at links place
-          → IsLeft links places last end q
-      left_goes_on q high at =
-          let next = next_of left.rest refl in
-          let short : length left.rest ≡ suc (length next.0) = ap length next.1 in
-          let fits = left.short in
-          record {
-            rest = next.0;
-            from = place;
-            follows = (subst (λ l. Follow links left.from (l ++ end ∷ [])) next.1 left.follows).2;
-            at = at;
-            low = (subst (AllByRecursion (λ p. p < length places)) next.1 left.low).1;
-            short = omega arith;
-            past = left.past;
-            within = left.within;
-            same = left.same ∙ (ap (gives_again last places) next.1 ∙ gives_later _ last _ high);
+  pub left_at : {next : Option ℕ} → IsLeft places last all next → (p : ℕ) → next ≡ Some p
+      → IsAtNumber places last all p
+  left_at left p e = go left.rest refl (sym e ∙ left.at)
+    where
+      go : (xs : List ℕ) → left.rest ≡ xs → Some p ≡ first_listed xs → IsAtNumber places last all p
+      go [] f g = absurd cc
+      go (x ∷ xs) f g =
+          let is : left.rest ≡ p ∷ xs = f ∙ ap (λ y. y ∷ xs) (let same : x ≡ p = cc in same) in record {
+            done = left.done;
+            rest = xs;
+            parts = left.parts ∙ ap (λ l. left.done ++ l) is;
+            same = left.same ∙ ap (gives_again last places) is;
           }
 
-      -- and less is left than before
-      pub left_smaller : (q : ℕ) → q ≡ newer_at links place
-          → length (until links end (length places) q) < length (until links end (length places) place)
-      left_smaller q at =
-          let next = next_of left.rest refl in
-          let f = subst (λ l. Follow links left.from (l ++ end ∷ [])) next.1 left.follows in
-          let all = all_apart (length places) end (place ∷ next.0) left.past
-          (subst (AllByRecursion (λ p. p < length places)) next.1 left.low) in
-          let short : length left.rest ≡ suc (length next.0) = ap length next.1 in
-          let fits = left.short in
-          let now : until links end (length places) place ≡ place ∷ next.0 =
-          ap (until links end (length places)) left.at
-          ∙ until_end links end (length places) left.from (place ∷ next.0) all (omega arith) f in
-          let later : until links end (length places) q ≡ next.0 = ap (until links end (length places)) at
-          ∙ until_end links end (length places) place next.0 all.1 (omega arith) f.2 in
-          let first : length (until links end (length places) place) ≡ suc (length next.0) = ap length now in
-          let second : length (until links end (length places) q) ≡ length next.0 = ap length later in
-          omega arith
+  module _ {p : ℕ} (here : IsAtNumber places last all p) where
+    pub here_times : 1 ≤ times p all
+    here_times =
+        omega (arith, ap (times p) here.parts, times_append p here.done (p ∷ here.rest), times_here p here.rest)
+
+    pub here_found : given_of (place_at places p) ≤ last → true ≡ gives_again last places all
+    here_found l = sym (here.same ∙ gives_here _ last _ l)
+
+    pub here_goes_on : {next : Option ℕ} → last < given_of (place_at places p) → next ≡ first_listed here.rest
+        → IsLeft places last all next
+    here_goes_on high e = record {
+      done = here.done ++ p ∷ [];
+      rest = here.rest;
+      parts = here.parts ∙ sym (append_assoc here.done (p ∷ []) here.rest);
+      at = e;
+      same = here.same ∙ gives_later _ last _ high;
+    }
+
+    -- and less is left than before
+    pub here_smaller : ((q : ℕ) → times q all ≤ 1) → (was next : Option ℕ) → was ≡ Some p
+        → next ≡ first_listed here.rest
+        → left_from next all < left_from was all
+    here_smaller once was next is e =
+        let now : length (from_number p all) ≡ suc (length here.rest) =
+        ap length (behind p here.done here.rest here.parts) in
+        subst (λ n. left_from next all < left_from n all) (sym is)
+        (subst (λ n. left_from n all < left_from (Some p) all) (sym e) (go here.rest refl now))
+      where
+        behind : (q : ℕ) (done ys : List ℕ) → all ≡ done ++ q ∷ ys → from_number q all ≡ q ∷ ys
+        behind q done ys f = ap (from_number q) f ∙ found_behind q done ys
+            (omega (arith, once q, ap (times q) f, times_append q done (q ∷ ys), times_here q ys))
+
+        go : (xs : List ℕ) → here.rest ≡ xs → length (from_number p all) ≡ suc (length here.rest)
+            → left_from (first_listed xs) all < length (from_number p all)
+        go [] f now = omega arith
+        go (y ∷ ys) f now =
+            let later : length (from_number y all) ≡ length (y ∷ ys) =
+            ap length (behind y (here.done ++ p ∷ []) ys
+            (here.parts ∙ ap (λ l. here.done ++ p ∷ l) f ∙ sym (append_assoc here.done (p ∷ []) (y ∷ ys)))) in
+            let long : length here.rest ≡ length (y ∷ ys) = ap length f in
+            omega arith
+
+-- the numbers of a frame's list stand in the order
+pub in_order : (order : Lists) (places k p : ℕ) → IsFrame order places k → 1 ≤ times p (list_at order.lists k)
+    → 1 ≤ times p (all_numbers order)
+in_order order places k p frame some =
+    omega (arith, times_append p order.free (concat order.lists), times_at p k order.lists)

@@ -1,9 +1,3 @@
-pub mod Times
-pub mod Following
-pub mod Taking
-pub mod Putting
-pub mod RingLists
-pub mod LastRing
 pub mod Showing
 pub mod Places
 pub mod Named
@@ -13,7 +7,6 @@ pub mod Still
 pub mod Adding
 pub mod Deleting
 pub mod Stacking
-pub mod Fresh
 pub mod FreshTable
 pub mod Oldest
 pub mod Popping

@@ -11,7 +11,7 @@ use Rattle.jr_model.proofs.Updates.{and_left, and_right, same_parts, handle_true
 use Rattle.jr_frames.specs.declared.place.Place.{Place}
 use Rattle.jr_frames.specs.declared.frames.Frames.TheInside.{Inside as Fields}
 use Rattle.jr_frames.specs.Places.{given_of, unused, place_at, is_taken, ref_at}
-use Rattle.jr_frames.specs.Arrangements.{table_of, IsArranged}
+use Rattle.jr_frames.specs.Arrangements.{table, IsTable}
 use Rattle.jr_frames.proofs.Places.{object_of_handle}
 
 pub not_zero : (n : ℕ) → n ≢ 0 → (n == 0) ≡ false
@@ -28,35 +28,35 @@ taken_index places p e = ⊎_elim (λ (l : p < length places). l)
     let no : false ≡ true = subst (λ (x : Place). not (x.object == 0) ≡ true) none e in absurd cc)
     (cases_lt p (length places))
 
-module _ (a : Fields) (free : List ℕ) (order : List (List ℕ)) (is : IsArranged a free order) (h : Handle) where
+module _ (a : Fields) (is : IsTable a) (h : Handle) where
   -- the handle stands, and it is the one that its place shows
-  pub stands : IsSome (object_of (table_of a order).frames h)
+  pub stands : IsSome (object_of (table a).frames h)
       → (is_taken a.places.items h.index ≡ true) × ((ref_at a.thread a.places.items h.index).handle ≡ h)
   stands some =
-      let both = some_true _ _ (subst (λ o. IsSome o) (object_of_handle a free order is h) some) in
+      let both = some_true _ _ (subst (λ o. IsSome o) (object_of_handle a is h) some) in
       (and_left _ _ both, handle_true _ h (and_right (is_taken a.places.items h.index) _ both))
 
   pub named_object : (place_at a.places.items h.index).object ≢ 0 → h.kind ≡ Local
       → h.serial + 1 ≡ given_of (place_at a.places.items h.index) → h.owner ≡ a.thread
-      → object_of (table_of a order).frames h ≡ Some (place_at a.places.items h.index).object
+      → object_of (table a).frames h ≡ Some (place_at a.places.items h.index).object
   named_object ne kind serial owner =
       let same : (ref_at a.thread a.places.items h.index).handle ≡ h =
       same_parts Local h.kind _ h.serial h.index h.index a.thread h.owner (sym kind) (omega arith) refl (sym owner) in
-      object_of_handle a free order is h
+      object_of_handle a is h
       ∙ ap (λ b. cond (not b && same_handle (ref_at a.thread a.places.items h.index).handle h)
       (Some (place_at a.places.items h.index).object) None) (not_zero _ ne)
       ∙ ap (λ k. cond (same_handle k h) (Some (place_at a.places.items h.index).object) None) same
       ∙ ap (λ b. cond b (Some (place_at a.places.items h.index).object) None) (handle_self h)
 
-  pub empty_object : (place_at a.places.items h.index).object ≡ 0 → object_of (table_of a order).frames h ≡ None
+  pub empty_object : (place_at a.places.items h.index).object ≡ 0 → object_of (table a).frames h ≡ None
   empty_object e =
-      object_of_handle a free order is h
+      object_of_handle a is h
       ∙ ap (λ n. cond (not (n == 0) && same_handle (ref_at a.thread a.places.items h.index).handle h)
       (Some (place_at a.places.items h.index).object) None) e
 
   pub unnamed_object : ((h.kind ≡ Local) × (h.serial + 1 ≡ given_of (place_at a.places.items h.index))
-      × (h.owner ≡ a.thread) → ⊥) → object_of (table_of a order).frames h ≡ None
-  unnamed_object other = object_of_handle a free order is h ∙ go _ refl
+      × (h.owner ≡ a.thread) → ⊥) → object_of (table a).frames h ≡ None
+  unnamed_object other = object_of_handle a is h ∙ go _ refl
     where
       go : (b : Bool)
           → (is_taken a.places.items h.index && same_handle (ref_at a.thread a.places.items h.index).handle h) ≡ b

@@ -1,125 +1,75 @@
 -- The oldest reference of a frame.
 use Rattle.std.proofs.Common.{◌≡◌, ◌≢◌, ◌==◌, ◌+◌, ◌-◌, ◌<◌, ◌≤◌, ℕ, zero, suc, Bool, true, false}
-use Rattle.std.proofs.Common.{not, if◌then◌else◌, IsSome, Some, List, [], ◌∷◌, ◌++◌, map, length}
-use Rattle.std.proofs.Common.{slice_index_or, slice_set, refl, sym, ap, subst, ◌∙◌, arith}
+use Rattle.std.proofs.Common.{not, if◌then◌else◌, IsSome, Some, None, List, [], ◌∷◌, drop, map}
+use Rattle.std.proofs.Common.{length, slice_set, refl, sym, ap, subst, ◌∙◌, arith}
 use Rattle.std.proofs.lemmas.List.{map-set}
 use Rattle.std.proofs.Math.ListN.{get_or-map}
+use Rattle.std.specs.List.{concat}
+use Rattle.linked_lists.specs.Lists.{first_listed, list_at, times, without_number}
+use Rattle.linked_lists.proofs.Times.{times_append, times_here, map_without_none, without_here, without_none}
+use Rattle.linked_lists.proofs.Shown.{times_at}
 use Rattle.jr_word.specs.declared.handle.RefKind.TheVariants.{Local}
 use Rattle.jr_model.specs.State.{Handle}
 use Rattle.jr_model.specs.Frames.{object_of}
-use Rattle.jr_frames.specs.declared.rings.Link.{Link}
 use Rattle.jr_frames.specs.declared.frames.Frames.TheInside.{Inside as Fields}
 use Rattle.jr_frames.specs.Table.{TakesOldestOf, frame_at, oldest_handle, without_oldest}
-use Rattle.jr_frames.specs.Rings.{newer_at, Follow, AreRings}
 use Rattle.jr_frames.specs.Places.{given_of, place_at, is_taken, ref_at}
-use Rattle.jr_frames.specs.Arrangements.{times, flat, table_of, IsArranged}
-use Rattle.jr_frames.proofs.Times.{times_append, times_here, without, without_here, without_none}
-use Rattle.jr_frames.proofs.LastRing.{map_without_none}
+use Rattle.jr_frames.specs.Arrangements.{table, IsTable}
 use Rattle.jr_frames.proofs.Named.{named_object, taken_index}
 use Rattle.jr_frames.proofs.Deleting.{frames_without}
 
--- the list of a number
-abbrev pub list_at : List (List ℕ) → ℕ → List ℕ
-list_at rs k = slice_index_or rs k []
-
-bit_true : (b : Bool) (n m : ℕ) → n ≡ (if b then 1 else 0) → 1 + m ≤ n → (b ≡ true) × (m ≡ 0)
-bit_true true n m e l = (refl, omega arith)
+bit_true : (b : Bool) (n m : ℕ) → n ≡ (if b then 1 else 0) → 1 + m ≤ n → b ≡ true
+bit_true true n m e l = refl
 bit_true false n m e l = absurd (omega arith)
 
--- the ring of an end
-ring_at : (links : List Link) (first k end : ℕ) (rs : List (List ℕ)) → k < length rs → first + k ≡ end
-    → AreRings links first rs → Follow links end (list_at rs k ++ end ∷ [])
-ring_at links first zero end [] l e r = absurd (omega arith)
-ring_at links first zero end (x ∷ xs) l e r = let same : first ≡ end = omega arith in
-    subst (λ n. Follow links n (x ++ n ∷ [])) same r.0
-ring_at links first (suc k) end [] l e r = absurd (omega arith)
-ring_at links first (suc k) end (x ∷ xs) l e r = ring_at links (suc first) k end xs (omega arith) (omega arith) r.1
-
--- a number is in all lists at least as often as in one of them
-times_at : (q k : ℕ) (rs : List (List ℕ)) → times q (list_at rs k) ≤ times q (flat rs)
-times_at q zero [] = omega arith
-times_at q zero (x ∷ xs) = let e = times_append q x (flat xs) in omega arith
-times_at q (suc k) [] = omega arith
-times_at q (suc k) (x ∷ xs) = let e = times_append q x (flat xs) in let l = times_at q k xs in omega arith
-
-both : (x y : List ℕ) (s t : List (List ℕ)) → x ≡ y → s ≡ t → x ∷ s ≡ y ∷ t
-both x y s t e f = cc
-
 -- the first number of a list is taken out of it, where it is in no other
-set_without : (p k : ℕ) (rest : List ℕ) (rs : List (List ℕ)) → list_at rs k ≡ p ∷ rest → times p (flat rs) ≤ 1
-    → map (without p) rs ≡ slice_set rs k rest
+set_without : (p k : ℕ) (rest : List ℕ) (rs : List (List ℕ)) → list_at rs k ≡ p ∷ rest → times p (concat rs) ≤ 1
+    → map (without_number p) rs ≡ slice_set rs k rest
 set_without p zero rest [] e one = refl
 set_without p zero rest (x ∷ xs) e one =
-    let all = times_append p x (flat xs) in
     let here : times p x ≡ 1 + times p rest = ap (times p) e ∙ times_here p rest in
-    let later : times p rest ≡ 0 = omega arith in
-    both _ _ _ _ (ap (without p) e ∙ (without_here p rest ∙ without_none p rest later))
-    (map_without_none p xs (omega arith))
+    ap (λ l. l ∷ map (without_number p) xs) (ap (without_number p) e ∙ (without_here p rest
+    ∙ without_none p rest (omega (arith, times_append p x (concat xs)))))
+    ∙ ap (λ l. rest ∷ l) (map_without_none p xs (omega (arith, times_append p x (concat xs))))
 set_without p (suc k) rest [] e one = refl
 set_without p (suc k) rest (x ∷ xs) e one =
-    let all = times_append p x (flat xs) in
-    let some = times_at p k xs in
     let here : times p (list_at xs k) ≡ 1 + times p rest = ap (times p) e ∙ times_here p rest in
-    both _ _ _ _ (without_none p x (omega arith)) (set_without p k rest xs e (omega arith))
+    ap (λ l. l ∷ map (without_number p) xs)
+    (without_none p x (omega (arith, times_append p x (concat xs), times_at p k xs)))
+    ∙ ap (λ l. x ∷ l) (set_without p k rest xs e (omega (arith, times_append p x (concat xs))))
 
--- the place of the oldest reference of a frame, and what follows it there
-pub record IsOldest (a : Fields) (order : List (List ℕ)) (k p : ℕ) (rest : List ℕ) : Type 0 where
-  pub at : list_at order k ≡ p ∷ rest
+-- the place of the oldest reference of a frame
+pub record IsOldest (a : Fields) (k p : ℕ) : Type 0 where
+  pub at : list_at a.order.lists k ≡ p ∷ drop 1 (list_at a.order.lists k)
   pub taken : is_taken a.places.items p ≡ true
 
-abbrev pub tail_of : List ℕ → List ℕ
-tail_of [] = []
-tail_of (x ∷ xs) = xs
+module _ (a : Fields) (is : IsTable a) (k : ℕ) where
+  frame_is : frame_at (table a).frames.frames k ≡ map (ref_at a.thread a.places.items) (list_at a.order.lists k)
+  frame_is = get_or-map (map (ref_at a.thread a.places.items)) a.order.lists k []
 
-module _ (a : Fields) (free : List ℕ) (order : List (List ℕ)) (is : IsArranged a free order) (k : ℕ)
-    (low : k < length order) (end : ℕ) (at_end : end ≡ length a.places.items + 1 + k) where
-  follows : Follow a.rings.links.items end (list_at order k ++ end ∷ [])
-  follows = ring_at a.rings.links.items (suc (length a.places.items)) k end order low (omega arith) is.rings.1
+  pub empty_at : None ≡ first_listed (list_at a.order.lists k) → frame_at (table a).frames.frames k ≡ []
+  empty_at e = frame_is ∙ none (list_at a.order.lists k) e
+    where
+      none : (xs : List ℕ) → None ≡ first_listed xs → map (ref_at a.thread a.places.items) xs ≡ []
+      none [] e = refl
+      none (x ∷ xs) e = absurd cc
 
-  oldest_of : (p : ℕ) (rest : List ℕ) → list_at order k ≡ p ∷ rest → IsOldest a order k p rest
-  oldest_of p rest e =
-      let here : times p (list_at order k) ≡ 1 + times p rest = ap (times p) e ∙ times_here p rest in
-      let all = times_at p k order in
+  pub oldest_at : (p : ℕ) → Some p ≡ first_listed (list_at a.order.lists k) → IsOldest a k p
+  oldest_at p e =
+      let at = first (list_at a.order.lists k) e in
+      let here : times p (list_at a.order.lists k) ≡ 1 + times p (drop 1 (list_at a.order.lists k)) =
+      ap (times p) at ∙ times_here p _ in
       record {
-        at = e;
-        taken =
-            (bit_true (is_taken a.places.items p) (times p (flat order)) (times p rest) (is.once p) (omega arith)).0;
+        at = at;
+        taken = bit_true (is_taken a.places.items p) (times p (concat a.order.lists)) 0 (is.once p)
+            (omega (arith, times_at p k a.order.lists));
       }
-
-  -- a frame is empty where its end follows itself
-  pub closed_empty : newer_at a.rings.links.items end ≡ end → list_at order k ≡ []
-  closed_empty closed = go (list_at order k) refl
     where
-      go : (xs : List ℕ) → list_at order k ≡ xs → list_at order k ≡ []
-      go [] e = e
-      go (p ∷ rest) e =
-          let ahead : newer_at a.rings.links.items end ≡ p =
-          (subst (λ l. Follow a.rings.links.items end (l ++ end ∷ [])) e follows).0 in
-          let below = taken_index a.places.items p (oldest_of p rest e).taken in
-          let same : end ≡ p = sym closed ∙ ahead in
-          absurd (omega arith)
+      first : (xs : List ℕ) → Some p ≡ first_listed xs → xs ≡ p ∷ drop 1 xs
+      first [] e = absurd cc
+      first (x ∷ xs) e = ap (λ y. y ∷ xs) (let same : x ≡ p = cc in same)
 
-  pub open_oldest : newer_at a.rings.links.items end ≢ end
-      → IsOldest a order k (newer_at a.rings.links.items end) (tail_of (list_at order k))
-  open_oldest other = go (list_at order k) refl
-    where
-      go : (xs : List ℕ) → list_at order k ≡ xs
-          → IsOldest a order k (newer_at a.rings.links.items end) (tail_of (list_at order k))
-      go [] e = absurd (other (subst (λ l. Follow a.rings.links.items end (l ++ end ∷ [])) e follows).0)
-      go (p ∷ rest) e =
-          let ahead : newer_at a.rings.links.items end ≡ p =
-          (subst (λ l. Follow a.rings.links.items end (l ++ end ∷ [])) e follows).0 in
-          subst (λ q. IsOldest a order k q (tail_of (list_at order k))) (sym ahead)
-          (subst (IsOldest a order k p) (sym (ap tail_of e)) (oldest_of p rest e))
-
-module _ (a : Fields) (free : List ℕ) (order : List (List ℕ)) (is : IsArranged a free order) (k : ℕ) where
-  frame_is : frame_at (table_of a order).frames.frames k ≡ map (ref_at a.thread a.places.items) (list_at order k)
-  frame_is = get_or-map (map (ref_at a.thread a.places.items)) order k []
-
-  pub none_left_at : list_at order k ≡ [] → frame_at (table_of a order).frames.frames k ≡ []
-  none_left_at e = frame_is ∙ ap (map (ref_at a.thread a.places.items)) e
-
-  module _ (p : ℕ) (rest : List ℕ) (oldest : IsOldest a order k p rest) where
+  module _ (p : ℕ) (oldest : IsOldest a k p) where
     pub oldest_low : p < length a.places.items
     oldest_low = taken_index a.places.items p oldest.taken
 
@@ -129,31 +79,28 @@ module _ (a : Fields) (free : List ℕ) (order : List (List ℕ)) (is : IsArrang
     abbrev pub handle_of : Handle
     handle_of = record { kind = Local; serial = given_of (place_at a.places.items p) - 1; index = p; owner = a.thread }
 
-    refs_are : frame_at (table_of a order).frames.frames k
-        ≡ ref_at a.thread a.places.items p ∷ map (ref_at a.thread a.places.items) rest
+    refs_are : frame_at (table a).frames.frames k
+        ≡ ref_at a.thread a.places.items p ∷ map (ref_at a.thread a.places.items) (drop 1 (list_at a.order.lists k))
     refs_are = frame_is ∙ ap (map (ref_at a.thread a.places.items)) oldest.at
 
-    pub is_oldest : oldest_handle (frame_at (table_of a order).frames.frames k) ≡ Some handle_of
+    pub is_oldest : oldest_handle (frame_at (table a).frames.frames k) ≡ Some handle_of
     is_oldest = ap oldest_handle refs_are
 
-    pub oldest_stands : IsSome (object_of (table_of a order).frames handle_of)
+    pub oldest_stands : IsSome (object_of (table a).frames handle_of)
     oldest_stands =
         let given = oldest_given in
         let back : given_of (place_at a.places.items p) - 1 + 1 ≡ given_of (place_at a.places.items p) = omega arith in
-        subst (λ o. IsSome o) (sym (named_object a free order is handle_of (some_object p oldest.taken) refl back refl))
-        refl
+        subst (λ o. IsSome o) (sym (named_object a is handle_of (some_object p oldest.taken) refl back refl)) refl
       where
         some_object : (q : ℕ) → is_taken a.places.items q ≡ true → (place_at a.places.items q).object ≢ 0
         some_object q e none =
             absurd (let zero_is : is_taken a.places.items q ≡ false = ap (λ n. not (n == 0)) none in cc)
 
-    once_in_all : times p (flat order) ≤ 1
-    once_in_all = let e : times p (flat order) ≡ 1 = is.once p ∙ ap (λ b. if b then 1 else 0) oldest.taken in
-        omega arith
-
-    pub takes_oldest : TakesOldestOf (table_of a order).frames k handle_of
+    pub takes_oldest : TakesOldestOf (table a).frames k handle_of
     takes_oldest =
-        frames_without a free order is handle_of oldest_stands
-        ∙ (ap (map (map (ref_at a.thread a.places.items))) (set_without p k rest order oldest.at once_in_all)
-        ∙ (map-set (map (ref_at a.thread a.places.items)) order k rest
-        ∙ ap (slice_set (map (map (ref_at a.thread a.places.items)) order) k) (sym (ap without_oldest refs_are))))
+        let once : times p (concat a.order.lists) ≡ 1 = is.once p ∙ ap (λ b. if b then 1 else 0) oldest.taken in
+        frames_without a is handle_of oldest_stands
+        ∙ (ap (map (map (ref_at a.thread a.places.items))) (set_without p k _ a.order.lists oldest.at (omega arith))
+        ∙ (map-set (map (ref_at a.thread a.places.items)) a.order.lists k _
+        ∙ ap (slice_set (map (map (ref_at a.thread a.places.items)) a.order.lists) k)
+        (sym (ap without_oldest refs_are))))

@@ -10,7 +10,9 @@ use Rattle.jr_model.proofs.Updates.{eq_true, eq_self}
 use Rattle.jr_frames.specs.declared.place.Place.{Place}
 use Rattle.jr_frames.specs.declared.frames.Frames.TheInside.{Inside as Fields}
 use Rattle.jr_frames.specs.Places.{given_of, unused, place_at, is_taken, ref_at}
-use Rattle.jr_frames.specs.Arrangements.{times, flat, table_of, IsArranged}
+use Rattle.linked_lists.specs.Lists.{times}
+use Rattle.std.specs.List.{concat}
+use Rattle.jr_frames.specs.Arrangements.{table, IsTable}
 use Rattle.jr_frames.proofs.Showing.{joined_map}
 
 -- the object at a place, none where no reference stands
@@ -65,33 +67,33 @@ object_step : (free here : Bool) (o : Option ℕ) → here ≡ true → cond (no
 object_step true here o e = refl
 object_step false here o e = ap (λ b. cond b o None) e
 
-module _ (a : Fields) (free : List ℕ) (order : List (List ℕ)) (is : IsArranged a free order) where
-  listed_taken : (p : ℕ) → list_any (λ q. q == p) (flat order) ≡ is_taken a.places.items p
-  listed_taken p = listed p (flat order) (is_taken a.places.items p) (is.once p)
+module _ (a : Fields) (is : IsTable a) where
+  listed_taken : (p : ℕ) → list_any (λ q. q == p) (concat a.order.lists) ≡ is_taken a.places.items p
+  listed_taken p = listed p (concat a.order.lists) (is_taken a.places.items p) (is.once p)
 
-  pub object_at_place : (p : ℕ) → object_at (table_of a order).frames p ≡ object_in (place_at a.places.items p)
+  pub object_at_place : (p : ℕ) → object_at (table a).frames p ≡ object_in (place_at a.places.items p)
   object_at_place p =
-      ap (object_where (λ r. r.handle.index == p)) (joined_map (ref_at a.thread a.places.items) order)
-      ∙ found_object a.thread a.places.items (λ r. r.handle.index == p) p (λ q e. e) (flat order)
+      ap (object_where (λ r. r.handle.index == p)) (joined_map (ref_at a.thread a.places.items) a.order.lists)
+      ∙ found_object a.thread a.places.items (λ r. r.handle.index == p) p (λ q e. e) (concat a.order.lists)
       ∙ ap (λ b. cond (b && (p == p)) (Some (place_at a.places.items p).object) None) (listed_taken p)
       ∙ object_step ((place_at a.places.items p).object == 0) (p == p) (Some (place_at a.places.items p).object)
       (eq_self p)
 
-  pub object_of_handle : (h : Handle) → object_of (table_of a order).frames h
+  pub object_of_handle : (h : Handle) → object_of (table a).frames h
       ≡ cond (is_taken a.places.items h.index && same_handle (ref_at a.thread a.places.items h.index).handle h)
       (Some (place_at a.places.items h.index).object) None
   object_of_handle h =
-      ap (object_where (λ r. same_handle r.handle h)) (joined_map (ref_at a.thread a.places.items) order)
+      ap (object_where (λ r. same_handle r.handle h)) (joined_map (ref_at a.thread a.places.items) a.order.lists)
       ∙ found_object a.thread a.places.items (λ r. same_handle r.handle h) h.index
-      (λ q e. index_differs _ (q == h.index) _ e) (flat order)
+      (λ q e. index_differs _ (q == h.index) _ e) (concat a.order.lists)
       ∙ ap (λ b. cond (b && same_handle (ref_at a.thread a.places.items h.index).handle h)
       (Some (place_at a.places.items h.index).object) None) (listed_taken h.index)
 
-  pub is_free_place : (last p : ℕ) → is_free last (table_of a order).frames p ≡ (not (is_taken a.places.items p)
+  pub is_free_place : (last p : ℕ) → is_free last (table a).frames p ≡ (not (is_taken a.places.items p)
       && nat_le (given_of (place_at a.places.items p)) last)
   is_free_place last p =
-      ap (λ rs. not (list_any (λ r. r.handle.index == p) rs) && nat_le (slice_index (table_of a order).frames.given p)
-      last) (joined_map (ref_at a.thread a.places.items) order)
-      ∙ ap (λ b. not b && nat_le (slice_index (table_of a order).frames.given p) last)
-      (any_ref a.thread a.places.items p (flat order) ∙ listed_taken p)
+      ap (λ rs. not (list_any (λ r. r.handle.index == p) rs) && nat_le (slice_index (table a).frames.given p)
+      last) (joined_map (ref_at a.thread a.places.items) a.order.lists)
+      ∙ ap (λ b. not b && nat_le (slice_index (table a).frames.given p) last)
+      (any_ref a.thread a.places.items p (concat a.order.lists) ∙ listed_taken p)
       ∙ ap (λ n. not (is_taken a.places.items p) && nat_le n last) (get_or-map given_of a.places.items p unused)

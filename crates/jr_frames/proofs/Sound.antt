@@ -7,8 +7,10 @@ use Rattle.std.specs.List.{AllByRecursion}
 use Rattle.jr_model.specs.Frames.{AreSound, HaveOwnPlaces, IsNewest, all_refs}
 use Rattle.jr_frames.specs.declared.frames.Frames.TheInside.{Inside as Fields}
 use Rattle.jr_frames.specs.Places.{given_of, unused, place_at, is_taken, ref_at}
-use Rattle.jr_frames.specs.Arrangements.{times, flat, table_of, IsArranged}
-use Rattle.jr_frames.proofs.Times.{times_here}
+use Rattle.linked_lists.specs.Lists.{times}
+use Rattle.std.specs.List.{concat}
+use Rattle.jr_frames.specs.Arrangements.{table, IsTable}
+use Rattle.linked_lists.proofs.Times.{times_here}
 use Rattle.jr_frames.proofs.Places.{listed, any_ref}
 use Rattle.jr_frames.proofs.Showing.{joined_map}
 
@@ -19,7 +21,7 @@ bit_one false n l = absurd (omega arith)
 less_one : (b : Bool) (n m : ℕ) → (if b then 1 else 0) + n ≤ m → n ≤ m
 less_one b n m l = omega arith
 
-module _ (a : Fields) (free : List ℕ) (order : List (List ℕ)) (is : IsArranged a free order) where
+module _ (a : Fields) (is : IsTable a) where
   -- the list has taken places alone, each once
   abbrev AreTakenOnce : List ℕ → Type 0
   AreTakenOnce xs = (q : ℕ) → times q xs ≤ (if is_taken a.places.items q then 1 else 0)
@@ -39,26 +41,26 @@ module _ (a : Fields) (free : List ℕ) (order : List (List ℕ)) (is : IsArrang
   )
 
   last_handles : (xs : List ℕ) → AreTakenOnce xs
-      → AllByRecursion (IsNewest (table_of a order).frames) (map (ref_at a.thread a.places.items) xs)
+      → AllByRecursion (IsNewest (table a).frames) (map (ref_at a.thread a.places.items) xs)
   last_handles [] once = tt
   last_handles (x ∷ xs) once =
       let some = is.given x (first_taken x xs once).0 in
       let same : given_of (place_at a.places.items x) ≡ given_of (place_at a.places.items x) - 1 + 1 = omega arith in
       (get_or-map given_of a.places.items x unused ∙ same, last_handles xs (rest_taken x xs once))
 
-  all_taken : AreTakenOnce (flat order)
+  all_taken : AreTakenOnce (concat a.order.lists)
   all_taken q = let e = is.once q in omega arith
 
-  refs_are : all_refs (table_of a order).frames ≡ map (ref_at a.thread a.places.items) (flat order)
-  refs_are = joined_map (ref_at a.thread a.places.items) order
+  refs_are : all_refs (table a).frames ≡ map (ref_at a.thread a.places.items) (concat a.order.lists)
+  refs_are = joined_map (ref_at a.thread a.places.items) a.order.lists
 
-  pub sound : AreSound (table_of a order).frames
+  pub sound : AreSound (table a).frames
   sound = record {
-    some_frame = let n = length-map order (map (ref_at a.thread a.places.items)) in let l = is.some_frame in
+    some_frame = let n = length-map a.order.lists (map (ref_at a.thread a.places.items)) in let l = is.some_frame in
         omega arith;
-    few_frames = let n = length-map order (map (ref_at a.thread a.places.items)) in let l = is.few_frames in
+    few_frames = let n = length-map a.order.lists (map (ref_at a.thread a.places.items)) in let l = is.few_frames in
         omega arith;
-    apart = subst HaveOwnPlaces (sym refs_are) (own_places (flat order) all_taken);
-    newest = subst (AllByRecursion (IsNewest (table_of a order).frames)) (sym refs_are)
-        (last_handles (flat order) all_taken);
+    apart = subst HaveOwnPlaces (sym refs_are) (own_places (concat a.order.lists) all_taken);
+    newest = subst (AllByRecursion (IsNewest (table a).frames)) (sym refs_are)
+        (last_handles (concat a.order.lists) all_taken);
   }

@@ -1,20 +1,15 @@
--- For the crate's own functions: what a ring of places would give once they are free.
-use Rattle.std.specs.Prelude.{◌≤◌, ◌<◌, ℕ, Bool, nat_le, List, [], ◌∷◌, ◌++◌, length}
-use Rattle.std.specs.List.{list_any, AllByRecursion}
-use Rattle.jr_word.specs.declared.config.TheConstants.Config.{MOST_LOCALS}
+-- For the crate's own functions: what the places of a frame would give once they are free.
+use Rattle.std.specs.Prelude.{◌≤◌, ◌<◌, ℕ, Bool, nat_le, List, length}
+use Rattle.std.specs.List.{list_any}
+use Rattle.linked_lists.specs.Lists.{Lists, list_at, times}
 use Rattle.jr_frames.specs.declared.place.Place.{Place}
-use Rattle.jr_frames.specs.declared.rings.Link.{Link}
 use Rattle.jr_frames.specs.Places.{given_of, place_at}
-use Rattle.jr_frames.specs.Rings.{Follow, ring_of}
 
--- the end has a ring, of places alone
-pub record IsRing (links : List Link) (places end : ℕ) : Type 0 where
-  pub follows : Follow links end (ring_of links places end ++ end ∷ [])
-  pub low : AllByRecursion (λ p. p < places) (ring_of links places end)
-  pub short : length (ring_of links places end) ≤ places
-  pub few : places ≤ MOST_LOCALS
-  pub past : places ≤ end
-  pub within : end < length links
+-- there is a list of this index, of places alone, none of them twice
+pub record IsFrame (order : Lists) (places k : ℕ) : Type 0 where
+  pub there : k < length order.lists
+  pub low : (p : ℕ) → 1 ≤ times p (list_at order.lists k) → p < places
+  pub once : (p : ℕ) → times p (list_at order.lists k) ≤ 1
 
 -- one of these places has not given its last handle
 abbrev pub gives_again : ℕ → List Place → List ℕ → Bool

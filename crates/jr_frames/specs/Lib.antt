@@ -1,6 +1,5 @@
 pub mod Table
 pub mod Places
-pub mod Rings
 pub mod Arrangements
 pub mod Popping
 pub mod Freeing

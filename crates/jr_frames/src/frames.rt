@@ -1,11 +1,17 @@
 //! The local references of a thread, in frames.
+use crate::frame_walk::any_gives_again;
 use crate::place::Place;
-use crate::ring_walk::any_gives_again;
-use crate::rings::{MOST_PLACES, Rings};
 use arrayvec::ArrayVec;
 use jr_model::FRAMES;
 use jr_word::{Config, HandleParts, RefKind};
+use linked_lists::LinkedLists;
 use std::marker::Model;
+
+/// The most places for local references that a thread can have.
+pub(crate) const MOST_PLACES: usize = Config::MOST_LOCALS as usize;
+
+/// The most places, the end of the free ones, and an end for each frame.
+pub(crate) const MOST_LINKS: usize = MOST_PLACES + 1 + FRAMES;
 
 /// The local references of a thread, in frames.
 #[derive(Drop)]
@@ -16,8 +22,8 @@ pub struct Frames {
     free: u16,
     /// Every place, by number.
     places: ArrayVec<Place, MOST_PLACES>,
-    /// The free places, and those of each frame.
-    rings: Rings,
+    /// The free places, and as a list for each frame those of its references, the oldest first.
+    order: LinkedLists<MOST_LINKS>,
 }
 
 impl Model for Frames {
@@ -48,12 +54,14 @@ impl Frames {
             places.push(Place::default());
         }
         let free = config.locals as u16;
+        let mut order = LinkedLists::new(free);
+        order.push();
         Frames {
             thread,
             last,
             free,
             places,
-            rings: Rings::new(free),
+            order,
         }
     }
 
@@ -63,10 +71,9 @@ impl Frames {
         ensures none { IfNone result (free_places self.now.last self.now.frames ≡ 0) }
         ensures some { IfSome result (IsNext self.now) }
     {
-        if self.free == 0 {
+        let Some(index) = self.order.first_free() else {
             return None;
-        }
-        let index = self.rings.newer(self.places.len() as u16);
+        };
         Some(HandleParts {
             kind: RefKind::Local,
             serial: self.places[usize::from(index)].given() as u32,
@@ -91,10 +98,9 @@ impl Frames {
         ensures only { IsOnly self.old.frames handle.index (Some object) self.new.frames }
         ensures same { (self.new.thread ≡ self.old.thread) × (self.new.last ≡ self.old.last) }
     {
-        let end = (self.rings.links.len() - 1) as u16;
         self.places[usize::from(handle.index)].give(object);
-        self.rings.take_out(handle.index);
-        self.rings.put_last(end, handle.index);
+        self.order.take_out(handle.index);
+        self.order.put_last(handle.index);
         self.free -= 1;
     }
 
@@ -132,10 +138,9 @@ impl Frames {
         ensures same { (self.new.thread ≡ self.old.thread) × (self.new.last ≡ self.old.last) }
     {
         self.places[usize::from(handle.index)].object = 0;
-        self.rings.take_out(handle.index);
+        self.order.take_out(handle.index);
         if self.places[usize::from(handle.index)].given() <= u64::from(self.last) {
-            let end = self.places.len() as u16;
-            self.rings.put_first(end, handle.index);
+            self.order.put_free(handle.index);
             self.free += 1;
         }
     }
@@ -144,7 +149,7 @@ impl Frames {
     pub fn depth(&self) -> usize
         ensures { result ≡ length self.now.frames.frames }
     {
-        self.rings.links.len() - self.places.len() - 1
+        self.order.len()
     }
 
     /// Whether the base frame is the only one.
@@ -167,7 +172,7 @@ impl Frames {
         requires { length self.old.frames.frames < FRAMES }
         ensures { self.new ≡ with_frames self.old (pushed self.old.frames) }
     {
-        self.rings.push();
+        self.order.push();
     }
 
     /// The handle of the oldest reference of the newest frame, none where that is empty.
@@ -189,11 +194,9 @@ impl Frames {
         ensures stands { IfSome result (λ h. IsSome (object_of self.now.frames h)) }
         ensures rest { IfSome result (TakesOldestOf self.now.frames frame) }
     {
-        let end = (self.places.len() + 1 + frame) as u16;
-        let index = self.rings.newer(end);
-        if index == end {
+        let Some(index) = self.order.first(frame) else {
             return None;
-        }
+        };
         Some(HandleParts {
             kind: RefKind::Local,
             serial: (self.places[usize::from(index)].given() - 1) as u32,
@@ -208,7 +211,7 @@ impl Frames {
         requires above { 2 ≤ length self.old.frames.frames }
         ensures { self.new ≡ with_frames self.old (popped self.old.frames) }
     {
-        self.rings.pop();
+        self.order.pop();
     }
 
     /// Whether a place is free once the newest frame is taken away with its references. In the code those are gone through where none is free already.
@@ -218,7 +221,6 @@ impl Frames {
         if self.free > 0 {
             return true;
         }
-        let end = (self.rings.links.len() - 1) as u16;
-        any_gives_again(&self.rings, &self.places, end, self.last)
+        any_gives_again(&self.order, &self.places, self.order.len() - 1, self.last)
     }
 }

@@ -3,6 +3,7 @@
 
 mod explaining;
 mod finding;
+mod frame_walk;
 mod frames;
 mod free;
 mod held;
@@ -12,8 +13,6 @@ mod place;
 mod pop;
 mod reference;
 mod resolving;
-mod ring_walk;
-mod rings;
 
 pub use explaining::{Explanation, explain};
 pub use finding::find;

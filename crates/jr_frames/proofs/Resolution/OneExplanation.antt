@@ -1,5 +1,5 @@
 -- A word is one thing: of two explanations that are so, each is the other.
-use Rattle.std.proofs.Common.{◌≡◌, ◌≢◌, ℕ, Option, Some, None, refl, sym, ap, subst, ◌∙◌}
+use Rattle.std.proofs.Common.{◌≡◌, ◌≢◌, ℕ, Option, Some, None, refl, sym, ap, ◌∙◌}
 use Rattle.jr_word.specs.declared.config.Config.{Config}
 use Rattle.jr_word.specs.declared.handle.RefKind.{RefKind}
 use Rattle.jr_word.specs.declared.kind.Kind.{Kind}
@@ -8,7 +8,7 @@ use Rattle.jr_model.specs.declared.event.Found.{Found}
 use Rattle.jr_model.specs.declared.event.Found.TheVariants.{Object, Cleared, Stale}
 use Rattle.jr_model.specs.State.{Contents, Handle, State}
 use Rattle.jr_model.specs.Frames.{Frames}
-use Rattle.jr_model.specs.Checks.{Word, Parts}
+use Rattle.jr_model.specs.Checks.{Word}
 use Rattle.jr_frames.specs.declared.explaining.Explanation.{Explanation}
 use Rattle.jr_frames.specs.declared.explaining.Explanation.TheVariants as explained
 use Rattle.jr_frames.specs.Explaining.{IsExplained, SaysOfHandle, foreign, found_at, malformed, null, outside, own}

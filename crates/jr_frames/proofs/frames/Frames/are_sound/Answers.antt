@@ -1,10 +1,9 @@
 use Rattle.std.proofs.Common.{subst}
 use Rattle.jr_model.specs.Frames.{AreSound}
 use Rattle.jr_frames.specs.Table.{Table}
-use Rattle.jr_frames.specs.Arrangements.{free_of, order_of}
 use Rattle.jr_frames.proofs.Sound.{sound}
 use Rattle.jr_frames.proofs.frames.Frames.are_sound.Goals as goal
 
 pub returns : goal.returns
 returns c = subst (λ (t : Table). AreSound t.frames) c.self.view_is
-    (sound c.self.inside (free_of c.self.inside) (order_of c.self.inside) c.self.invariant)
+    (sound c.self.inside c.self.invariant)

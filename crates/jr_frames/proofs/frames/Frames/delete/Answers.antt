@@ -1,22 +1,20 @@
-use Rattle.std.proofs.Common.{rules, ◌≡◌, ◌==◌, ◌+◌, ◌<◌, ◌≤◌, ◌∷◌, ℕ, List, cond, map, length}
-use Rattle.std.proofs.Common.{None, IsSome, slice_set, refl, sym, ap, subst, ◌∙◌, arith}
-use Rattle.std.proofs.lemmas.List.{length-set, get_or-set_same}
+use Rattle.std.proofs.Common.{rules, ◌≡◌, ◌==◌, ◌+◌, ◌<◌, ◌≤◌, ◌∷◌, ℕ, List, cond, length}
+use Rattle.std.proofs.Common.{None, IsSome, slice_set, refl, sym, ap, subst, ◌∙◌, lit<, arith}
+use Rattle.std.proofs.lemmas.List.{get_or-set_same}
 use Rattle.arrayvec.specs.ArrayVec.{ArrayVec}
 use Rattle.jr_model.specs.State.{Handle}
 use Rattle.jr_model.specs.Frames.{object_at, object_of, without_local}
 use Rattle.jr_frames.specs.declared.place.Place.{Place}
 use Rattle.jr_frames.specs.declared.frames.Frames.TheInside.{Inside as Fields}
 use Rattle.jr_frames.specs.Table.{Table, IsOnly}
-use Rattle.jr_frames.specs.Rings.{IsPutFirst}
 use Rattle.jr_frames.specs.Places.{given_of, unused, place_at}
-use Rattle.jr_frames.specs.Arrangements.{table, free_of, order_of, IsArranged, IsTable}
-use Rattle.jr_frames.proofs.Times.{without}
-use Rattle.jr_frames.proofs.Showing.{is_table, table_is}
+use Rattle.linked_lists.specs.Lists.{Lists, with_free}
+use Rattle.jr_frames.specs.Arrangements.{table, IsTable}
 use Rattle.jr_frames.proofs.FreePlaces.{free_few}
 use Rattle.jr_frames.proofs.Changing.{changed, with_place, with_place_is, changed_only}
-use Rattle.jr_frames.proofs.Still.{beside}
-use Rattle.jr_frames.proofs.Deleting.{standing_index, in_rings, around_end, emptied}
-use Rattle.jr_frames.proofs.Deleting.{retired_shows, returned_shows, is_deleted}
+use Rattle.jr_frames.proofs.Still.{may_put}
+use Rattle.jr_frames.proofs.Deleting.{standing_index, in_order, order_freed, emptied}
+use Rattle.jr_frames.proofs.Deleting.{retired_shows, freed_shows, is_deleted}
 use Rattle.jr_frames.proofs.frames.Frames.delete.Goals as goal
 
 -- the reference stands in the table inside
@@ -27,20 +25,15 @@ stands_inside t a h e s = subst (λ (u : Table). IsSome (object_of u.frames h)) 
 pub bounds-deref_mut-from : goal.bounds-deref_mut-from
 bounds-deref_mut-from c =
     rw (c.from.ensures, c.deref_mut.ensures.value)
-    (standing_index c.self.inside (free_of c.self.inside) (order_of c.self.inside) c.self.invariant c.args.handle
+    (standing_index c.self.inside c.self.invariant c.args.handle
     (stands_inside _ c.self.inside c.args.handle c.self.view_is c.requires))
 
-pub take_out-requires-clause-older : goal.take_out-requires-clause-older
-take_out-requires-clause-older c =
-    (beside c.self.inside (free_of c.self.inside) (order_of c.self.inside) c.self.invariant c.args.handle.index
-    (in_rings c.self.inside (free_of c.self.inside) (order_of c.self.inside) c.self.invariant c.args.handle
-    (stands_inside _ c.self.inside c.args.handle c.self.view_is c.requires))).older_low
-
-pub take_out-requires-clause-newer : goal.take_out-requires-clause-newer
-take_out-requires-clause-newer c =
-    (beside c.self.inside (free_of c.self.inside) (order_of c.self.inside) c.self.invariant c.args.handle.index
-    (in_rings c.self.inside (free_of c.self.inside) (order_of c.self.inside) c.self.invariant c.args.handle
-    (stands_inside _ c.self.inside c.args.handle c.self.view_is c.requires))).newer_low
+pub take_out-requires : goal.take_out-requires
+take_out-requires c = (
+  lit< tt,
+  in_order c.self.inside c.self.invariant c.args.handle
+      (stands_inside _ c.self.inside c.args.handle c.self.view_is c.requires),
+)
 
 -- the places once one was emptied, through the slice of them
 abbrev places_of : Fields → List Place → ℕ → ArrayVec Place
@@ -51,11 +44,6 @@ places_are : (a : Fields) (seen : List Place) (i j : ℕ) → seen ≡ a.places.
 places_are a seen i j e f =
     with_place_is a.places seen i j (λ place. record { low = place.low; high = place.high; object = 0 }) e f
 
--- as many places as before
-end_is : (a : Fields) (seen : List Place) (i j n : ℕ) → seen ≡ a.places.items → i ≡ j
-    → n ≡ length (places_of a seen i).items → n ≡ length a.places.items
-end_is a seen i j n e f m = m ∙ (ap length (places_are a seen i j e f) ∙ length-set a.places.items j (emptied a j))
-
 -- the emptied place has given as many handles
 given_same : (a : Fields) (seen read : List Place) (i j k n : ℕ) → seen ≡ a.places.items → i ≡ j
     → j < length a.places.items → read ≡ (places_of a seen i).items → k ≡ j → n ≡ given_of (place_at read k)
@@ -65,18 +53,16 @@ given_same a seen read i j k n e f l now same is =
     ∙ (ap (λ q. given_of (place_at (slice_set a.places.items j (emptied a j)) q)) same
     ∙ ap given_of (get_or-set_same a.places.items j (emptied a j) unused l)))
 
-pub put_first-requires-clause-newer : goal.put_first-requires-clause-newer
-put_first-requires-clause-newer c =
-    let around = around_end c.self.inside (free_of c.self.inside) (order_of c.self.inside) c.self.invariant
-    c.args.handle (stands_inside _ c.self.inside c.args.handle c.self.view_is c.requires)
-    c.take_out.new.self.links.items c.take_out.ensures in
-    let same = end_is c.self.inside c.deref_mut.result.now c.from.result c.args.handle.index c.len-end.result
-    c.deref_mut.ensures.value c.from.ensures c.len-end.ensures.value in
-    rw same around.1
+pub put_free-requires : goal.put_free-requires
+put_free-requires c =
+    let may = may_put c.self.inside c.self.invariant c.args.handle.index
+    (standing_index c.self.inside c.self.invariant c.args.handle
+    (stands_inside _ c.self.inside c.args.handle c.self.view_is c.requires)) c.take_out.new.self c.take_out.ensures in
+    (lit< tt, (may.0, may.1))
 
 pub overflow_add-self : goal.overflow_add-self
 overflow_add-self c =
-    let few = free_few c.self.inside (free_of c.self.inside) (order_of c.self.inside) c.self.invariant in
+    let few = free_few c.self.inside c.self.invariant in
     let most = c.self.invariant.few in
     search rules
 
@@ -85,16 +71,14 @@ overflow_add-self c =
 some : (c : goal.After-self-then-given-from-1) → IsSome (object_of (table c.self.inside).frames c.args.handle)
 some c = stands_inside _ c.self.inside c.args.handle c.self.view_is c.requires
 
-put : (c : goal.After-self-then-given-from-1) → IsPutFirst c.take_out.new.self.links.items
-    (length c.self.inside.places.items) c.args.handle.index c.put_first.new.self.links.items
-put c = subst (λ n. IsPutFirst c.take_out.new.self.links.items n c.args.handle.index c.put_first.new.self.links.items)
-    (end_is c.self.inside c.deref_mut.result.now c.from.result c.args.handle.index c.len-end.result
-    c.deref_mut.ensures.value c.from.ensures c.len-end.ensures.value) c.put_first.ensures
+freed : (c : goal.After-self-then-given-from-1)
+    → c.put_free.new.self ≡ order_freed c.self.inside c.self.invariant c.args.handle (some c)
+freed c = c.put_free.ensures ∙ ap (λ (l : Lists). with_free l (c.args.handle.index ∷ l.free)) c.take_out.ensures
 
 given_low : (c : goal.After-self-then-given-from-1)
     → given_of (place_at c.self.inside.places.items c.args.handle.index) ≤ c.self.inside.last
 given_low c =
-    let index = standing_index c.self.inside (free_of c.self.inside) (order_of c.self.inside) c.self.invariant
+    let index = standing_index c.self.inside c.self.invariant
     c.args.handle (some c) in
     let same =
     given_same c.self.inside c.deref_mut.result.now c.deref.result.now c.from.result c.args.handle.index c.from-2.result
@@ -105,47 +89,43 @@ given_low c =
 
 abbrev inside_free : goal.After-self-then-given-from-1 → Fields
 inside_free c = changed c.self.inside (c.self.inside.free + 1)
-    (places_of c.self.inside c.deref_mut.result.now c.from.result) c.put_first.new.self
+    (places_of c.self.inside c.deref_mut.result.now c.from.result) c.put_free.new.self
 
-shows_free : (c : goal.After-self-then-given-from-1) → IsArranged (inside_free c)
-    (c.args.handle.index ∷ free_of c.self.inside) (map (without c.args.handle.index) (order_of c.self.inside))
-shows_free c = returned_shows c.self.inside (free_of c.self.inside) (order_of c.self.inside) c.self.invariant
-    c.args.handle (some c) c.take_out.new.self.links.items c.take_out.ensures
+shows_free : (c : goal.After-self-then-given-from-1) → IsTable (inside_free c)
+shows_free c = freed_shows c.self.inside c.self.invariant c.args.handle (some c)
     (places_of c.self.inside c.deref_mut.result.now c.from.result) (places_are c.self.inside c.deref_mut.result.now
     c.from.result c.args.handle.index c.deref_mut.ensures.value c.from.ensures)
-    c.put_first.new.self (put c) (given_low c)
+    c.put_free.new.self (freed c) (given_low c)
 
 pub invariant_of-self : goal.invariant_of-self
-invariant_of-self c = is_table (shows_free c)
+invariant_of-self c = shows_free c
 
 pub returns-then-given-from-clause-deleted : goal.returns-then-given-from-clause-deleted
 returns-then-given-from-clause-deleted c =
-    ap (λ (t : Table). t.frames) (table_is (shows_free c))
-    ∙ (is_deleted c.self.inside (free_of c.self.inside) (order_of c.self.inside) c.self.invariant c.args.handle (some c)
-    c.take_out.new.self.links.items c.take_out.ensures
+    is_deleted c.self.inside c.self.invariant c.args.handle (some c)
     (places_of c.self.inside c.deref_mut.result.now c.from.result) (places_are c.self.inside c.deref_mut.result.now
     c.from.result c.args.handle.index c.deref_mut.ensures.value c.from.ensures)
-    (c.self.inside.free + 1) c.put_first.new.self
-    ∙ ap (λ (t : Table). without_local t.frames c.args.handle) c.self.view_is)
+    (c.self.inside.free + 1) c.put_free.new.self (ap (λ (l : Lists). l.lists) (freed c))
+    ∙ ap (λ (t : Table). without_local t.frames c.args.handle) c.self.view_is
 
 -- where one place is emptied, another object stands there alone
 only_emptied : (a : Fields) (is : IsTable a) (t : Table) → table a ≡ t → (h : Handle) → h.index < length a.places.items
     → (seen : List Place) (i : ℕ) → seen ≡ a.places.items → i ≡ h.index
-    → (now : Fields) → now ≡ changed a now.free (places_of a seen i) now.rings → IsTable now
+    → (now : Fields) → now ≡ changed a now.free (places_of a seen i) now.order → IsTable now
     → IsOnly t.frames h.index None (table now).frames
 only_emptied a is t e h l seen i same at now parts shows =
-    let only : IsOnly (table a).frames h.index None (table (changed a now.free (places_of a seen i) now.rings)).frames =
-    changed_only a (free_of a) (order_of a) is h.index l (emptied a h.index) (places_of a seen i)
-    (places_are a seen i h.index same at) _ _ now.free now.rings (subst IsTable parts shows) in
+    let only : IsOnly (table a).frames h.index None (table (changed a now.free (places_of a seen i) now.order)).frames =
+    changed_only a is h.index l (emptied a h.index) (places_of a seen i)
+    (places_are a seen i h.index same at) now.free now.order (subst IsTable parts shows) in
     λ p. ap (λ (b : Fields). object_at (table b).frames p) parts
     ∙ (only p ∙ ap (λ (u : Table). cond (h.index == p) None (object_at u.frames p)) e)
 
 pub returns-then-given-from-clause-only : goal.returns-then-given-from-clause-only
 returns-then-given-from-clause-only c =
-    let index = standing_index c.self.inside (free_of c.self.inside) (order_of c.self.inside) c.self.invariant
+    let index = standing_index c.self.inside c.self.invariant
     c.args.handle (some c) in
     only_emptied c.self.inside c.self.invariant _ c.self.view_is c.args.handle index c.deref_mut.result.now
-    c.from.result c.deref_mut.ensures.value c.from.ensures (inside_free c) refl (is_table (shows_free c))
+    c.from.result c.deref_mut.ensures.value c.from.ensures (inside_free c) refl (shows_free c)
 
 -- WHERE THE PLACE IS RETIRED
 
@@ -155,7 +135,7 @@ some_else c = stands_inside _ c.self.inside c.args.handle c.self.view_is c.requi
 given_high : (c : goal.Else-given-from)
     → c.self.inside.last < given_of (place_at c.self.inside.places.items c.args.handle.index)
 given_high c =
-    let index = standing_index c.self.inside (free_of c.self.inside) (order_of c.self.inside) c.self.invariant
+    let index = standing_index c.self.inside c.self.invariant
     c.args.handle (some_else c) in
     let same =
     given_same c.self.inside c.deref_mut.result.now c.deref.result.now c.from.result c.args.handle.index c.from-2.result
@@ -168,30 +148,26 @@ abbrev inside_retired : goal.Else-given-from → Fields
 inside_retired c = changed c.self.inside c.self.inside.free
     (places_of c.self.inside c.deref_mut.result.now c.from.result) c.take_out.new.self
 
-shows_retired : (c : goal.Else-given-from)
-    → IsArranged (inside_retired c) (free_of c.self.inside) (map (without c.args.handle.index) (order_of c.self.inside))
-shows_retired c = retired_shows c.self.inside (free_of c.self.inside) (order_of c.self.inside) c.self.invariant
-    c.args.handle (some_else c) c.take_out.new.self.links.items c.take_out.ensures
+shows_retired : (c : goal.Else-given-from) → IsTable (inside_retired c)
+shows_retired c = retired_shows c.self.inside c.self.invariant c.args.handle (some_else c)
     (places_of c.self.inside c.deref_mut.result.now c.from.result) (places_are c.self.inside c.deref_mut.result.now
     c.from.result c.args.handle.index c.deref_mut.ensures.value c.from.ensures)
-    c.take_out.new.self refl (given_high c)
+    c.take_out.new.self c.take_out.ensures (given_high c)
 
 pub invariant_of-self-else-given-from : goal.invariant_of-self-else-given-from
-invariant_of-self-else-given-from c = is_table (shows_retired c)
+invariant_of-self-else-given-from c = shows_retired c
 
 pub returns-else-given-from-clause-deleted : goal.returns-else-given-from-clause-deleted
 returns-else-given-from-clause-deleted c =
-    ap (λ (t : Table). t.frames) (table_is (shows_retired c))
-    ∙ (is_deleted c.self.inside (free_of c.self.inside) (order_of c.self.inside) c.self.invariant c.args.handle
-    (some_else c) c.take_out.new.self.links.items c.take_out.ensures
+    is_deleted c.self.inside c.self.invariant c.args.handle (some_else c)
     (places_of c.self.inside c.deref_mut.result.now c.from.result) (places_are c.self.inside c.deref_mut.result.now
     c.from.result c.args.handle.index c.deref_mut.ensures.value c.from.ensures)
-    c.self.inside.free c.take_out.new.self
-    ∙ ap (λ (t : Table). without_local t.frames c.args.handle) c.self.view_is)
+    c.self.inside.free c.take_out.new.self (ap (λ (l : Lists). l.lists) c.take_out.ensures)
+    ∙ ap (λ (t : Table). without_local t.frames c.args.handle) c.self.view_is
 
 pub returns-else-given-from-clause-only : goal.returns-else-given-from-clause-only
 returns-else-given-from-clause-only c =
-    let index = standing_index c.self.inside (free_of c.self.inside) (order_of c.self.inside) c.self.invariant
+    let index = standing_index c.self.inside c.self.invariant
     c.args.handle (some_else c) in
     only_emptied c.self.inside c.self.invariant _ c.self.view_is c.args.handle index c.deref_mut.result.now
-    c.from.result c.deref_mut.ensures.value c.from.ensures (inside_retired c) refl (is_table (shows_retired c))
+    c.from.result c.deref_mut.ensures.value c.from.ensures (inside_retired c) refl (shows_retired c)

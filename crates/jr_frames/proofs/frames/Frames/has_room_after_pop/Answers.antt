@@ -3,13 +3,12 @@ use Rattle.std.proofs.Common.{IsTrue, ◌↔◌, refl, sym, subst, ◌∙◌, ar
 use Rattle.jr_model.specs.Frames.{free_places, popped}
 use Rattle.jr_frames.specs.declared.frames.Frames.TheInside.{Inside as Fields}
 use Rattle.jr_frames.specs.Table.{Table}
-use Rattle.jr_frames.specs.Arrangements.{table, free_of, order_of, IsTable}
-use Rattle.jr_frames.proofs.PopRoom.{room_already, newest_ring, room_then, room_never}
+use Rattle.jr_frames.specs.Arrangements.{table, IsTable}
+use Rattle.jr_frames.proofs.PopRoom.{room_already, newest_frame, room_then, room_never}
 use Rattle.jr_frames.proofs.frames.Frames.has_room_after_pop.Goals as goal
 
-at_end : (a : Fields) (len : ℕ) → IsTable a → len ≡ length a.rings.links.items
-    → suc (len - 1) ≡ length a.rings.links.items
-at_end a len is e = let size = is.size in omega arith
+at_end : (a : Fields) (count : ℕ) → IsTable a → count ≡ length a.order.lists → suc (count - 1) ≡ length a.order.lists
+at_end a count is e = let some = is.some_frame in omega arith
 
 shown : (t : Table) (a : Fields) → table a ≡ t → 1 ≤ free_places a.last (popped (table a).frames)
     → 1 ≤ free_places t.last (popped t.frames)
@@ -26,21 +25,21 @@ decides false n some none = ((λ t. absurd cc), (λ l. absurd (let z = none refl
 
 pub returns-then-self-gt0 : goal.returns-then-self-gt0
 returns-then-self-gt0 c = (
-  (λ t. shown _ c.self.inside c.self.view_is (room_already c.self.inside (free_of c.self.inside)
-      (order_of c.self.inside) c.self.invariant (let some = c.if-self-gt0.true in omega arith))),
+  (λ t. shown _ c.self.inside c.self.view_is
+      (room_already c.self.inside c.self.invariant (let some = c.if-self-gt0.true in omega arith))),
   (λ l. refl),
 )
 
 pub any_gives_again-requires : goal.any_gives_again-requires
-any_gives_again-requires c = newest_ring c.self.inside (free_of c.self.inside) (order_of c.self.inside) c.self.invariant
-    (c.len.result - 1) (at_end c.self.inside c.len.result c.self.invariant c.len.ensures.value)
+any_gives_again-requires c = newest_frame c.self.inside c.self.invariant
+    (c.len.result - 1) (at_end c.self.inside c.len.result c.self.invariant c.len.ensures)
 
 pub returns : goal.returns
 returns c =
-    let end = at_end c.self.inside c.len.result c.self.invariant c.len.ensures.value in
+    let end = at_end c.self.inside c.len.result c.self.invariant c.len.ensures in
     decides c.any_gives_again.result _
-    (λ e. shown _ c.self.inside c.self.view_is (room_then c.self.inside (free_of c.self.inside) (order_of c.self.inside)
-    c.self.invariant (c.len.result - 1) end (sym c.any_gives_again.ensures ∙ e)))
+    (λ e. shown _ c.self.inside c.self.view_is
+    (room_then c.self.inside c.self.invariant (c.len.result - 1) end (sym c.any_gives_again.ensures ∙ e)))
     (λ e. shown_none _ c.self.inside c.self.view_is
-    (room_never c.self.inside (free_of c.self.inside) (order_of c.self.inside) c.self.invariant (c.len.result - 1) end
+    (room_never c.self.inside c.self.invariant (c.len.result - 1) end
     (sym c.any_gives_again.ensures ∙ e) (let zero_free = c.if-self-gt0.false in omega arith)))

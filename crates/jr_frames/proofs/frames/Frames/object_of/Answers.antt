@@ -4,7 +4,7 @@ use Rattle.jr_model.specs.Frames.{object_at, object_of}
 use Rattle.jr_frames.specs.declared.place.Place.{Place}
 use Rattle.jr_frames.specs.Table.{Table}
 use Rattle.jr_frames.specs.Places.{given_of, unused, place_at}
-use Rattle.jr_frames.specs.Arrangements.{table, free_of, order_of}
+use Rattle.jr_frames.specs.Arrangements.{table}
 use Rattle.jr_frames.proofs.Places.{object_in, object_at_place}
 use Rattle.jr_frames.proofs.Named.{not_zero, named_object, empty_object, unnamed_object}
 use Rattle.jr_frames.proofs.frames.Frames.object_of.Goals as goal
@@ -22,7 +22,7 @@ pub returns-in_err-place-clause-object : goal.returns-in_err-place-clause-object
 returns-in_err-place-clause-object c =
     let none = past_end _ _ _ _ c.deref.ensures.0 c.from.ensures c.in_err-place.ensures.lookup.3 in
     c.from_residual.ensures
-    ∙ sym (empty_object c.self.inside (free_of c.self.inside) (order_of c.self.inside) c.self.invariant c.args.handle
+    ∙ sym (empty_object c.self.inside c.self.invariant c.args.handle
     (ap (λ (x : Place). x.object) none))
     ∙ ap (λ (t : Table). object_of t.frames c.args.handle) c.self.view_is
 
@@ -31,7 +31,7 @@ returns-then-gave_last-clause-object c =
     let place = seen_place _ _ _ _ _ (c.in_ok-place.ensures.lookup.3.1 _) c.deref.ensures.0 c.from.ensures in
     let last = c.gave_last.ensures.0 c.if-gave_last.true in
     ap (λ (x : Place). Some x.object) place
-    ∙ sym (named_object c.self.inside (free_of c.self.inside) (order_of c.self.inside) c.self.invariant c.args.handle
+    ∙ sym (named_object c.self.inside c.self.invariant c.args.handle
     (subst (λ (x : Place). x.object ≢ 0) place c.if-place-ne0.true) last.0 (last.1 ∙ ap given_of place) last.2)
     ∙ ap (λ (t : Table). object_of t.frames c.args.handle) c.self.view_is
 
@@ -39,7 +39,7 @@ pub returns-then-gave_last-clause-place : goal.returns-then-gave_last-clause-pla
 returns-then-gave_last-clause-place c =
     let place = seen_place _ _ _ _ _ (c.in_ok-place.ensures.lookup.3.1 _) c.deref.ensures.0 c.from.ensures in
     sym (ap (λ (t : Table). object_at t.frames c.args.handle.index) c.self.view_is)
-    ∙ object_at_place c.self.inside (free_of c.self.inside) (order_of c.self.inside) c.self.invariant
+    ∙ object_at_place c.self.inside c.self.invariant
     c.args.handle.index
     ∙ sym (ap (λ (x : Place). object_in x) place)
     ∙ ap (λ b. cond b None (Some c.in_ok-place.place.now.object)) (not_zero _ c.if-place-ne0.true)
@@ -49,11 +49,11 @@ returns-else-place-ne0-clause-object c =
     let place = seen_place _ _ _ _ _ (c.in_ok-place.ensures.lookup.3.1 _) c.deref.ensures.0 c.from.ensures in
     let none : object_of (table c.self.inside).frames c.args.handle ≡ None = elim c.else-place-ne0.branch [
       | else-place-ne0-via-then-place-ne0+else-gave_last w ↦
-          unnamed_object c.self.inside (free_of c.self.inside) (order_of c.self.inside) c.self.invariant c.args.handle
+          unnamed_object c.self.inside c.self.invariant c.args.handle
           (λ l. let last = w.gave_last.ensures.1 (l.0, l.1 ∙ sym (ap given_of place), l.2) in
           let other = w.if-gave_last.false in absurd (cc (last, other)))
       | else-place-ne0-via-else-place-ne0 w ↦
-          empty_object c.self.inside (free_of c.self.inside) (order_of c.self.inside) c.self.invariant c.args.handle
+          empty_object c.self.inside c.self.invariant c.args.handle
           (sym (ap (λ (x : Place). x.object) place) ∙ w.if-place-ne0.false)
     ] in
     sym none ∙ ap (λ (t : Table). object_of t.frames c.args.handle) c.self.view_is

@@ -1,0 +1,11 @@
+pub mod Times
+pub mod Following
+pub mod Fresh
+pub mod Taking
+pub mod Putting
+pub mod Shown
+pub mod TakingOut
+pub mod LastList
+pub mod PuttingIn
+pub mod Reading
+pub mod Stacking
