@@ -52,6 +52,23 @@ tries_formed {waits = waits} form to (once_more o is t) =
     once_more (to _ _ _ o) (worth_formed waits form _ ∙ is) (tries_formed form to t)
 tries_formed form to (the_last o) = the_last (to _ _ _ o)
 
+-- what each try did of a part of what it is handed, as long as what `kept` says stays so
+pub tries_by : {M N A : Type 0} {one : M → Result A Fault → M → Type 0} {two : N → Result A Fault → N → Type 0}
+    {waits : Bool} {n : ℕ} {old new : M} {answer : Result A Fault} (part : M → N) (kept : M → Type 0)
+    → ((x y : M) (r : Result A Fault) → kept x → one x r y → two (part x) r (part y) × kept y) → kept old
+    → MadeAgain waits one n old answer new → MadeAgain waits two n (part old) answer (part new)
+tries_by part kept turn k (settled o is) = settled (turn _ _ _ k o).0 is
+tries_by part kept turn k (once_more o is t) =
+    let x = turn _ _ _ k o in once_more x.0 is (tries_by part kept turn x.1 t)
+tries_by part kept turn k (the_last o) = the_last (turn _ _ _ k o).0
+
+-- the last try had the answer
+pub tries_last : {M A : Type 0} {one : M → Result A Fault → M → Type 0} {waits : Bool} {n : ℕ} {old new : M}
+    {answer : Result A Fault} → MadeAgain waits one n old answer new → (mid : M) × one mid answer new
+tries_last (settled o is) = (_, o)
+tries_last (once_more o is t) = tries_last t
+tries_last (the_last o) = (_, o)
+
 module _ {S : Type 0} {facts : S → Facts} where
   module _ {A : Type 0} {deed : Deed A} {waits : Bool} where
     -- what each try did, as long as what `kept` says stays so

@@ -10,7 +10,7 @@ ghost use Rattle.jr_env.specs.Criticals.{HasEntered, WasRefused};
 ghost use Rattle.jr_env.specs.Turns.{TriesAgainToOpen, TriesToOpen};
 
 use crate::env::Env;
-use crate::patience::Patience;
+use crate::patience::{Patience, with_patience};
 use crate::work::outside;
 use jr_critical::Levels;
 use jr_model::Mode;
@@ -70,7 +70,8 @@ pub enum First {
 
 /// Opens a critical region, by the call for what its first level is over.
 fn open<S: Steps>(env: &mut Env<S>, first: First) -> Result<Levels, Fault>
-    ensures { TriesToOpen first env.old result env.new }
+    ensures tried { TriesToOpen first env.old result env.new }
+    ensures stand { IfOk result (λ v. StandOver v env.new.held) }
 {
     match first {
         First::Array(array) => open_array(env, array),
@@ -97,18 +98,7 @@ pub fn retry_open<S: Steps>(
     ensures tried { TriesAgainToOpen patience first env.old result env.new }
     ensures stand { IfOk result (λ v. StandOver v env.new.held) }
 {
-    for _ in 0..patience.more {
-        match open(env, first) {
-            Ok(levels) => return Ok(levels),
-            Err(fault) => {
-                if !patience.is_for_later(fault) {
-                    return Err(fault);
-                }
-            }
-        }
-        patience.pause();
-    }
-    open(env, first)
+    with_patience(env, patience, |env| open(env, first))
 }
 
 /// Adds a level over an array whose elements are no objects, and answers its number. An array may stand at several levels. The levels have to stand over the env. (JNI Specification, chapter 4, "GetPrimitiveArrayCritical")

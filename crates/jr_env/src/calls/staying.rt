@@ -1,6 +1,6 @@
 //! The calls that enter a stay, over any steps.
 use crate::env::Env;
-use crate::patience::Patience;
+use crate::patience::{Patience, with_patience};
 use crate::stay::Stay;
 use crate::work::go_inside;
 use jr_gate::Inside;
@@ -16,7 +16,7 @@ impl<S: Steps> Env<S> {
     ghost use Rattle.jr_env.specs.Envs.{IsOutside};
     ghost use Rattle.jr_env.specs.OpenStays.{BehindExit, Enters, EntersOver, StaysSince};
     ghost use Rattle.jr_env.specs.LentStays.{env_in, rests_within, WasEntered};
-    ghost use Rattle.jr_env.specs.Turns.{rests_trying, TriesAgainToStay};
+    ghost use Rattle.jr_env.specs.Turns.{rests_trying, TriesAgainToStay, TriesToStay};
 
     /// Enters a stay, in which calls are made without an entry and an exit of their own. The thread is within until it is ended, so that collections are kept out.
     ///
@@ -64,18 +64,7 @@ impl<S: Steps> Env<S> {
         ensures tried { TriesAgainToStay patience self.old (answer_in (λ i. tt) result) self.new }
         ensures own { IfOk result (λ i. IsOwnStay i (S.facts self.new.held.steps).stands) }
     {
-        for _ in 0..patience.more {
-            match self.enter_stay() {
-                Ok(inside) => return Ok(inside),
-                Err(fault) => {
-                    if !patience.is_for_later(fault) {
-                        return Err(fault);
-                    }
-                }
-            }
-            patience.pause();
-        }
-        self.enter_stay()
+        with_patience(self, patience, |env| env.enter_stay())
     }
 
     /// Enters the gate for a stay. One that a region left is ended first.
@@ -84,6 +73,7 @@ impl<S: Steps> Env<S> {
         ensures call { IsOutside self.old → EntersOver self.old.held self.new.held (answer_in (λ i. tt) result) }
         ensures left { BehindExit self.old.held (λ mid. Enters S.facts mid self.new.held.steps self.old.held.frames.frames (answer_in (λ i. tt) result)) }
         ensures frames { self.new.held.frames ≡ self.old.held.frames }
+        ensures tried { TriesToStay self.old (answer_in (λ i. tt) result) self.new }
         ensures own { IfOk result (λ i. IsOwnStay i (S.facts self.new.held.steps).stands) }
         ensures since { IfOk result (λ i. IsOutside self.old → StaysSince self.old.held self.new.held) }
         ensures refused { IfErr result (λ e. (e ≡ Barred) × IsOutside self.new) }

@@ -1,22 +1,11 @@
-use Rattle.std.proofs.Common.{Err, rules, arith}
-use Rattle.jr_env.specs.Tries.{settled}
-use Rattle.jr_env.proofs.MadeAgain.{tries_from_first, tries_once_more, tries_the_last}
+use Rattle.std.proofs.Common.{◌≡◌, rules, of_calls, refl}
+use Rattle.jr_env.proofs.MadeAgain.{tries_by, tries_last}
 use Rattle.jr_env.proofs.levels_beside.retry_open.Goals as goal
-
-pub loop-init : goal.loop-init
-loop-init g c = λ answer last t. tries_from_first c.args.patience.more t
-
-pub returns-in-Ok-clause-tried : goal.returns-in-Ok-clause-tried
-returns-in-Ok-clause-tried g c = c.loop.invariant _ _ (settled c.in-Ok.ensures (search rules))
-
-pub returns-then-not-is_for_later-clause-tried : goal.returns-then-not-is_for_later-clause-tried
-returns-then-not-is_for_later-clause-tried g c = c.loop.invariant _ _ (settled c.in-Err.ensures (search rules))
-
-pub loop-preserved : goal.loop-preserved
-loop-preserved g c = λ answer last t. c.loop.invariant _ _
-    (tries_once_more (Err c.in-Err.fault) c.args.patience.more c.loop.counter (omega arith) c.in-Err.ensures (search rules)
-    t)
 
 pub returns-clause-tried : goal.returns-clause-tried
 returns-clause-tried g c =
-    c.loop.invariant _ _ (tries_the_last c.args.patience.more c.loop.counter (omega arith) c.open-2.ensures)
+    tries_by (λ x. x.1) (λ x. x.0.0.now ≡ c.args.first) (λ x y r k o. search (rules, of_calls)) refl
+    c.with_patience.ensures.1
+
+pub returns-clause-stand : goal.returns-clause-stand
+returns-clause-stand g c = let last = tries_last c.with_patience.ensures.1 in search (rules, of_calls)
