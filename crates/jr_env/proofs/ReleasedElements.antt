@@ -53,7 +53,8 @@ module _ (kind : Kind) (w : ℕ) (buffer : List ℕ) where
   module _ {S : Type 0} {facts : S → Facts} {a b : S} {f g : Frames} (mode : Mode) (ne : mode ≢ Abort)
       (answer : Result (Unit {0}) Fault) where
     pub releases : DoesOutside facts a b f g (whole (for_copy_back kind w buffer)) answer
-        → DoesOutside facts a b f g (release_array_elements kind w buffer mode) (answer_in (λ u. kept mode buffer) answer)
+        → DoesOutside facts a b f g (release_array_elements kind w buffer mode)
+        (answer_in (λ u. kept mode buffer) answer)
     releases = does_more (λ p q x. written_back mode ne p q answer x)
 
     -- the same, made again

@@ -11,8 +11,8 @@ pub mod Turns
 pub mod Scopes
 pub mod Texts
 pub mod Works
-pub mod Watching
 pub mod Words
+pub mod Watching
 pub mod LentStays
 pub mod Moving
 pub mod StayLevels

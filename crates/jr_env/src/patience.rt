@@ -66,7 +66,7 @@ impl Patience {
     }
 
     /// Whether a refusal is worth another try.
-    pub(crate) fn is_for_later(self, fault: Fault) -> bool
+    fn is_for_later(self, fault: Fault) -> bool
         ensures { result ≡ is_worth_a_try {A = Unit {0}} self.waits_for_room (Err fault) }
     {
         let refused = Err::<(), Fault>(fault);
@@ -74,7 +74,7 @@ impl Patience {
     }
 
     /// Lets others run before the next try, where that is wanted.
-    pub(crate) fn pause(self) {
+    fn pause(self) {
         if self.yields {
             thread::yield_now();
         }
