@@ -27,25 +27,26 @@ module _ {N : Type 0} (explained : N → N → ℕ → Result Explanation Fault 
   ExaminesEach old new (w ∷ ws) xs = (x : Examined) × (rest : List Examined) × (mid : N) × (xs ≡ x ∷ rest)
       × Examines old mid w x × ExaminesEach mid new ws rest
 
-  module _ {W : Type 0} (thread : N → ℕ) (hears : W → W → Refusal → Type 0) where
-    -- THE WATCHER WAS TOLD of one refusal: whose it is, why, and of each word that was handed in what it is
-    pub record HasTold (old new : Checked N W) (words : List ℕ) (fault : Fault) : Type 0 where
-      pub refusal : Refusal
-      pub heard : hears old.watcher new.watcher refusal
-      pub whose : refusal.thread ≡ thread old.caller.now
-      pub why : refusal.fault ≡ fault
-      pub looks : ExaminesEach old.caller.now new.caller.now words (evidence_of refusal.evidence)
+module _ {N W : Type 0} (explained : N → N → ℕ → Result Explanation Fault → Type 0) (thread : N → ℕ)
+    (hears : W → W → Refusal → Type 0) where
+  -- THE WATCHER WAS TOLD of one refusal: whose it is, why, and of each word that was handed in what it is
+  pub record HasTold (old new : Checked N W) (words : List ℕ) (fault : Fault) : Type 0 where
+    pub refusal : Refusal
+    pub heard : hears old.watcher new.watcher refusal
+    pub whose : refusal.thread ≡ thread old.caller.now
+    pub why : refusal.fault ≡ fault
+    pub looks : ExaminesEach explained old.caller.now new.caller.now words (evidence_of refusal.evidence)
 
-    -- what stands behind the call beneath: where it was not refused that, and nothing was told; and else what was told
-    abbrev pub TellsOf : {A : Type 0} → Checked N W → Checked N W → List ℕ → Result A Fault → Type 0
-    TellsOf old new words (Ok x) = new ≡ old
-    TellsOf old new words (Err e) = HasTold old new words e
+  -- what stands behind the call beneath: where it was not refused that, and nothing was told; and else what was told
+  abbrev pub TellsOf : {A : Type 0} → Checked N W → Checked N W → List ℕ → Result A Fault → Type 0
+  TellsOf old new words (Ok x) = new ≡ old
+  TellsOf old new words (Err e) = HasTold old new words e
 
-    -- THE CALL'S ANSWER IS THAT OF THE CALLER BENEATH, and the watcher was told of it just where it is a refusal
-    pub record WasWatched {A : Type 0} (made : N → N → Request A → Result A Fault → Type 0) (old new : Checked N W)
-        (request : Request A) (answer : Result A Fault) : Type 0 where
-      pub same_reference : new.caller.ghost_name ≡ old.caller.ghost_name
-      pub mid : Checked N W
-      pub call : made old.caller.now mid.caller.now request answer
-      pub watcher : mid.watcher ≡ old.watcher
-      pub tells : TellsOf mid new (request_words request) answer
+  -- THE CALL'S ANSWER IS THAT OF THE CALLER BENEATH, and the watcher was told of it just where it is a refusal
+  pub record WasWatched {A : Type 0} (made : N → N → Request A → Result A Fault → Type 0) (old new : Checked N W)
+      (request : Request A) (answer : Result A Fault) : Type 0 where
+    pub same_reference : new.caller.ghost_name ≡ old.caller.ghost_name
+    pub mid : Checked N W
+    pub call : made old.caller.now mid.caller.now request answer
+    pub watcher : mid.watcher ≡ old.watcher
+    pub tells : TellsOf mid new (request_words request) answer
