@@ -25,7 +25,7 @@ use Rattle.jr_scripts.proofs.LoneRun.MeaningFits.{IsDone, Means}
 use Rattle.jr_scripts.proofs.LoneRun.MeaningParts.{room_means}
 use Rattle.jr_scripts.proofs.LoneRun.MeaningScopes.{pop_means, push_means}
 use Rattle.jr_scripts.proofs.LoneRun.MeaningDeeds.{made_once, was_formed}
-use Rattle.jr_scripts.proofs.LoneRun.CommandSteps.{Turn, Steps, made_call, same_after, even}
+use Rattle.jr_scripts.proofs.LoneRun.CommandSteps.{Turn, Steps, made_call, made_of_step, same_after, even}
 
 module _ {c : Config} {last turns j k : ℕ} {P : Pairing} {w : World} {old new : ThreadState} {p q : Place}
     {had told : Words} (s : Turn c last turns j k P w old new p q had told) where

@@ -25,7 +25,8 @@ use Rattle.jr_scripts.proofs.LoneRun.MeaningFrames.{Pairing}
 use Rattle.jr_scripts.proofs.LoneRun.MeaningStands.{Stepped, err_map, left_before}
 use Rattle.jr_scripts.proofs.LoneRun.CommandSteps.{Turn, Steps, referent_fits}
 use Rattle.jr_scripts.proofs.LoneRun.ObjectCommands.{plain_step, sized_step, text_step, filled_step}
-use Rattle.jr_scripts.proofs.LoneRun.ReferenceCommands.{local_step, same_step, drop_step, type_step}
+use Rattle.jr_scripts.proofs.LoneRun.ReferenceCommands.{drop_step, global_step, local_step, same_step, type_step}
+use Rattle.jr_scripts.proofs.LoneRun.ReferenceCommands.{weak_step}
 use Rattle.jr_scripts.proofs.LoneRun.FrameCommands.{ensure_step, push_step, pop_step}
 use Rattle.jr_scripts.proofs.LoneRun.NoteCommands.{post_step, wait_step}
 

@@ -70,9 +70,9 @@ module _ {c : Config} {last turns j k : ℕ} {P : Pairing} {w : World} {old new 
             old.frames (ap state seen) l.frames)) (fits_less le s.stands.fits);
       }
 
-  wait_then : k ≤ j → awaited old answer new → IsThen s P w
-  wait_then le (inl d) = learned_then le d.2
-  wait_then le (inr d) = nothing_then s d.1 le
+  wait_then : (answer : Result Reply Fault) → k ≤ j → awaited old answer new → IsThen s P w
+  wait_then answer le (inl d) = learned_then le d.2
+  wait_then answer le (inr d) = nothing_then s d.1 le
 
   pub wait_step : j ≡ k → (n : List ℕ) (answer : Result Reply Fault)
       → said_alone p.names had (commands.Make make.Wait n) old.pass.seen answer new.pass.seen
@@ -83,7 +83,7 @@ module _ {c : Config} {last turns j k : ℕ} {P : Pairing} {w : World} {old new 
       (answered_so (word_under had n) answer said)
     where
       i : IsThen s P w
-      i = wait_then (at_most one) d
+      i = wait_then answer (at_most one) d
 
       go : (o o' : Option ℕ) → MaybeWord P w o o' → answer ≡ reply_to_wait o
           → Steps s (commands.Make make.Wait n) answer (reply_to_wait o', w)

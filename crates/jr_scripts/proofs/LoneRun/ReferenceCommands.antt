@@ -4,16 +4,21 @@ use Rattle.std.proofs.Common.{arith}
 use Rattle.jr_word.specs.declared.config.Config.{Config}
 use Rattle.jr_word.specs.declared.fault.Fault.{Fault}
 use Rattle.jr_word.specs.declared.handle.Handle.{Handle as HandleWord}
-use Rattle.jr_word.specs.declared.handle.RefKind.TheVariants.{Local}
+use Rattle.jr_word.specs.declared.handle.RefKind.{RefKind}
+use Rattle.jr_word.specs.declared.handle.RefKind.TheVariants.{Local, Global, Weak}
 use Rattle.jr_model.specs.State.{Handle, same_kind}
+use Rattle.jr_model.specs.Calls.{Call}
 use Rattle.jr_model.specs.Checks.{Word, Nothing, Malformed, Parts, is_of_kind}
 use Rattle.jr_model.specs.References as references
+use Rattle.jr_model.proofs.Updates.{kind_self}
 use Rattle.jr_gate.specs.Performing.{ThreadState}
 use Rattle.jr_env.specs.Deeds.{Deed, decided, done, get_object_ref_type, is_same_object, ◌>>=◌, call_on_by}
 use Rattle.jr_syntax.specs.declared.name.Reference.{Reference}
 use Rattle.jr_syntax.specs.declared.command.Command.TheVariants as commands
 use Rattle.jr_scripts.specs.Commands.{deed, deleted_as, deleted_of, deletion, tried, type_of}
-use Rattle.jr_scripts.proofs.AloneDeeds.{delete_local_alone, local_ref_alone, same_alone, type_alone}
+use Rattle.jr_scripts.proofs.AloneCalls.{LeadsAlone}
+use Rattle.jr_scripts.proofs.AloneDeeds.{delete_alone, delete_local_alone, local_ref_alone, reference_alone}
+use Rattle.jr_scripts.proofs.AloneDeeds.{same_alone, type_alone}
 use Rattle.jr_scripts.specs.Meaning.{World, Meaning, goes_on, type_named}
 use Rattle.jr_scripts.proofs.LoneRun.MeaningCalls.{WordFits, delete_means, local_means, same_means, type_means}
 use Rattle.jr_syntax.specs.declared.verb.MakeFrom.TheVariants as make_from
@@ -29,12 +34,13 @@ use Rattle.jr_scripts.specs.Posting.{Words}
 use Rattle.jr_scripts.specs.AloneAnswers.{IsCommandFault}
 use Rattle.jr_scripts.proofs.Uncontended.{Asked}
 use Rattle.jr_scripts.specs.Meaning as meaning
+use Rattle.jr_scripts.proofs.LoneRun.MeaningRow.{delete_reference_means, reference_means}
 use Rattle.jr_scripts.proofs.LoneRun.MeaningFrames.{Pairing}
 use Rattle.jr_scripts.proofs.LoneRun.MeaningFits.{IsDone, IsSame, Means}
 use Rattle.jr_scripts.proofs.LoneRun.MeaningDeeds.{BindingFits, HandleFits, after_decided, formed, made_once, read_fits}
 use Rattle.jr_scripts.proofs.LoneRun.MeaningDeeds.{was_formed}
 use Rattle.jr_scripts.proofs.LoneRun.CommandSteps.{Turn, Steps, kept_step, nothing_then, made_call, word_call}
-use Rattle.jr_scripts.proofs.LoneRun.CommandSteps.{same_after, wanted_step, handles, even, at_most}
+use Rattle.jr_scripts.proofs.LoneRun.CommandSteps.{same_after, wanted_step, handles, even, at_most, made_of_step}
 
 module _ {c : Config} {last turns j k : ℕ} {P : Pairing} {w : World} {old new : ThreadState} {p q : Place}
     {had told : Words} (s : Turn c last turns j k P w old new p q had told) where
