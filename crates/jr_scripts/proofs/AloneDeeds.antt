@@ -164,19 +164,19 @@ module _ (turns : ℕ) (command : Asked) where
 
   -- THE CALLS AT OBJECTS, of a command that is about one
   module _ (object : WantsObject command.1) where
-    kind_alone : (w : ℕ) → LeadsAlone turns command (kind_of w)
+    pub kind_alone : (w : ℕ) → LeadsAlone turns command (kind_of w)
     kind_alone w = on_alone turns command (λ c. 1) w (λ c last t s a. objects.kind_reading c last t s a)
         (λ c last t s a reads one first. kind_uncontended s command c last t one first object a) (λ c last t s a.
         refusals_change_nothing c last t s _ (CallOf.kind_of a))
 
-    array_length_alone : ((s : State) → SomeObject s (λ k n. is_array k ≡ false) → LacksArray s command.1) → (w : ℕ)
+    pub array_length_alone : ((s : State) → SomeObject s (λ k n. is_array k ≡ false) → LacksArray s command.1) → (w : ℕ)
         → LeadsAlone turns command (get_array_length w)
     array_length_alone array w = on_alone turns command (λ c. 1) w
         (λ c last t s a. objects.length_reading c last t s is_array NotArray a) (λ c last t s a reads one first.
         length_uncontended s command c last t one first object is_array NotArray (λ some acts f. array s some) a)
         (λ c last t s a. refusals_change_nothing c last t s _ (CallOf.get_array_length a))
 
-    text_length_alone : ((s : State) → SomeObject s (λ k n. is_text k ≡ false) → LacksText s command.1) → (w : ℕ)
+    pub text_length_alone : ((s : State) → SomeObject s (λ k n. is_text k ≡ false) → LacksText s command.1) → (w : ℕ)
         → LeadsAlone turns command (get_string_length w)
     text_length_alone text w = on_alone turns command (λ c. 1) w
         (λ c last t s a. objects.length_reading c last t s is_text WrongKind a) (λ c last t s a reads one first.
@@ -186,7 +186,7 @@ module _ (turns : ℕ) (command : Asked) where
     module _ (i : ℕ) (array : (s : State) → SomeObject s (λ k n. is_array k ≡ false) → LacksArray s command.1)
         (index : (s : State) → SomeObject s (λ k n. (is_array k ≡ true) × (n ≤ i))
         → LacksIndex s command.0 command.1) where
-      get_alone : ((s : State) → SomeObject s (λ k n. is_primitive k ≡ true) → LacksElements s command.0 command.1)
+      pub get_alone : ((s : State) → SomeObject s (λ k n. is_primitive k ≡ true) → LacksElements s command.0 command.1)
           → ((last : ℕ) (f : Frames) → free_places last f ≡ 0 → LacksRoom last command.1 f) → (w : ℕ)
           → LeadsAlone turns command (get_object_array_element w i)
       get_alone element full w = answered_alone turns command _ (on_alone turns command (λ c. 1) w (λ c last t s a.
@@ -194,21 +194,21 @@ module _ (turns : ℕ) (command : Asked) where
           c last t one first object (array s) i (element s) (index s) (full last) a) (λ c last t s a.
           refusals_change_nothing c last t s _ (CallOf.get_object_array_element a i)))
 
-      set_alone : ((s : State) → SomeObject s (λ k n. is_primitive k ≡ true) → LacksElements s command.0 command.1)
+      pub set_alone : ((s : State) → SomeObject s (λ k n. is_primitive k ≡ true) → LacksElements s command.0 command.1)
           → (v w : ℕ) → LeadsAlone turns command (set_object_array_element v i w)
       set_alone element v w = on_both_alone turns command (λ c. 1) v w
           (λ c last t s a b. objects.element_writing c last t s a i b) (λ c last t s a b one first.
           element_writing_uncontended s command c last t one first object (array s) i (element s) (index s) a b)
           (λ c last t s a b. refusals_change_nothing c last t s _ (CallOf.set_object_array_element a i b))
 
-      read_alone : ((s : State) → SomeObject s (λ k n. is_array k ≡ true) → LacksElements s command.0 command.1)
+      pub read_alone : ((s : State) → SomeObject s (λ k n. is_array k ≡ true) → LacksElements s command.0 command.1)
           → (k : Kind) (w : ℕ) → LeadsAlone turns command (get_array_region k w i 1)
       read_alone element k w = on_alone turns command (λ c. 1) w
           (λ c last t s a. objects.part_reading c last t s k a i 1) (λ c last t s a reads one first.
           part_reading_uncontended s command c last t one first object (array s) i (element s) (index s) k a)
           (λ c last t s a. refusals_change_nothing c last t s _ (CallOf.get_array_region k a i 1))
 
-      write_alone : ((s : State) → SomeObject s (λ k n. is_array k ≡ true) → LacksElements s command.0 command.1)
+      pub write_alone : ((s : State) → SomeObject s (λ k n. is_array k ≡ true) → LacksElements s command.0 command.1)
           → (k : Kind) (w v : ℕ) → LeadsAlone turns command (set_array_region k w i (v ∷ []))
       write_alone element k w v = on_alone turns command (λ c. 1) w
           (λ c last t s a. objects.part_writing c last t s k a i (v ∷ [])) (λ c last t s a reads one first.

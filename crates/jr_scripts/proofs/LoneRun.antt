@@ -9,6 +9,8 @@ pub mod MeaningRefs
 pub mod MeaningCalls
 pub mod MeaningRow
 pub mod MeaningScopes
+pub mod MeaningObjects
+pub mod MeaningStores
 pub mod MeaningDeeds
 pub mod MeaningStands
 pub mod CommandSteps
@@ -16,6 +18,7 @@ pub mod ObjectCommands
 pub mod ReferenceCommands
 pub mod FrameCommands
 pub mod NoteCommands
+pub mod ElementCommands
 pub mod MeaningCommands
 pub mod MeaningRun
 use Rattle.std.proofs.Common.{◌≡◌, ℕ, Option, List, [], ◌∷◌}

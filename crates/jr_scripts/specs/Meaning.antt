@@ -626,6 +626,12 @@ IsCovered (commands.WithCount v n) = Unit {0}
 IsCovered (commands.MakeSized v n len) = Unit {0}
 IsCovered (commands.MakeFilled v n len r) = Unit {0}
 IsCovered (commands.MakeText v n units) = Unit {0}
+IsCovered (commands.On on.Len r) = Unit {0}
+IsCovered (commands.On on.TextLength r) = Unit {0}
+IsCovered (commands.MakeAt v n r i) = Unit {0}
+IsCovered (commands.SetAt v r i q) = Unit {0}
+IsCovered (commands.OnAt v r i) = Unit {0}
+IsCovered (commands.StoreAt v r i x) = Unit {0}
 IsCovered _ = ⊥
 
 -- THE TEXT OF A RUN IS WHAT ITS SCRIPT MEANS, where there are turns, serials have 32 bits, all commands are covered,

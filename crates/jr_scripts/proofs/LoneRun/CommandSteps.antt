@@ -34,7 +34,7 @@ use Rattle.jr_scripts.specs.Text.{names_after, printed, reference_made, says}
 use Rattle.jr_scripts.specs.AloneAnswers.{IsCommandFault}
 use Rattle.jr_scripts.specs.Runs.{IsUnbarred}
 use Rattle.jr_scripts.proofs.AloneCalls.{IsAlone, LeadsAlone}
-use Rattle.jr_scripts.proofs.LoneRun.MadeCalls.{IsSo}
+use Rattle.jr_scripts.proofs.LoneRun.MadeCalls.{IsSo, Made}
 use Rattle.jr_scripts.proofs.LoneRun.MeaningFrames.{Pairing}
 use Rattle.jr_scripts.proofs.LoneRun.MeaningFits.{Later, Fits, Fitting, Means, Outcome, fits_less, later_self}
 use Rattle.jr_scripts.proofs.LoneRun.MeaningDeeds.{IsPass, NamesFit, BindingFits, HandleFits, WordsFit, after_decided}
@@ -170,19 +170,27 @@ module _ {c : Config} {last turns j k : ℕ} {P : Pairing} {w : World} {old new 
         two = sets g q.names q.objects told
 
     module _ (fault : IfErr answer (IsCommandFault turns p.names x new.pass new.frames)) where
+      pub was_made : {A : Type 0} (form : A → Reply) (n : ℕ) (asked : Config → ℕ → ℕ → State → Call A)
+          (once : Result A Fault)
+          → IsMade n old new (asked old.pass.config old.pass.last old.pass.thread (state new.pass.seen)) once
+          → answer ≡ formed form once
+          → IsPass c last new.pass × Made c last 0 (asked c last 0 (state new.pass.seen)) (now old) once (now new)
+      was_made form n asked once made is =
+          let pass = pass_later c last old.pass new.pass made.ran.acts made.ran.did s.stands.pass in
+          let so = err_formed (IsSo c last (state new.pass.seen)) form once
+          (subst (λ z. IfErr z (IsSo c last (state new.pass.seen))) is (so_then x answer pass fault)) in
+          (pass, call_made c last asked old new once s.stands.pass s.alone s.all so n made)
+
       pub made_call : {A B : Type 0} {V : Fitting A B} (form : A → Reply) (n : ℕ)
           (asked : Config → ℕ → ℕ → State → Call A) (meant : Meaning B) (once : Result A Fault)
           → ((z : State) → Means c last j k V P w (asked c last 0 z) meant)
           → IsMade n old new (asked old.pass.config old.pass.last old.pass.thread (state new.pass.seen)) once
           → answer ≡ formed form once → CallMeant V once (meant w)
       made_call form n asked meant once means made is =
-          let pass = pass_later c last old.pass new.pass made.ran.acts made.ran.did s.stands.pass in
-          let so = err_formed (IsSo c last (state new.pass.seen)) form once
-          (subst (λ z. IfErr z (IsSo c last (state new.pass.seen))) is (so_then x answer pass fault)) in
+          let m = was_made form n asked once made is in
           record {
-            pass = pass;
-            outcome = (means (state new.pass.seen)).outcome (now old) (now new) once s.stands.fits
-                (call_made c last asked old new once s.stands.pass s.alone s.all so n made);
+            pass = m.0;
+            outcome = (means (state new.pass.seen)).outcome (now old) (now new) once s.stands.fits m.1;
           }
 
       -- one that is handed a word

@@ -12,7 +12,7 @@ use Rattle.jr_model.specs.declared.event.GateAct.{GateAct}
 use Rattle.jr_model.specs.declared.event.GateAct.TheVariants.{Enter, Knock, Leave}
 use Rattle.jr_model.specs.declared.event.Found.{Found}
 use Rattle.jr_model.specs.State.{Handle, State, EachPresent, IsOccupied}
-use Rattle.jr_model.specs.Steps.{act_after}
+use Rattle.jr_model.specs.Steps.{Needs, act_after}
 use Rattle.jr_model.specs.Frames.{Frames}
 use Rattle.jr_model.specs.History.{History, by, state, state_from, IsLegal, IsLegalFrom}
 use Rattle.jr_model.specs.Calls.{Call, ◌>>=◌, entered}
@@ -183,6 +183,7 @@ module _ (c : Config) (last t : ℕ) where
 
   -- the work of a call with a stay of its own
   pub record Stayed {A : Type 0} (work : Call A) (m : Moment) (answer : Result A Fault) (n : Moment) : Type 0 where
+    pub enters : Needs c last m.state (by t (Gate Enter))
     pub end : Moment
     pub made : Made work (gone m Enter) answer end
     pub leaves : n ≡ gone end Leave
@@ -204,13 +205,14 @@ module _ (c : Config) (last t : ℕ) where
           let s = act_after m.state t (Gate Enter) in
           let whole : map (by t) acts ≡ by t (Gate Enter) ∷ (xs ++ by t (Gate Leave) ∷ []) = ap (λ l. map (by t) l) d.1
           ∙ ap (λ l. by t (Gate Enter) ∷ l) (map-append (by t) d.0 (Gate Leave ∷ [])) in
-          let l = (legal_from_append c last s xs (by t (Gate Leave) ∷ [])).0
-          (subst (IsLegalFrom c last m.state) whole legal).1 in
+          let all = subst (IsLegalFrom c last m.state) whole legal in
+          let l = (legal_from_append c last s xs (by t (Gate Leave) ∷ [])).0 all.1 in
           let u = all_front (λ a. is_opposed a ≡ false) d.0 (Gate Leave ∷ []) (subst AreUnopposed d.1 free).1 in
           let end : Moment = moment (state_from s xs) n.frames in
           let there : n.state ≡ act_after end.state t (Gate Leave) =
           leads ∙ (ap (state_from m.state) whole ∙ state_from_append s xs (by t (Gate Leave) ∷ [])) in
           record {
+            enters = all.0;
             end = end;
             made = record {
               led = led_on m.state (Gate Enter ∷ []) r.led

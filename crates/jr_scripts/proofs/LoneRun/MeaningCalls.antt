@@ -3,7 +3,7 @@ use Rattle.std.proofs.Common.{◌≡◌, ◌≢◌, ℕ, zero, suc, ◌<◌, ◌
 use Rattle.std.proofs.Common.{Option, Some, None, List, [], ◌∷◌, ◌++◌, length, map, slice_index, slice_set, Result, Ok}
 use Rattle.std.proofs.Common.{refl, sym, ap, subst, ◌∙◌, arith, replicate}
 use Rattle.std.specs.List.{filter}
-use Rattle.std.proofs.lemmas.List.{length-append, length-replicate, length-set}
+use Rattle.std.proofs.lemmas.List.{length-append, length-replicate, length-set, get_or-replicate}
 use Rattle.std.proofs.lemmas.Bool.Decides.{nat_tests}
 use Rattle.jr_word.specs.declared.config.Config.{Config}
 use Rattle.jr_word.specs.declared.fault.Fault.{Fault}
@@ -22,29 +22,31 @@ use Rattle.jr_model.specs.Steps.{act_after}
 use Rattle.jr_model.specs.Frames.{Frames, IsAdded, adds, all_refs, is_held, object_of, object_where, without_local}
 use Rattle.jr_model.specs.Calls.{◌>>=◌, decided, done}
 use Rattle.jr_model.specs.Checks.{Word, Nothing, Malformed, Parts, is_local, is_out_of_bounds, is_foreign, type_found}
-use Rattle.jr_model.specs.Checks.{is_malformed, element_word, is_of_kind, kind_number, same_object, type_local}
+use Rattle.jr_model.specs.Checks.{is_malformed, is_objects, element_word, is_of_kind, kind_number, same_object}
+use Rattle.jr_model.specs.Checks.{type_local}
 use Rattle.jr_model.specs.Parts.{delete_local_at, drop_local, found_answer, local_answer, look, looked}
 use Rattle.jr_model.specs.References as references
 use Rattle.jr_model.proofs.Agreement.{added_sound, deleted_refs, deleted_sound, other_than}
 use Rattle.jr_model.proofs.Gone.{taken_is_gone}
 use Rattle.jr_model.proofs.Locals.{past_move, past_not_new}
 use Rattle.jr_model.proofs.Updates.{eq_true, eq_false, eq_other, eq_self, handle_true, kind_true}
-use Rattle.jr_scripts.specs.Meaning.{World, Ref, element_to, goes_on, is_ref_of, object_in, standing_at, type_in}
-use Rattle.jr_scripts.specs.Meaning.{put_last}
+use Rattle.jr_scripts.specs.Meaning.{World, Meaning, Ref, element_to, goes_on, is_ref_of, object_in, standing_at}
+use Rattle.jr_scripts.specs.Meaning.{type_in, put_last}
 use Rattle.jr_scripts.specs.Meaning as meaning
 use Rattle.jr_scripts.proofs.LoneRun.MadeCalls.{Moment, looked_first, moment, moment_is, stepped, still}
 use Rattle.jr_scripts.proofs.LoneRun.MeaningCounts.{few_after, found_before, found_last, given_long, past_here}
 use Rattle.jr_scripts.proofs.LoneRun.MeaningCounts.{bit_most, less_of, more_of, serial_most}
 use Rattle.jr_scripts.proofs.LoneRun.MeaningFrames.{Pairing, AreFrames, frames_later, frames_less, frames_put}
-use Rattle.jr_scripts.proofs.LoneRun.MeaningFits.{Later, RefFits, IsOwn, IsGiven, by_place, by_row, Fits, Fitting}
-use Rattle.jr_scripts.proofs.LoneRun.MeaningFits.{SameAnswer, IsDone, IsSame, found_local, found_of, found_own}
+use Rattle.jr_scripts.proofs.LoneRun.MeaningFits.{ElementFits, Later, RefFits, IsOwn, IsGiven, by_place, by_row, Fits}
+use Rattle.jr_scripts.proofs.LoneRun.MeaningFits.{Fitting, SameAnswer, IsDone, IsSame, found_local, found_of, found_own}
 use Rattle.jr_scripts.proofs.LoneRun.MeaningFits.{found_row, Means, unmoved, done_means, cond_means, bind_means}
 use Rattle.jr_scripts.proofs.LoneRun.MeaningFits.{bind_spends, else_means, entered_means, form_means, fits_less}
 use Rattle.jr_scripts.proofs.LoneRun.MeaningFits.{known_means, given_then, kind_of_ref, not_local, pass_means}
-use Rattle.jr_scripts.proofs.LoneRun.MeaningFits.{slots_count, slots_less}
+use Rattle.jr_scripts.proofs.LoneRun.MeaningFits.{slots_count, slots_less, answer_known, goes_on_same, goes_on_twice}
+use Rattle.jr_scripts.proofs.LoneRun.MeaningFits.{means_as}
 use Rattle.jr_model.proofs.Counts.{bit}
-use Rattle.jr_scripts.proofs.LoneRun.MeaningParts.{ObjectFits, OptionFits, object_later, option_later, object_means}
-use Rattle.jr_scripts.proofs.LoneRun.MeaningParts.{reserve_as_many, room_means}
+use Rattle.jr_scripts.proofs.LoneRun.MeaningParts.{Alike, ObjectFits, OptionFits, alike_later, object_later}
+use Rattle.jr_scripts.proofs.LoneRun.MeaningParts.{option_later, object_means, reserve_as_many, room_means}
 use Rattle.jr_scripts.proofs.LoneRun.MeaningRefs.{less_fit, more_fit, ref_before, ref_here, ref_named}
 
 -- WORDS AND ANSWERS
@@ -77,6 +79,13 @@ MaybeFits P w _ _ = ⊥
 
 pub new_maybe : (Q : Pairing) (v : World) (h : Handle) (n : ℕ) → NewFits Q v h n → MaybeFits Q v (Some h) n
 new_maybe Q v h n fits = subst (MaybeFits Q v (Some h)) (sym fits.1) (fits.2, fits.3)
+
+-- what comes of two objects, one after the other
+pub both_in_turn : {A : Type 0} (h : ℕ) (f : Option ℕ × Option ℕ → Meaning A) (r : Result (Option ℕ) Fault × World)
+    → goes_on f (goes_on (λ x z. goes_on (λ y u. (Ok (x, y), u)) (meaning.object h z)) r)
+    ≡ goes_on (λ x z. goes_on (λ y. f (x, y)) (meaning.object h z)) r
+both_in_turn h f r = goes_on_twice (λ x z. goes_on (λ y u. (Ok (x, y), u)) (meaning.object h z)) f r
+    ∙ goes_on_same (λ x z. goes_on_twice (λ y u. (Ok (x, y), u)) f (meaning.object h z)) r
 
 module _ (c : Config) (last k : ℕ) where
   -- A NEW LOCAL REFERENCE
@@ -192,27 +201,56 @@ module _ (c : Config) (last k : ℕ) where
   new_local_means P w None (Some o) fits = absurd fits
   new_local_means P w (Some p) None fits = absurd fits
 
+  -- so many elements that are all alike
+  all_alike : (P : Pairing) (w : World) (kind : Kind) (n word v : ℕ)
+      → ElementFits P.object (length w.objects) (is_objects kind) v word
+      → Alike P w kind (replicate n word) (replicate n v)
+  all_alike P w kind n word v fits = record {
+    kind = refl;
+    long = length-replicate n word ∙ sym (length-replicate n v);
+    words = λ i l.
+        let small : i < n = (let long = length-replicate n v in omega arith) in
+        subst (λ z. ElementFits P.object (length w.objects) (is_objects kind) z (slice_index (replicate n word) i))
+        (sym (get_or-replicate n i v 0 small)) (subst (ElementFits P.object (length w.objects) (is_objects kind) v)
+        (sym (get_or-replicate n i word 0 small)) fits);
+  }
+
+  zeros : (P : Pairing) (w : World) (b : Bool) → ElementFits P.object (length w.objects) b 0 0
+  zeros P w true = refl
+  zeros P w false = refl
+
+  pub element_fits : (P : Pairing) (w : World) (x y : Option ℕ) → OptionFits P w x y
+      → ElementFits P.object (length w.objects) true (element_to y) (element_word x)
+  element_fits P w None None fits = refl
+  element_fits P w (Some p) (Some o) fits = fits
+  element_fits P w None (Some o) fits = absurd fits
+  element_fits P w (Some p) None fits = absurd fits
+
   -- NEWPLAIN
-  -- a new object of these words, where as many are meant, and a local reference to it
-  made_means : (P : Pairing) (w : World) (kind : Kind) (ws ws' : List ℕ) → length ws ≡ length ws'
+  -- a new object of these words, where words that are alike are meant, and a local reference to it
+  made_means : (P : Pairing) (w : World) (kind : Kind) (ws ws' : List ℕ) → Alike P w kind ws ws'
       → Means c last k k NewFits P w (references.made c last 0 kind ws) (meaning.made c kind ws')
-  made_means P w kind ws ws' long = bind_means c last (room_means c last k {P = P} {w = w} 1) (λ Q v e x y _.
-      bind_means c last (reserve_as_many c last k Q v (length ws) (length ws') long) (λ R u e' x' y' _.
-      bind_means c last (object_means c last k kind R u ws ws') (λ S z e'' p o named. added_means S z o p named)))
+  made_means P w kind ws ws' alike = bind_means c last (room_means c last k {P = P} {w = w} 1) (λ Q v e x y _.
+      bind_means c last (reserve_as_many c last k Q v (length ws) (length ws') alike.long) (λ R u e' x' y' _.
+      bind_means c last (object_means c last k kind R u ws ws' (alike_later e' (alike_later e alike))) (λ S z e'' p o
+      named. added_means S z o p named)))
 
   pub plain_means : (P : Pairing) (w : World) → Means c last k k NewFits P w (references.new_plain c last 0)
       (meaning.made c Plain [])
-  plain_means P w = entered_means c last (made_means P w Plain [] [] refl)
+  plain_means P w = entered_means c last (made_means P w Plain [] []
+      (record { kind = refl; long = refl; words = λ i l. absurd (omega arith) }))
 
   -- NEWBOOLEANARRAY and its like
   pub array_means : (P : Pairing) (w : World) (kind : Kind) (n : ℕ)
       → Means c last k k NewFits P w (references.new_array c last 0 kind n) (meaning.made c kind (replicate n 0))
-  array_means P w kind n = entered_means c last (made_means P w kind (replicate n 0) (replicate n 0) refl)
+  array_means P w kind n = entered_means c last (made_means P w kind (replicate n 0) (replicate n 0)
+      (all_alike P w kind n 0 0 (zeros P w (is_objects kind))))
 
   -- NEWSTRING
   pub string_means : (P : Pairing) (w : World) (units : List ℕ)
       → Means c last k k NewFits P w (references.new_string c last 0 units) (meaning.made c Text units)
-  string_means P w units = entered_means c last (made_means P w Text units units refl)
+  string_means P w units = entered_means c last (made_means P w Text units units
+      (record { kind = refl; long = refl; words = λ i l. refl }))
 
   -- WHAT IS HANDED IN
 
@@ -341,7 +379,7 @@ module _ (c : Config) (last k : ℕ) where
       (λ z. goes_on (λ o. meaning.made c Objects (replicate n (element_to o))) (meaning.object g z))
   filled_means P w n a g some fits = entered_means c last (bind_means c last (resolved_means P w a g some fits)
       (λ Q v later x y same. made_means Q v Objects (replicate n (element_word x)) (replicate n (element_to y))
-      (length-replicate n (element_word x) ∙ sym (length-replicate n (element_to y)))))
+      (all_alike Q v Objects n (element_word x) (element_to y) (element_fits Q v x y same.0))))
 
   -- NEWLOCALREF
   pub local_means : (P : Pairing) (w : World) (a : Word) (g : ℕ) → 1 ≤ c.threads → WordFits P w a g
@@ -353,9 +391,6 @@ module _ (c : Config) (last k : ℕ) where
   -- ISSAMEOBJECT
 
   -- two objects are one where their numbers are
-  abbrev pub SameFits : Fitting (Option ℕ × Option ℕ) Bool
-  SameFits P w x b = same_object x.0 x.1 ≡ b
-
   same_fits : (P : Pairing) (w : World) (m : Moment) → Fits c last k P w m → (x y x' y' : Option ℕ)
       → OptionFits P w x x' → OptionFits P w y y' → same_object x y ≡ same_object x' y'
   same_fits P w m f None None None None one two = refl
@@ -371,8 +406,15 @@ module _ (c : Config) (last k : ℕ) where
   same_fits P w m f x None x' (Some u) one two = absurd two
   same_fits P w m f x (Some q) x' None one two = absurd two
 
-  both_means : (P : Pairing) (w : World) (a b : Word) (g h : ℕ) → 1 ≤ c.threads → WordFits P w a g → WordFits P w b h
-      → Means c last k k SameFits P w (references.resolved_both c last 0 a b) (meaning.same g h)
+  -- what two references are to, in a world that stays
+  abbrev pub BothFits : World → ℕ → Fitting (Option ℕ × Option ℕ) (Option ℕ × Option ℕ)
+  BothFits w g Q v x y =
+      OptionFits Q v x.0 y.0 × OptionFits Q v x.1 y.1 × (v ≡ w) × (meaning.object g w ≡ (Ok y.0, w))
+
+  pub both_means : (P : Pairing) (w : World) (a b : Word) (g h : ℕ) → 1 ≤ c.threads → WordFits P w a g
+      → WordFits P w b h
+      → Means c last k k (BothFits w g) P w (references.resolved_both c last 0 a b)
+      (λ v. goes_on (λ x z. goes_on (λ y u. (Ok (x, y), u)) (meaning.object h z)) (meaning.object g v))
   both_means P w a b g h some one two = known_means c last (λ m f.
       let s = sound P w m a g some f one in
       let t = sound P w m b h some f two in
@@ -382,16 +424,22 @@ module _ (c : Config) (last k : ℕ) where
       (pass_means c last (is_out_of_bounds c b) fault.Stale t.within
       (pass_means c last (is_foreign 0 a) Foreign s.mine
       (pass_means c last (is_foreign 0 b) Foreign t.mine
-      (bind_means c last (looked_means P w a g one) (λ Q v later x x' same.
-      bind_means c last (looked_means Q v b h (word_later later b h two)) (λ R u later' y y' same'.
-      known_means c last (λ n i. done_means c last {V = SameFits} (x, y) (same_object x' y')
-      (same_fits R u n i x y x' y' (option_later later' x x' same.0) same'.0)))))))))))
+      (bind_means c last {V = λ Q v x y. FoundFits w Q v x y × (meaning.object g w ≡ (Ok y, v))}
+      {next' = λ x z. goes_on (λ y u. (Ok (x, y), u)) (meaning.object h z)}
+      (answer_known c last (looked_means P w a g one)) (λ Q v later x x' same.
+      bind_means c last {next' = λ y u. (Ok (x', y), u)} (looked_means Q v b h (word_later later b h two))
+      (λ R u later' y y' same'. done_means c last {V = BothFits w g} (x, y) (x', y')
+      (option_later later' x x' same.0.0, same'.0, same'.1 ∙ same.0.1, same.1 ∙ ap (λ z. (Ok x', z)) same.0.1))))))))))
 
   pub same_means : (P : Pairing) (w : World) (a b : Word) (g h : ℕ) → 1 ≤ c.threads → WordFits P w a g
       → WordFits P w b h
       → Means c last k k (IsSame {A = Bool}) P w (references.is_same_object c last 0 a b) (meaning.same g h)
-  same_means P w a b g h some one two = entered_means c last (form_means c last {V = SameFits} {U = IsSame {A = Bool}}
-      (λ x. same_object x.0 x.1) (both_means P w a b g h some one two) (λ Q v x y same. same))
+  same_means P w a b g h some one two = entered_means c last (means_as c last
+      (both_in_turn h (λ y z. (Ok (same_object y.0 y.1), z)) (meaning.object g w))
+      (bind_means c last {V = BothFits w g} {next' = λ y z. (Ok (same_object y.0 y.1), z)}
+      (both_means P w a b g h some one two) (λ Q v later x y same.
+      known_means c last (λ m f. done_means c last {V = IsSame {A = Bool}} (same_object x.0 x.1) (same_object y.0 y.1)
+      (same_fits Q v m f x.0 x.1 y.0 y.1 same.0 same.1)))))
 
   -- GETOBJECTREFTYPE
 

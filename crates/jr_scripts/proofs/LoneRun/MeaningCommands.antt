@@ -10,9 +10,13 @@ use Rattle.jr_syntax.specs.declared.verb.Make.TheVariants as make
 use Rattle.jr_scripts.specs.Commands.{deed}
 use Rattle.jr_scripts.specs.Meaning.{IsCovered, World, meaning_at}
 use Rattle.jr_syntax.specs.declared.verb.MakeFrom.TheVariants as make_from
+use Rattle.jr_syntax.specs.declared.verb.MakeAt.TheVariants as make_at
 use Rattle.jr_syntax.specs.declared.verb.On.TheVariants as on
+use Rattle.jr_syntax.specs.declared.verb.OnAt.TheVariants as on_at
 use Rattle.jr_syntax.specs.declared.verb.OnBoth.TheVariants as on_both
 use Rattle.jr_syntax.specs.declared.verb.OnName.TheVariants as on_name
+use Rattle.jr_syntax.specs.declared.verb.SetAt.TheVariants as set_at
+use Rattle.jr_syntax.specs.declared.verb.StoreAt.TheVariants as store_at
 use Rattle.jr_syntax.specs.declared.verb.WithCount.TheVariants as with_count
 use Rattle.jr_scripts.specs.declared.reply.Reply.{Reply}
 use Rattle.jr_scripts.specs.Names.{referent}
@@ -27,6 +31,8 @@ use Rattle.jr_scripts.proofs.LoneRun.CommandSteps.{Turn, Steps, referent_fits}
 use Rattle.jr_scripts.proofs.LoneRun.ObjectCommands.{plain_step, sized_step, text_step, filled_step}
 use Rattle.jr_scripts.proofs.LoneRun.ReferenceCommands.{drop_step, global_step, local_step, same_step, type_step}
 use Rattle.jr_scripts.proofs.LoneRun.ReferenceCommands.{weak_step}
+use Rattle.jr_scripts.proofs.LoneRun.ElementCommands.{get_step, len_step, load_step, set_step, store_step}
+use Rattle.jr_scripts.proofs.LoneRun.ElementCommands.{text_length_step}
 use Rattle.jr_scripts.proofs.LoneRun.FrameCommands.{ensure_step, push_step, pop_step}
 use Rattle.jr_scripts.proofs.LoneRun.NoteCommands.{post_step, wait_step}
 
@@ -65,6 +71,13 @@ module _ {c : Config} {last turns j k : ℕ} {P : Pairing} {w : World} {old new 
   one_step (commands.OnName on_name.Post n) one answer covered d said fault = post_step s one n answer d
   one_step (commands.WithCount with_count.Push n) one answer covered d said fault = push_step s one n answer fault d
   one_step (commands.WithCount with_count.Ensure n) one answer covered d said fault = ensure_step s one n answer fault d
+  one_step (commands.On on.Len r) one answer covered d said fault = len_step s one r answer fault d
+  one_step (commands.On on.TextLength r) one answer covered d said fault = text_length_step s one r answer fault d
+  one_step (commands.OnAt on_at.Load r i) one answer covered d said fault = load_step s one r i answer fault d
+  one_step (commands.MakeAt make_at.Get n r i) one answer covered d said fault = get_step s one n r i answer fault d
+  one_step (commands.StoreAt store_at.Store r i z) one answer covered d said fault =
+      store_step s one r i z answer fault d
+  one_step (commands.SetAt set_at.Set r i t) one answer covered d said fault = set_step s one r i t answer fault d
   one_step x one answer covered d said fault = absurd covered
 
   at_place : (x : Command) (answer : Result Reply Fault) → Steps s x answer (meaning.outside c q.names told x w)

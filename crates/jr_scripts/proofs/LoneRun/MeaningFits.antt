@@ -1,7 +1,7 @@
 -- When a lone thread's moment is as the world of what its script means.
-use Rattle.std.proofs.Common.{◌≡◌, ◌≢◌, inl, inr, ℕ, ◌<◌, ◌≤◌, ◌+◌, Bool, true, false, cond, Option, Some, None}
-use Rattle.std.proofs.Common.{is_some, List, length, slice_index, Result, Ok, Err, IsSome, refl, sym, ap, subst, ◌∙◌}
-use Rattle.std.proofs.Common.{arith}
+use Rattle.std.proofs.Common.{◌≡◌, ◌≢◌, inl, inr, ℕ, zero, suc, ◌<◌, ◌≤◌, ◌+◌, Bool, true, false, cond, Option}
+use Rattle.std.proofs.Common.{Some, None, is_some, List, length, slice_index, Result, Ok, Err, IsSome, refl, sym, ap}
+use Rattle.std.proofs.Common.{subst, ◌∙◌, arith}
 use Rattle.jr_word.specs.declared.config.Config.{Config}
 use Rattle.jr_word.specs.declared.fault.Fault.{Fault}
 use Rattle.jr_word.specs.declared.handle.RefKind.{RefKind}
@@ -14,14 +14,15 @@ use Rattle.jr_model.specs.declared.frames.LocalRef.{LocalRef}
 use Rattle.jr_model.specs.Maps.{count_below}
 use Rattle.jr_model.specs.State.{Handle, Contents, is_there, same_kind}
 use Rattle.jr_model.specs.Steps.{IsInRow}
-use Rattle.jr_model.specs.Checks.{is_local}
+use Rattle.jr_model.specs.Checks.{is_local, is_objects}
 use Rattle.jr_model.specs.Frames.{Frames, AreSound, all_refs, free_places, is_held, object_of}
-use Rattle.jr_model.specs.Calls.{Call, ◌>>=◌, ◌>>◌, decided, done, entered, refuse_if}
+use Rattle.jr_model.specs.Calls.{Call, ◌>>=◌, ◌>>◌, decided, done, entered, refuse, refuse_if}
 use Rattle.jr_model.proofs.Counts.{bit}
 use Rattle.jr_model.proofs.Locals.{IsPast}
 use Rattle.jr_scripts.specs.Meaning.{World, Ref, Meaning, goes_on, is_ref_of, refs_of, refused_if, standing}
 use Rattle.jr_scripts.specs.Meaning.{standing_at}
 use Rattle.jr_scripts.proofs.LoneRun.MadeCalls.{Moment, Made, WasMadeOf, split, still, gone, stayed}
+use Rattle.jr_scripts.proofs.LoneRun.MeaningCounts.{all_stand}
 use Rattle.jr_scripts.proofs.LoneRun.MeaningFrames.{Pairing, AreFrames, all_places, frames_all}
 use Rattle.jr_scripts.proofs.LoneRun.MeaningSlots.{in_row, taken_at}
 
@@ -149,14 +150,64 @@ pub record SlotsFit (c : Config) (last k globals weaks : ℕ) (row : Handle → 
   pub one : (i : ℕ) → taken_at last (λ h. is_there (row h)) i ≤ 1
   pub few : (i : ℕ) → taken_at last given i + k ≤ last + taken_at last (λ h. is_there (row h)) i
 
+-- an element: the same word, but in an array of objects the number of an object that is meant, or none in both
+abbrev pub ElementFits : (ℕ → ℕ) → ℕ → Bool → ℕ → ℕ → Type 0
+ElementFits object n true zero word = word ≡ 0
+ElementFits object n true (suc o) word = (o < n) × (object o ≡ word)
+ElementFits object n false v word = v ≡ word
+
+-- what is meant by an object's contents, and what they are
+pub record AreAlike (object : ℕ → ℕ) (n : ℕ) (x y : Contents) : Type 0 where
+  pub kind : y.kind ≡ x.kind
+  pub long : length y.words ≡ length x.words
+  pub words : (i : ℕ) → i < length x.words
+      → ElementFits object n (is_objects x.kind) (slice_index x.words i) (slice_index y.words i)
+
+abbrev pub ContentsFit : (ℕ → ℕ) → ℕ → Option Contents → Option Contents → Type 0
+ContentsFit object n (Some x) (Some y) = AreAlike object n x y
+ContentsFit object n _ _ = ⊥
+
 -- THE OBJECTS ARE THOSE THAT ARE THERE, one for each number
 pub record ObjectsFit (c : Config) (object : ℕ → ℕ) (objects : List (Option Contents))
     (there : ℕ → Option Contents) : Type 0 where
   pub count : count_below (c.objects + 1) (λ o. is_some (there o)) ≡ length objects
-  pub all_objects : standing objects ≡ length objects
   pub no_zero : there 0 ≡ None
-  pub present : (o : ℕ) → o < length objects → IsSome (there (object o))
+  pub alike : (o : ℕ) → o < length objects
+      → ContentsFit object (length objects) (standing_at objects o) (there (object o))
   pub apart : (o p : ℕ) → o < length objects → p < length objects → object o ≡ object p → o ≡ p
+
+-- what is meant stands, and is there
+pub both_there : (object : ℕ → ℕ) (n : ℕ) (x y : Option Contents) → ContentsFit object n x y → IsSome x × IsSome y
+both_there object n (Some x) (Some y) fits = (refl, refl)
+both_there object n None y fits = absurd fits
+both_there object n (Some x) None fits = absurd fits
+
+-- what is meant stays so
+pub element_later : {object object' : ℕ → ℕ} {n k : ℕ} → n ≤ k → ((o : ℕ) → o < n → object' o ≡ object o) → (b : Bool)
+    (v word : ℕ) → ElementFits object n b v word → ElementFits object' k b v word
+element_later le same true zero word fits = fits
+element_later le same true (suc o) word fits = ((let small = fits.0 in omega arith), same o fits.0 ∙ fits.1)
+element_later le same false v word fits = fits
+
+pub contents_later : {object object' : ℕ → ℕ} {n k : ℕ} {x y : Contents} → n ≤ k
+    → ((o : ℕ) → o < n → object' o ≡ object o) → AreAlike object n x y → AreAlike object' k x y
+contents_later {x = x} {y = y} le same a = record {
+  kind = a.kind;
+  long = a.long;
+  words = λ i l. element_later le same (is_objects x.kind) (slice_index x.words i) (slice_index y.words i)
+      (a.words i l);
+}
+
+pub each_later : {object object' : ℕ → ℕ} {n k : ℕ} → n ≤ k → ((o : ℕ) → o < n → object' o ≡ object o)
+    → (x y : Option Contents) → ContentsFit object n x y → ContentsFit object' k x y
+each_later le same (Some x) (Some y) fits = contents_later le same fits
+each_later le same None y fits = absurd fits
+each_later le same (Some x) None fits = absurd fits
+
+pub every_stands : {c : Config} {object : ℕ → ℕ} {objects : List (Option Contents)} {there : ℕ → Option Contents}
+    → ObjectsFit c object objects there → standing objects ≡ length objects
+every_stands {object = object} {objects = objects} {there = there} f = all_stand objects
+    (λ o l. (both_there object (length objects) (standing_at objects o) (there (object o)) (f.alike o l)).0)
 
 -- THE MOMENT IS AS THE WORLD
 pub record Fits (c : Config) (last k : ℕ) (P : Pairing) (w : World) (m : Moment) : Type 0 where
@@ -259,6 +310,17 @@ IsDone P w x y = Unit {0}
 abbrev pub IsSame : {A : Type 0} → Fitting A A
 IsSame P w x y = x ≡ y
 
+-- one thing after another, put together otherwise
+pub goes_on_twice : {A B C : Type 0} (g : A → Meaning B) (h : B → Meaning C) (r : Result A Fault × World)
+    → goes_on h (goes_on g r) ≡ goes_on (λ x z. goes_on h (g x z)) r
+goes_on_twice g h (Ok x, z) = refl
+goes_on_twice g h (Err e, z) = refl
+
+pub goes_on_same : {A B : Type 0} {f g : A → Meaning B} → ((x : A) (z : World) → f x z ≡ g x z)
+    → (r : Result A Fault × World) → goes_on f r ≡ goes_on g r
+goes_on_same same (Ok x, z) = same x z
+goes_on_same same (Err e, z) = refl
+
 module _ (c : Config) (last : ℕ) where
   -- what comes of a call and of what it means:
   -- a later pairing, by which the moment is as the world, and answers that fit
@@ -342,21 +404,69 @@ module _ (c : Config) (last : ℕ) where
   test_means true false e same = absurd cc
   test_means false true e same = absurd cc
 
+  -- an answer that is given, and what follows
+  pub given_means : {A B C : Type 0} {V : Fitting B C} {P : Pairing} {w : World} {y : A} {next : A → Call B}
+      {q : Meaning C} {j k : ℕ} → Means j k V P w (next y) q → Means j k V P w (done y >>= next) q
+  given_means {A} {B} {C} {V} {P} {w} {y} {next} {q} {j} {k} means = record {
+    outcome = λ m n x f r. go m n x f (split c last 0 (done y) next m n x r);
+  }
+    where
+      go : (m n : Moment) (x : Result B Fault) → Fits c last j P w m → WasMadeOf c last 0 (done y) next m x n
+          → Outcome k V P w x (q w) n
+      go m n x f (inl d) =
+          let one = d.2 in
+          let same : d.1 ≡ m = still c last 0 {m = m} {n = d.1} one.acts (one.is).0 one.leads (one.is).2 in
+          let given : d.0 ≡ y = (let is = (one.is).1 in cc) in
+          means.outcome m n x f (subst (λ z. Made c last 0 (next z) m x n) given
+          (subst (λ z. Made c last 0 (next d.0) z x n) same d.3))
+      go m n x f (inr d) = absurd (let bad = (d.2.is).1 in cc)
+
   -- a test of the call alone, which lets it pass
   pub pass_means : {A B : Type 0} {V : Fitting A B} {P : Pairing} {w : World} {p : Call A} {q : Meaning B} {j k : ℕ}
       (b : Bool) (e : Fault) → b ≡ false → Means j k V P w p q → Means j k V P w (refuse_if b e >> p) q
   pass_means true e is means = absurd cc
-  pass_means {A} {B} {V} {P} {w} {p} {q} {j} {k} false e is means = record {
-    outcome = λ m n x f r. go m n x f (split c last 0 (refuse_if false e) (λ u. p) m n x r);
+  pass_means {p = p} false e is means = given_means {y = tt} {next = λ u. p} means
+
+  -- a refusal, after which nothing follows
+  pub refused_means : {A B C : Type 0} {V : Fitting B C} {P : Pairing} {w : World} {next : A → Call B} {k : ℕ}
+      (e : Fault)
+      → Means k k V P w (refuse e >>= next) (λ v. (Err e, v))
+  refused_means {A} {B} {C} {V} {P} {w} {next} {k} e = record {
+    outcome = λ m n x f r. go m n x f (split c last 0 (refuse e) next m n x r);
   }
     where
-      go : (m n : Moment) (x : Result A Fault) → Fits c last j P w m
-          → WasMadeOf c last 0 (refuse_if false e) (λ u. p) m x n → Outcome k V P w x (q w) n
-      go m n x f (inl d) =
+      go : (m n : Moment) (x : Result B Fault) → Fits c last k P w m → WasMadeOf c last 0 (refuse e) next m x n
+          → Outcome k V P w x (Err e, w) n
+      go m n x f (inl d) = absurd (let bad = (d.2.is).1 in cc)
+      go m n x f (inr d) =
           let one = d.2 in
-          let same : d.1 ≡ m = still c last 0 {m = m} {n = d.1} one.acts (one.is).0 one.leads (one.is).2 in
-          means.outcome m n x f (subst (λ z. Made c last 0 p z x n) same d.3)
-      go m n x f (inr d) = absurd (let bad = (d.2.is).1 in cc)
+          let told : ◌≡◌ {A = Fault} d.0 e = (let is = (one.is).1 in cc) in
+          unmoved {V = V} m n x (Err e) (Err e) f
+          (still c last 0 {m = m} {n = n} one.acts (one.is).0 one.leads (one.is).2)
+          (d.1 ∙ ap (λ (z : Fault). Err z) told) refl
+
+  -- what comes to the same
+  pub means_as : {A B : Type 0} {V : Fitting A B} {P : Pairing} {w : World} {p : Call A} {q q' : Meaning B} {j k : ℕ}
+      → q w ≡ q' w → Means j k V P w p q → Means j k V P w p q'
+  means_as {V = V} {P = P} {w = w} {k = k} is means = record {
+    outcome = λ m n x f r. subst (λ z. Outcome k V P w x z n) is (means.outcome m n x f r);
+  }
+
+  -- what follows may use what was answered
+  pub answer_known : {A B : Type 0} {V : Fitting A B} {P : Pairing} {w : World} {p : Call A} {q : Meaning B} {j k : ℕ}
+      → Means j k V P w p q → Means j k (λ Q v x y. V Q v x y × (q w ≡ (Ok y, v))) P w p q
+  answer_known {A} {B} {V} {P} {w} {p} {q} {j} {k} means = record {
+    outcome = λ m n x f r. go n x (q w) refl (means.outcome m n x f r);
+  }
+    where
+      go : (n : Moment) (x : Result A Fault) (r : Result B Fault × World) → q w ≡ r → Outcome k V P w x r n
+          → Outcome k (λ Q v x y. V Q v x y × (q w ≡ (Ok y, v))) P w x r n
+      go n (Ok x) (Ok y, v) is o =
+          record { pairing = o.pairing; later = o.later; fits = o.fits; answers = (o.answers, is) }
+      go n (Err e) (Err d, v) is o =
+          record { pairing = o.pairing; later = o.later; fits = o.fits; answers = o.answers }
+      go n (Ok x) (Err d, v) is o = absurd o.answers
+      go n (Err e) (Ok y, v) is o = absurd o.answers
 
   -- the answer in another form
   pub form_means : {A B C : Type 0} {V : Fitting A C} {U : Fitting B C} {P : Pairing} {w : World} {p : Call A}

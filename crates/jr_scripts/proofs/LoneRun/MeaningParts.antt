@@ -1,9 +1,8 @@
 -- What the parts of a lone thread's calls mean: room, objects, and words of array space.
-use Rattle.std.proofs.Common.{◌≡◌, ◌≢◌, ◌⊎◌, ⊎_elim, inl, inr, ℕ, zero, suc, ◌<◌, ◌≤◌, ◌+◌, ◌==◌, Bool, true, false}
+use Rattle.std.proofs.Common.{◌≡◌, ◌≢◌, inl, inr, ℕ, zero, suc, ◌<◌, ◌≤◌, ◌+◌, ◌==◌, Bool, true, false}
 use Rattle.std.proofs.Common.{nat_eq, nat_lt, Option, Some, None, IsSome, is_some, List, [], ◌∷◌, ◌++◌, length, map}
 use Rattle.std.proofs.Common.{Result, Ok, Err, refl, sym, ap, subst, ◌∙◌, arith}
-use Rattle.std.proofs.lemmas.Bool.{cases_lt}
-use Rattle.std.proofs.lemmas.List.{length-append}
+use Rattle.std.proofs.lemmas.List.{length-append, get_or_append_left, get_or_push}
 use Rattle.std.proofs.lemmas.Bool.Decides.{nat_tests}
 use Rattle.jr_word.specs.declared.config.Config.{Config}
 use Rattle.jr_word.specs.declared.fault.Fault.{Fault}
@@ -26,10 +25,11 @@ use Rattle.jr_model.proofs.Updates.{at_number, at_number_self, eq_self}
 use Rattle.jr_scripts.specs.Meaning.{World, Ref, Meaning, goes_on, standing, standing_at, refused_if, held}
 use Rattle.jr_scripts.specs.Meaning as meaning
 use Rattle.jr_scripts.proofs.LoneRun.MadeCalls.{Moment, AreUnopposed, Made, moment, moment_is, stepped, still}
-use Rattle.jr_scripts.proofs.LoneRun.MeaningCounts.{count_most, count_full, count_more, how_many_more}
+use Rattle.jr_scripts.proofs.LoneRun.MeaningCounts.{below_next, count_most, count_full, count_more}
 use Rattle.jr_scripts.proofs.LoneRun.MeaningFrames.{Pairing, frames_held, frames_later}
-use Rattle.jr_scripts.proofs.LoneRun.MeaningFits.{Later, RefFits, Fits, Fitting, SameAnswer, IsDone, Outcome, Means}
-use Rattle.jr_scripts.proofs.LoneRun.MeaningFits.{found_of, free_and_held, unmoved, test_means}
+use Rattle.jr_scripts.proofs.LoneRun.MeaningFits.{AreAlike, ContentsFit, both_there, contents_later, each_later}
+use Rattle.jr_scripts.proofs.LoneRun.MeaningFits.{every_stands, Later, RefFits, Fits, Fitting, SameAnswer, IsDone}
+use Rattle.jr_scripts.proofs.LoneRun.MeaningFits.{Outcome, Means, found_of, free_and_held, unmoved, test_means}
 
 -- an object
 abbrev pub ObjectFits : Fitting ℕ ℕ
@@ -44,6 +44,15 @@ OptionFits P w _ _ = ⊥
 pub object_later : {P Q : Pairing} {w v : World} {p o : ℕ} → Later P w Q v → ObjectFits P w p o → ObjectFits Q v p o
 object_later {o = o} l fits =
     ((let small = fits.0 in let grow = l.objects_grow in omega arith), l.objects o fits.0 ∙ fits.1)
+
+-- contents of a kind with these words, where those are meant
+abbrev pub Alike : Pairing → World → Kind → List ℕ → List ℕ → Type 0
+Alike P w kind ws ws' =
+    AreAlike P.object (length w.objects) (record { kind = kind; words = ws' }) (record { kind = kind; words = ws })
+
+pub alike_later : {P Q : Pairing} {w v : World} {x y : Contents} → Later P w Q v
+    → AreAlike P.object (length w.objects) x y → AreAlike Q.object (length v.objects) x y
+alike_later l a = contents_later l.objects_grow l.objects a
 
 pub option_later : {P Q : Pairing} {w v : World} → Later P w Q v → (x y : Option ℕ) → OptionFits P w x y
     → OptionFits Q v x y
@@ -120,47 +129,73 @@ module _ (c : Config) (last k : ℕ) where
     one_longer : (ws : List ℕ) → length (with_object ws).objects ≡ length w.objects + 1
     one_longer ws = length-append w.objects (Some (record { kind = kind; words = ws }) ∷ [])
 
-    module _ (ws ws' : List ℕ) (o : ℕ) (m : Moment) (f : Fits c last k P w m) (least : 1 ≤ o) (most : o ≤ c.objects)
-        (none : m.state.objects o ≡ None) where
+    module _ (ws ws' : List ℕ) (alike : Alike P w kind ws ws') (o : ℕ) (m : Moment) (f : Fits c last k P w m)
+        (least : 1 ≤ o) (most : o ≤ c.objects) (none : m.state.objects o ≡ None) where
       -- no number that was there means the new object
       another : (p : ℕ) → p < length w.objects → P.object p ≢ o
       another p small is =
-          absurd (let there = f.objects.present p small in
+          absurd (let there = (both_there P.object (length w.objects) (standing_at w.objects p)
+          (m.state.objects (P.object p)) (f.objects.alike p small)).1 in
           let here : IsSome (m.state.objects o) = subst (λ z. IsSome (m.state.objects z)) is there in
           let bad = subst (λ z. IsSome z) none here in cc)
 
+      -- what is so of each number that was there and of the new one is so of all
+      by_age : (Q : ℕ → Type 0) → ((p : ℕ) → p < length w.objects → Q p) → Q (length w.objects) → (p : ℕ)
+          → p < length (with_object ws').objects → Q p
+      by_age Q old new p small = below_next Q (length w.objects) old new p
+          (let long : length (with_object ws').objects ≡ length w.objects + 1 = one_longer ws' in omega arith)
+
       apart_then : (p q : ℕ) → p < length (with_object ws').objects → q < length (with_object ws').objects
           → (object_named o).object p ≡ (object_named o).object q → p ≡ q
-      apart_then p q small small' is =
-          let long : length (with_object ws').objects ≡ length w.objects + 1 = one_longer ws' in
-          ⊎_elim (λ (old : p < length w.objects). ⊎_elim
-          (λ (old' : q < length w.objects). f.objects.apart p q old old'
-          (sym (object_before o p old) ∙ (is ∙ object_before o q old')))
-          (λ (new' : length w.objects ≤ q). absurd (another p old (sym (object_before o p old) ∙ (is
-          ∙ (ap (object_named o).object (at_last q small' new') ∙ object_here o)))))
-          (cases_lt q (length w.objects)))
-          (λ (new : length w.objects ≤ p). ⊎_elim
-          (λ (old' : q < length w.objects). absurd (another q old' (sym (object_before o q old') ∙ (sym is
-          ∙ (ap (object_named o).object (at_last p small new) ∙ object_here o)))))
-          (λ (new' : length w.objects ≤ q). at_last p small new ∙ sym (at_last q small' new'))
-          (cases_lt q (length w.objects)))
-          (cases_lt p (length w.objects))
-        where
-          at_last : (p : ℕ) → p < length (with_object ws').objects → length w.objects ≤ p → p ≡ length w.objects
-          at_last p small new =
-              let long : length (with_object ws').objects ≡ length w.objects + 1 = one_longer ws' in omega arith
+      apart_then p q small small' = by_age (λ p. (object_named o).object p ≡ (object_named o).object q → p ≡ q)
+          (λ p old. by_age (λ q. (object_named o).object p ≡ (object_named o).object q → p ≡ q)
+          (λ q old' is. f.objects.apart p q old old' (sym (object_before o p old) ∙ (is ∙ object_before o q old')))
+          (λ is. absurd (another p old (sym (object_before o p old) ∙ (is ∙ object_here o)))) q small')
+          (by_age (λ q. (object_named o).object (length w.objects) ≡ (object_named o).object q → length w.objects ≡ q)
+          (λ q old' is. absurd (another q old' (sym (object_before o q old') ∙ (sym is ∙ object_here o))))
+          (λ is. refl) q small') p small
 
-      present_then : (p : ℕ) → p < length (with_object ws').objects
-          → IsSome (update nat_eq m.state.objects o (Some (record { kind = kind; words = ws }))
-          ((object_named o).object p))
-      present_then p small = at_number (λ q. IsSome (update nat_eq m.state.objects o (Some
-          (record { kind = kind; words = ws })) q))
-          P.object (length w.objects) p o
-          (λ e. at_number (λ y. IsSome y) m.state.objects o o (Some (record { kind = kind; words = ws })) (λ e'. refl)
-          (λ ne. absurd (ne refl)))
-          (λ ne. at_number (λ y. IsSome y) m.state.objects o (P.object p) (Some (record { kind = kind; words = ws }))
-          (λ e'. refl)
-          (λ ne'. f.objects.present p (let long = one_longer ws' in omega arith)))
+      abbrev there_then : ℕ → Option Contents
+      there_then = update nat_eq m.state.objects o (Some (record { kind = kind; words = ws }))
+
+      abbrev AlikeThen : ℕ → Type 0
+      AlikeThen p = ContentsFit (object_named o).object (length (with_object ws').objects)
+          (standing_at (with_object ws').objects p) (there_then ((object_named o).object p))
+
+      alike_then : (p : ℕ) → p < length (with_object ws').objects → AlikeThen p
+      alike_then = by_age AlikeThen before new
+        where
+          more : length w.objects ≤ length (with_object ws').objects
+          more = let long = one_longer ws' in omega arith
+
+          before : (p : ℕ) → p < length w.objects → AlikeThen p
+          before p small =
+              let n = length (with_object ws').objects in
+              let here : standing_at (with_object ws').objects p ≡ standing_at w.objects p =
+              get_or_append_left w.objects (Some (record { kind = kind; words = ws' }) ∷ []) None p small in
+              let there : there_then ((object_named o).object p) ≡ m.state.objects (P.object p) =
+              ap there_then (object_before o p small) ∙ at_number (λ z. z ≡ m.state.objects (P.object p))
+              m.state.objects o (P.object p) (Some (record { kind = kind; words = ws }))
+              (λ e. absurd (another p small (sym e))) (λ ne. refl) in
+              subst (λ z. ContentsFit (object_named o).object n z (there_then ((object_named o).object p))) (sym here)
+              (subst (ContentsFit (object_named o).object n (standing_at w.objects p)) (sym there)
+              (each_later more (object_before o) (standing_at w.objects p) (m.state.objects (P.object p))
+              (f.objects.alike p small)))
+
+          new : AlikeThen (length w.objects)
+          new =
+              let n = length (with_object ws').objects in
+              let here : standing_at (with_object ws').objects (length w.objects)
+              ≡ Some (record { kind = kind; words = ws' }) =
+              get_or_push w.objects (Some (record { kind = kind; words = ws' })) None (length w.objects) refl in
+              let there : there_then ((object_named o).object (length w.objects))
+              ≡ Some (record { kind = kind; words = ws }) =
+              ap there_then (object_here o)
+              ∙ at_number_self m.state.objects o (Some (record { kind = kind; words = ws })) in
+              subst (λ z. ContentsFit (object_named o).object n z
+              (there_then ((object_named o).object (length w.objects)))) (sym here)
+              (subst (ContentsFit (object_named o).object n (Some (record { kind = kind; words = ws' }))) (sym there)
+              (contents_later more (object_before o) alike))
 
       object_fits : Fits c last k (object_named o) (with_object ws')
           (moment (act_after m.state 0 (New o kind ws)) m.frames)
@@ -186,11 +221,9 @@ module _ (c : Config) (last k : ℕ) where
             objects = record {
               count = count_more (c.objects + 1) m.state.objects o (record { kind = kind; words = ws }) (omega arith)
                   none ∙ (ap (λ n. n + 1) old.count ∙ sym (one_longer ws'));
-              all_objects = how_many_more (λ x. is_some x) w.objects (Some (record { kind = kind; words = ws' }))
-                  ∙ (ap (λ n. n + 1) old.all_objects ∙ sym (one_longer ws'));
               no_zero = at_number (λ y. y ≡ None) m.state.objects o 0 (Some (record { kind = kind; words = ws }))
                   (λ e. absurd (omega arith)) (λ ne. old.no_zero);
-              present = present_then;
+              alike = alike_then;
               apart = apart_then;
             };
             used = f.used;
@@ -202,7 +235,7 @@ module _ (c : Config) (last k : ℕ) where
     full_then m f all =
         let old = f.objects in
         let n = count_full c.objects (λ o. is_some (m.state.objects o)) (ap (λ y. is_some y) old.no_zero) all in
-        let e = old.count in let s = old.all_objects in
+        let e = old.count in let s = every_stands old in
         let is : standing w.objects ≡ c.objects = omega arith in
         ap (λ x. x == c.objects) is ∙ eq_self c.objects
 
@@ -216,13 +249,14 @@ module _ (c : Config) (last k : ℕ) where
         ap (λ y. is_some y) (at_number (λ y. y ≡ None) m.state.objects o 0 (Some x) (λ e. absurd (omega arith))
         (λ ne. old.no_zero)) in
         let top = count_most c.objects (λ p. is_some (update nat_eq m.state.objects o (Some x) p)) zero_still in
-        let e = old.count in let s = old.all_objects in
+        let e = old.count in let s = every_stands old in
         let less : standing w.objects < c.objects = omega arith in
         grind (arith, nat_tests)
 
-    pub object_means : (ws ws' : List ℕ) → Means c last k k ObjectFits P w (publish kind ws)
-        (meaning.new_object c kind ws')
-    object_means ws ws' = record { outcome = λ m n x f r. go m n x f r r.is (standing w.objects == c.objects) refl }
+    pub object_means : (ws ws' : List ℕ) → Alike P w kind ws ws'
+        → Means c last k k ObjectFits P w (publish kind ws) (meaning.new_object c kind ws')
+    object_means ws ws' alike =
+        record { outcome = λ m n x f r. go m n x f r r.is (standing w.objects == c.objects) refl }
       where
         Rest : Unit {0} → Meaning ℕ
         Rest u v = (
@@ -262,7 +296,7 @@ module _ (c : Config) (last k : ℕ) where
               fits = subst (Fits c last k (object_named o) (with_object ws'))
                   (sym (moment_is n.state (act_after m.state 0 (New o kind ws)) n.frames m.frames
                   (stepped c last 0 m n r.acts (New o kind ws) d.1 r.leads) d.3))
-                  (object_fits ws ws' o m f i.0 i.1 i.2);
+                  (object_fits ws ws' alike o m f i.0 i.1 i.2);
               answers = subst (λ z. SameAnswer (ObjectFits (object_named o) (with_object ws')) z (Ok
                   (length w.objects))) (sym d.2) ((omega arith), object_here o);
             }

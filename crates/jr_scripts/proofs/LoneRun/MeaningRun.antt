@@ -48,7 +48,7 @@ use Rattle.jr_scripts.specs.Meaning.{first_world}
 use Rattle.jr_scripts.proofs.LoneRun.MadeCalls.{Moment, IsSo, stayed}
 use Rattle.jr_scripts.proofs.LoneRun.MeaningFrames.{Pairing, no_frame, no_local, one_frame}
 use Rattle.jr_scripts.proofs.LoneRun.MeaningSlots.{at_index, in_row, taken_at}
-use Rattle.jr_scripts.proofs.LoneRun.MeaningFits.{Fits}
+use Rattle.jr_scripts.proofs.LoneRun.MeaningFits.{Fits, every_stands}
 use Rattle.jr_scripts.proofs.LoneRun.MeaningScopes.{SameTables, drops_keep}
 use Rattle.jr_scripts.proofs.LoneRun.MeaningDeeds.{BindingFits, IsPass, call_made, made_once, now}
 use Rattle.jr_scripts.proofs.LoneRun.MeaningCommands.{step}
@@ -113,9 +113,8 @@ module _ (c : Config) (last turns : ℕ) (one : c.threads ≡ 1) (some_turns : t
     };
     objects = record {
       count = sum_zero (c.objects + 1) (λ o. 0) (λ o. refl);
-      all_objects = refl;
       no_zero = refl;
-      present = λ o l. absurd (omega arith);
+      alike = λ o l. absurd (omega arith);
       apart = λ o p l m. absurd (omega arith);
     };
     slots = record {
@@ -248,7 +247,7 @@ module _ (c : Config) (last turns : ℕ) (one : c.threads ≡ 1) (some_turns : t
       (ap (λ z. in_row c.slots last (λ h. is_there (z h)) Global) same.refs ∙ f.slots.globals_are)
       (ap (λ z. in_row c.slots last (λ h. is_there (z h)) Weak) same.refs ∙ f.slots.weaks_are)
       (ap (λ t. count_below (c.objects + 1) (λ o. is_some (t o))) same.objects
-      ∙ (f.objects.count ∙ sym f.objects.all_objects))
+      ∙ (f.objects.count ∙ sym (every_stands f.objects)))
       (same.used ∙ f.used)
 
   pub run_means : (part : ThreadPart) (text : List ℕ) → how_many gives_up part.commands ≤ last
