@@ -188,8 +188,8 @@ def words_of(head):
 
 
 def is_spelled(owner, head):
-    """Tells whether the prover's name for a type, with its trait, is made of words of the head: `NotesUnitBoard` and `StepsOver+PlainCells+LAST+unit` are."""
-    words = "|".join(form for it in sum(words_of(head), []) for form in (it, it[:1].upper() + it[1:], it[:1].lower() + it[1:]))
+    """Tells whether the prover's name for a type, with its trait, is made of words of the head: `NotesUnitBoard` and `StepsOver+PlainCells+LAST+unit` are. The prover's word for a type that is a parameter is `Any`."""
+    words = "|".join(form for it in [*sum(words_of(head), []), "Any"] for form in (it, it[:1].upper() + it[1:], it[:1].lower() + it[1:]))
     return bool(re.fullmatch(rf"(?:{words}|\+)+", owner))
 
 

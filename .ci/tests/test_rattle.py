@@ -18,6 +18,7 @@ HEADS = {
     "impl<Q: Site, const LAST: u32> Board<RoomSteps<'_, LAST>> for Notes<'_, Told<Q>>": "place::NotesToldBoardRoomSteps",
     "impl<'r, const LAST: u32> Cells<&'r Room<LAST>> for RoomCells<'r>": "place::RoomCellsCellsRefRoom",
     "impl<const LAST: u32> Cells<()> for PlainCells<LAST>": "place::PlainCellsCellsUnit",
+    "impl<S: Steps, N: NativeCaller<S>> NativeInterface<S> for N": "place::AnyNativeInterface",
     "impl<const LAST: u32> StepsOver<PlainCells<LAST>, ()>": "place::StepsOver+PlainCells+LAST+unit",
     "impl From<Reason> for Trouble": "place::TroubleFromReason",
     "impl fmt::Display for Trouble": "place::TroubleDisplay",
