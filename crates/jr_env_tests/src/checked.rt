@@ -27,13 +27,22 @@ impl Watcher for Tally {
     }
 }
 
-/// Checks the line of the last refusal.
-fn said(rt: &impl Abort, alloc: Global, tally: &Tally, wanted: &str) -> Result<(), Fail> {
-    match tally.last {
-        Some(last) => assert_eq!(rt; format!(in alloc; "{last}")?.as_str(), wanted),
+/// Checks the line of a refusal.
+fn said(rt: &impl Abort, alloc: Global, last: Option<Refusal>, wanted: &str) -> Result<(), Fail> {
+    match last {
+        Some(refusal) => assert_eq!(rt; format!(in alloc; "{refusal}")?.as_str(), wanted),
         None => Err("no refusal was told")?,
     }
     Ok(())
+}
+
+/// The env, with a tally that was told nothing.
+fn watched<S: Steps>(caller: &mut Env<S>) -> Checked<'_, Env<S>, Tally> {
+    let watcher = Tally {
+        counts: [0; 24],
+        last: None,
+    };
+    Checked { caller, watcher }
 }
 
 /// Each refused call is told with what its words are, and one that is not refused isn't.
@@ -44,14 +53,7 @@ pub(crate) fn are_told<S: Steps>(
 ) -> Result<(), Fail> {
     let string = env.new_string(&[7])?;
     let array = env.new_array::<i32>(2)?;
-    let watcher = Tally {
-        counts: [0; 24],
-        last: None,
-    };
-    let mut checked = Checked {
-        caller: env,
-        watcher,
-    };
+    let mut checked = watched(env);
     checked.get_array_length(array)?;
     assert!(rt; checked.watcher.last.is_none());
     let refused = checked.get_array_length(string);
@@ -59,7 +61,7 @@ pub(crate) fn are_told<S: Steps>(
     said(
         rt,
         alloc,
-        &checked.watcher,
+        checked.watcher.last,
         "thread 0: GetArrayLength: E5, the object is not an array; 0x1 is a local reference to a String",
     )?;
     let refused = checked.is_same_object(array, Handle(u64::MAX));
@@ -67,7 +69,7 @@ pub(crate) fn are_told<S: Steps>(
     said(
         rt,
         alloc,
-        &checked.watcher,
+        checked.watcher.last,
         "thread 0: IsSameObject: E2, no reference of this word stands; 0x400000001 is a local reference to an int[]; 0xffffffffffffffff is no handle",
     )?;
     let refused = checked.new_array::<i64>(u32::MAX);
