@@ -22,9 +22,9 @@ use Rattle.jr_threads.specs.Parts.{ComesOfDeed}
 
 -- what a thread found: the first, how many threads were inside as a collection was refused, whether its weak
 -- reference is to null, and the type of its global one, once it is deleted; the second, the word of an element
-pub data Found : Type 0 where
-  Shared : ℕ → Bool → ℕ → Found
-  Visited : ℕ → Found
+pub data Findings : Type 0 where
+  Shared : ℕ → Bool → ℕ → Findings
+  Visited : ℕ → Findings
 
 -- the word of a reference that was made, 0 for NULL
 abbrev pub word_made : Option Handle → ℕ
@@ -80,7 +80,7 @@ clearing weak global = do
   done (cleared, kind)
 
 -- THE FIRST THREAD does this
-abbrev pub sharing : Deed Found
+abbrev pub sharing : Deed Findings
 sharing = do
   words ← preparing
   inside ← collecting_twice
@@ -120,7 +120,7 @@ reading_within global = do
 
 -- THE SECOND THREAD is handed the global reference's word, and makes two objects in a frame;
 -- and it reads an element of the array that the word names
-abbrev pub visiting : Deed Found
+abbrev pub visiting : Deed Findings
 visiting = do
   global ← is_handed
   push_local_frame 4
@@ -131,6 +131,6 @@ visiting = do
   done (Visited word)
 
 -- what the thread of a number does
-abbrev pub story : ℕ → Deed Found
+abbrev pub story : ℕ → Deed Findings
 story zero = sharing
 story (suc t) = visiting

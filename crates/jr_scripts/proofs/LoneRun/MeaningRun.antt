@@ -30,7 +30,7 @@ use Rattle.jr_scripts.specs.declared.reply.Reply.{Reply}
 use Rattle.jr_scripts.specs.Names.{name_order, or_nothing}
 use Rattle.jr_scripts.specs.declared.binding.Binding.{Binding}
 use Rattle.jr_scripts.specs.Places.{Place, place_after}
-use Rattle.jr_scripts.specs.Posting.{Words, said_alone, words_after}
+use Rattle.jr_scripts.specs.Posting.{ThreadWords, said_alone, words_after}
 use Rattle.jr_scripts.specs.Explains.{Explains, nothing, then}
 use Rattle.jr_scripts.specs.RegionCommands.{giving_up_all}
 use Rattle.jr_scripts.specs.Text.{heading, ending, printed}
@@ -135,20 +135,21 @@ module _ (c : Config) (last turns : ℕ) (one : c.threads ≡ 1) (some_turns : t
 
   -- what is told of commands is what was printed
   record IsTold (k : ℕ) (commands : List Command) (text : List ℕ) (new : ThreadState) (place : Place)
-      (words : Words) : Type 0 where
+      (words : ThreadWords) : Type 0 where
     pub pairing : Pairing
     pub stands : Stands c last k pairing (told_from c 3 commands (first_told memory)).world new place
         (told_from c 3 commands (first_told memory)).place words (told_from c 3 commands (first_told memory)).words
     pub text_is : text ≡ (told_from c 3 commands (first_told memory)).text
 
   -- what is so of it
-  record TellsSo (k : ℕ) (t : Told) (text : List ℕ) (new : ThreadState) (place : Place) (words : Words) : Type 0 where
+  record TellsSo (k : ℕ) (t : Told) (text : List ℕ) (new : ThreadState) (place : Place)
+      (words : ThreadWords) : Type 0 where
     pub pairing : Pairing
     pub stands : Stands c last k pairing t.world new place t.place words t.words
     pub text_is : text ≡ t.text
 
   tells_so : (k : ℕ) (t : Told) (line : ℕ) (x : Command) (answer : Result Reply Fault) (text : List ℕ)
-      (new : ThreadState) (place : Place) (words : Words) → text ≡ t.text
+      (new : ThreadState) (place : Place) (words : ThreadWords) → text ≡ t.text
       → Stepped c last k x new place t.place words t.words answer
       (meaning_at c t.place t.words t.place.objects x t.world)
       → TellsSo k (told_after c line x t) (text ++ printed line x answer) new (place_after x answer place)
@@ -167,7 +168,7 @@ module _ (c : Config) (last turns : ℕ) (one : c.threads ≡ 1) (some_turns : t
 
   all_told : (k : ℕ) (commands : List Command) → how_many gives_up commands + k ≤ last
       → (text : List ℕ) (new : ThreadState) (place : Place)
-      (words : Words) (e : Explains said_alone turns 3 (opening_moment c last) commands text new place words)
+      (words : ThreadWords) (e : Explains said_alone turns 3 (opening_moment c last) commands text new place words)
       → AnswersAlone e → AllByRecursion IsCovered commands → IsAlone new.pass → AllByRecursion IsUnbarred new.pass.seen
       → IsTold k commands text new place words
   all_told k commands le text new place words nothing answers firsts alone all = record {

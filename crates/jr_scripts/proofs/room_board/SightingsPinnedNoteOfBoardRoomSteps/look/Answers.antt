@@ -4,7 +4,7 @@ use Rattle.jr_scripts.specs.Layouts.{layout_of}
 use Rattle.jr_scripts.specs.Telling.{account_told, have_seen}
 use Rattle.jr_scripts.proofs.Noted.{below_still, noted_at, told_still, words_more}
 use Rattle.jr_scripts.proofs.Speaking.{room_heard}
-use Rattle.jr_scripts.proofs.room_board.NotesPinnedNoteOfBoardRoomSteps.look.Goals as goal
+use Rattle.jr_scripts.proofs.room_board.SightingsPinnedNoteOfBoardRoomSteps.look.Goals as goal
 
 pub returns-clause-found : goal.returns-clause-found
 returns-clause-found g c =

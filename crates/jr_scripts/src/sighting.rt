@@ -14,13 +14,13 @@ pub(crate) struct Posted<T> {
 
 /// What shows that something stays where a thread posted it, or saw it.
 #[derive(Drop)]
-pub(crate) struct Note<'a, T> {
+pub(crate) struct Sighting<'a, T> {
     pub(crate) token: OnceToken<'a, Posted<T>>,
 }
 
-impl<'a, T> Note<'a, T> {
+impl<'a, T> Sighting<'a, T> {
     /// Two notes of one cell are of one word, and of what was told with it.
-    pub(crate) fn agrees(&self, other: &Note<'a, T>)
+    pub(crate) fn agrees(&self, other: &Sighting<'a, T>)
         requires { self.now.token.of ≡ other.now.token.of }
         ensures { self.now.token.value ≡ other.now.token.value }
     {

@@ -2,7 +2,7 @@ use Rattle.std.proofs.Common.{ap, arith, refl}
 use Rattle.jr_scripts.specs.declared.board.Posts.{Posts}
 use Rattle.jr_scripts.specs.Layouts.{layout_of}
 use Rattle.jr_scripts.proofs.Noted.{below_still, posted_behind, put_words, told_still}
-use Rattle.jr_scripts.proofs.notes.NotesUnitBoard.post.Goals as goal
+use Rattle.jr_scripts.proofs.sightings.SightingsUnitBoard.post.Goals as goal
 
 pub returns-clause-posted : goal.returns-clause-posted
 returns-clause-posted g c = λ words had. record {

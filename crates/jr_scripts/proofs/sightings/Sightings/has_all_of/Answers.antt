@@ -3,7 +3,7 @@ use Rattle.std.proofs.lemmas.List.{get_or_read}
 use Rattle.jr_scripts.specs.Layouts.{Layout}
 use Rattle.jr_scripts.specs.Noting.{cell_at}
 use Rattle.jr_scripts.proofs.Noted.{has_all}
-use Rattle.jr_scripts.proofs.notes.Notes.has_all_of.Goals as goal
+use Rattle.jr_scripts.proofs.sightings.Sightings.has_all_of.Goals as goal
 
 pub has_note-requires : goal.has_note-requires
 has_note-requires g c =

@@ -4,7 +4,7 @@ use Rattle.jr_scripts.specs.Layouts.{layout_of}
 use Rattle.jr_scripts.specs.Telling.{account_told, has_seen}
 use Rattle.jr_scripts.proofs.Noted.{below_still, posted_behind, put_words, told_still}
 use Rattle.jr_scripts.proofs.Speaking.{room_posted}
-use Rattle.jr_scripts.proofs.room_board.NotesPinnedNoteOfBoardRoomSteps.post.Goals as goal
+use Rattle.jr_scripts.proofs.room_board.SightingsPinnedNoteOfBoardRoomSteps.post.Goals as goal
 
 pub returns-clause-posted : goal.returns-clause-posted
 returns-clause-posted g c =

@@ -1,7 +1,7 @@
 use Rattle.std.proofs.Common.{◌≡◌, ◌++◌, [], ◌∷◌, None, rules, sym, subst}
 use Rattle.jr_scripts.specs.Noting.{IsBlank}
 use Rattle.jr_scripts.proofs.Noted.{blank_more, blank_none}
-use Rattle.jr_scripts.proofs.notes.blank.Goals as goal
+use Rattle.jr_scripts.proofs.sightings.blank.Goals as goal
 
 pub loop-init : goal.loop-init
 loop-init g c = subst (IsBlank {T = g.row.T.Denot}) (sym c.new-notes.ensures.items) (blank_none {T = g.row.T.Denot})

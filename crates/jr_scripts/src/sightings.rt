@@ -5,23 +5,23 @@ ghost use Rattle.jr_scripts.specs.Noting.{account_noted, cell_at, posted_in, Are
 ghost use Rattle.jr_scripts.specs.Layouts.{cell_number, layout_of};
 
 use crate::board::{Board, Posts};
-use crate::note::{Note, Posted};
+use crate::sighting::{Posted, Sighting};
 use jr_steps::Steps;
 use jr_syntax::Name;
 use std::alloc::{AllocError, Global};
 
 /// What one thread posts and sees on a board that it shares: it keeps what shows that each word stays where it was posted. To post or to look takes neither memory nor a lock.
 #[derive(Drop)]
-pub struct Notes<'a, T> {
+pub struct Sightings<'a, T> {
     pub(crate) posts: &'a Posts<T>,
-    pub(crate) notes: Vec<Option<Note<'a, T>>>,
+    pub(crate) notes: Vec<Option<Sighting<'a, T>>>,
     pub(crate) is_lost: bool,
     pub(crate) heard: u64,
     ghost of: { AreOfCells posts.now.cells.items notes.items },
 }
 
 /// A place for each of so many notes.
-fn blank<'a, T>(alloc: Global, count: usize) -> Result<Vec<Option<Note<'a, T>>>, AllocError>
+fn blank<'a, T>(alloc: Global, count: usize) -> Result<Vec<Option<Sighting<'a, T>>>, AllocError>
     ensures { IfOk result (λ v. IsBlank v.items) }
 {
     let mut notes = Vec::new(alloc);
@@ -32,27 +32,31 @@ fn blank<'a, T>(alloc: Global, count: usize) -> Result<Vec<Option<Note<'a, T>>>,
 }
 
 /// The note of what is posted now at a number; none where it isn't, as where something stands there.
-fn posted<'a, T: Drop>(posts: &'a Posts<T>, number: usize, what: Posted<T>) -> Option<Note<'a, T>>
+fn posted<'a, T: Drop>(
+    posts: &'a Posts<T>,
+    number: usize,
+    what: Posted<T>,
+) -> Option<Sighting<'a, T>>
     requires { number < length posts.now.cells.items }
     ensures { IfSome result (λ note. (note.token.of ≡ cell_at posts.now.cells.items number) × (note.token.value ≡ what)) }
 {
     match posts.cells[number].try_set(what) {
-        Ok(token) => Some(Note { token }),
+        Ok(token) => Some(Sighting { token }),
         Err(_) => None,
     }
 }
 
 /// The note of what was posted at a number, if it is seen.
-fn seen<'a, T>(posts: &'a Posts<T>, number: usize) -> Option<Note<'a, T>>
+fn seen<'a, T>(posts: &'a Posts<T>, number: usize) -> Option<Sighting<'a, T>>
     requires { number < length posts.now.cells.items }
     ensures { IfSome result (λ note. note.token.of ≡ cell_at posts.now.cells.items number) }
 {
     let token = posts.cells[number].witness()?;
-    Some(Note { token })
+    Some(Sighting { token })
 }
 
 /// What was noted of a cell is what another note of it has.
-fn has_same<'a, T>(noted: &Option<Note<'a, T>>, note: &Note<'a, T>)
+fn has_same<'a, T>(noted: &Option<Sighting<'a, T>>, note: &Sighting<'a, T>)
     requires { (n : _) → noted.now ≡ Some n → n.token.of ≡ note.now.token.of }
     ensures { (p : _) → posted_in noted.now ≡ Some p → note.now.token.value ≡ p }
 {
@@ -63,7 +67,7 @@ fn has_same<'a, T>(noted: &Option<Note<'a, T>>, note: &Note<'a, T>)
 }
 
 /// Whether what the others noted of a cell is noted here too.
-fn has_note<'a, T>(ours: &Option<Note<'a, T>>, theirs: &Option<Note<'a, T>>) -> bool
+fn has_note<'a, T>(ours: &Option<Sighting<'a, T>>, theirs: &Option<Sighting<'a, T>>) -> bool
     requires { (m n : _) → ours.now ≡ Some m → theirs.now ≡ Some n → m.token.of ≡ n.token.of }
     ensures { result ≡ true → (p : _) → posted_in theirs.now ≡ Some p → posted_in ours.now ≡ Some p }
 {
@@ -79,19 +83,19 @@ fn has_note<'a, T>(ours: &Option<Note<'a, T>>, theirs: &Option<Note<'a, T>>) -> 
     }
 }
 
-impl<'a, T: Drop> Notes<'a, T> {
+impl<'a, T: Drop> Sightings<'a, T> {
     /// The notes of a thread that has posted and seen nothing. Where memory is refused for them they are lost.
-    pub fn new(alloc: Global, posts: &'a Posts<T>) -> Notes<'a, T>
+    pub fn new(alloc: Global, posts: &'a Posts<T>) -> Sightings<'a, T>
         ensures { result.posts.now ≡ posts.now }
     {
         match blank(alloc, posts.cells.len()) {
-            Ok(notes) => Notes {
+            Ok(notes) => Sightings {
                 posts,
                 notes,
                 is_lost: false,
                 heard: 0,
             },
-            Err(_) => Notes {
+            Err(_) => Sightings {
                 posts,
                 notes: Vec::new(alloc),
                 is_lost: true,
@@ -101,10 +105,10 @@ impl<'a, T: Drop> Notes<'a, T> {
     }
 
     /// The notes of who has seen all that was posted until now.
-    pub(crate) fn of_all(alloc: Global, posts: &'a Posts<T>) -> Notes<'a, T>
+    pub(crate) fn of_all(alloc: Global, posts: &'a Posts<T>) -> Sightings<'a, T>
         ensures { result.posts.now ≡ posts.now }
     {
-        let mut all = Notes::new(alloc, posts);
+        let mut all = Sightings::new(alloc, posts);
         for number in 0..posts.cells.len() {
             if let Some(note) = seen(posts, number) {
                 all.keep(number, note);
@@ -114,7 +118,7 @@ impl<'a, T: Drop> Notes<'a, T> {
     }
 
     /// Keeps the note of a word at a number.
-    pub(crate) fn keep(&mut self, number: usize, note: Note<'a, T>)
+    pub(crate) fn keep(&mut self, number: usize, note: Sighting<'a, T>)
         requires { note.token.of ≡ cell_at self.old.posts.now.cells.items number }
         ensures same { self.new.posts.now ≡ self.old.posts.now }
         ensures noted { (self.new.is_lost ≡ true) ⊎ (posted_in (get_or self.new.notes.items number None) ≡ Some note.entry.token.value) }
@@ -131,7 +135,7 @@ impl<'a, T: Drop> Notes<'a, T> {
     }
 
     /// The same of a word that was posted or heard, with its stamp.
-    pub(crate) fn hear(&mut self, number: usize, note: Note<'a, T>, stamp: u64)
+    pub(crate) fn hear(&mut self, number: usize, note: Sighting<'a, T>, stamp: u64)
         requires { note.token.of ≡ cell_at self.old.posts.now.cells.items number }
         ensures same { self.new.posts.now ≡ self.old.posts.now }
         ensures noted { (self.new.is_lost ≡ true) ⊎ (posted_in (get_or self.new.notes.items number None) ≡ Some note.entry.token.value) }
@@ -145,7 +149,7 @@ impl<'a, T: Drop> Notes<'a, T> {
     }
 
     /// Whether all that another thread noted, on the same board, is noted here too. It never is where the other's notes were lost.
-    pub(crate) fn has_all_of(&self, other: &Notes<'a, T>) -> bool
+    pub(crate) fn has_all_of(&self, other: &Sightings<'a, T>) -> bool
         requires { layout_of other.now.posts.now ≡ layout_of self.now.posts.now }
         ensures { result ≡ true → HasAllOf self.now.notes.items other.now.is_lost other.now.notes.items }
     {
@@ -183,7 +187,7 @@ impl<'a, T: Drop> Notes<'a, T> {
     }
 
     /// The number of the cell of a name, and the note of what was posted there, if it is seen.
-    pub(crate) fn find(&self, name: &Name) -> Option<(usize, Note<'a, T>)>
+    pub(crate) fn find(&self, name: &Name) -> Option<(usize, Sighting<'a, T>)>
         ensures number { IfSome result (λ r. cell_number self.now.posts.now.numbers.entries name.now ≡ Some r.0) }
         ensures few { IfSome result (λ r. r.0 < length self.now.posts.now.cells.items) }
         ensures of { IfSome result (λ r. r.1.token.of ≡ cell_at self.now.posts.now.cells.items r.0) }
@@ -194,7 +198,7 @@ impl<'a, T: Drop> Notes<'a, T> {
     }
 
     /// What was posted, by a note of it.
-    pub(crate) fn posted(&self, number: usize, note: &Note<'a, T>) -> &'a Posted<T>
+    pub(crate) fn posted(&self, number: usize, note: &Sighting<'a, T>) -> &'a Posted<T>
         requires few { number < length self.now.posts.now.cells.items }
         requires of { note.now.token.of ≡ cell_at self.now.posts.now.cells.items number }
         ensures { result.now ≡ note.now.token.value }
@@ -204,7 +208,7 @@ impl<'a, T: Drop> Notes<'a, T> {
 }
 
 /// Over any steps, a board of words alone: of what a thread has seen it tells nothing.
-impl<S: Steps> Board<S> for Notes<'_, ()> {
+impl<S: Steps> Board<S> for Sightings<'_, ()> {
     ghost layout = { λ board. layout_of board.posts.now };
 
     ghost tells = { λ board. account_noted (λ room. Unit {0}) (λ t seen. Unit {0}) (λ t seen. Unit {0}) board.is_lost board.posts.now.numbers.entries board.notes.items };

@@ -1,6 +1,6 @@
 use Rattle.std.proofs.Common.{◌<◌, None, length, rules, sym, ◌∙◌}
 use Rattle.std.proofs.lemmas.List.{get_or_read}
-use Rattle.jr_scripts.proofs.notes.Notes.keep.Goals as goal
+use Rattle.jr_scripts.proofs.sightings.Sightings.keep.Goals as goal
 
 pub has_same-requires : goal.has_same-requires
 has_same-requires g c =

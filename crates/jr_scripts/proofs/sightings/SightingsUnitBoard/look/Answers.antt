@@ -3,7 +3,7 @@ use Rattle.jr_scripts.specs.declared.board.Posts.{Posts}
 use Rattle.jr_scripts.specs.Layouts.{layout_of}
 use Rattle.jr_scripts.proofs.Noted.{below_still, noted_at, told_still, words_more}
 use Rattle.jr_scripts.proofs.Speaking.{learns_nothing}
-use Rattle.jr_scripts.proofs.notes.NotesUnitBoard.look.Goals as goal
+use Rattle.jr_scripts.proofs.sightings.SightingsUnitBoard.look.Goals as goal
 
 pub returns-clause-found : goal.returns-clause-found
 returns-clause-found g c =

@@ -10,25 +10,25 @@ const LOOKS: u32 = 1 << 26;
 
 /// Words that threads share.
 #[derive(Drop)]
-pub(crate) struct Board {
+pub(crate) struct SymbolTable {
     symbols: Vec<AtomicU64>,
     cache: Vec<AtomicU64>,
     left: AtomicU64,
 }
 
-impl Board {
-    /// A board with nothing on it, for so many symbols.
-    pub(crate) fn new(alloc: Global, symbols: u32) -> Result<Board, AllocError> {
-        let mut board = Board {
+impl SymbolTable {
+    /// A table with no symbol yet, for so many symbols.
+    pub(crate) fn new(alloc: Global, symbols: u32) -> Result<SymbolTable, AllocError> {
+        let mut table = SymbolTable {
             symbols: Vec::new(alloc),
             cache: Vec::new(alloc),
             left: AtomicU64::new(0),
         };
         for _ in 0..symbols {
-            board.symbols.push(AtomicU64::new(0))?;
-            board.cache.push(AtomicU64::new(0))?;
+            table.symbols.push(AtomicU64::new(0))?;
+            table.cache.push(AtomicU64::new(0))?;
         }
-        Ok(board)
+        Ok(table)
     }
 
     /// Posts the global reference of a symbol.

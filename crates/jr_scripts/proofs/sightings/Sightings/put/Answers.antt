@@ -1,6 +1,6 @@
 use Rattle.std.proofs.Common.{◌≡◌, suc, refl, rules}
 use Rattle.jr_scripts.proofs.Noted.{noted_at}
-use Rattle.jr_scripts.proofs.notes.Notes.put.Goals as goal
+use Rattle.jr_scripts.proofs.sightings.Sightings.put.Goals as goal
 
 pub returns-in-Some-posted-clause-noted : goal.returns-in-Some-posted-clause-noted
 returns-in-Some-posted-clause-noted g c =
