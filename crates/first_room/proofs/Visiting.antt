@@ -7,10 +7,10 @@ use Rattle.jr_model.specs.declared.event.Act.TheVariants.{Gate, Read}
 use Rattle.jr_model.specs.declared.event.GateAct.TheVariants.{Leave}
 use Rattle.jr_model.specs.History.{Did, History, state}
 use Rattle.jr_model.specs.Objects as objects
-use Rattle.jr_gate.specs.Performing.{ThreadState}
+use Rattle.jr_gate.specs.Performing.{HasLearned, ThreadState}
 use Rattle.jr_env.specs.Deeds.{Deed, done, new_object_array, new_plain, pop_local_frame, push_local_frame, ◌>>=◌, ◌>>◌}
 use Rattle.jr_env.specs.Deeds.{within_by}
-use Rattle.first_room.specs.Calls.{Findings, HasPrepared, SeesMore, Visited, is_handed, opens_region, reading_within}
+use Rattle.first_room.specs.Calls.{Findings, HasPrepared, Visited, is_handed, opens_region, reading_within}
 use Rattle.first_room.specs.Calls.{visiting}
 use Rattle.first_room.proofs.Answered.{ints_read}
 use Rattle.first_room.proofs.Spared.{both_done, made_quiet, objects_spared, plain_spared, pop_spared, push_spared}
@@ -29,7 +29,7 @@ pub record WasHanded (x : ℕ) (old new : ThreadState) : Type 0 where
   pub mid : ThreadState
   pub prepared : ∥ HasPrepared w noted ∥₁
   pub begins : IsPrefix noted mid.pass.seen
-  pub learned : SeesMore old mid
+  pub learned : HasLearned old mid
   pub rest : rest_of_visit w mid (Ok (Visited x)) new
 
 pub was_handed : (old new : ThreadState) (x : ℕ) → visiting old (Ok (Visited x)) new → WasHanded x old new

@@ -7,10 +7,10 @@ use Rattle.jr_word.specs.declared.fault.Fault.{Fault}
 use Rattle.jr_word.specs.declared.fault.Fault.TheVariants.{Turns}
 use Rattle.jr_model.specs.History.{state}
 use Rattle.jr_model.proofs.Stays.{sees_its_own_acts}
-use Rattle.jr_gate.specs.Performing.{ThreadState}
+use Rattle.jr_gate.specs.Performing.{HasLearned, ThreadState}
 use Rattle.jr_syntax.specs.declared.command.Command.TheVariants as commands
 use Rattle.jr_syntax.specs.declared.verb.Make.TheVariants as make
-use Rattle.jr_scripts.specs.Commands.{HasLearned, awaited, deed}
+use Rattle.jr_scripts.specs.Commands.{awaited, deed}
 use Rattle.jr_scripts.specs.Meaning.{World}
 use Rattle.jr_syntax.specs.declared.verb.OnName.TheVariants as on_name
 use Rattle.jr_scripts.specs.declared.reply.Reply.{Reply}
