@@ -632,6 +632,8 @@ IsCovered (commands.MakeAt v n r i) = Unit {0}
 IsCovered (commands.SetAt v r i q) = Unit {0}
 IsCovered (commands.OnAt v r i) = Unit {0}
 IsCovered (commands.StoreAt v r i x) = Unit {0}
+IsCovered (commands.OfRoom v) = Unit {0}
+IsCovered (commands.WithTries v tries) = Unit {0}
 IsCovered _ = ⊥
 
 -- THE TEXT OF A RUN IS WHAT ITS SCRIPT MEANS, where there are turns, serials have 32 bits, all commands are covered,

@@ -109,20 +109,21 @@ module _ {c : Config} {last turns j k : ℕ} {P : Pairing} {w : World} {old new 
     Steps r = Stepped c last k x new p q had told answer r
 
     -- a command that keeps all
-    pub kept_step : (Q : Pairing) (v : World) (a b : Result Reply Fault) → IsThen Q v → answer ≡ a → Keeps x a
+    pub kept_as : (Q : Pairing) (v : World) (a b : Result Reply Fault) → IsPass c last new.pass
+        → Fits c last k Q v (now new) → NamesFit Q v p.names q.names → WordsFit Q v had told → answer ≡ a → Keeps x a
         → Keeps x b → ((line : ℕ) → printed line x a ≡ printed line x b) → Steps (b, v)
-    kept_step Q v a b i is keeps keeps' text =
+    kept_as Q v a b pass fits same_names same_words is keeps keeps' text =
         subst (λ z. Stepped c last k x new p q had told z (b, v)) (sym is) (record {
           pairing = Q;
           stands = record {
-            pass = i.pass;
-            fits = i.fits;
+            pass = pass;
+            fits = fits;
             names = subst (λ n. NamesFit Q v n (names_after x b q.names)) (sym one.0)
-                (subst (λ n. NamesFit Q v p.names n) (sym two.0) (names_later i.later p.names q.names s.stands.names));
+                (subst (λ n. NamesFit Q v p.names n) (sym two.0) same_names);
             outside = one.1 ∙ s.stands.outside;
             outside_then = two.1 ∙ s.stands.outside_then;
             words = subst (λ l. WordsFit Q v l (words_after q.names x b told)) (sym one.2)
-                (subst (λ l. WordsFit Q v had l) (sym two.2) (words_later i.later had told s.stands.words));
+                (subst (λ l. WordsFit Q v had l) (sym two.2) same_words);
           };
           text = text;
         })
@@ -134,6 +135,11 @@ module _ {c : Config} {last turns j k : ℕ} {P : Pairing} {w : World} {old new 
         two : (names_after x b q.names ≡ q.names) × (objects_after x b q.objects ≡ q.objects)
             × (words_after q.names x b told ≡ told)
         two = keeps' q.names q.objects told
+
+    pub kept_step : (Q : Pairing) (v : World) (a b : Result Reply Fault) → IsThen Q v → answer ≡ a → Keeps x a
+        → Keeps x b → ((line : ℕ) → printed line x a ≡ printed line x b) → Steps (b, v)
+    kept_step Q v a b i = kept_as Q v a b i.pass i.fits (names_later i.later p.names q.names s.stands.names)
+        (words_later i.later had told s.stands.words)
 
     -- one that makes a reference, or NULL
     pub made_step : (n : List ℕ) (Q : Pairing) (v : World) (h g : Option HandleWord) → IsThen Q v

@@ -12,12 +12,14 @@ use Rattle.jr_scripts.specs.Meaning.{IsCovered, World, meaning_at}
 use Rattle.jr_syntax.specs.declared.verb.MakeFrom.TheVariants as make_from
 use Rattle.jr_syntax.specs.declared.verb.MakeAt.TheVariants as make_at
 use Rattle.jr_syntax.specs.declared.verb.On.TheVariants as on
+use Rattle.jr_syntax.specs.declared.verb.OfRoom.TheVariants as of_room
 use Rattle.jr_syntax.specs.declared.verb.OnAt.TheVariants as on_at
 use Rattle.jr_syntax.specs.declared.verb.OnBoth.TheVariants as on_both
 use Rattle.jr_syntax.specs.declared.verb.OnName.TheVariants as on_name
 use Rattle.jr_syntax.specs.declared.verb.SetAt.TheVariants as set_at
 use Rattle.jr_syntax.specs.declared.verb.StoreAt.TheVariants as store_at
 use Rattle.jr_syntax.specs.declared.verb.WithCount.TheVariants as with_count
+use Rattle.jr_syntax.specs.declared.verb.WithTries.TheVariants as with_tries
 use Rattle.jr_scripts.specs.declared.reply.Reply.{Reply}
 use Rattle.jr_scripts.specs.Names.{referent}
 use Rattle.jr_scripts.specs.RegionCommands.{deed_at, deed_within}
@@ -35,6 +37,7 @@ use Rattle.jr_scripts.proofs.LoneRun.ElementCommands.{get_step, len_step, load_s
 use Rattle.jr_scripts.proofs.LoneRun.ElementCommands.{text_length_step}
 use Rattle.jr_scripts.proofs.LoneRun.FrameCommands.{ensure_step, push_step, pop_step}
 use Rattle.jr_scripts.proofs.LoneRun.NoteCommands.{post_step, wait_step}
+use Rattle.jr_scripts.proofs.LoneRun.CollectionCommands.{announced_step, collect_step}
 
 module _ {c : Config} {last turns j k : ℕ} {P : Pairing} {w : World} {old new : ThreadState} {p q : Place}
     {had told : ThreadWords} (s : Turn c last turns j k P w old new p q had told) where
@@ -78,6 +81,9 @@ module _ {c : Config} {last turns j k : ℕ} {P : Pairing} {w : World} {old new 
   one_step (commands.StoreAt store_at.Store r i z) one answer covered d said fault =
       store_step s one r i z answer fault d
   one_step (commands.SetAt set_at.Set r i t) one answer covered d said fault = set_step s one r i t answer fault d
+  one_step (commands.OfRoom of_room.Collect) one answer covered d said fault = collect_step s one answer d
+  one_step (commands.WithTries with_tries.CollectAnnounced tries) one answer covered d said fault =
+      announced_step s one tries answer d
   one_step x one answer covered d said fault = absurd covered
 
   at_place : (x : Command) (answer : Result Reply Fault) → Steps s x answer (meaning.outside c q.names told x w)

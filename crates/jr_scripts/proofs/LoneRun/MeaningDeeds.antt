@@ -42,7 +42,7 @@ use Rattle.jr_scripts.proofs.Uncontended.{Asked}
 use Rattle.jr_scripts.specs.Meaning.{World}
 use Rattle.jr_scripts.proofs.LoneRun.MadeCalls.{Moment, Made, AreUnopposed, IsSo, is_opposed, moment}
 use Rattle.jr_scripts.proofs.LoneRun.MeaningFrames.{Pairing}
-use Rattle.jr_scripts.proofs.LoneRun.MeaningFits.{Later, IsGiven, by_place, by_row}
+use Rattle.jr_scripts.proofs.LoneRun.MeaningFits.{Later, HandlesStay, IsGiven, by_place, by_row, handles_stay}
 use Rattle.jr_scripts.proofs.LoneRun.MeaningCalls.{WordFits}
 
 -- ANSWERS IN ANOTHER FORM
@@ -103,7 +103,7 @@ unopposed_one e u = go e.act refl
     go (ReserveLost n l f) is = absurd (u.reserves n l f is)
     go _ is = refl
 
-all_unopposed : (es : History) → AllByRecursion IsUnbarred es → AllByRecursion (λ e. is_opposed e.act ≡ false) es
+pub all_unopposed : (es : History) → AllByRecursion IsUnbarred es → AllByRecursion (λ e. is_opposed e.act ≡ false) es
 all_unopposed [] all = tt
 all_unopposed (e ∷ es) all = (unopposed_one e all.0, all_unopposed es all.1)
 
@@ -166,7 +166,7 @@ BindingFits P w _ _ = ⊥
 abbrev pub NamesFit : Pairing → World → Names → Names → Type 0
 NamesFit P w names names' = (n : List ℕ) → BindingFits P w (binding names n) (binding names' n)
 
-pub binding_later : {P Q : Pairing} {w v : World} → Later P w Q v → (s t : Binding) → BindingFits P w s t
+pub binding_later : {P Q : Pairing} {w v : World} → HandlesStay P w Q v → (s t : Binding) → BindingFits P w s t
     → BindingFits Q v s t
 binding_later l bound.Nothing bound.Nothing fits = tt
 binding_later {P} {Q} {w} {v} l (bound.Reference h) (bound.Reference g) fits = go g.0 fits
@@ -184,9 +184,13 @@ binding_later l (bound.Reference h) bound.Nothing fits = absurd fits
 binding_later l (bound.Reference h) (bound.Buffer b) fits = absurd fits
 binding_later l (bound.Buffer b) t fits = absurd fits
 
+pub names_stay : {P Q : Pairing} {w v : World} → HandlesStay P w Q v → (names names' : Names)
+    → NamesFit P w names names' → NamesFit Q v names names'
+names_stay l names names' fit n = binding_later l (binding names n) (binding names' n) (fit n)
+
 pub names_later : {P Q : Pairing} {w v : World} → Later P w Q v → (names names' : Names) → NamesFit P w names names'
     → NamesFit Q v names names'
-names_later l names names' fit n = binding_later l (binding names n) (binding names' n) (fit n)
+names_later l names names' fit = names_stay (handles_stay l) names names' fit
 
 -- what a name stands for once one is set
 set_binding : (names : Names) (n m : List ℕ) (s : Binding)
@@ -216,18 +220,26 @@ WordsFit P w [] [] = Unit {0}
 WordsFit P w (x ∷ xs) (y ∷ ys) = (x.0 ≡ y.0) × HandleFits P w x.1 y.1 × WordsFit P w xs ys
 WordsFit P w _ _ = ⊥
 
+handle_stays : {P Q : Pairing} {w v : World} → HandlesStay P w Q v → (word k : ℕ) → HandleFits P w word k
+    → HandleFits Q v word k
+handle_stays l word zero is = is
+handle_stays l word (suc i) is =
+    ((let small = is.0 in let grow = l.refs_grow in omega arith), is.1 ∙ ap handle_word (sym (l.handles i is.0)))
+
 pub handle_later : {P Q : Pairing} {w v : World} → Later P w Q v → (word k : ℕ) → HandleFits P w word k
     → HandleFits Q v word k
-handle_later l word zero is = is
-handle_later l word (suc i) is =
-    ((let small = is.0 in let grow = l.refs_grow in omega arith), is.1 ∙ ap handle_word (sym (l.handles i is.0)))
+handle_later l word k is = handle_stays (handles_stay l) word k is
+
+pub words_stay : {P Q : Pairing} {w v : World} → HandlesStay P w Q v → (xs ys : ThreadWords) → WordsFit P w xs ys
+    → WordsFit Q v xs ys
+words_stay l [] [] fits = tt
+words_stay l (x ∷ xs) (y ∷ ys) fits = (fits.0, handle_stays l x.1 y.1 fits.1, words_stay l xs ys fits.2)
+words_stay l [] (y ∷ ys) fits = absurd fits
+words_stay l (x ∷ xs) [] fits = absurd fits
 
 pub words_later : {P Q : Pairing} {w v : World} → Later P w Q v → (xs ys : ThreadWords) → WordsFit P w xs ys
     → WordsFit Q v xs ys
-words_later l [] [] fits = tt
-words_later l (x ∷ xs) (y ∷ ys) fits = (fits.0, handle_later l x.1 y.1 fits.1, words_later l xs ys fits.2)
-words_later l [] (y ∷ ys) fits = absurd fits
-words_later l (x ∷ xs) [] fits = absurd fits
+words_later l xs ys fits = words_stay (handles_stay l) xs ys fits
 
 -- the word under a name is meant, or there is none in both
 abbrev pub MaybeWord : Pairing → World → Option ℕ → Option ℕ → Type 0

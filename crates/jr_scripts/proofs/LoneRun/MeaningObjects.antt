@@ -1,6 +1,7 @@
 -- What a lone thread's calls at objects mean: their lengths and their elements.
 use Rattle.std.proofs.Common.{◌≡◌, ◌≢◌, ℕ, zero, suc, ◌<◌, ◌≤◌, ◌+◌, Bool, true, false, not, nat_lt, nat_le, Option}
-use Rattle.std.proofs.Common.{Some, None, List, [], ◌∷◌, length, map, slice_get, slice_index, Result, Ok, Err, refl}
+use Rattle.std.proofs.Common.{IsSome, is_some, Some, None, List, [], ◌∷◌, length, map, slice_get, slice_index, Result}
+use Rattle.std.proofs.Common.{Ok, Err, refl}
 use Rattle.std.proofs.Common.{sym, ap, subst, ◌∙◌, arith}
 use Rattle.std.specs.List.{AllByRecursion}
 use Rattle.std.proofs.lemmas.Bool.Decides.{nat_tests}
@@ -39,6 +40,7 @@ use Rattle.jr_scripts.proofs.LoneRun.MeaningFits.{AreAlike, ContentsFit, Element
 use Rattle.jr_scripts.proofs.LoneRun.MeaningFits.{Means, answer_known, bind_means, decided_means, done_means}
 use Rattle.jr_scripts.proofs.LoneRun.MeaningFits.{entered_means, given_means, known_means, means_as, pass_means}
 use Rattle.jr_scripts.proofs.LoneRun.MeaningFits.{refused_means, unmoved}
+use Rattle.jr_scripts.proofs.LoneRun.MeaningMatches.{IsStanding}
 use Rattle.jr_scripts.proofs.LoneRun.MeaningParts.{ObjectFits, OptionFits, object_later}
 use Rattle.jr_scripts.proofs.LoneRun.MeaningCalls.{FoundFits, MaybeFits, WordFits, new_local_means, resolved_means}
 use Rattle.jr_scripts.proofs.LoneRun.MeaningScopes.{guard_means}
@@ -75,21 +77,22 @@ abbrev pub meant_in : World → ℕ → Contents
 meant_in w o = contents_in (standing_at w.objects o)
 
 -- what stands there, and is alike
-pub record IsThere (object : ℕ → ℕ) (n : ℕ) (x y : Option Contents) : Type 0 where
+pub record IsThere (object : ℕ → ℕ) (n : List (Option Contents)) (x y : Option Contents) : Type 0 where
   pub contents : Contents
   pub is : y ≡ Some contents
   pub alike : AreAlike object n (contents_in x) contents
 
-is_there : (object : ℕ → ℕ) (n : ℕ) (x y : Option Contents) → ContentsFit object n x y → IsThere object n x y
+is_there : (object : ℕ → ℕ) (n : List (Option Contents)) (x y : Option Contents) → ContentsFit object n x y
+    → IsThere object n x y
 is_there object n (Some x) (Some y) fits = record { contents = y; is = refl; alike = fits }
 is_there object n None y fits = absurd fits
 is_there object n (Some x) None fits = absurd fits
 
 pub there : {c : Config} {last k : ℕ} {P : Pairing} {w : World} {m : Moment} (o : ℕ) → Fits c last k P w m
-    → o < length w.objects
-    → IsThere P.object (length w.objects) (standing_at w.objects o) (m.state.objects (P.object o))
+    → IsStanding w.objects o
+    → IsThere P.object w.objects (standing_at w.objects o) (m.state.objects (P.object o))
 there {P = P} {w = w} {m = m} o f small =
-    is_there P.object (length w.objects) (standing_at w.objects o) (m.state.objects (P.object o))
+    is_there P.object w.objects (standing_at w.objects o) (m.state.objects (P.object o))
     (f.objects.alike o small)
 
 -- in the state that a call names the object has its kind and its length
@@ -101,7 +104,7 @@ pub record HasHeader (x : Contents) (y : Option Contents) : Type 0 where
 
 -- and so has each object
 abbrev pub HeadersFit : Pairing → World → State → Type 0
-HeadersFit P w z = (o : ℕ) → o < length w.objects → HasHeader (meant_in w o) (z.objects (P.object o))
+HeadersFit P w z = (o : ℕ) → IsStanding w.objects o → HasHeader (meant_in w o) (z.objects (P.object o))
 
 pub headers_fit : {c : Config} {last k : ℕ} {P : Pairing} {w : World} {m : Moment} {z : State} → Fits c last k P w m
     → IsStill m.state z → HeadersFit P w z
@@ -322,11 +325,11 @@ module _ (c : Config) (last k : ℕ) where
     read_fits : (m : Moment) (start : ℕ) (vs : List ℕ) → Fits c last k P w m
         → IsLegalFrom c last m.state (map (by 0) (read_acts p start vs)) → (j : ℕ) → j < length vs
         → start + j < length (meant_in w o).words
-        → ElementFits P.object (length w.objects) (is_objects (meant_in w o).kind)
+        → ElementFits P.object w.objects (is_objects (meant_in w o).kind)
         (slice_index (meant_in w o).words (start + j)) (slice_index vs j)
     read_fits m start vs f legal j small within =
         let here = there o f named.0 in
-        subst (ElementFits P.object (length w.objects) (is_objects (meant_in w o).kind)
+        subst (ElementFits P.object w.objects (is_objects (meant_in w o).kind)
         (slice_index (meant_in w o).words (start + j)))
         (sym (reads_found m.state p start vs here.contents (ap m.state.objects (sym named.1) ∙ here.is) legal j small))
         (here.alike.words (start + j) within)
@@ -334,18 +337,18 @@ module _ (c : Config) (last k : ℕ) where
     -- one element, which is an answer of its own
     pub read_means : (i : ℕ) → i < length (meant_in w o).words
         → Means c last k k
-        (λ Q v word e. ElementFits Q.object (length v.objects) (is_objects (meant_in w o).kind) e word) P w
+        (λ Q v word e. ElementFits Q.object v.objects (is_objects (meant_in w o).kind) e word) P w
         (some_act (Read p i)) (λ v. (Ok (slice_index (meant_in w o).words i), v))
     read_means i within = record {
       outcome = λ m n x f r.
           let word = (r.is).0 in
           let fits = read_fits m i (word ∷ []) f (subst (λ acts. IsLegalFrom c last m.state (map (by 0) acts)) (r.is).1
           r.legal) 0 (omega arith) (omega arith) in
-          unmoved c last {V = λ Q v word e. ElementFits Q.object (length v.objects) (is_objects (meant_in w o).kind) e
+          unmoved c last {V = λ Q v word e. ElementFits Q.object v.objects (is_objects (meant_in w o).kind) e
           word} m n x (Ok word) (Ok (slice_index (meant_in w o).words i)) f
           (moment_is n.state m.state n.frames m.frames (stepped c last 0 m n r.acts (Read p i word) (r.is).1 r.leads)
           (r.is).3) (r.is).2
-          (subst (λ h. ElementFits P.object (length w.objects) (is_objects (meant_in w o).kind)
+          (subst (λ h. ElementFits P.object w.objects (is_objects (meant_in w o).kind)
           (slice_index (meant_in w o).words h) word) (omega arith) fits);
     }
 
@@ -367,7 +370,7 @@ module _ (c : Config) (last k : ℕ) where
         same : (m : Moment) (vs : List ℕ) → Fits c last k P w m → length vs ≡ n
             → IsLegalFrom c last m.state (map (by 0) (read_acts p start vs)) → vs ≡ ws
         same m vs f many legal = ext_get_or 0 vs ws (many ∙ sym long) (λ j small.
-            sym (each j (omega arith) ∙ subst (λ b. ElementFits P.object (length w.objects) b
+            sym (each j (omega arith) ∙ subst (λ b. ElementFits P.object w.objects b
             (slice_index (meant_in w o).words (start + j)) (slice_index vs j)) plain
             (read_fits m start vs f legal j small (omega arith))))
 
@@ -383,12 +386,13 @@ module _ (c : Config) (last k : ℕ) where
 
   -- the object that an element names
   named_fits : (P : Pairing) (w : World) (m : Moment) → Fits c last k P w m → (b : Bool) → b ≡ true → (e word : ℕ)
-      → ElementFits P.object (length w.objects) b e word → OptionFits P w (object_of_word word) (named_by e)
+      → ElementFits P.object w.objects b e word → OptionFits P w (object_of_word word) (named_by e)
   named_fits P w m f true is zero word fits = subst (λ z. OptionFits P w (object_of_word z) None) (sym fits) tt
   named_fits P w m f true is (suc o) (suc word) fits = fits
   named_fits P w m f true is (suc o) zero fits = absurd
       (let here = there o f fits.0 in
-      let none = sym (ap m.state.objects fits.1 ∙ f.objects.no_zero) ∙ here.is in cc)
+      let low = (f.objects.within 0 (subst (λ p. IsSome (m.state.objects p)) fits.1
+      (ap is_some here.is))).0 in omega arith)
   named_fits P w m f false is e word fits = absurd cc
 
   -- GETOBJECTARRAYELEMENT
@@ -413,7 +417,7 @@ module _ (c : Config) (last k : ℕ) where
       read : (Q : Pairing) (p o : ℕ) → ObjectFits Q w p o → is_objects (meant_in w o).kind ≡ true
           → i < length (meant_in w o).words → Means c last k k MaybeFits Q w (rest p) (referred (o, meant_in w o))
       read Q p o named holds within = bind_means c last
-          {V = λ R v word e. ElementFits R.object (length v.objects) (is_objects (meant_in w o).kind) e word}
+          {V = λ R v word e. ElementFits R.object v.objects (is_objects (meant_in w o).kind) e word}
           {next' = λ e. meaning.new_local c (named_by e)} (read_means Q w p o named i within)
           (λ R v l word e same. known_means c last (λ m f. new_local_means c last k R v (object_of_word word)
           (named_by e) (named_fits R v m f (is_objects (meant_in w o).kind) holds e word same)))

@@ -48,7 +48,7 @@ use Rattle.jr_scripts.specs.Meaning.{first_world}
 use Rattle.jr_scripts.proofs.LoneRun.MadeCalls.{Moment, IsSo, stayed}
 use Rattle.jr_scripts.proofs.LoneRun.MeaningFrames.{Pairing, no_frame, no_local, one_frame}
 use Rattle.jr_scripts.proofs.LoneRun.MeaningSlots.{at_index, in_row, taken_at}
-use Rattle.jr_scripts.proofs.LoneRun.MeaningFits.{Fits, every_stands}
+use Rattle.jr_scripts.proofs.LoneRun.MeaningFits.{Fits, counted}
 use Rattle.jr_scripts.proofs.LoneRun.MeaningScopes.{SameTables, drops_keep}
 use Rattle.jr_scripts.proofs.LoneRun.MeaningDeeds.{BindingFits, IsPass, call_made, made_once, now}
 use Rattle.jr_scripts.proofs.LoneRun.MeaningCommands.{step}
@@ -104,6 +104,7 @@ module _ (c : Config) (last turns : ℕ) (one : c.threads ≡ 1) (some_turns : t
       given = λ i l. absurd (omega arith);
       once = λ i j l m. absurd (omega arith);
       stands = λ i l. absurd (omega arith);
+      all = λ h there. absurd (there refl);
     };
     locals = record {
       framed = one_frame no_local no_frame;
@@ -112,10 +113,10 @@ module _ (c : Config) (last turns : ℕ) (one : c.threads ≡ 1) (some_turns : t
       given = length-replicate c.locals 0;
     };
     objects = record {
-      count = sum_zero (c.objects + 1) (λ o. 0) (λ o. refl);
-      no_zero = refl;
-      alike = λ o l. absurd (omega arith);
-      apart = λ o p l m. absurd (omega arith);
+      within = λ p some. absurd cc;
+      all = λ p some. absurd cc;
+      alike = λ o stands. absurd cc;
+      apart = λ o p stands stands' is. absurd cc;
     };
     slots = record {
       globals_are = sum_zero c.slots (at_index last (λ h. false) Global) (λ i. none_passes Global i);
@@ -125,6 +126,7 @@ module _ (c : Config) (last turns : ℕ) (one : c.threads ≡ 1) (some_turns : t
     };
     used = refl;
     space = omega arith;
+    agree = λ p. refl;
   }
     where
       none_passes : (kind : RefKind) (i : ℕ) → at_index last (λ h. false) kind i ≡ 0
@@ -247,8 +249,7 @@ module _ (c : Config) (last turns : ℕ) (one : c.threads ≡ 1) (some_turns : t
       (standing w.objects) w.used
       (ap (λ z. in_row c.slots last (λ h. is_there (z h)) Global) same.refs ∙ f.slots.globals_are)
       (ap (λ z. in_row c.slots last (λ h. is_there (z h)) Weak) same.refs ∙ f.slots.weaks_are)
-      (ap (λ t. count_below (c.objects + 1) (λ o. is_some (t o))) same.objects
-      ∙ (f.objects.count ∙ sym (every_stands f.objects)))
+      (ap (λ t. count_below (c.objects + 1) (λ o. is_some (t o))) same.objects ∙ counted f.objects)
       (same.used ∙ f.used)
 
   pub run_means : (part : ThreadPart) (text : List ℕ) → how_many gives_up part.commands ≤ last
