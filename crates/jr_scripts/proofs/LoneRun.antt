@@ -11,6 +11,7 @@ pub mod MeaningRow
 pub mod MeaningScopes
 pub mod MeaningObjects
 pub mod MeaningStores
+pub mod MeaningCopies
 pub mod MeaningDeeds
 pub mod MeaningStands
 pub mod CommandSteps
@@ -19,6 +20,8 @@ pub mod ReferenceCommands
 pub mod FrameCommands
 pub mod NoteCommands
 pub mod ElementCommands
+pub mod CopyCommands
+pub mod BufferCommands
 pub mod MeaningCommands
 pub mod MeaningRun
 use Rattle.std.proofs.Common.{◌≡◌, ℕ, Option, List, [], ◌∷◌}

@@ -34,7 +34,7 @@ module _ (c : Config) (last k : ℕ) (P : Pairing) (w : World) (o : ℕ) (small 
   abbrev put : Contents → World
   put x = record w { objects = slice_set w.objects o (Some x) }
 
-  as_long : (x : Contents) → length (put x).objects ≡ length w.objects
+  pub as_long : (x : Contents) → length (put x).objects ≡ length w.objects
   as_long x = length-set w.objects o (Some x)
 
   module _ (x y : Contents) (alike : AreAlike P.object (length w.objects) x y) (m : Moment) (f : Fits c last k P w m)
@@ -63,7 +63,7 @@ module _ (c : Config) (last k : ℕ) (P : Pairing) (w : World) (o : ℕ) (small 
               m.state.objects (P.object o) (P.object q) (Some y)
               (λ e. absurd (other (f.objects.apart o q small below e))) (λ ne. f.objects.alike q below)
 
-      put_fits : Fits c last k P (put x) (moment (record m.state { objects = there_then }) m.frames)
+      pub put_fits : Fits c last k P (put x) (moment (record m.state { objects = there_then }) m.frames)
       put_fits = record {
         refs = subst (λ n. RefsFit c last P n w.refs m.frames m.state.refs m.state.given) (sym (as_long x)) f.refs;
         locals = f.locals;
