@@ -16,6 +16,7 @@ pub mod MeaningRounds
 pub mod MeaningReach
 pub mod MeaningSweeps
 pub mod MeaningCollections
+pub mod MeaningCopies
 pub mod MeaningDeeds
 pub mod MeaningStands
 pub mod CommandSteps
@@ -25,6 +26,8 @@ pub mod FrameCommands
 pub mod NoteCommands
 pub mod ElementCommands
 pub mod CollectionCommands
+pub mod CopyCommands
+pub mod BufferCommands
 pub mod MeaningCommands
 pub mod MeaningRun
 use Rattle.std.proofs.Common.{◌≡◌, ℕ, Option, List, [], ◌∷◌}

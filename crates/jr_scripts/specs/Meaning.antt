@@ -326,15 +326,11 @@ writes_number o x i number = do
   rewrites o x (slice_set x.words i word)
   done replies.Done
 
--- memory is taken: E16 where there is none
-abbrev pub takes_memory : Meaning (Unit {0})
-takes_memory w = (refused_if (not (slice_index_or w.memory 0 true)) fault.Memory, record w { memory = drop 1 w.memory })
-
--- a copy of words, which takes memory where there are some
+-- a copy of words: E16 where there are some, and it finds no memory
 abbrev pub copy : List ℕ → Meaning (List ℕ)
 copy [] = done []
 copy (word ∷ words) = do
-  takes_memory
+  refuse_where (λ w. not (slice_index_or w.memory 0 true)) fault.Memory
   done (word ∷ words)
 
 -- a buffer is copied back to a whole array: E5, E6 for another kind, E7 for another length; to abort does nothing
@@ -575,13 +571,19 @@ pub record Told : Type 0 where
   pub words : ThreadWords
   pub world : World
 
+-- the copies to come behind a command: `elems` and `chars` are one
+abbrev pub memory_after : Command → List Bool → List Bool
+memory_after (commands.MakeFrom make_from.Elements n r) memory = drop 1 memory
+memory_after (commands.On on.Chars r) memory = drop 1 memory
+memory_after _ memory = memory
+
 -- one more command, on this line
 abbrev pub tells : ℕ → Command → Told → Result Reply Fault × World → Told
 tells line x t (answer, w) = record {
   text = t.text ++ printed line x answer;
   place = place_after x answer t.place;
   words = words_after t.place.names x answer t.words;
-  world = w;
+  world = record w { memory = memory_after x t.world.memory };
 }
 
 abbrev pub told_after : Config → ℕ → Command → Told → Told
@@ -632,6 +634,11 @@ IsCovered (commands.MakeAt v n r i) = Unit {0}
 IsCovered (commands.SetAt v r i q) = Unit {0}
 IsCovered (commands.OnAt v r i) = Unit {0}
 IsCovered (commands.StoreAt v r i x) = Unit {0}
+IsCovered (commands.MakeFrom make_from.Elements n r) = Unit {0}
+IsCovered (commands.On on.Chars r) = Unit {0}
+IsCovered (commands.OnNameAt on_name_at.Get n i) = Unit {0}
+IsCovered (commands.PutAt put_at.Put n i x) = Unit {0}
+IsCovered (commands.Release v n r mode) = Unit {0}
 IsCovered (commands.OfRoom v) = Unit {0}
 IsCovered (commands.WithTries v tries) = Unit {0}
 IsCovered _ = ⊥

@@ -4,7 +4,7 @@ use Rattle.std.proofs.Common.{IfErr, refl, sym, ap, subst, ◌∙◌, arith}
 use Rattle.std.specs.List.{AllByRecursion}
 use Rattle.jr_word.specs.declared.config.Config.{Config}
 use Rattle.jr_word.specs.declared.fault.Fault.{Fault}
-use Rattle.jr_word.specs.declared.fault.Fault.TheVariants.{Stale}
+use Rattle.jr_word.specs.declared.fault.Fault.TheVariants.{Stale, WrongKind}
 use Rattle.jr_word.specs.declared.handle.Handle.{Handle as HandleWord}
 use Rattle.jr_word.specs.Handle.{handle_word, IsHandle}
 use Rattle.jr_model.specs.State.{Handle, State}
@@ -141,39 +141,38 @@ module _ {c : Config} {last turns j k : ℕ} {P : Pairing} {w : World} {old new 
     kept_step Q v a b i = kept_as Q v a b i.pass i.fits (names_later i.later p.names q.names s.stands.names)
         (words_later i.later had told s.stands.words)
 
-    -- one that makes a reference, or NULL
-    pub made_step : (n : List ℕ) (Q : Pairing) (v : World) (h g : Option HandleWord) → IsThen Q v
-        → answer ≡ Ok (replies.Made h) → Sets x n → says x (replies.Made h) ≡ says x (replies.Made g)
-        → HandleFits Q v (reference_made h).0 (reference_made g).0 → Steps (Ok (replies.Made g), v)
-    made_step n Q v h g i is sets text fits =
-        subst (λ z. Stepped c last k x new p q had told z (Ok (replies.Made g), v)) (sym is) (record {
+    -- one that sets a name
+    pub named_step : (n : List ℕ) (Q : Pairing) (v : World) (a b : Result Reply Fault) (t u : Binding) → IsThen Q v
+        → answer ≡ a
+        → (names_after x a p.names ≡ with_name p.names n t) × (objects_after x a p.objects ≡ p.objects)
+        × (words_after p.names x a had ≡ had)
+        → (names_after x b q.names ≡ with_name q.names n u) × (objects_after x b q.objects ≡ q.objects)
+        × (words_after q.names x b told ≡ told)
+        → ((line : ℕ) → printed line x a ≡ printed line x b) → BindingFits Q v t u → Steps (b, v)
+    named_step n Q v a b t u i is one two text fits =
+        subst (λ z. Stepped c last k x new p q had told z (b, v)) (sym is) (record {
           pairing = Q;
           stands = record {
             pass = i.pass;
             fits = i.fits;
-            names = subst (λ l. NamesFit Q v l (names_after x (Ok (replies.Made g)) q.names)) (sym one.0)
-                (subst (λ l. NamesFit Q v (with_name p.names n (bound.Reference (reference_made h))) l) (sym two.0)
-                (names_set_fit Q v p.names q.names n (bound.Reference (reference_made h))
-                (bound.Reference (reference_made g)) (names_later i.later p.names q.names s.stands.names) fits));
+            names = subst (λ l. NamesFit Q v l (names_after x b q.names)) (sym one.0)
+                (subst (λ l. NamesFit Q v (with_name p.names n t) l) (sym two.0)
+                (names_set_fit Q v p.names q.names n t u (names_later i.later p.names q.names s.stands.names) fits));
             outside = one.1 ∙ s.stands.outside;
             outside_then = two.1 ∙ s.stands.outside_then;
-            words = subst (λ l. WordsFit Q v l (words_after q.names x (Ok (replies.Made g)) told)) (sym one.2)
+            words = subst (λ l. WordsFit Q v l (words_after q.names x b told)) (sym one.2)
                 (subst (λ l. WordsFit Q v had l) (sym two.2) (words_later i.later had told s.stands.words));
           };
-          text = λ line. text;
+          text = text;
         })
-      where
-        one : (names_after x (Ok (replies.Made h)) p.names
-            ≡ with_name p.names n (bound.Reference (reference_made h)))
-            × (objects_after x (Ok (replies.Made h)) p.objects ≡ p.objects)
-            × (words_after p.names x (Ok (replies.Made h)) had ≡ had)
-        one = sets h p.names p.objects had
 
-        two : (names_after x (Ok (replies.Made g)) q.names
-            ≡ with_name q.names n (bound.Reference (reference_made g)))
-            × (objects_after x (Ok (replies.Made g)) q.objects ≡ q.objects)
-            × (words_after q.names x (Ok (replies.Made g)) told ≡ told)
-        two = sets g q.names q.objects told
+    -- one that makes a reference, or NULL
+    pub made_step : (n : List ℕ) (Q : Pairing) (v : World) (h g : Option HandleWord) → IsThen Q v
+        → answer ≡ Ok (replies.Made h) → Sets x n → says x (replies.Made h) ≡ says x (replies.Made g)
+        → HandleFits Q v (reference_made h).0 (reference_made g).0 → Steps (Ok (replies.Made g), v)
+    made_step n Q v h g i is sets text fits = named_step n Q v (Ok (replies.Made h)) (Ok (replies.Made g))
+        (bound.Reference (reference_made h)) (bound.Reference (reference_made g)) i is (sets h p.names p.objects had)
+        (sets g q.names q.objects told) (λ line. text) fits
 
     module _ (fault : IfErr answer (IsCommandFault turns p.names x new.pass new.frames)) where
       pub was_made : {A : Type 0} (form : A → Reply) (n : ℕ) (asked : Config → ℕ → ℕ → State → Call A)
@@ -262,11 +261,15 @@ module _ {c : Config} {last turns j k : ℕ} {P : Pairing} {w : World} {old new 
         kept_step P w (Err Stale) (Err Stale) (nothing_then r.1 le) r.0 (quiet _) (quiet _) (λ line. refl)
     bound_step le next then (bound.Reference h) (bound.Reference g) fits quiet d found =
         found h g fits (after_decided next old new answer (wanted (bound.Reference h)) d)
+    bound_step le next then (bound.Buffer b) (bound.Buffer e) fits quiet d found =
+        let r = after_decided next old new answer (wanted (bound.Buffer b)) d in
+        kept_step P w (Err WrongKind) (Err WrongKind) (nothing_then r.1 le) r.0 (quiet _) (quiet _) (λ line. refl)
     bound_step le next then bound.Nothing (bound.Reference g) fits quiet d found = absurd fits
     bound_step le next then bound.Nothing (bound.Buffer b) fits quiet d found = absurd fits
     bound_step le next then (bound.Reference h) bound.Nothing fits quiet d found = absurd fits
     bound_step le next then (bound.Reference h) (bound.Buffer b) fits quiet d found = absurd fits
-    bound_step le next then (bound.Buffer b) b' fits quiet d found = absurd fits
+    bound_step le next then (bound.Buffer b) bound.Nothing fits quiet d found = absurd fits
+    bound_step le next then (bound.Buffer b) (bound.Reference g) fits quiet d found = absurd fits
 
     pub wanted_step : k ≤ j → (next : HandleWord → Deed Reply) (then : ℕ → Meaning Reply) (r : Reference)
         → ((e : Fault) → Keeps x (Err e)) → (decided (wanted (referent p.names r)) >>= next) old answer new

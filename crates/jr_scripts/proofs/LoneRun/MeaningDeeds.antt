@@ -161,6 +161,7 @@ HandleFits P w word (suc i) = (i < length w.refs) × (word ≡ handle_word (P.ha
 abbrev pub BindingFits : Pairing → World → Binding → Binding → Type 0
 BindingFits P w bound.Nothing bound.Nothing = Unit {0}
 BindingFits P w (bound.Reference h) (bound.Reference g) = HandleFits P w h.0 g.0
+BindingFits P w (bound.Buffer b) (bound.Buffer d) = b ≡ d
 BindingFits P w _ _ = ⊥
 
 abbrev pub NamesFit : Pairing → World → Names → Names → Type 0
@@ -182,7 +183,9 @@ binding_later l bound.Nothing (bound.Reference g) fits = absurd fits
 binding_later l bound.Nothing (bound.Buffer b) fits = absurd fits
 binding_later l (bound.Reference h) bound.Nothing fits = absurd fits
 binding_later l (bound.Reference h) (bound.Buffer b) fits = absurd fits
-binding_later l (bound.Buffer b) t fits = absurd fits
+binding_later l (bound.Buffer b) (bound.Buffer d) fits = fits
+binding_later l (bound.Buffer b) bound.Nothing fits = absurd fits
+binding_later l (bound.Buffer b) (bound.Reference g) fits = absurd fits
 
 pub names_stay : {P Q : Pairing} {w v : World} → HandlesStay P w Q v → (names names' : Names)
     → NamesFit P w names names' → NamesFit Q v names names'
@@ -289,7 +292,9 @@ posted_fits P w bound.Nothing (bound.Reference g) fits = absurd fits
 posted_fits P w bound.Nothing (bound.Buffer b) fits = absurd fits
 posted_fits P w (bound.Reference h) bound.Nothing fits = absurd fits
 posted_fits P w (bound.Reference h) (bound.Buffer b) fits = absurd fits
-posted_fits P w (bound.Buffer b) t fits = absurd fits
+posted_fits P w (bound.Buffer b) (bound.Buffer d) fits = refl
+posted_fits P w (bound.Buffer b) bound.Nothing fits = absurd fits
+posted_fits P w (bound.Buffer b) (bound.Reference g) fits = absurd fits
 
 -- the word of a handle is not NULL
 not_null : (h : HandleParts) → IsHandle h → handle_word h ≢ 0

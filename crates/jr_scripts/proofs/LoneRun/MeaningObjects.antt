@@ -34,7 +34,7 @@ use Rattle.jr_scripts.specs.Meaning.{World, Meaning, contents_in, goes_on, named
 use Rattle.jr_scripts.specs.Meaning.{wanted_as, wanted_element, wanted_object}
 use Rattle.jr_scripts.specs.Meaning as meaning
 use Rattle.jr_scripts.proofs.UncontendedObjects.{so}
-use Rattle.jr_scripts.proofs.LoneRun.MadeCalls.{Moment, Made, moment_is, stayed, stepped}
+use Rattle.jr_scripts.proofs.LoneRun.MadeCalls.{Moment, Made, made_as, moment_is, stayed, stepped}
 use Rattle.jr_scripts.proofs.LoneRun.MeaningFrames.{Pairing}
 use Rattle.jr_scripts.proofs.LoneRun.MeaningFits.{AreAlike, ContentsFit, ElementFits, Fits, Fitting, IsSame, Later}
 use Rattle.jr_scripts.proofs.LoneRun.MeaningFits.{Means, answer_known, bind_means, decided_means, done_means}
@@ -255,21 +255,33 @@ module _ (c : Config) (last k : ℕ) where
       in_turn (Err e, z) is = ap (λ r. goes_on then (goes_on (λ y z. goes_on (λ o v. goes_on (λ t u. (Ok (o, t), u))
           (meaning.contents o v)) (meaning.not_null y, z)) r)) is
 
+  -- what follows for the object, where it is known
+  pub object_known_means : {A B : Type 0} {V : Fitting A B} {next : ℕ → Call A} (then : ℕ × Contents → Meaning B)
+      (P : Pairing) (w : World) (a : Word) (g o : ℕ) → 1 ≤ c.threads → WordFits P w a g
+      → wanted_object g w ≡ (Ok (o, meant_in w o), w)
+      → ((Q : Pairing) → Later P w Q w → (p : ℕ) → ObjectFits Q w p o
+      → Means c last k k V Q w (next p) (then (o, meant_in w o)))
+      → Means c last k k V P w (references.resolved c last 0 a >>= (λ x. not_null x >>= next)) (then (o, meant_in w o))
+  object_known_means {A} {B} {V} {next} then P w a g o some fits known means =
+      means_as c last (ap (goes_on then) known) (wanted_means {V = V} {next = next} then P w a g some fits
+      (λ Q later p q x. found Q later p q x (ap number (sym x.wanted ∙ known))))
+    where
+      number : Result (ℕ × Contents) Fault × World → ℕ
+      number (Ok b, v) = b.0
+      number (Err e, v) = 0
+
+      found : (Q : Pairing) → Later P w Q w → (p q : ℕ) → Wanted Q w g p q → q ≡ o
+          → Means c last k k V Q w (next p) (then (q, meant_in w q))
+      found Q later p q x same = subst (λ n. Means c last k k V Q w (next p) (then (n, meant_in w n))) (sym same)
+          (means Q later p (subst (ObjectFits Q w p) same x.named))
+
   -- what follows for its kind and its length
   pub header_means : {A B : Type 0} {V : Fitting A B} {P : Pairing} {w : World} {q : Meaning B} (z : State)
       (next : Kind → ℕ → Call A) (p o : ℕ) → ObjectFits P w p o → HeadersFit P w z
       → Means c last k k V P w (next (meant_in w o).kind (length (meant_in w o).words)) q
       → Means c last k k V P w (for_object z p next) q
   header_means {A} {B} {V} {P} {w} {q} z next p o named headers means = record {
-    outcome = λ m n x f r. means.outcome m n x f (record {
-      led = r.led;
-      acts = r.acts;
-      is = here m n x r.acts r.is;
-      legal = r.legal;
-      leads = r.leads;
-      unopposed = r.unopposed;
-      so = r.so;
-    });
+    outcome = λ m n x f r. means.outcome m n x f (made_as c last 0 (here m n x) r);
   }
     where
       here : (m n : Moment) (x : Result A Fault) (acts : List Act) → for_object z p next m.frames acts x n.frames
@@ -439,33 +451,18 @@ module _ (c : Config) (last k : ℕ) where
     pub part_means : (t : Kind) → t ≡ (meant_in w o).kind → is_primitive t ≡ true
         → Means c last k k (PartFits w o i) P w (objects.part_of c last 0 z t i 1 a)
         (λ v. (refused_if (nat_le (length (meant_in w o).words) i) Range, v))
-    part_means t kind numbers = means_as c last (ap (goes_on ranged) known)
-        (wanted_means {V = PartFits w o i} {next = λ p. for_object z p (part_tests t i p)} ranged P w a g some fits
-        (λ Q later p q x. found Q later p q x (ap number (sym x.wanted ∙ known))))
+    part_means t kind numbers = object_known_means {V = PartFits w o i} (λ b v. (
+      refused_if (nat_le (length b.1.words)
+          i) Range,
+      v,
+    )) P w a g o some fits known (λ Q later p named. header_means z (part_tests t i p) p o named
+        (headers_later z later headers) (pass_means c last (not (is_array (meant_in w o).kind)) NotArray
+        (ap not (ap is_array (sym kind) ∙ so_far.0)) (pass_means c last (not (same_element t (meant_in w o).kind))
+        WrongElement (ap not (ap (same_element t) (sym kind) ∙ so_far.2))
+        (part_checks Q w p o i (nat_lt (length (meant_in w o).words) (i + 1)) (grind (arith, nat_tests)) named))))
       where
-        number : Result (ℕ × Contents) Fault × World → ℕ
-        number (Ok b, v) = b.0
-        number (Err e, v) = 0
-
-        ranged : ℕ × Contents → Meaning (Unit {0})
-        ranged b v = (refused_if (nat_le (length b.1.words) i) Range, v)
-
-        found : (Q : Pairing) → Later P w Q w → (p q : ℕ) → Wanted Q w g p q → q ≡ o
-            → Means c last k k (PartFits w o i) Q w (for_object z p (part_tests t i p)) (ranged (q, meant_in w q))
-        found Q later p q x same =
-            subst (λ n. Means c last k k (PartFits w o i) Q w (for_object z p (part_tests t i p))
-            (ranged (n, meant_in w n)))
-            (sym same) (header_means z (part_tests t i p) p o named (headers_later z later headers)
-            (pass_means c last (not (is_array (meant_in w o).kind)) NotArray
-            (ap not (ap is_array (sym kind) ∙ so_far.0)) (pass_means c last (not (same_element t (meant_in w o).kind))
-            WrongElement (ap not (ap (same_element t) (sym kind) ∙ so_far.2))
-            (part_checks Q w p o i (nat_lt (length (meant_in w o).words) (i + 1)) (grind (arith, nat_tests)) named))))
-          where
-            so_far : (is_array t ≡ true) × (is_objects t ≡ false) × (same_element t t ≡ true)
-            so_far = primitive_so t numbers
-
-            named : ObjectFits Q w p o
-            named = subst (ObjectFits Q w p) same x.named
+        so_far : (is_array t ≡ true) × (is_objects t ≡ false) × (same_element t t ≡ true)
+        so_far = primitive_so t numbers
 
     -- GETBOOLEANARRAYREGION and its like, of one element
     pub region_means : (t : Kind) → t ≡ (meant_in w o).kind → is_primitive t ≡ true

@@ -40,7 +40,7 @@ module _ (c : Config) (last k : ℕ) (P : Pairing) (w : World) (o : ℕ) (stood 
   small = standing_below w.objects o stood
 
   -- as many stand as stood
-  put_stands : (x : Contents) (q : ℕ) → IsStanding w.objects q → IsStanding (put x).objects q
+  pub put_stands : (x : Contents) (q : ℕ) → IsStanding w.objects q → IsStanding (put x).objects q
   put_stands x q stands = at_set w.objects o q (Some x) IsSome (λ e. refl) (λ ne. stands) small
 
   was_standing : (x : Contents) (q : ℕ) → IsStanding (put x).objects q → IsStanding w.objects q
@@ -73,7 +73,7 @@ module _ (c : Config) (last k : ℕ) (P : Pairing) (w : World) (o : ℕ) (stood 
               m.state.objects (P.object o) (P.object q) (Some y)
               (λ e. absurd (other (f.objects.apart o q stood below e))) (λ ne. f.objects.alike q below)
 
-      put_fits : Fits c last k P (put x) (moment (record m.state { objects = there_then }) m.frames)
+      pub put_fits : Fits c last k P (put x) (moment (record m.state { objects = there_then }) m.frames)
       put_fits = record {
         refs = record {
           given = f.refs.given;
