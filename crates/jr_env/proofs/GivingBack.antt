@@ -1,11 +1,13 @@
 -- Collections that are announced until one gets its turn, and weak references that are deleted where they are cleared.
-use Rattle.std.proofs.Common.{◌≡◌, ◌<◌, ◌≤◌, ◌-◌, ◌+◌, ℕ, suc, Bool, true, false, Result, Ok, Err, inl, inr, refl}
-use Rattle.std.proofs.Common.{subst, arith}
+use Rattle.std.proofs.Common.{◌≡◌, ◌<◌, ◌≤◌, ◌-◌, ◌+◌, ℕ, suc, Bool, true, false, Result, Ok, Err, IfErr}
+use Rattle.std.proofs.Common.{inl, inr, refl, subst, arith}
 use Rattle.std.specs.Result.{IsErrAnd}
 use Rattle.jr_word.specs.declared.fault.Fault.{Fault}
+use Rattle.jr_word.specs.declared.fault.Fault.TheVariants.{Size}
 use Rattle.jr_word.specs.declared.handle.RefKind.TheVariants.{Weak}
 use Rattle.jr_model.specs.Frames.{Frames}
 use Rattle.jr_steps.specs.Knowing.{Facts}
+use Rattle.jr_env.specs.Collections.{IsNoTurn}
 use Rattle.jr_env.specs.Deeds.{Deed, DoesOutside, delete_reference, is_same_object}
 use Rattle.jr_env.specs.Remedies.{MadeUntilServed, deleting_cleared, refused_once, served_now, tried_last}
 use Rattle.jr_env.specs.Tries.{made_again}
@@ -29,6 +31,10 @@ the_last : {M A : Type 0} {one : M → Result A Fault → M → Type 0} {old new
     → n ≤ k → one old answer new → MadeUntilServed one (n - k) old answer new
 the_last {one = one} {old = old} {new = new} {answer = answer} n k l o =
     let e : 0 ≡ n - k = omega arith in subst (λ m. MadeUntilServed one m old answer new) e (tried_last o)
+
+-- what got no turn was not refused for its marker
+pub not_of_size : {A : Type 0} (r : Result A Fault) → IfErr r IsNoTurn → r ≡ Err Size → ⊥
+not_of_size r so is = subst (λ x. IfErr x IsNoTurn) is so
 
 module _ {S : Type 0} {facts : S → Facts} {A : Type 0} {deed : Deed A} where
   pub served_at : {a b : S} {f g : Frames} {x : A} (n : ℕ) → DoesOutside facts a b f g deed (Ok x)

@@ -9,7 +9,7 @@ use jr_weak::{Collected, Marker};
 use jr_word::{Fault, Handle};
 
 impl<S: Steps> Env<S> {
-    ghost use Rattle.std.specs.Prelude.{◌≡◌, ◌≤◌, Err, IsOk, IfErr, OnErr};
+    ghost use Rattle.std.specs.Prelude.{◌≡◌, ◌↔◌, ◌≤◌, Err, IsOk, IfErr, OnErr};
     ghost use Rattle.jr_word.specs.declared.fault.Fault.TheVariants.{Size};
     ghost use Rattle.jr_weak.specs.Markers.{room_of};
     ghost use Rattle.jr_env.specs.Collections.{FitsRoom, IsNoTurn};
@@ -20,7 +20,7 @@ impl<S: Steps> Env<S> {
     ///
     /// # Errors
     ///
-    /// E17 exactly where the marker was made for another number of objects; E14 and E23 of the last announcement, as `collect_announced` has them.
+    /// E17 exactly where the marker was made for another number of objects; E14 with how many threads were inside, knocking, announcing or collecting, at least 1, where another thread kept the gate closed at the last announcement; E23 with two counts of the open gate, where another thread went in or out between its look at the gate and that announcement; E14 with how many other threads were inside or knocking at its last try, at least 1.
     ///
     /// Nothing has changed then, and the marker is as it was. At E14 and E23 the thread stands outside, and at E17 it has taken no step. Over one thread a marker that fits is never refused.
     ///
@@ -35,7 +35,8 @@ impl<S: Steps> Env<S> {
     ) -> Result<Collected, Fault>
         requires { 1 ≤ tries }
         ensures call { FitsRoom marker.old self.old → Does self.old self.new (collection_in_turn tries patience.more) result }
-        ensures size { ¬ (FitsRoom marker.old self.old) → (result ≡ Err Size) × (self.new ≡ self.old) × (marker.new ≡ marker.old) }
+        ensures size { (result ≡ Err Size) ↔ ¬ (FitsRoom marker.old self.old) }
+        ensures same { ¬ (FitsRoom marker.old self.old) → self.new ≡ self.old }
         ensures room { room_of marker.new ≡ room_of marker.old }
         ensures refused { FitsRoom marker.old self.old → IfErr result IsNoTurn }
         ensures kept { OnErr result (marker.new ≡ marker.old) }
@@ -57,7 +58,7 @@ impl<S: Steps> Env<S> {
     ///
     /// # Errors
     ///
-    /// E17 where the marker was made for another number of objects than the room has: then no try is made, and nothing has changed. E14 and E23 where the collection got no turn; else those of the call at its last try.
+    /// E17 where the marker was made for another number of objects than the room has: then no try is made, and nothing has changed. E14 or E23 where the collection got no turn; else those of the call at its last try.
     ///
     /// What stands then is what the last of these leaves, and the thread stands outside.
     ///
@@ -93,7 +94,7 @@ impl<S: Steps> Env<S> {
     ///
     /// # Errors
     ///
-    /// E2 where the handle is malformed or lies outside the room; E3 where it is a local one of another thread; E2 where its reference does not stand, or another thread deletes it first; E13 at the last try.
+    /// Those of `is_same_object` with NULL at its last try, and where the reference is cleared those of `delete_weak_global_ref` at its last try.
     ///
     /// Nothing has changed then, and the thread stands outside.
     ///
