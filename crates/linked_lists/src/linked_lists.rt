@@ -30,6 +30,7 @@ impl<const LINKS: usize> LinkedLists<LINKS> {
     ghost use Rattle.linked_lists.specs.Lists.{all_numbers, count_up, first_listed, last_list, list_at, lists_before, lists_without, times, with_end, with_free, with_lists, IsAfter};
 
     /// So many numbers, all of which are free, in order, and no further list.
+    #[inline(always)]
     pub fn new(numbers: u16) -> LinkedLists<LINKS>
         requires room { numbers < LINKS }
         requires small { LINKS ≤ 2 ^ 16 }
