@@ -19,7 +19,7 @@ mod owned;
 mod round;
 mod stays;
 
-use crate::beside::Tries;
+use crate::beside::Attempts;
 use crate::case::{CASES, WITH_STAYS};
 use crate::collections::Collections;
 use crate::round::Work;
@@ -45,7 +45,7 @@ enum Measured {
     /// A collection, and a census.
     Collection(Collections),
     /// How many collections come in beside threads that call.
-    Beside(Tries),
+    Beside(Attempts),
 }
 
 /// Does what the words of the command line ask for.
@@ -90,7 +90,7 @@ fn asked(words: &[String]) -> Option<(Measured, u32)> {
             arrays: number(second)?,
             every: number(third)?,
         }),
-        "beside" => Measured::Beside(Tries {
+        "beside" => Measured::Beside(Attempts {
             callers: number(second)?,
             count: number(third)?,
         }),
