@@ -9,7 +9,7 @@ use Rattle.jr_model.specs.Calls.{Call, entered}
 use Rattle.jr_model.proofs.Lawful.{same_leads}
 use Rattle.jr_gate.specs.Performing.{ThreadState}
 use Rattle.jr_elements.specs.Copies.{answer_in}
-use Rattle.jr_env.specs.Requests.{IsLawfulWork, Request, asks, gives, on_word, on_words, told_by}
+use Rattle.jr_env.specs.Requests.{IsLawfulWork, Request, asks, gives, named, on_word, on_words, told_by}
 use Rattle.jr_env.specs.Deeds.{Deed, How, after_exit, answered_by, call_by, deed_of, whole, within_by}
 use Rattle.jr_env.specs.Moving.{DeedMovesFrames, RequestMovesFrames}
 
@@ -31,6 +31,7 @@ each how moved (on_words v w next) old new answer d = each how moved (next d.0 d
 each how moved (gives form first) old new answer d =
     in_form form (deed_of how first) (each how moved first) old new answer d
 each how moved (told_by form first) old new answer d = each how moved first old new (answer_in form answer) d
+each how moved (named name first) old new answer d = each how moved first old new answer d
 
 -- a whole call does: its entry and its exit leave the frames, and so does a shut gate
 whole_moves : {A : Type 0} (silent : Config → ℕ) (work : Config → ℕ → ℕ → State → Call A) → IsLawfulWork work

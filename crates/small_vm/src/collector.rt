@@ -22,8 +22,8 @@ pub(crate) fn run<S: Steps>(
     let mut marker = env.marker(alloc)?;
     for _ in 0..ROUNDS {
         let is_last = table.have_left(2);
-        let collected = env.collect_announced(&mut marker, SHUTS);
-        if is_last && collected.is_ok() {
+        env.collect_in_turn(&mut marker, SHUTS, PATIENCE)?;
+        if is_last {
             return cleared(env, table);
         }
         thread::yield_now();

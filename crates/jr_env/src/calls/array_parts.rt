@@ -14,6 +14,7 @@ ghost use Rattle.jr_env.specs.OpenStays.{StaysOn};
 ghost use Rattle.jr_env.specs.ArrayParts.{FindsPart};
 ghost use Rattle.jr_env.specs.Works.{Serves, ServesWhole, ServesWithin};
 
+use crate::calls::names;
 use crate::env::Env;
 use crate::env_call::EnvCall;
 use crate::native_call::{Handed, NativeCall, NativeCaller};
@@ -36,7 +37,10 @@ impl<S: Steps, E: Elem> NativeCall<S> for SetArrayRegion<'_, E> {
 
     ghost request = { λ c. for_set_array_region E.KIND c.0.0 c.1 (map E.word_of c.2.now) };
 
-    const NAME: &'static str = "Set<PrimitiveType>ArrayRegion";
+    #[inline(always)]
+    fn name(&self) -> &'static str {
+        names::set_region(E::KIND)
+    }
 
     #[inline(always)]
     fn handed(&self) -> Handed {
