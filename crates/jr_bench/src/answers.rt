@@ -1,6 +1,6 @@
 //! The fixed text: how often calls answer as they should.
 
-use crate::beside::{BESIDE, Task, Tries, is_right};
+use crate::beside::{Attempts, BESIDE, Task, is_right};
 use crate::case::{CASES, Case, WATCHED};
 use crate::checked::{Caller, CheckedCase};
 use crate::collections::{COLLECTING, Collections, WAYS};
@@ -95,7 +95,7 @@ fn print_collections<R: Threads + Clock + Print + Sync>(rt: &R, alloc: Global) -
 
 /// Prints whether each collection beside a thread that calls was made, or refused as it may be.
 fn print_beside<R: Threads + Clock + Print + Sync>(rt: &R, alloc: Global) -> io::Result<()> {
-    let tries = Tries {
+    let tries = Attempts {
         callers: 1,
         count: CALLS,
     };

@@ -20,7 +20,7 @@ mod owned;
 mod round;
 mod stays;
 
-use crate::beside::Tries;
+use crate::beside::Attempts;
 use crate::case::{CASES, WITH_STAYS};
 use crate::collections::Collections;
 use crate::round::Work;
@@ -48,7 +48,7 @@ enum Measured {
     /// A collection, and a census.
     Collection(Collections),
     /// How many collections come in beside threads that call.
-    Beside(Tries),
+    Beside(Attempts),
 }
 
 /// Does what the words of the command line ask for.
@@ -96,7 +96,7 @@ fn asked(words: &[String]) -> Option<(Measured, u32)> {
             arrays: number(second)?,
             every: number(third)?,
         }),
-        "beside" => Measured::Beside(Tries {
+        "beside" => Measured::Beside(Attempts {
             callers: number(second)?,
             count: number(third)?,
         }),

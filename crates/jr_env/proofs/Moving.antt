@@ -1,5 +1,5 @@
 -- Each call moves the frames of its thread, whatever it requests.
-use Rattle.std.proofs.Common.{◌≡◌, ℕ, List, Result, Ok, Err, inl, inr, sym, subst}
+use Rattle.std.proofs.Common.{ℕ, List, Ok, Err, inl, inr, sym, subst}
 use Rattle.jr_word.specs.declared.config.Config.{Config}
 use Rattle.jr_model.specs.declared.event.Act.{Act}
 use Rattle.jr_model.specs.State.{State}
@@ -10,7 +10,7 @@ use Rattle.jr_model.proofs.Lawful.{same_leads}
 use Rattle.jr_gate.specs.Performing.{ThreadState}
 use Rattle.jr_elements.specs.Copies.{answer_in}
 use Rattle.jr_env.specs.Requests.{IsLawfulWork, Request, asks, gives, named, on_word, on_words, told_by}
-use Rattle.jr_env.specs.Deeds.{Deed, How, after_exit, answered_by, call_by, deed_of, whole, within_by, in_a_stay}
+use Rattle.jr_env.specs.Deeds.{Deed, How, after_exit, answered_by, call_by, deed_of, whole, within_by}
 use Rattle.jr_env.specs.Moving.{DeedMovesFrames, RequestMovesFrames}
 
 -- the answer in another form moves what the deed moves

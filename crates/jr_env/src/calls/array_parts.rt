@@ -57,7 +57,7 @@ impl<S: Steps, E: Elem> NativeCall<S> for SetArrayRegion<'_, E> {
     ) -> Result<(), Fault> {
         let SetArrayRegion(handle, start, elements) = self;
         let array = Reference::of(handle);
-        let part = Part { array, start };
+        let part = ArrayPart { array, start };
         let (object, header) = find_part(steps, inside, frames, part, E::KIND, elements.len())?;
         write_part(steps, object, header, start, elements);
         Ok(())
@@ -79,7 +79,7 @@ impl<S: Steps, E: Elem> EnvCall<S> for SetArrayRegion<'_, E> {
 
 /// A part of an array, of as many elements as are handed in beside it.
 #[derive(Clone, Copy)]
-struct Part {
+struct ArrayPart {
     /// The array.
     array: Reference,
     /// The index at which the part begins.
@@ -159,7 +159,7 @@ fn read_into<S: Steps, E: Elem>(
     ensures err { IfErr result (λ _. elements.new ≡ elements.old) }
 {
     let array = Reference::of(handle);
-    let part = Part { array, start };
+    let part = ArrayPart { array, start };
     let (object, header) = find_part(steps, inside, frames, part, E::KIND, elements.len())?;
     read_part(steps, object, header, start, elements);
     Ok(())
@@ -171,7 +171,7 @@ fn find_part<S: Steps>(
     steps: &mut S,
     inside: &Inside,
     frames: &Frames,
-    part: Part,
+    part: ArrayPart,
     kind: Kind,
     count: usize,
 ) -> Result<(u16, HeaderParts), Fault>

@@ -339,10 +339,6 @@ impl<S: Steps> NativeCall<S> for IsSameObject {
         frames: &mut Frames,
         _numbers: &mut Numbers,
     ) -> Result<bool, Fault> {
-        if self.0.is_shared() && self.1.is_shared() {
-            // (the same, in a place of its own: there the compiler knows how most of the tests end)
-            return compare(steps, inside, frames, self.0, self.1);
-        }
         compare(steps, inside, frames, self.0, self.1)
     }
 }
