@@ -159,7 +159,7 @@ impl Case {
             Case::Copies(case) => case.name(),
             Case::Criticals(case) => case.name(),
             Case::Stays(case) => case.name(),
-            Case::Checked(case) => case.name(),
+            Case::Checked(case) => case.call.name(),
         }
     }
 

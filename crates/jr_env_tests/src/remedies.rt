@@ -32,11 +32,11 @@ fn gives_the_slot_back<S: Steps>(
     let object = env.new_plain()?;
     let weak = Handle::or_null(env.new_weak_global_ref(object)?);
     assert!(rt; is_refused(env.new_global_ref(object), Some(Fault::RowFull)));
-    assert_eq!(rt; env.delete_cleared(weak, FEW)?, false);
+    assert!(rt; !env.delete_cleared(weak, FEW)?);
     env.delete_local_ref(object)?;
     let collected = env.collect_in_turn(&mut marker, 1, FEW)?;
     assert_eq!(rt; collected.cleared, 1);
-    assert_eq!(rt; env.delete_cleared(weak, FEW)?, true);
+    assert!(rt; env.delete_cleared(weak, FEW)?);
     assert!(rt; is_refused(env.delete_cleared(weak, FEW), Some(Fault::Stale)));
     Ok(())
 }
