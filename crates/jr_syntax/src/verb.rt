@@ -2,6 +2,7 @@
 
 ghost use Rattle.std.specs.Prelude.{◌≡◌};
 ghost use Rattle.jr_syntax.specs.Command.{verb_word, verb_of};
+ghost use Rattle.jr_syntax.specs.declared.verb.Verb.TheVariants as verbs;
 
 /// A verb with a name behind it: it makes what the name then stands for.
 #[derive(Clone, Copy, Debug, PartialEq, Eq)]
@@ -265,6 +266,52 @@ const VERBS: [Verb; 38] = [
     Verb::WithTries(WithTries::CollectAnnounced),
 ];
 
+impl MakeFrom {
+    /// Its word.
+    fn word(self) -> &'static [u8]
+        ensures { result.now ≡ verb_word (verbs.MakeFrom self) }
+    {
+        match self {
+            MakeFrom::Global => b"global",
+            MakeFrom::Weak => b"weak",
+            MakeFrom::Local => b"local",
+            MakeFrom::Pop => b"pop",
+            MakeFrom::Elements => b"elems",
+        }
+    }
+}
+
+impl On {
+    /// Its word.
+    fn word(self) -> &'static [u8]
+        ensures { result.now ≡ verb_word (verbs.On self) }
+    {
+        match self {
+            On::Drop => b"drop",
+            On::Type => b"type",
+            On::Len => b"len",
+            On::TextLength => b"slen",
+            On::Chars => b"chars",
+        }
+    }
+}
+
+impl MakeSized {
+    /// Its word.
+    fn word(self) -> &'static [u8]
+        ensures { result.now ≡ verb_word (verbs.MakeSized self) }
+    {
+        match self {
+            MakeSized::Boolean => b"boolean",
+            MakeSized::Byte => b"byte",
+            MakeSized::Char => b"char",
+            MakeSized::Short => b"short",
+            MakeSized::Int => b"int",
+            MakeSized::Long => b"long",
+        }
+    }
+}
+
 impl Verb {
     /// Its word.
     pub fn word(self) -> &'static [u8]
@@ -273,26 +320,13 @@ impl Verb {
         match self {
             Verb::Make(Make::Plain) => b"plain",
             Verb::Make(Make::Wait) => b"wait",
-            Verb::MakeFrom(MakeFrom::Global) => b"global",
-            Verb::MakeFrom(MakeFrom::Weak) => b"weak",
-            Verb::MakeFrom(MakeFrom::Local) => b"local",
-            Verb::MakeFrom(MakeFrom::Pop) => b"pop",
-            Verb::MakeFrom(MakeFrom::Elements) => b"elems",
-            Verb::On(On::Drop) => b"drop",
-            Verb::On(On::Type) => b"type",
-            Verb::On(On::Len) => b"len",
-            Verb::On(On::TextLength) => b"slen",
-            Verb::On(On::Chars) => b"chars",
+            Verb::MakeFrom(verb) => verb.word(),
+            Verb::On(verb) => verb.word(),
             Verb::OnBoth(OnBoth::Same) => b"same",
             Verb::OnName(OnName::Post) => b"post",
             Verb::WithCount(WithCount::Push) => b"push",
             Verb::WithCount(WithCount::Ensure) => b"ensure",
-            Verb::MakeSized(MakeSized::Boolean) => b"boolean",
-            Verb::MakeSized(MakeSized::Byte) => b"byte",
-            Verb::MakeSized(MakeSized::Char) => b"char",
-            Verb::MakeSized(MakeSized::Short) => b"short",
-            Verb::MakeSized(MakeSized::Int) => b"int",
-            Verb::MakeSized(MakeSized::Long) => b"long",
+            Verb::MakeSized(verb) => verb.word(),
             Verb::MakeFilled(MakeFilled::Objects) => b"objs",
             Verb::MakeText(MakeText::String) => b"string",
             Verb::MakeAt(MakeAt::Get) => b"get",
