@@ -33,7 +33,7 @@ module _ {M A : Type 0} {one : M → Result A Fault → M → Type 0} {waits : B
       subst (λ m. MadeAgain waits one m old answer new) e (the_last o)
 
 -- an answer in another form is worth another try where it is
-worth_formed : {A B : Type 0} (waits : Bool) (form : A → B) (answer : Result A Fault)
+pub worth_formed : {A B : Type 0} (waits : Bool) (form : A → B) (answer : Result A Fault)
     → is_worth_a_try waits (answer_in form answer) ≡ is_worth_a_try waits answer
 worth_formed true form (Ok x) = refl
 worth_formed true form (Err e) = refl

@@ -3,8 +3,9 @@ ghost use Rattle.jr_env.specs.Calling.{CanCall};
 
 use crate::calls::array_parts::copy_out;
 use crate::native_call::{NativeCall, NativeCaller};
-use crate::work::{make_whole, outside};
+use crate::work::outside;
 use jr_frames::{Frames, Held};
+use jr_gate::enter;
 use jr_heap::Numbers;
 use jr_steps::Steps;
 use jr_word::{Elem, Fault, Handle};
@@ -85,7 +86,17 @@ impl<S: Steps> NativeCaller<S> for Env<S> {
 
     #[inline(always)]
     fn make<C: NativeCall<S> + Drop>(&mut self, call: C) -> Result<C::Answer, Fault> {
-        make_whole(&mut self.held, &mut self.numbers, call)
+        let held = &mut self.held;
+        outside(held);
+        let inside = enter(&mut held.steps)?;
+        let answer = call.work(
+            &mut held.steps,
+            &inside,
+            &mut held.frames,
+            &mut self.numbers,
+        );
+        inside.leave(&mut held.steps);
+        answer
     }
 
     fn copy_part<E: Elem>(

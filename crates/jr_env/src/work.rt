@@ -27,28 +27,6 @@ pub fn outside<S: Steps>(held: &mut Held<S>)
     }
 }
 
-/// Makes a call: enters the gate, does what it asks for, and leaves. A stay that a region left is ended first.
-///
-/// # Errors
-///
-/// E13, and those of the call.
-#[inline(always)]
-pub fn make_whole<S: Steps, C: NativeCall<S> + Drop>(
-    held: &mut Held<S>,
-    numbers: &mut Numbers,
-    call: C,
-) -> Result<C::Answer, Fault>
-    requires { CanCall (S.facts held.old.steps).stands }
-    ensures call { ServesWhole held.old held.new (C.request call) result }
-    ensures next { CanCall (S.facts held.new.steps).stands }
-{
-    outside(held);
-    let inside = enter(&mut held.steps)?;
-    let answer = call.work(&mut held.steps, &inside, &mut held.frames, numbers);
-    inside.leave(&mut held.steps);
-    answer
-}
-
 /// Makes a call in a stay of the thread, which goes on.
 ///
 /// # Errors

@@ -11,31 +11,6 @@ use jr_gate::Inside;
 use jr_steps::{SlotLoad, Steps};
 use jr_word::{Fault, HandleParts, RefKind, SlotParts};
 
-/// One slot, looked at and claimed where it is free.
-#[inline(always)]
-fn try_slot<S: Steps>(steps: &mut S, index: u16, kind: RefKind, object: u16) -> Option<HandleParts>
-    requires role { (S.facts steps.old).stands.role ≡ Within }
-    requires row { index < (S.facts steps.old).stands.config.slots }
-    requires kind { kind ≢ Local }
-    requires object { MayKnow S.facts steps.old (HasObject object) }
-    ensures tried { Searched S.facts steps.old steps.new kind object (InTurn index (index + 1)) index (index + 1) result }
-    ensures index { IfSome result (λ h. h.index ≡ index) }
-    ensures hint { (S.facts steps.new).hint ≡ (S.facts steps.old).hint }
-{
-    let SlotParts::Free { serial } = steps.see_slot(index, SlotLoad::Probe) else {
-        return None;
-    };
-    match steps.claim(index, serial, kind, object) {
-        Ok(()) => Some(HandleParts {
-            kind,
-            serial,
-            index,
-            owner: 0,
-        }),
-        Err(_) => None,
-    }
-}
-
 /// The slots from first on and before last are tried one after the other, until one is won.
 #[inline(always)]
 fn search<S: Steps>(
@@ -53,10 +28,18 @@ fn search<S: Steps>(
     ensures index { IfSome result (λ h. h.index < (S.facts steps.old).stands.config.slots) }
     ensures hint { (S.facts steps.new).hint ≡ (S.facts steps.old).hint }
 {
-    for index in first..last {
-        let made = try_slot(steps, index as u16, kind, object);
-        if let Some(handle) = made {
-            return Some(handle);
+    for slot in first..last {
+        let index = slot as u16;
+        let SlotParts::Free { serial } = steps.see_slot(index, SlotLoad::Probe) else {
+            continue;
+        };
+        if let Ok(()) = steps.claim(index, serial, kind, object) {
+            return Some(HandleParts {
+                kind,
+                serial,
+                index,
+                owner: 0,
+            });
         }
     }
     None

@@ -60,6 +60,7 @@ impl<S: Steps> Env<S> {
         let levels = levels_beside::open_string(self, string)?;
         Ok(Region::over(self, levels))
     }
+
     /// Opens a critical region as `get_array_critical` does, and again as long as it is refused by E13, but no more than so many times more.
     ///
     /// # Errors
