@@ -11,7 +11,7 @@ pub use jr_env::{
 };
 pub use jr_model::{Mode, Summary};
 pub use jr_owned::{
-    NoteQueue, OwnedCells, OwnedCode, OwnedEnv, OwnedSteps, OwnedStepsOf, close_owned, end_owner,
+    Attached, EnvPool, NoteQueue, OwnedCells, OwnedCode, OwnedEnv, OwnedSteps, OwnedStepsOf, close_owned, end_owner,
     last_owner, of_any_site, of_site, open_envs, open_owned, owned_steps, spawn_owned,
 };
 pub use jr_rule::{
