@@ -2,6 +2,10 @@
 ghost use Rattle.std.specs.Prelude.{◌≡◌, ◌⊎◌, ◌↔◌, All, length, false, Ok, Err, IfSome, IfOk, IfErr};
 ghost use Rattle.jr_word.specs.declared.fault.Fault.TheVariants.{Memory, Size};
 ghost use Rattle.jr_word.specs.Config.{in_limits};
+ghost use Rattle.std.specs.Arc.{arc_value};
+ghost use Rattle.jr_rule.specs.Passes.{Closes};
+ghost use Rattle.jr_rule.specs.Rule.{stepping_pass};
+ghost use Rattle.jr_owned.specs.Owners.{owner_of, IsLeftByOwner};
 ghost use Rattle.jr_owned.specs.Pools.{IsIdle};
 
 use crate::LAST;
@@ -12,7 +16,7 @@ use jr_env::{Env, Patience};
 use jr_model::Summary;
 use jr_rule::Left;
 use jr_word::{Config, Fault};
-use std::alloc::Global;
+use std::alloc::{AllocError, Global};
 use std::sync::{Mutex, MutexGuard};
 
 /// An env that no thread holds.
@@ -35,6 +39,32 @@ pub struct Attached<'p> {
     place: MutexGuard<'p, Option<Idle>>,
 }
 
+/// An env that no thread holds.
+fn parked(env: Box<OwnedEnv>) -> Idle
+    requires { IsIdle env.value }
+{
+    Idle { env }
+}
+
+/// A place with an env that no thread holds.
+fn place_of(alloc: Global, env: OwnedEnv) -> Result<Mutex<Option<Idle>>, AllocError>
+    requires { IsIdle env }
+{
+    let Ok(env) = Box::new(alloc, env) else {
+        return Err(AllocError);
+    };
+    Ok(Mutex::new(Some(parked(env))))
+}
+
+/// Ends an env that no thread holds, and closes the room where nobody else owns it, as `close_owned`.
+fn end(idle: Idle) -> Result<Option<Summary>, Left<LAST>>
+    ensures closed { IfOk result (λ o. IfSome o (λ s. (it : Idle) × Closes (stepping_pass it.env.value.held.steps.cells.cells.seat.me) s)) }
+    ensures left { IfErr result (λ l. (it : Idle) × IsLeftByOwner (arc_value it.env.value.held.steps.cells.room) (owner_of it.env.value.held.steps) l) }
+{
+    let env = Box::into_inner(idle.env);
+    close_owned(env.into_pass())
+}
+
 /// The envs in a place each.
 fn pooled(alloc: Global, envs: Vec<OwnedEnv>) -> Result<EnvPool, Fault>
     requires { All IsIdle envs.items }
@@ -45,10 +75,10 @@ fn pooled(alloc: Global, envs: Vec<OwnedEnv>) -> Result<EnvPool, Fault>
         return Err(Fault::Memory);
     };
     for env in envs {
-        let Ok(env) = Box::new(alloc, env) else {
+        let Ok(place) = place_of(alloc, env) else {
             return Err(Fault::Memory);
         };
-        let Ok(()) = places.push(Mutex::new(Some(Idle { env }))) else {
+        let Ok(()) = places.push(place) else {
             return Err(Fault::Memory);
         };
     }
@@ -56,11 +86,6 @@ fn pooled(alloc: Global, envs: Vec<OwnedEnv>) -> Result<EnvPool, Fault>
 }
 
 impl EnvPool {
-    ghost use Rattle.std.specs.Arc.{arc_value};
-    ghost use Rattle.jr_rule.specs.Passes.{Closes};
-    ghost use Rattle.jr_rule.specs.Rule.{stepping_pass};
-    ghost use Rattle.jr_owned.specs.Owners.{owner_of, IsLeftByOwner};
-
     /// Opens a room of these sizes, and has an env for each of its threads.
     ///
     /// # Errors
@@ -108,14 +133,14 @@ impl EnvPool {
     ///
     /// Those of `close_owned`.
     pub fn close(self) -> Result<Option<Summary>, Left<LAST>>
-        ensures closed { IfOk result (λ o. IfSome o (λ s. (env : OwnedEnv) × IsIdle env × Closes (stepping_pass env.held.steps.cells.cells.seat.me) s)) }
-        ensures left { IfErr result (λ l. (env : OwnedEnv) × IsIdle env × IsLeftByOwner (arc_value env.held.steps.cells.room) (owner_of env.held.steps) l) }
+        ensures closed { IfOk result (λ o. IfSome o (λ s. (it : Idle) × Closes (stepping_pass it.env.value.held.steps.cells.cells.seat.me) s)) }
+        ensures left { IfErr result (λ l. (it : Idle) × IsLeftByOwner (arc_value it.env.value.held.steps.cells.room) (owner_of it.env.value.held.steps) l) }
     {
         for place in self.places {
             if let Some(idle) = place.into_inner() {
-                let env = Box::into_inner(idle.env);
-                if let Some(summary) = close_owned(env.into_pass())? {
-                    return Ok(Some(summary));
+                match end(idle) {
+                    Ok(None) => {}
+                    ended => return ended,
                 }
             }
         }
@@ -127,6 +152,7 @@ impl<'p> Attached<'p> {
     ghost use Rattle.jr_env.specs.Envs.{Does};
     ghost use Rattle.jr_env.specs.Deeds.{free_locals};
     ghost use Rattle.jr_env.specs.Tries.{made_again};
+    ghost use Rattle.jr_owned.specs.Pools.{IsFreed};
 
     /// Frees all local references of the thread, and hands its env back to the pool, outside and in one base frame. (JNI Specification, chapter 5, "DetachCurrentThread")
     ///
@@ -140,20 +166,20 @@ impl<'p> Attached<'p> {
     ///
     /// Those of `free_locals` at each try.
     pub fn detach(self, patience: Patience) -> Result<(), (Attached<'p>, Fault)>
-        ensures freed { IfOk result (λ _. (left : OwnedEnv) × Does self.env.value left (made_again patience.waits_for_room patience.more free_locals) result) }
-        ensures held { IfErr result (λ e. Does self.env.value e.0.env.value (made_again patience.waits_for_room patience.more free_locals) (Err e.1)) }
+        ensures freed { IfOk result (λ _. IsFreed self.entry.env.value patience) }
+        ensures held { IfErr result (λ e. Does self.entry.env.value e.0.env.value (made_again patience.waits_for_room patience.more free_locals) (Err e.1)) }
     {
         let Attached { mut env, mut place } = self;
         if let Err(fault) = env.retry(&FreeLocals, patience) {
             return Err((Attached { env, place }, fault));
         }
-        *place = Some(Idle { env });
+        *place = Some(parked(env));
         Ok(())
     }
 
     /// Takes the env out of the pool for good. Its place stays empty, and the room has an owner more that is to close it.
     pub fn into_env(self) -> OwnedEnv
-        ensures { result ≡ self.env.value }
+        ensures { result ≡ self.entry.env.value }
     {
         let Attached { env, place: _ } = self;
         Box::into_inner(env)

@@ -1,4 +1,4 @@
-use Rattle.std.proofs.Common.{IfOk, length, subst}
+use Rattle.std.proofs.Common.{◌≡◌, IfOk, length, subst}
 use Rattle.jr_owned.proofs.Pools.{idle_opened, envs_long}
 use Rattle.jr_owned.proofs.pool.EnvPool.open.Goals as goal
 
