@@ -31,7 +31,7 @@ use Rattle.jr_env.specs.Envs.{Does, IsOutside}
 use Rattle.jr_env.specs.Tries.{made_again}
 use Rattle.jr_env.proofs.MadeAgain.{tries_last}
 use Rattle.jr_owned.specs.Owners.{owner_of, AreEnvsOpened, IsEnvOver, IsLeftByOwner}
-use Rattle.jr_owned.specs.Pools.{IsFreed, IsIdle}
+use Rattle.jr_owned.specs.Pools.{FreesLocals, IsIdle}
 use Rattle.jr_owned.proofs.Owners.{numbers_long}
 
 outside_or : (r : Role) → (r ≡ Outside) ⊎ (r ≢ Outside)
@@ -50,7 +50,8 @@ module _ {S : Type 0} {G : Ghosts S} where
     outside = d.outside;
     frames = ∥∥₁_elim old.held.own.agrees (hlevel props) (λ k. ⊎_elim
         (λ out. let x = (d.does out).did k.0 k.1 k.2 in
-        let last = tries_last x.3 in freed_frames last.0.frames new.held.frames.frames last.1.0.ran.acts last.1.0.ran.is)
+        let last = tries_last x.3 in
+        freed_frames last.0.frames new.held.frames.frames last.1.0.ran.acts last.1.0.ran.is)
         (λ no. let x = (d.left no).did k.0 k.1 k.2 in
         let last = tries_last x.3.2 in
         freed_frames last.0.frames new.held.frames.frames last.1.0.ran.acts last.1.0.ran.is)
@@ -72,7 +73,7 @@ module _ {S : Type 0} {G : Ghosts S} where
       idle_freed own new p.waits_for_room p.more (did_lent own lent new p once (Ok tt) same is d)
 
   pub freed_lent : (own lent new : Env S G) (p : Patience) (once : Result (Unit {0}) Fault) → lent ≡ own
-      → once ≡ Ok tt → Does lent new (made_again p.waits_for_room p.more free_locals) once → IsFreed own p
+      → once ≡ Ok tt → Does lent new (made_again p.waits_for_room p.more free_locals) once → FreesLocals own p
   freed_lent own lent new p once same is d = record {
     left = new;
     freed = did_lent own lent new p once (Ok tt) same is d;

@@ -13,7 +13,7 @@ pub record IsIdle {S : Type 0} {G : Ghosts S} (env : Env S G) : Type 0 where
   pub frames : env.held.frames.frames.frames ≡ [] ∷ []
 
 -- ALL LOCAL REFERENCES WERE FREED, within the patience, and the env that was left is idle
-pub record IsFreed {S : Type 0} {G : Ghosts S} (env : Env S G) (p : Patience) : Type 0 where
+pub record FreesLocals {S : Type 0} {G : Ghosts S} (env : Env S G) (p : Patience) : Type 0 where
   pub left : Env S G
   pub freed : Does env left (made_again p.waits_for_room p.more free_locals) (Ok tt)
   pub idle : IsIdle left

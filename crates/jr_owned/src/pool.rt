@@ -1,5 +1,5 @@
 //! A pool of envs, for native threads that come and go: each is attached with an env that no other thread holds, and hands it back.
-ghost use Rattle.std.specs.Prelude.{◌≡◌, ◌⊎◌, ◌↔◌, All, length, false, Ok, Err, IfSome, IfOk, IfErr};
+ghost use Rattle.std.specs.Prelude.{◌≡◌, ◌⊎◌, ◌↔◌, All, length, false, Err, IfSome, IfOk, IfErr};
 ghost use Rattle.jr_word.specs.declared.fault.Fault.TheVariants.{Memory, Size};
 ghost use Rattle.jr_word.specs.Config.{in_limits};
 ghost use Rattle.std.specs.Arc.{arc_value};
@@ -11,8 +11,8 @@ ghost use Rattle.jr_owned.specs.Pools.{IsIdle};
 use crate::LAST;
 use crate::envs::{OwnedEnv, open_envs};
 use crate::owned::close_owned;
+use jr_env::Patience;
 use jr_env::calls::FreeLocals;
-use jr_env::{Env, Patience};
 use jr_model::Summary;
 use jr_rule::Left;
 use jr_word::{Config, Fault};
@@ -152,7 +152,7 @@ impl<'p> Attached<'p> {
     ghost use Rattle.jr_env.specs.Envs.{Does};
     ghost use Rattle.jr_env.specs.Deeds.{free_locals};
     ghost use Rattle.jr_env.specs.Tries.{made_again};
-    ghost use Rattle.jr_owned.specs.Pools.{IsFreed};
+    ghost use Rattle.jr_owned.specs.Pools.{FreesLocals};
 
     /// Frees all local references of the thread, and hands its env back to the pool, outside and in one base frame. (JNI Specification, chapter 5, "DetachCurrentThread")
     ///
@@ -166,7 +166,7 @@ impl<'p> Attached<'p> {
     ///
     /// Those of `free_locals` at each try.
     pub fn detach(self, patience: Patience) -> Result<(), (Attached<'p>, Fault)>
-        ensures freed { IfOk result (λ _. IsFreed self.entry.env.value patience) }
+        ensures freed { IfOk result (λ _. FreesLocals self.entry.env.value patience) }
         ensures held { IfErr result (λ e. Does self.entry.env.value e.0.env.value (made_again patience.waits_for_room patience.more free_locals) (Err e.1)) }
     {
         let Attached { mut env, mut place } = self;
