@@ -11,8 +11,9 @@ pub use jr_env::{
 };
 pub use jr_model::{Mode, Summary};
 pub use jr_owned::{
-    NoteQueue, OwnedCells, OwnedCode, OwnedEnv, OwnedSteps, OwnedStepsOf, close_owned, end_owner,
-    last_owner, of_any_site, of_site, open_envs, open_owned, owned_steps, spawn_owned,
+    Attached, EnvPool, NoteQueue, OwnedCells, OwnedCode, OwnedEnv, OwnedSteps, OwnedStepsOf,
+    close_owned, end_owner, last_owner, of_any_site, of_site, open_envs, open_owned, owned_steps,
+    spawn_owned,
 };
 pub use jr_rule::{
     AllLeft, Left, Note, NoteOf, Pass, PinnedNote, PinnedNoteOf, PlainSteps, Role, Room, RoomSteps,

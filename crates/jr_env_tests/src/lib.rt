@@ -24,6 +24,8 @@ mod owners;
 #[cfg(test)]
 mod plain;
 #[cfg(test)]
+mod pools;
+#[cfg(test)]
 mod references;
 mod remedies;
 #[cfg(test)]

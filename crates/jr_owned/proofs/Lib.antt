@@ -1,1 +1,2 @@
 mod Owners
+mod Pools

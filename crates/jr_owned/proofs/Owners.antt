@@ -96,7 +96,7 @@ module _ {P : Type 0} {G : Ghosts (OwnedCells 4294967295) P}
   env_more ss es ts s e is was more =
       subst (AllZip IsEnvOver (ss ++ s ∷ [])) (sym is) (zip_more IsEnvOver ss es s e was more)
 
-numbers_long : (n : ℕ) → length (numbers_below n) ≡ n
+pub numbers_long : (n : ℕ) → length (numbers_below n) ≡ n
 numbers_long zero = refl
 numbers_long (suc n) = let e = length-append (numbers_below n) (n ∷ []) in let f = numbers_long n in omega arith
 

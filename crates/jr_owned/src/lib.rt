@@ -4,6 +4,7 @@
 mod code;
 mod envs;
 mod owned;
+mod pool;
 mod site;
 
 pub use code::{NoteQueue, OwnedCode, spawn_owned};
@@ -11,6 +12,7 @@ pub use envs::{OwnedEnv, open_envs};
 pub use owned::{
     OwnedCells, OwnedSteps, close_owned, end_owner, last_owner, open_owned, owned_steps,
 };
+pub use pool::{Attached, EnvPool};
 pub use site::{OwnedStepsOf, of_any_site, of_site};
 
 /// The last serial of the rooms.

@@ -1,0 +1,151 @@
+//! A pool of envs: more native threads come and go than the room has threads.
+
+use jr::calls::NewArray;
+use jr::{
+    Attached, Config, EnvPool, Explains, Fault, Handle, NativeInterface, OwnedEnv, Patience,
+    Summary, close_owned,
+};
+use std::sync::Arc;
+use std::test::Fail;
+use std::thread;
+
+/// A room in which two threads may be attached at a time.
+const TWO: Config = Config {
+    threads: 2,
+    slots: 16,
+    objects: 16,
+    words: 64,
+    locals: 16,
+};
+
+/// How many threads come and go.
+const COMERS: usize = 7;
+
+/// In how many turns a thread looks for an env.
+const TURNS: u32 = 10_000_000;
+
+/// What stands at the end: an array of three elements and a global reference to it of each thread.
+const AT_THE_END: Summary = Summary {
+    globals: 7,
+    weaks: 0,
+    live: 7,
+    used: 21,
+};
+
+/// What stands behind threads that shared nothing: an object that nothing reaches.
+const BEHIND_ALL: Summary = Summary {
+    globals: 0,
+    weaks: 0,
+    live: 1,
+    used: 0,
+};
+
+/// Makes an array and a global reference to it, and leaves the local one: the number of the thread.
+fn works(env: &mut OwnedEnv) -> Result<u8, Fault> {
+    let array = env.retry(&NewArray::<i32>::of(3), Patience::LONG)?;
+    env.new_global_ref(array)?;
+    Ok(env.thread())
+}
+
+/// Hands an env back: E13 where it is refused, and then it is gone.
+fn detach(attached: Attached<'_>) -> Result<(), Fault> {
+    match attached.detach(Patience::LONG) {
+        Ok(()) => Ok(()),
+        Err((attached, fault)) => {
+            drop(attached.into_env());
+            Err(fault)
+        }
+    }
+}
+
+/// A thread that comes, works, and goes: the number of the env's thread. E20 where it finds no env.
+fn comes_and_goes(pool: &EnvPool) -> Result<u8, Fault> {
+    for _ in 0..TURNS {
+        let Some(mut attached) = pool.attach() else {
+            thread::yield_now();
+            continue;
+        };
+        let answer = works(&mut *attached.env);
+        detach(attached)?;
+        return answer;
+    }
+    Err(Fault::Turns)
+}
+
+/// More threads come and go than there are envs, and each leaves no local reference.
+#[test]
+fn threads_come_and_go(rt: HostRuntime) -> Result<(), Fail> {
+    let alloc = rt.alloc();
+    let pool = Arc::new(alloc, EnvPool::open(alloc, TWO)?)?;
+    let mut threads = Vec::with_capacity(alloc, COMERS)?;
+    for _ in 0..COMERS {
+        let pool = Arc::try_clone(&pool)?;
+        threads.push(thread::spawn(&rt, move || comes_and_goes(&*pool))?)?;
+    }
+    for thread in threads {
+        let number = thread.join(&rt)?;
+        assert!(rt; number < 2);
+    }
+    let Some(pool) = Arc::into_inner(pool) else {
+        return Err("a thread has the pool still")?;
+    };
+    let closed = pool.close().map_err(|left| left.fault)?;
+    assert_eq!(rt; closed, Some(AT_THE_END));
+    Ok(())
+}
+
+/// The env of a pool in which one is free: E21 where none is.
+fn attached(pool: &EnvPool) -> Result<Attached<'_>, Fault> {
+    pool.attach().ok_or(Fault::NotFresh)
+}
+
+/// Makes a local reference in a frame of its own, and goes: a handle that was let go.
+fn leaves_a_local(pool: &EnvPool) -> Result<Handle, Fault> {
+    let mut attached = attached(pool)?;
+    let pushed = attached.env.push_local_frame(4);
+    let local = attached.env.new_plain();
+    detach(attached)?;
+    pushed?;
+    local
+}
+
+/// Whether a handle of an earlier thread is no reference of the next one, and that has no frame to pop.
+fn finds_nothing(pool: &EnvPool, local: Handle) -> Result<bool, Fault> {
+    let mut attached = attached(pool)?;
+    let code = attached.env.get_object_ref_type(local);
+    let popped = attached.env.pop_local_frame(Handle::NULL);
+    detach(attached)?;
+    Ok(code? == 0 && matches!(popped, Err(Fault::NoFrame)))
+}
+
+/// Takes an env out of the pool while the other is held. E20 where a third is handed out.
+fn takes_one(pool: &EnvPool) -> Result<OwnedEnv, Fault> {
+    let first = attached(pool)?;
+    let second = pool.attach();
+    let third = pool.attach();
+    let detached = detach(first);
+    let is_full = third.is_none();
+    if let Some(third) = third {
+        drop(third.into_env());
+    }
+    let Some(second) = second else {
+        return Err(Fault::NotFresh);
+    };
+    let env = second.into_env();
+    detached?;
+    if is_full { Ok(env) } else { Err(Fault::Turns) }
+}
+
+/// An env serves one thread at a time, and the next finds nothing of it. One that was taken out owns the room behind the close.
+#[test]
+fn an_env_serves_one_thread_at_a_time(rt: HostRuntime) -> Result<(), Fail> {
+    let pool = EnvPool::open(rt.alloc(), TWO)?;
+    let local = leaves_a_local(&pool)?;
+    assert!(rt; finds_nothing(&pool, local)?);
+    let env = takes_one(&pool)?;
+    let others = pool.close().map_err(|left| left.fault)?;
+    assert_eq!(rt; others, None);
+    let closed = close_owned(env.into_pass()).map_err(|left| left.fault)?;
+    assert_eq!(rt; closed, Some(BEHIND_ALL));
+    Ok(())
+}
