@@ -12,6 +12,7 @@ pub mod MeaningRow
 pub mod MeaningScopes
 pub mod MeaningObjects
 pub mod MeaningStores
+pub mod MeaningRegions
 pub mod MeaningRounds
 pub mod MeaningReach
 pub mod MeaningSweeps
@@ -19,6 +20,7 @@ pub mod MeaningCollections
 pub mod MeaningCopies
 pub mod MeaningDeeds
 pub mod MeaningStands
+pub mod MeaningLevels
 pub mod CommandSteps
 pub mod ObjectCommands
 pub mod ReferenceCommands
@@ -26,6 +28,8 @@ pub mod FrameCommands
 pub mod NoteCommands
 pub mod ElementCommands
 pub mod CollectionCommands
+pub mod LevelCommands
+pub mod OpeningCommands
 pub mod CopyCommands
 pub mod BufferCommands
 pub mod MeaningCommands
