@@ -42,7 +42,7 @@ use Rattle.jr_scripts.specs.Commands.{kind_made}
 use Rattle.jr_scripts.specs.Names.{Names, binding, buffer_in, getting, putting, reference_in, referent, wanted}
 use Rattle.jr_scripts.specs.Numbers.{has_numbers, number_of_word, word_of_number}
 use Rattle.jr_scripts.specs.Places.{Place, all_but_last, level_wanted, newest, nowhere, nth_object, place_after}
-use Rattle.jr_scripts.specs.Posting.{Words, reply_to_wait, word_under, words_after}
+use Rattle.jr_scripts.specs.Posting.{ThreadWords, reply_to_wait, word_under, words_after}
 use Rattle.jr_scripts.specs.RegionCommands.{read_kind}
 use Rattle.jr_scripts.specs.Text.{ending, heading, printed}
 
@@ -438,10 +438,10 @@ type_named None = done 0
 type_named (Some h) = type_meant h.0
 
 -- the word that an earlier line posted under a name: E20 where none did
-abbrev pub waits : Words → List ℕ → Meaning Reply
+abbrev pub waits : ThreadWords → List ℕ → Meaning Reply
 waits words n = decided (reply_to_wait (word_under words n))
 
-module _ (c : Config) (names : Names) (words : Words) where
+module _ (c : Config) (names : Names) (words : ThreadWords) where
   -- what is made of what a word stands for
   abbrev pub made_from : MakeFrom → ℕ → Meaning Reply
   made_from make_from.Global n = makes (object n >>= new_global c Global)
@@ -560,7 +560,7 @@ module _ (c : Config) (names : Names) (words : Words) where
   within levels objects _ = decided (Err fault.InCritical)
 
 -- what a command means where the thread stands, with these words
-abbrev pub meaning_at : Config → Place → Words → List ℕ → Command → Meaning Reply
+abbrev pub meaning_at : Config → Place → ThreadWords → List ℕ → Command → Meaning Reply
 meaning_at c p words [] x = outside c p.names words x
 meaning_at c p words (o ∷ os) x = within c p.names words p.levels p.objects x
 
@@ -568,7 +568,7 @@ meaning_at c p words (o ∷ os) x = within c p.names words p.levels p.objects x
 pub record Told : Type 0 where
   pub text : List ℕ
   pub place : Place
-  pub words : Words
+  pub words : ThreadWords
   pub world : World
 
 -- the copies to come behind a command: `elems` and `chars` are one

@@ -30,7 +30,7 @@ use Rattle.jr_scripts.specs.Buffers.{Copied, with_number}
 use Rattle.jr_scripts.specs.Commands.{deed, tried}
 use Rattle.jr_scripts.specs.Names.{binding, buffer_in, buffered, getting, names_put, putting, referent, wanted}
 use Rattle.jr_scripts.specs.Places.{Place}
-use Rattle.jr_scripts.specs.Posting.{Words}
+use Rattle.jr_scripts.specs.Posting.{ThreadWords}
 use Rattle.jr_scripts.specs.Text.{left_by, printed}
 use Rattle.jr_scripts.specs.Meaning.{World, Meaning, goes_on}
 use Rattle.jr_scripts.specs.Meaning as meaning
@@ -92,7 +92,7 @@ unformed c last {A} {B} call x m n answer r = go (split c last 0 call (λ u. ans
     go (inr d) = record { once = Err d.0; made = d.2; is = d.1 }
 
 module _ {c : Config} {last turns j k : ℕ} {P : Pairing} {w : World} {old new : ThreadState} {p q : Place}
-    {had told : Words} (s : Turn c last turns j k P w old new p q had told) where
+    {had told : ThreadWords} (s : Turn c last turns j k P w old new p q had told) where
   -- EGET
 
   pub eget_step : j ≡ k → (n : List ℕ) (i : ℕ) (answer : Result Reply Fault)

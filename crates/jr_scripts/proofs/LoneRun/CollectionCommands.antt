@@ -30,7 +30,7 @@ use Rattle.jr_scripts.specs.declared.reply.Reply.{Reply}
 use Rattle.jr_scripts.specs.declared.reply.Reply.TheVariants as replies
 use Rattle.jr_scripts.specs.Commands.{collecting, collecting_announced, told as told_by}
 use Rattle.jr_scripts.specs.Places.{Place}
-use Rattle.jr_scripts.specs.Posting.{Words}
+use Rattle.jr_scripts.specs.Posting.{ThreadWords}
 use Rattle.jr_scripts.specs.Runs.{IsUnbarred}
 use Rattle.jr_scripts.specs.Text.{printed}
 use Rattle.jr_scripts.specs.Meaning.{World, collects, is_found_reached, swept, told_of}
@@ -174,7 +174,7 @@ module _ {old new : PassView} {cleared : List Handle} {dropped : List ℕ} {used
       subst (λ es. IsWhole (state es) cleared dropped) before d.whole
 
 module _ {c : Config} {last turns j k : ℕ} {P : Pairing} {w : World} {old new : ThreadState} {p q : Place}
-    {had told : Words} (s : Turn c last turns j k P w old new p q had told) where
+    {had told : ThreadWords} (s : Turn c last turns j k P w old new p q had told) where
   -- A COLLECTION from a moment that is as the world
   collected_step : (x : Command) (answer : Result Reply Fault) (a : Collected)
       → ((b : Collected) → Keeps x (Ok (replies.Collected b)))

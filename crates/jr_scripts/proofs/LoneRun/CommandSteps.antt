@@ -29,7 +29,7 @@ use Rattle.jr_scripts.specs.declared.binding.Binding.{Binding}
 use Rattle.jr_scripts.specs.declared.binding.Binding.TheVariants as bound
 use Rattle.jr_scripts.specs.Names.{referent, wanted, with_name}
 use Rattle.jr_scripts.specs.Places.{Place, objects_after}
-use Rattle.jr_scripts.specs.Posting.{Words, words_after}
+use Rattle.jr_scripts.specs.Posting.{ThreadWords, words_after}
 use Rattle.jr_scripts.specs.Text.{names_after, printed, reference_made, says}
 use Rattle.jr_scripts.specs.AloneAnswers.{IsCommandFault}
 use Rattle.jr_scripts.specs.Runs.{IsUnbarred}
@@ -45,7 +45,7 @@ use Rattle.jr_scripts.proofs.LoneRun.MeaningStands.{pass_later, so_of}
 
 -- A COMMAND'S TURN: the thread stands as in the world before it, and is alone in its room behind it
 pub record Turn (c : Config) (last turns j k : ℕ) (P : Pairing) (w : World) (old new : ThreadState) (p q : Place)
-    (had told : Words) : Type 0 where
+    (had told : ThreadWords) : Type 0 where
   pub some_turns : turns ≢ 0
   pub some : 1 ≤ c.threads
   pub small : c.locals ≤ 4096
@@ -65,7 +65,7 @@ even {c = c} {last = last} {j = j} {P = P} {w = w} {V = V} {call = call} {meant 
     subst (λ z. Means c last j z V P w call meant) one means
 
 module _ {c : Config} {last turns j k : ℕ} {P : Pairing} {w : World} {old new : ThreadState} {p q : Place}
-    {had told : Words} (s : Turn c last turns j k P w old new p q had told) where
+    {had told : ThreadWords} (s : Turn c last turns j k P w old new p q had told) where
   -- what a refusal says of the room is so at the end
   so_then : (x : Command) (answer : Result Reply Fault) → IsPass c last new.pass
       → IfErr answer (IsCommandFault turns p.names x new.pass new.frames)

@@ -28,7 +28,7 @@ use Rattle.jr_scripts.specs.Commands.{copying_as, deed, tried}
 use Rattle.jr_scripts.specs.Names.{referent, wanted}
 use Rattle.jr_scripts.specs.Numbers.{has_numbers}
 use Rattle.jr_scripts.specs.Places.{Place}
-use Rattle.jr_scripts.specs.Posting.{Words}
+use Rattle.jr_scripts.specs.Posting.{ThreadWords}
 use Rattle.jr_scripts.specs.Text.{printed}
 use Rattle.jr_scripts.specs.Meaning.{World, Meaning, goes_on, wanted_as, wanted_object}
 use Rattle.jr_scripts.specs.Meaning as meaning
@@ -53,7 +53,7 @@ found_as form (Ok words) answer is = ap found_by is
 found_as form (Err e) answer is = ap found_by is
 
 module _ {c : Config} {last turns j k : ℕ} {P : Pairing} {w : World} {old new : ThreadState} {p q : Place}
-    {had told : Words} (s : Turn c last turns j k P w old new p q had told) where
+    {had told : ThreadWords} (s : Turn c last turns j k P w old new p q had told) where
   -- ELEMS
 
   -- what comes of the copy
@@ -80,7 +80,7 @@ module _ {c : Config} {last turns j k : ℕ} {P : Pairing} {w : World} {old new 
   copied_after n r answer t u kind (Err e) (Ok words, v) i is = absurd i.outcome.answers
 
 module _ {c : Config} {last turns j k : ℕ} {P : Pairing} {w : World} {old new : ThreadState} {p q : Place}
-    {had told : Words} (s : Turn c last turns j k P w old new p q had told) where
+    {had told : ThreadWords} (s : Turn c last turns j k P w old new p q had told) where
   pub elems_step : j ≡ k → (n : List ℕ) (r : Reference) (answer : Result Reply Fault)
       → IfErr answer (IsCommandFault turns p.names (commands.MakeFrom make_from.Elements n r) new.pass new.frames)
       → finds_memory w ≡ found_by answer

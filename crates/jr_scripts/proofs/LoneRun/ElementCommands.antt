@@ -35,7 +35,7 @@ use Rattle.jr_scripts.specs.Commands.{deed, loading_as, makes_reference, storing
 use Rattle.jr_scripts.specs.Names.{referent, wanted}
 use Rattle.jr_scripts.specs.Numbers.{first_number, has_numbers, word_of_number}
 use Rattle.jr_scripts.specs.Places.{Place}
-use Rattle.jr_scripts.specs.Posting.{Words}
+use Rattle.jr_scripts.specs.Posting.{ThreadWords}
 use Rattle.jr_scripts.specs.Runs.{IsUnbarred}
 use Rattle.jr_scripts.specs.Text.{printed}
 use Rattle.jr_scripts.specs.Tries.{Tried}
@@ -70,7 +70,7 @@ apart_before old new acts d = apart_state old.config old.last old.seen
     (subst (IsLegal old.config old.last) (sym d.begins.1) d.legal)).0
 
 module _ {c : Config} {last turns j k : ℕ} {P : Pairing} {w : World} {old new : ThreadState} {p q : Place}
-    {had told : Words} (s : Turn c last turns j k P w old new p q had told) where
+    {had told : ThreadWords} (s : Turn c last turns j k P w old new p q had told) where
   module _ (x : Command) (answer : Result Reply Fault)
       (fault : IfErr answer (IsCommandFault turns p.names x new.pass new.frames)) where
     -- A CALL AT OBJECTS, which names the state that it leaves
@@ -120,7 +120,7 @@ module _ {c : Config} {last turns j k : ℕ} {P : Pairing} {w : World} {old new 
         g fits (λ a z word headers m. (means a z word headers).outcome (now old) (now new) once s.stands.fits m)
 
 module _ {c : Config} {last turns j k : ℕ} {P : Pairing} {w : World} {old new : ThreadState} {p q : Place}
-    {had told : Words} (s : Turn c last turns j k P w old new p q had told) where
+    {had told : ThreadWords} (s : Turn c last turns j k P w old new p q had told) where
   -- before the last call the thread is alone too
   pub record AloneBefore (m : ThreadState) : Type 0 where
     pub alone : IsAlone m.pass

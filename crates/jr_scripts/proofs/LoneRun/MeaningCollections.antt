@@ -32,7 +32,7 @@ use Rattle.jr_scripts.proofs.LoneRun.MadeCalls.{Moment, moment}
 use Rattle.jr_scripts.proofs.LoneRun.MeaningFrames.{Pairing, frames_later}
 use Rattle.jr_scripts.proofs.LoneRun.MeaningMatches.{IsStanding}
 use Rattle.jr_scripts.proofs.LoneRun.MeaningSlots.{in_row, taken_at}
-use Rattle.jr_scripts.proofs.LoneRun.MeaningFits.{AreAlike, ContentsFit, ElementFits, Fits, ObjectsFit, RefFits}
+use Rattle.jr_scripts.proofs.LoneRun.MeaningFits.{ContentsFit, ElementFits, Fits, ObjectsFit, RefFits}
 use Rattle.jr_scripts.proofs.LoneRun.MeaningFits.{SlotsFit}
 use Rattle.jr_scripts.proofs.LoneRun.MeaningFits.{all_counted, both_there, counted, found_local, found_of, found_row}
 use Rattle.jr_scripts.proofs.LoneRun.MeaningFits.{IsGiven, slots_count}

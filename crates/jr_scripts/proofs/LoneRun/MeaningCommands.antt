@@ -28,7 +28,7 @@ use Rattle.jr_scripts.specs.declared.reply.Reply.{Reply}
 use Rattle.jr_scripts.specs.Names.{referent}
 use Rattle.jr_scripts.specs.RegionCommands.{deed_at, deed_within}
 use Rattle.jr_scripts.specs.Places.{Place, by_region}
-use Rattle.jr_scripts.specs.Posting.{Words, said_alone}
+use Rattle.jr_scripts.specs.Posting.{ThreadWords, said_alone}
 use Rattle.jr_scripts.specs.AloneAnswers.{IsAloneFault, IsFaultOutside, IsFaultWithin}
 use Rattle.jr_scripts.specs.Meaning as meaning
 use Rattle.jr_scripts.proofs.LoneRun.MeaningFrames.{Pairing}
@@ -71,7 +71,7 @@ IsCoveredAlone (commands.On on.Chars r) = ⊥
 IsCoveredAlone x = IsCovered x
 
 module _ {c : Config} {last turns j k : ℕ} {P : Pairing} {w : World} {old new : ThreadState} {p q : Place}
-    {had told : Words} (s : Turn c last turns j k P w old new p q had told) where
+    {had told : ThreadWords} (s : Turn c last turns j k P w old new p q had told) where
   fault_outside : (x : Command) (answer : Result Reply Fault)
       → IfErr answer (IsAloneFault turns p x new.pass new.frames)
       → IfErr answer (IsFaultOutside turns p.names x new.pass new.frames)
@@ -138,7 +138,7 @@ module _ {c : Config} {last turns j k : ℕ} {P : Pairing} {w : World} {old new 
 
 -- ONE COMMAND, as it means
 pub step : {c : Config} {last turns k : ℕ} {P : Pairing} {w : World} {old new : ThreadState} {p q : Place}
-    {had told : Words} (x : Command) (s : Turn c last turns (left_before x k) k P w old new p q had told)
+    {had told : ThreadWords} (x : Command) (s : Turn c last turns (left_before x k) k P w old new p q had told)
     (answer : Result Reply Fault) → IsCovered x → deed_at turns p x old answer new
     → said_alone p.names had x old.pass.seen answer new.pass.seen
     → IfErr answer (IsAloneFault turns p x new.pass new.frames) → (rest : List Bool)

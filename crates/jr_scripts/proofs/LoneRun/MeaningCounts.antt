@@ -1,6 +1,6 @@
 -- What is counted in a room and in the world of what a script means.
 use Rattle.std.proofs.Common.{◌≡◌, ◌≢◌, ℕ, zero, suc, ◌<◌, ◌≤◌, ◌+◌, ◌==◌, ◌&&◌, Bool, true, false, cond, not, nat_eq}
-use Rattle.std.proofs.Common.{nat_le, Option, Some, None, IsSome, is_some, List, [], ◌∷◌, ◌++◌, length, slice_index}
+use Rattle.std.proofs.Common.{nat_le, Option, Some, None, is_some, List, [], ◌∷◌, ◌++◌, length, slice_index}
 use Rattle.std.proofs.Common.{slice_set, refl, sym, ap, subst, ◌∙◌, arith, get_or-set_other, get_or-set_same}
 use Rattle.std.specs.List.{filter}
 use Rattle.std.proofs.lemmas.List.{length-set}

@@ -32,7 +32,7 @@ use Rattle.jr_env.specs.Deeds.{Deed, decided, done, ◌>>=◌}
 use Rattle.jr_scripts.specs.declared.binding.Binding.{Binding}
 use Rattle.jr_scripts.specs.declared.binding.Binding.TheVariants as bound
 use Rattle.jr_scripts.specs.Names.{Names, binding, name_order, or_nothing, with_name, word_of_reference}
-use Rattle.jr_scripts.specs.Posting.{Words, word_under, words_with}
+use Rattle.jr_scripts.specs.Posting.{ThreadWords, word_under, words_with}
 use Rattle.jr_scripts.specs.Tries.{Tried, answered, again, gave_up}
 use Rattle.jr_scripts.specs.Runs.{IsUnbarred}
 use Rattle.jr_scripts.proofs.AloneHistories.{all_back, own_acts}
@@ -218,7 +218,7 @@ names_set_fit P w names names' n s t fit fits m =
 -- WORDS that were posted or heard
 
 -- under the same names stand words of handles that are meant
-abbrev pub WordsFit : Pairing → World → Words → Words → Type 0
+abbrev pub WordsFit : Pairing → World → ThreadWords → ThreadWords → Type 0
 WordsFit P w [] [] = Unit {0}
 WordsFit P w (x ∷ xs) (y ∷ ys) = (x.0 ≡ y.0) × HandleFits P w x.1 y.1 × WordsFit P w xs ys
 WordsFit P w _ _ = ⊥
@@ -233,14 +233,14 @@ pub handle_later : {P Q : Pairing} {w v : World} → Later P w Q v → (word k :
     → HandleFits Q v word k
 handle_later l word k is = handle_stays (handles_stay l) word k is
 
-pub words_stay : {P Q : Pairing} {w v : World} → HandlesStay P w Q v → (xs ys : Words) → WordsFit P w xs ys
+pub words_stay : {P Q : Pairing} {w v : World} → HandlesStay P w Q v → (xs ys : ThreadWords) → WordsFit P w xs ys
     → WordsFit Q v xs ys
 words_stay l [] [] fits = tt
 words_stay l (x ∷ xs) (y ∷ ys) fits = (fits.0, handle_stays l x.1 y.1 fits.1, words_stay l xs ys fits.2)
 words_stay l [] (y ∷ ys) fits = absurd fits
 words_stay l (x ∷ xs) [] fits = absurd fits
 
-pub words_later : {P Q : Pairing} {w v : World} → Later P w Q v → (xs ys : Words) → WordsFit P w xs ys
+pub words_later : {P Q : Pairing} {w v : World} → Later P w Q v → (xs ys : ThreadWords) → WordsFit P w xs ys
     → WordsFit Q v xs ys
 words_later l xs ys fits = words_stay (handles_stay l) xs ys fits
 
@@ -250,7 +250,7 @@ MaybeWord P w None None = Unit {0}
 MaybeWord P w (Some a) (Some b) = HandleFits P w a b
 MaybeWord P w _ _ = ⊥
 
-pub word_under_fits : (P : Pairing) (w : World) (xs ys : Words) (n : List ℕ) → WordsFit P w xs ys
+pub word_under_fits : (P : Pairing) (w : World) (xs ys : ThreadWords) (n : List ℕ) → WordsFit P w xs ys
     → MaybeWord P w (word_under xs n) (word_under ys n)
 word_under_fits P w [] [] n fits = tt
 word_under_fits P w (x ∷ xs) (y ∷ ys) n fits =
@@ -264,7 +264,7 @@ word_under_fits P w (x ∷ xs) (y ∷ ys) n fits =
 word_under_fits P w [] (y ∷ ys) n fits = absurd fits
 word_under_fits P w (x ∷ xs) [] n fits = absurd fits
 
-words_put : (P : Pairing) (w : World) (xs ys : Words) (n : List ℕ) (a b : ℕ) → WordsFit P w xs ys
+words_put : (P : Pairing) (w : World) (xs ys : ThreadWords) (n : List ℕ) (a b : ℕ) → WordsFit P w xs ys
     → HandleFits P w a b → WordsFit P w (xs ++ (n, a) ∷ []) (ys ++ (n, b) ∷ [])
 words_put P w [] [] n a b fits one = (refl, one, tt)
 words_put P w (x ∷ xs) (y ∷ ys) n a b fits one = (fits.0, fits.1, words_put P w xs ys n a b fits.2 one)
@@ -272,7 +272,7 @@ words_put P w [] (y ∷ ys) n a b fits one = absurd fits
 words_put P w (x ∷ xs) [] n a b fits one = absurd fits
 
 -- one more word, where none stands under the name
-pub words_with_fit : (P : Pairing) (w : World) (xs ys : Words) (n : List ℕ) (a b : ℕ) → WordsFit P w xs ys
+pub words_with_fit : (P : Pairing) (w : World) (xs ys : ThreadWords) (n : List ℕ) (a b : ℕ) → WordsFit P w xs ys
     → HandleFits P w a b → WordsFit P w (words_with xs n a) (words_with ys n b)
 words_with_fit P w xs ys n a b fits one = go (word_under xs n) (word_under ys n) (word_under_fits P w xs ys n fits)
   where

@@ -1,6 +1,5 @@
 -- What is reached in the world of what a script means is found in as many rounds as objects were made.
 use Rattle.std.proofs.Common.{◌≡◌, ◌⊎◌, ⊎_elim, inl, inr, ℕ, zero, suc, ◌<◌, ◌≤◌, ◌+◌, ◌==◌, ◌||◌, Bool, true, false}
-use Rattle.std.proofs.Common.{cond}
 use Rattle.std.proofs.Common.{Option, Some, None, List, [], ◌∷◌, ◌++◌, length, slice_index_or, refl, sym, ap, subst}
 use Rattle.std.proofs.Common.{IsSome, ◌∙◌, arith}
 use Rattle.std.specs.List.{flat_map, list_any}

@@ -30,7 +30,7 @@ use Rattle.jr_scripts.specs.declared.reply.Reply.{Reply}
 use Rattle.jr_scripts.specs.Names.{name_order, or_nothing}
 use Rattle.jr_scripts.specs.declared.binding.Binding.{Binding}
 use Rattle.jr_scripts.specs.Places.{Place, place_after}
-use Rattle.jr_scripts.specs.Posting.{Words, said_alone, words_after}
+use Rattle.jr_scripts.specs.Posting.{ThreadWords, said_alone, words_after}
 use Rattle.jr_scripts.specs.Explains.{Explains, nothing, then}
 use Rattle.jr_scripts.specs.RegionCommands.{giving_up_all}
 use Rattle.jr_scripts.specs.Text.{heading, ending, printed}
@@ -138,14 +138,14 @@ module _ (c : Config) (last turns : ℕ) (one : c.threads ≡ 1) (some_turns : t
       none_taken i = let a = none_passes Global i in let b = none_passes Weak i in omega (arith, a, b)
 
   -- whether the copies of commands found memory
-  abbrev memory_of : {commands : List Command} {text : List ℕ} {new : ThreadState} {place : Place} {words : Words}
+  abbrev memory_of : {commands : List Command} {text : List ℕ} {new : ThreadState} {place : Place} {words : ThreadWords}
       → Explains said_alone turns 3 (opening_moment c last) commands text new place words → List Bool
   memory_of nothing = []
   memory_of (then x answer done did said) = memory_of done ++ memory_shown x answer
 
   -- what is told of commands is what was printed, and this of memory is left
   record IsTold (memory rest : List Bool) (k : ℕ) (commands : List Command) (text : List ℕ) (new : ThreadState)
-      (place : Place) (words : Words) : Type 0 where
+      (place : Place) (words : ThreadWords) : Type 0 where
     pub pairing : Pairing
     pub stands : Stands c last k pairing (told_from c 3 commands (first_told memory)).world new place
         (told_from c 3 commands (first_told memory)).place words (told_from c 3 commands (first_told memory)).words
@@ -153,13 +153,14 @@ module _ (c : Config) (last turns : ℕ) (one : c.threads ≡ 1) (some_turns : t
     pub left : (told_from c 3 commands (first_told memory)).world.memory ≡ rest
 
   -- what is so of it
-  record TellsSo (k : ℕ) (t : Told) (text : List ℕ) (new : ThreadState) (place : Place) (words : Words) : Type 0 where
+  record TellsSo (k : ℕ) (t : Told) (text : List ℕ) (new : ThreadState) (place : Place)
+      (words : ThreadWords) : Type 0 where
     pub pairing : Pairing
     pub stands : Stands c last k pairing t.world new place t.place words t.words
     pub text_is : text ≡ t.text
 
   -- what is to come of memory is nothing of how a thread stands
-  remembers : {k : ℕ} {P : Pairing} {w : World} {m : ThreadState} {p q : Place} {had told : Words}
+  remembers : {k : ℕ} {P : Pairing} {w : World} {m : ThreadState} {p q : Place} {had told : ThreadWords}
       (memory : List Bool) → Stands c last k P w m p q had told
       → Stands c last k P (record w { memory = memory }) m p q had told
   remembers memory s =
@@ -182,7 +183,7 @@ module _ (c : Config) (last turns : ℕ) (one : c.threads ≡ 1) (some_turns : t
       }
 
   tells_so : (k : ℕ) (t : Told) (line : ℕ) (x : Command) (answer : Result Reply Fault) (text : List ℕ)
-      (new : ThreadState) (place : Place) (words : Words) → text ≡ t.text
+      (new : ThreadState) (place : Place) (words : ThreadWords) → text ≡ t.text
       → Stepped c last k x new place t.place words t.words answer
       (meaning_at c t.place t.words t.place.objects x t.world)
       → TellsSo k (told_after c line x t) (text ++ printed line x answer) new (place_after x answer place)
@@ -205,7 +206,7 @@ module _ (c : Config) (last turns : ℕ) (one : c.threads ≡ 1) (some_turns : t
 
   all_told : (k : ℕ) (commands : List Command) → how_many gives_up commands + k ≤ last
       → (text : List ℕ) (new : ThreadState) (place : Place)
-      (words : Words) (e : Explains said_alone turns 3 (opening_moment c last) commands text new place words)
+      (words : ThreadWords) (e : Explains said_alone turns 3 (opening_moment c last) commands text new place words)
       → AnswersAlone e → AllByRecursion IsCovered commands → IsAlone new.pass → AllByRecursion IsUnbarred new.pass.seen
       → (rest : List Bool) → IsTold (memory_of e ++ rest) rest k commands text new place words
   all_told k commands le text new place words nothing answers firsts alone all rest = record {

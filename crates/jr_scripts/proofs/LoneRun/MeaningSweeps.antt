@@ -1,7 +1,6 @@
 -- What the acts of a collection leave, and how much they clear and drop.
-use Rattle.std.proofs.Common.{◌≡◌, ◌≢◌, ◌⊎◌, inl, inr, ℕ, zero, suc, ◌<◌, ◌≤◌, ◌+◌, Bool, true, false, cond, nat_eq}
-use Rattle.std.proofs.Common.{Option}
-use Rattle.std.proofs.Common.{Some, None, IsSome, is_some, List, [], ◌∷◌, ◌++◌, map, length, slice_index_or, refl, sym}
+use Rattle.std.proofs.Common.{◌≡◌, ◌≢◌, ◌⊎◌, inl, inr, ℕ, zero, suc, ◌<◌, ◌+◌, Bool, true, false, cond, nat_eq}
+use Rattle.std.proofs.Common.{Some, None, IsSome, is_some, List, [], ◌∷◌, map, length, refl, sym}
 use Rattle.std.proofs.Common.{⊎_elim, ap, subst, ◌∙◌, arith}
 use Rattle.std.specs.List.{AllByRecursion, Contains}
 use Rattle.jr_word.specs.declared.config.Config.{Config}
@@ -10,7 +9,7 @@ use Rattle.jr_model.specs.declared.event.Act.TheVariants.{Clear, Drop}
 use Rattle.jr_model.specs.declared.event.Found.{Found}
 use Rattle.jr_model.specs.declared.event.Found.TheVariants.{Object, Cleared, Stale}
 use Rattle.jr_model.specs.Maps.{update, sum_below, count_below}
-use Rattle.jr_model.specs.State.{Contents, Handle, State, same_handle}
+use Rattle.jr_model.specs.State.{Handle, State, same_handle}
 use Rattle.jr_model.specs.Steps.{act_after}
 use Rattle.jr_model.specs.Checks.{is_local}
 use Rattle.jr_model.specs.Frames.{Frames, object_of}

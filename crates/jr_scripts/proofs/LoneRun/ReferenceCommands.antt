@@ -32,7 +32,7 @@ use Rattle.jr_scripts.specs.declared.binding.Binding.{Binding}
 use Rattle.jr_scripts.specs.declared.binding.Binding.TheVariants as bound
 use Rattle.jr_scripts.specs.Names.{reference_in, referent, wanted}
 use Rattle.jr_scripts.specs.Places.{Place}
-use Rattle.jr_scripts.specs.Posting.{Words}
+use Rattle.jr_scripts.specs.Posting.{ThreadWords}
 use Rattle.jr_scripts.specs.AloneAnswers.{IsCommandFault}
 use Rattle.jr_scripts.proofs.Uncontended.{Asked}
 use Rattle.jr_scripts.specs.Meaning as meaning
@@ -45,7 +45,7 @@ use Rattle.jr_scripts.proofs.LoneRun.CommandSteps.{Turn, Steps, kept_step, nothi
 use Rattle.jr_scripts.proofs.LoneRun.CommandSteps.{same_after, wanted_step, handles, even, at_most, made_of_step}
 
 module _ {c : Config} {last turns j k : ℕ} {P : Pairing} {w : World} {old new : ThreadState} {p q : Place}
-    {had told : Words} (s : Turn c last turns j k P w old new p q had told) where
+    {had told : ThreadWords} (s : Turn c last turns j k P w old new p q had told) where
   -- GLOBAL, WEAK and LOCAL
 
   pub global_step : j ≡ k → (n : List ℕ) (r : Reference) (answer : Result Reply Fault)
