@@ -33,6 +33,7 @@ pub mod OpeningCommands
 pub mod CopyCommands
 pub mod BufferCommands
 pub mod MeaningCommands
+pub mod EachCommand
 pub mod MeaningRun
 use Rattle.std.proofs.Common.{◌≡◌, ℕ, Option, List, [], ◌∷◌}
 use Rattle.std.proofs.Common.{◌++◌, length, refl, sym, ap, subst, ◌∙◌, arith}

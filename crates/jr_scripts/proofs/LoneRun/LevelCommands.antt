@@ -1,18 +1,22 @@
 -- What a lone thread's commands mean in a critical region.
-use Rattle.std.proofs.Common.{◌≡◌, ◌≢◌, ◌⊎◌, inl, inr, ℕ, ℤ, zero, suc, ◌<◌, ◌≤◌, ◌^◌, Bool, true, false, not, nat_le}
+use Rattle.std.proofs.Common.{IsSome, ◌≡◌, ◌≢◌, ◌⊎◌, inl, inr, ℕ, ℤ, zero, suc, ◌<◌, ◌≤◌, ◌^◌, true, false, nat_le}
+use Rattle.jr_model.proofs.Histories.{state_append}
+use Rattle.jr_model.specs.declared.frames.Mode.{Mode}
+use Rattle.jr_scripts.proofs.LoneRun.MeaningCalls.{WordFits}
 use Rattle.std.proofs.Common.{Option, Some, None, is_some, List, [], ◌∷◌, ◌++◌, map, length, slice_index, slice_set}
 use Rattle.std.proofs.Common.{Result, Ok, Err, IfErr, refl, sym, ap, subst, ◌∙◌, arith}
 use Rattle.std.specs.List.{AllByRecursion}
 use Rattle.std.proofs.lemmas.List.{append-nil}
 use Rattle.jr_word.specs.declared.config.Config.{Config}
 use Rattle.jr_word.specs.declared.fault.Fault.{Fault}
-use Rattle.jr_word.specs.declared.fault.Fault.TheVariants.{InCritical, ObjectsFull, Range, RowFull, Stale, Turns, WrongKind}
+use Rattle.jr_word.specs.declared.fault.Fault.TheVariants.{InCritical, ObjectsFull, Range, RowFull, Stale, Turns}
+use Rattle.jr_word.specs.declared.fault.Fault.TheVariants.{WrongKind}
 use Rattle.jr_word.specs.declared.handle.Handle.{Handle as HandleWord}
 use Rattle.jr_word.specs.declared.kind.Kind.{Kind}
 use Rattle.jr_word.specs.declared.kind.Kind.TheVariants.{Plain, Objects, Text}
 use Rattle.jr_model.specs.declared.event.Act.{Act}
 use Rattle.jr_model.specs.declared.event.Act.TheVariants.{Gate}
-use Rattle.jr_model.specs.declared.event.GateAct.TheVariants.{Leave}
+use Rattle.jr_model.specs.declared.event.GateAct.TheVariants.{Knock, Leave}
 use Rattle.jr_model.specs.declared.event.Role.TheVariants.{Within}
 use Rattle.jr_model.specs.State.{Contents, State}
 use Rattle.jr_model.specs.Frames.{Frames}
@@ -24,9 +28,10 @@ use Rattle.jr_model.specs.OpenStays.{NoneLeaves}
 use Rattle.jr_model.proofs.EachCall.{get_work, nest_array_work, nest_string_work, set_work}
 use Rattle.jr_model.proofs.Lawful.{work_stays}
 use Rattle.jr_model.proofs.Stays.{sees_its_own_acts, still_did}
-use Rattle.jr_gate.specs.Performing.{IsMade, ThreadState}
+use Rattle.jr_gate.specs.Performing.{HasLearned, IsMade, ThreadState}
 use Rattle.jr_env.specs.Deeds.{Deed, decided, done, ◌>>=◌, within_by}
 use Rattle.jr_syntax.specs.declared.name.Reference.{Reference}
+use Rattle.jr_syntax.specs.declared.name.Reference.TheVariants as refers
 use Rattle.jr_syntax.specs.declared.command.Command.{Command}
 use Rattle.jr_syntax.specs.declared.command.Command.TheVariants as commands
 use Rattle.jr_syntax.specs.declared.verb.CloseLevel.{CloseLevel}
@@ -40,16 +45,17 @@ use Rattle.jr_scripts.specs.declared.reply.Reply.{Reply}
 use Rattle.jr_scripts.specs.declared.reply.Reply.TheVariants as replies
 use Rattle.jr_scripts.specs.declared.binding.Binding.{Binding}
 use Rattle.jr_scripts.specs.declared.binding.Binding.TheVariants as bound
-use Rattle.jr_scripts.specs.Commands.{HasLearned, awaited}
-use Rattle.jr_scripts.specs.Names.{binding, referent, wanted, with_name, word_posted}
+use Rattle.jr_scripts.specs.Commands.{awaited}
+use Rattle.jr_scripts.specs.Names.{Names, binding, referent, wanted, word_posted}
 use Rattle.jr_scripts.specs.Numbers.{has_numbers, number_of_word, word_of_number}
-use Rattle.jr_scripts.specs.Places.{Place, level_wanted, levels_after, newest, nth_object, objects_after, place_after}
-use Rattle.jr_scripts.specs.Posting.{IsAnswered, Words, reply_to_wait, said_alone, word_under, words_after}
-use Rattle.jr_scripts.specs.RegionCommands.{deed_within, giving_up, kind_of_level, level_reading, level_writing}
+use Rattle.jr_scripts.specs.Places.{all_but_last, Place, level_wanted, levels_after, newest, nth_object, objects_after}
+use Rattle.jr_scripts.specs.Posting.{IsAnswered, ThreadWords, reply_to_wait, said_alone, word_under, words_after}
+use Rattle.jr_scripts.specs.RegionCommands.{writing_at, reading_at, giving_up, kind_of_level, level_reading}
+use Rattle.jr_scripts.specs.RegionCommands.{level_writing}
 use Rattle.jr_scripts.specs.RegionCommands.{nesting, nests, read_kind, reading_as, writing_as}
 use Rattle.jr_scripts.specs.Runs.{IsUnbarred}
 use Rattle.jr_scripts.specs.Text.{names_after, printed}
-use Rattle.jr_scripts.specs.AloneAnswers.{IsFaultWithin, IsNestingFault, IsReadingFault, IsWritingFault}
+use Rattle.jr_scripts.specs.AloneAnswers.{IsNestingFault, IsReadingFault, IsWritingFault}
 use Rattle.jr_scripts.specs.Meaning.{World, Meaning, contents_in, goes_on, refused_if, standing_at}
 use Rattle.jr_scripts.specs.Meaning as meaning
 use Rattle.jr_scripts.proofs.AloneCalls.{IsAlone}
@@ -58,11 +64,12 @@ use Rattle.jr_scripts.proofs.LoneRun.MadeCalls.{IsSo, Moment, moment_is}
 use Rattle.jr_scripts.proofs.LoneRun.MeaningFrames.{Pairing}
 use Rattle.jr_scripts.proofs.LoneRun.MeaningFits.{Fits, Fitting, IsDone, IsSame, Later, Outcome, fits_less, form_means}
 use Rattle.jr_scripts.proofs.LoneRun.MeaningFits.{Means, gone_fits, goes_on_twice, later_self}
-use Rattle.jr_scripts.proofs.LoneRun.MeaningParts.{ObjectFits, object_later}
+use Rattle.jr_scripts.proofs.LoneRun.MeaningParts.{ObjectFits}
 use Rattle.jr_scripts.proofs.LoneRun.MeaningObjects.{HeadersFit, headers_fit, meant_in, there}
-use Rattle.jr_scripts.proofs.LoneRun.MeaningRegions.{LevelFits, finds, get_means, level_means, set_means}
+use Rattle.jr_scripts.proofs.LoneRun.MeaningRegions.{LevelFits, get_means, level_means, set_means}
 use Rattle.jr_scripts.proofs.LoneRun.MeaningDeeds.{BindingFits, HandleFits, IsPass, MaybeWord, NamesFit, WordsFit}
-use Rattle.jr_scripts.proofs.LoneRun.MeaningDeeds.{AfterDecided, after_decided, call_made, formed, given_handle, names_later}
+use Rattle.jr_scripts.proofs.LoneRun.MeaningDeeds.{AfterDecided, after_decided, call_made, formed, given_handle}
+use Rattle.jr_scripts.proofs.LoneRun.MeaningDeeds.{names_later}
 use Rattle.jr_scripts.proofs.LoneRun.MeaningDeeds.{names_set_fit, now, posted_fits, read_fits, was_formed}
 use Rattle.jr_scripts.proofs.LoneRun.MeaningDeeds.{word_under_fits, words_later, words_with_fit}
 use Rattle.jr_scripts.proofs.LoneRun.MeaningStands.{err_formed, err_map, pass_later}
@@ -71,13 +78,13 @@ use Rattle.jr_scripts.proofs.LoneRun.MeaningLevels.{levels_less, levels_long, le
 
 -- a command with this answer changes neither names nor levels, and says and hears nothing
 abbrev pub Leaves : Command → Result Reply Fault → Type 0
-Leaves x a = (names : Rattle.jr_scripts.specs.Names.Names) (os : List ℕ) (ls : List (List ℕ)) (words : Words)
+Leaves x a = (names : Names) (os : List ℕ) (ls : List (List ℕ)) (words : ThreadWords)
     → (names_after x a names ≡ names) × (objects_after x a os ≡ os) × (levels_after x a ls ≡ ls)
     × (words_after names x a words ≡ words)
 
 -- A COMMAND'S TURN in a region
 pub record TurnIn (c : Config) (last turns j : ℕ) (P : Pairing) (w : World) (old new : ThreadState) (p q : Place)
-    (had told : Words) : Type 0 where
+    (had told : ThreadWords) : Type 0 where
   pub some_turns : turns ≢ 0
   pub some : 1 ≤ c.threads
   pub small : c.locals ≤ 4096
@@ -94,7 +101,7 @@ alone_before {mid} {new} d a = record {
   first = sym d.thread ∙ a.first;
   own = subst (λ t. AllByRecursion (λ e. e.thread ≡ t) mid.seen) d.thread
       (all_prefix (λ e. e.thread ≡ new.thread) mid.seen new.seen d.begins a.own);
-  enters = all_prefix (λ e. e.act ≢ Gate Rattle.jr_model.specs.declared.event.GateAct.TheVariants.Knock) mid.seen
+  enters = all_prefix (λ e. e.act ≢ Gate Knock) mid.seen
       new.seen d.begins a.enters;
 }
 
@@ -114,7 +121,7 @@ own_numbers Text is = absurd cc
 own_numbers _ is = (refl, refl, refl)
 
 module _ {c : Config} {last turns j : ℕ} {P : Pairing} {w : World} {old new : ThreadState} {p q : Place}
-    {had told : Words} (s : TurnIn c last turns j P w old new p q had told) (k : ℕ) (le : k ≤ j) where
+    {had told : ThreadWords} (s : TurnIn c last turns j P w old new p q had told) (k : ℕ) (le : k ≤ j) where
   -- a command that leaves the place as it is
   in_kept : (x : Command) (answer : Result Reply Fault) (Q : Pairing) (v : World) (a b : Result Reply Fault)
       → IsPass c last new.pass → Fits c last k Q v (now new) → Later P w Q v → (state new.pass.seen).role 0 ≡ Within
@@ -306,7 +313,7 @@ module _ {c : Config} {last turns j : ℕ} {P : Pairing} {w : World} {old new : 
       go x is kind seen frames (inl named) =
           let h = there (nth_object q.objects l) s.stands.fits named.0 in
           let same : x ≡ h.contents = (let both = sym is ∙ (ap (state old.pass.seen).objects (sym named.1) ∙ h.is) in
-              cc) in
+          cc) in
           let told_kind : t ≡ x.kind = (let e = kind in cc) in
           record {
             pass = pass_later c last old.pass m.pass d.ran.acts d.ran.did s.stands.pass;
@@ -315,7 +322,7 @@ module _ {c : Config} {last turns j : ℕ} {P : Pairing} {w : World} {old new : 
             kind = told_kind ∙ (ap (λ (y : Contents). y.kind) same ∙ h.alike.kind);
           }
       go x is kind seen frames (inr none) = absurd (let low = (s.stands.fits.objects.within 0
-          (subst (λ n. Rattle.std.proofs.Common.IsSome ((state old.pass.seen).objects n)) none (ap is_some is))).0 in
+          (subst (λ n. IsSome ((state old.pass.seen).objects n)) none (ap is_some is))).0 in
           omega (arith, low))
 
   fits_at : {l : ℕ} {t : Kind} {m : ThreadState} → KindKnownAt l t m → Fits c last k P w (now m)
@@ -363,7 +370,8 @@ module _ {c : Config} {last turns j : ℕ} {P : Pairing} {w : World} {old new : 
             (subst (λ (z : ThreadState). IsAlone z.pass) d'.1 s.alone) in
             subst (λ z. LedTo c last k reading new p q had told answer
             (goes_on (λ u. meaning.reads_number (read_kind (meant_in w (nth_object q.objects l)).kind)
-            (meant_in w (nth_object q.objects l)).words i) (z, w))) (sym is ∙ ap (λ z. has_numbers (read_kind z)) i'.kind)
+            (meant_in w (nth_object q.objects l)).words i) (z, w)))
+            (sym is ∙ ap (λ z. has_numbers (read_kind z)) i'.kind)
             (in_kept reading answer P w (Err e) (Err e)
             (subst (λ (z : ThreadState). IsPass c last z.pass) (sym d'.1) i'.pass)
             (subst (λ (z : ThreadState). Fits c last k P w (now z)) (sym d'.1) (fits_at i')) (later_self P w)
@@ -380,9 +388,11 @@ module _ {c : Config} {last turns j : ℕ} {P : Pairing} {w : World} {old new : 
             let words = (meant_in w (nth_object q.objects l)).words in
             let call = in_call {V = IsSame {A = ℕ}} (λ l' m' t' z.
             objects.region_get l' m' t' z (read_kind d.0) (nth_object p.objects l) i)
-            (λ v. goes_on (λ u' s'. (Ok (slice_index words i), s'))
-            (refused_if (nat_le (length words) i)
-            Range, v)) d.1 0 f.once i'.pass (fits_at i') (role_at i')
+            (λ v. goes_on (λ u' s'. (Ok (slice_index words i), s')) (
+              refused_if (nat_le (length words) i)
+                  Range,
+              v,
+            )) d.1 0 f.once i'.pass (fits_at i') (role_at i')
             (λ l' m' t' z. work_stays (get_work {asked = 0} l' m' t' z (read_kind d.0) (nth_object p.objects l) i))
             (λ z headers. get_means c last k z P w (nth_object p.objects l) (nth_object q.objects l) i i'.named headers
             (ap is_objects (sym i'.kind) ∙ known.1) (read_kind d.0)
@@ -390,19 +400,25 @@ module _ {c : Config} {last turns j : ℕ} {P : Pairing} {w : World} {old new : 
             let done_so = in_after {V = IsSame {A = ℕ}} reading answer form form
             (λ Q v y z e. ap form e) (λ y. read_value (number_of_word (read_kind d.0) y))
             (λ y. read_value (number_of_word (read_kind d.0) y)) read_refused f.once
-            (goes_on (λ u' s'. (Ok (slice_index words i), s')) (refused_if
-            (nat_le (length words) i) Range, w)) call f.is in
+            (goes_on (λ u' s'. (Ok (slice_index words i), s')) (
+              refused_if
+                  (nat_le (length words) i) Range,
+              w,
+            )) call f.is in
             subst (λ z. LedTo c last k reading new p q had told answer z)
             (goes_on_twice (λ u' s'. (Ok (slice_index words i), s'))
-            (λ z v. (Ok (form z), v)) (refused_if (nat_le (length words) i)
-            Range, w)
+            (λ z v. (Ok (form z), v)) (
+              refused_if (nat_le (length words) i)
+                  Range,
+              w,
+            )
             ∙ ap (λ b. goes_on (λ u. meaning.reads_number (read_kind d.0) words i) (b, w)) (sym is)
             ∙ ap (λ kd. goes_on (λ u. meaning.reads_number (read_kind kd) words i) (has_numbers (read_kind d.0), w))
             i'.kind ∙ ap (λ kd. goes_on (λ u. meaning.reads_number
             (read_kind (meant_in w (nth_object q.objects l)).kind) words i) (has_numbers (read_kind kd), w)) i'.kind)
             done_so
 
-    pub in_get : Rattle.jr_scripts.specs.RegionCommands.reading_at p.levels p.objects n i old answer new
+    pub in_get : reading_at p.levels p.objects n i old answer new
         → LedTo c last k reading new p q had told answer (meaning.within c q.names told q.levels q.objects reading w)
     in_get d = subst (λ ls. LedTo c last k reading new p q had told answer
         (meaning.within c q.names told ls q.objects reading w)) s.stands.levels
@@ -461,7 +477,8 @@ module _ {c : Config} {last turns j : ℕ} {P : Pairing} {w : World} {old new : 
             → LedTo c last k writing new p q had told answer
             (write_told (nth_object q.objects l, meant_in w (nth_object q.objects l)) w)
         go (Err e) is d' = subst (λ z. LedTo c last k writing new p q had told answer
-            (goes_on (λ u. meaning.writes_number (nth_object q.objects l) (meant_in w (nth_object q.objects l)) i number)
+            (goes_on
+            (λ u. meaning.writes_number (nth_object q.objects l) (meant_in w (nth_object q.objects l)) i number)
             (z, w))) (sym is ∙ ap has_numbers (kind_here l d.0 d.1 d.2
             (subst (λ (z : ThreadState). IsAlone z.pass) d'.1 s.alone))) (refused_at l d.0 d.1 e d.2 d'.0 d'.1)
         go (Ok u) is d' = further (word_of_number d.0 number) refl (after_decided (λ word.
@@ -502,13 +519,15 @@ module _ {c : Config} {last turns j : ℕ} {P : Pairing} {w : World} {old new : 
                 (subst (λ z. IfErr z (IsSo c last (state new.pass.seen))) f.is (err_map answer so_write fault)) in
                 let words = (meant_in w (nth_object q.objects l)).words in
                 let put = λ (v : World). goes_on {A = Unit {0}} (λ u'. meaning.rewrites (nth_object q.objects l)
-                (meant_in w (nth_object q.objects l)) (slice_set words i x)) (refused_if (nat_le (length words) i) Range, v)
+                (meant_in w (nth_object q.objects l)) (slice_set words i x))
+                (refused_if (nat_le (length words) i) Range, v)
                 in
                 let call = in_call {V = IsDone {A = Unit {0}} {B = Unit {0}}} (λ l' m' t' z.
                 objects.region_set l' m' t' z d.0 (nth_object p.objects l) i x) put d.1 0 f.once i'.pass (fits_at i')
                 (role_at i')
                 (λ l' m' t' z. work_stays (set_work {asked = 0} l' m' t' z d.0 (nth_object p.objects l) i x))
-                (λ z headers. set_means c last k z P w (nth_object p.objects l) (nth_object q.objects l) i i'.named headers
+                (λ z headers. set_means c last k z P w (nth_object p.objects l) (nth_object q.objects l) i i'.named
+                headers
                 (ap is_objects (sym i'.kind) ∙ known.1) d.0 (ap (is_read_as d.0) (sym i'.kind) ∙ known.0)
                 (ap is_text (sym i'.kind) ∙ known.2) x) so f.did in
                 let done_so = in_after {V = IsDone {A = Unit {0}} {B = Unit {0}}} writing answer (λ u'. replies.Done)
@@ -536,7 +555,7 @@ module _ {c : Config} {last turns j : ℕ} {P : Pairing} {w : World} {old new : 
                 (slice_set words i x)) (λ u'' y. (Ok replies.Done, y)) (refused_if (nat_le (length words) i) Range, w))
                 done_so)))
 
-    pub in_set : Rattle.jr_scripts.specs.RegionCommands.writing_at p.levels p.objects n i number old answer new
+    pub in_set : writing_at p.levels p.objects n i number old answer new
         → LedTo c last k writing new p q had told answer (meaning.within c q.names told q.levels q.objects writing w)
     in_set d = subst (λ ls. LedTo c last k writing new p q had told answer
         (meaning.within c q.names told ls q.objects writing w)) s.stands.levels
@@ -575,7 +594,7 @@ module _ {c : Config} {last turns j : ℕ} {P : Pairing} {w : World} {old new : 
     nest_stays at.Text l m t z os a = work_stays (nest_string_work {asked = 0} l m t z os a)
 
     nest_means : (v : OpenLevel) (z : State) (os : List ℕ) (a : Word) (g : ℕ)
-        → Rattle.jr_scripts.proofs.LoneRun.MeaningCalls.WordFits P w a g → HeadersFit P w z
+        → WordFits P w a g → HeadersFit P w z
         → Means c last k k NestFits P w (nests v c last 0 z os a) (meaning.level v (length os) g)
     nest_means at.Array z os a g word headers = form_means c last {V = LevelFits} {U = NestFits}
         (λ o. (length os, os ++ o ∷ [])) (level_means c last k at.Array (length os) z P w a g s.some word headers)
@@ -627,7 +646,8 @@ module _ {c : Config} {last turns j : ℕ} {P : Pairing} {w : World} {old new : 
         (subst (λ z. IfErr z (IsSo c last (state new.pass.seen))) f.is (err_map answer so_nest fault)) in
         let word = read_fits P w h.0 g.0 a (λ i l. given_handle c last (P.handle i) s.small s.slots s.few
         (s.stands.fits.refs.given i l)) f.did.1 same in
-        let call = in_call {V = NestFits} (λ l m t z. nests v l m t z p.objects a) (meaning.level v (length p.objects) g.0)
+        let call = in_call {V = NestFits} (λ l m t z. nests v l m t z p.objects a)
+        (meaning.level v (length p.objects) g.0)
         old 1 f.once s.stands.pass (fits_less le s.stands.fits) s.stands.role
         (λ l m t z. nest_stays v l m t z p.objects a) (λ z headers. nest_means v z p.objects a g.0 word headers) so
         f.did.2 in
@@ -645,8 +665,8 @@ module _ {c : Config} {last turns j : ℕ} {P : Pairing} {w : World} {old new : 
         (after_decided nest_next old new answer (wanted (referent p.names r)) d)
       where
         fits_of : (r : Reference) → BindingFits P w (referent p.names r) (referent q.names r)
-        fits_of Rattle.jr_syntax.specs.declared.name.Reference.TheVariants.Null = refl
-        fits_of (Rattle.jr_syntax.specs.declared.name.Reference.TheVariants.Named m) = s.stands.names m
+        fits_of refers.Null = refl
+        fits_of (refers.Named m) = s.stands.names m
 
         go : (b b' : Binding) → BindingFits P w b b' → AfterDecided nest_next old new answer (wanted b)
             → LedTo c last k nesting_of new p q had told answer
@@ -668,7 +688,7 @@ module _ {c : Config} {last turns j : ℕ} {P : Pairing} {w : World} {old new : 
   in_critical x answer keeps d = in_nothing x answer (Err InCritical) d.1 d.0 keeps
 
   -- ENDCRIT
-  closed_then : (x : Unit {0}) (mode : Rattle.jr_model.specs.declared.frames.Mode.Mode) (v : CloseLevel)
+  closed_then : (x : Unit {0}) (mode : Mode) (v : CloseLevel)
       (ps os : List ℕ) → p.objects ≡ ps → q.objects ≡ os → AreLevels P w ps os → ps ≢ []
       → giving_up (length ps) old (Ok x) new
       → LedTo c last k (commands.CloseLevel v mode) new p q had told (Ok replies.Done) (Ok replies.Done, w)
@@ -683,18 +703,21 @@ module _ {c : Config} {last turns j : ℕ} {P : Pairing} {w : World} {old new : 
       ∙ (ap (λ t. old.pass.seen ++ map (by t) ran.acts) (ran.did.thread ∙ s.stands.pass.thread)
       ∙ ap (λ l. old.pass.seen ++ map (by 0) l) acts) in
       let now_is = moment_is (state new.pass.seen) (state_from (state old.pass.seen) (map (by 0) (Gate Leave ∷ [])))
-      new.frames old.frames (ap state seen ∙ Rattle.jr_model.proofs.Histories.state_append old.pass.seen
+      new.frames old.frames (ap state seen ∙ state_append old.pass.seen
       (map (by 0) (Gate Leave ∷ []))) ran.is.2 in
       record {
         pairing = P;
-        stands = inl (record {
-          pass = pass_later c last old.pass new.pass ran.acts ran.did s.stands.pass;
-          fits = subst (Fits c last k P w) (sym now_is) (gone_fits (now old) 0 Leave (fits_less le s.stands.fits));
-          names = s.stands.names;
-          outside = ap Rattle.jr_scripts.specs.Places.all_but_last e;
-          outside_then = ap Rattle.jr_scripts.specs.Places.all_but_last f;
-          words = s.stands.words;
-        }, ap Rattle.jr_scripts.specs.Places.all_but_last s.stands.levels);
+        stands = inl (
+          record {
+            pass = pass_later c last old.pass new.pass ran.acts ran.did s.stands.pass;
+            fits = subst (Fits c last k P w) (sym now_is) (gone_fits (now old) 0 Leave (fits_less le s.stands.fits));
+            names = s.stands.names;
+            outside = ap all_but_last e;
+            outside_then = ap all_but_last f;
+            words = s.stands.words;
+          },
+          ap all_but_last s.stands.levels,
+        );
         text = λ line. refl;
       }
   closed_then x mode v (o ∷ r ∷ ps) os e f a some d =
@@ -711,22 +734,23 @@ module _ {c : Config} {last turns j : ℕ} {P : Pairing} {w : World} {old new : 
           fits = subst (Fits c last k P w) (sym now_is) (fits_less le s.stands.fits);
           names = s.stands.names;
           words = s.stands.words;
-          levels = ap Rattle.jr_scripts.specs.Places.all_but_last s.stands.levels;
+          levels = ap all_but_last s.stands.levels;
           objects = levels_less P w p.objects q.objects s.stands.objects;
-          some = subst (λ l. Rattle.jr_scripts.specs.Places.all_but_last l ≢ []) (sym e) (λ z. absurd cc);
+          some = subst (λ l. all_but_last l ≢ []) (sym e) (λ z. absurd cc);
           role = ap (λ es. (state es).role 0) seen ∙ s.stands.role;
         });
         text = λ line. refl;
       }
 
-  pub in_close : (v : CloseLevel) (mode : Rattle.jr_model.specs.declared.frames.Mode.Mode) (answer : Result Reply Fault)
+  pub in_close : (v : CloseLevel) (mode : Mode) (answer : Result Reply Fault)
       → (giving_up (length p.objects) >>= (λ u. done replies.Done)) old answer new
       → LedTo c last k (commands.CloseLevel v mode) new p q had told answer (Ok replies.Done, w)
   in_close v mode answer (inl d) =
       subst (λ a. LedTo c last k (commands.CloseLevel v mode) new p q had told a (Ok replies.Done, w)) (sym d.3.0)
       (closed_then d.0 mode v p.objects q.objects refl refl s.stands.objects s.stands.some
       (subst (λ m. giving_up (length p.objects) old (Ok d.0) m) (sym d.3.1) d.2))
-  in_close v mode answer (inr d) = absurd (refused (length p.objects) d.0 old.frames new.frames d.2.0.ran.acts d.2.0.ran.is)
+  in_close v mode answer (inr d) = absurd
+      (refused (length p.objects) d.0 old.frames new.frames d.2.0.ran.acts d.2.0.ran.is)
     where
       refused : (n : ℕ) (e : Fault) (f g : Frames) (acts : List Act) → objects.region_release n f acts (Err e) g → ⊥
       refused zero e f g acts r = absurd (let bad = r.1 in cc)

@@ -1,7 +1,6 @@
 -- How a lone thread stands in a critical region, beside what its script means.
-use Rattle.std.proofs.Common.{◌≡◌, ◌≢◌, ◌⊎◌, inl, inr, ℕ, zero, suc, ◌<◌, ◌≤◌, List, [], ◌∷◌, ◌++◌, map, length, Result}
-use Rattle.std.proofs.Common.{nat_eq, Ok, Err, refl, sym, ap, subst, ◌∙◌, arith}
-use Rattle.std.specs.List.{AllByRecursion}
+use Rattle.std.proofs.Common.{◌≡◌, ◌≢◌, ◌⊎◌, inl, inr, ℕ, zero, suc, List, [], ◌∷◌, ◌++◌, map, length, Result}
+use Rattle.std.proofs.Common.{refl, sym, ap, ◌∙◌}
 use Rattle.jr_word.specs.declared.config.Config.{Config}
 use Rattle.jr_word.specs.declared.fault.Fault.{Fault}
 use Rattle.jr_model.specs.declared.event.Act.{Act}
@@ -17,7 +16,7 @@ use Rattle.jr_gate.specs.Performing.{ThreadState}
 use Rattle.jr_syntax.specs.declared.command.Command.{Command}
 use Rattle.jr_scripts.specs.declared.reply.Reply.{Reply}
 use Rattle.jr_scripts.specs.Places.{Place, all_but_last, nth_object, place_after}
-use Rattle.jr_scripts.specs.Posting.{Words, words_after}
+use Rattle.jr_scripts.specs.Posting.{ThreadWords, words_after}
 use Rattle.jr_scripts.specs.Text.{printed}
 use Rattle.jr_scripts.specs.Meaning.{World}
 use Rattle.jr_scripts.proofs.LoneRun.MeaningFrames.{Pairing}
@@ -62,6 +61,12 @@ levels_long P w (p ∷ ps) (o ∷ os) a = ap suc (levels_long P w ps os a.1)
 levels_long P w [] (o ∷ os) a = absurd a
 levels_long P w (p ∷ ps) [] a = absurd a
 
+-- none stand in both or in neither
+pub some_too : (P : Pairing) (w : World) (ps os : List ℕ) → AreLevels P w ps os → ps ≢ [] → os ≢ []
+some_too P w [] os a some e = some refl
+some_too P w (p ∷ ps) [] a some e = absurd a
+some_too P w (p ∷ ps) (o ∷ os) a some e = absurd cc
+
 -- a level's object is meant, or there is no such level
 pub level_at : (P : Pairing) (w : World) (ps os : List ℕ) → AreLevels P w ps os → (l : ℕ)
     → ObjectFits P w (nth_object ps l) (nth_object os l) ⊎ (nth_object ps l ≡ 0)
@@ -102,7 +107,7 @@ module _ (c : Config) (last : ℕ) where
 
 module _ (c : Config) (last : ℕ) where
   -- THE THREAD STANDS IN A REGION as in the world
-  pub record StandsIn (k : ℕ) (P : Pairing) (w : World) (m : ThreadState) (p q : Place) (had told : Words)
+  pub record StandsIn (k : ℕ) (P : Pairing) (w : World) (m : ThreadState) (p q : Place) (had told : ThreadWords)
       : Type 0 where
     pub pass : IsPass c last m.pass
     pub fits : Fits c last k P w (now m)
@@ -114,12 +119,12 @@ module _ (c : Config) (last : ℕ) where
     pub role : (state m.pass.seen).role 0 ≡ Within
 
   -- it stands outside, or in a region
-  abbrev pub StandsAt : ℕ → Pairing → World → ThreadState → Place → Place → Words → Words → Type 0
+  abbrev pub StandsAt : ℕ → Pairing → World → ThreadState → Place → Place → ThreadWords → ThreadWords → Type 0
   StandsAt k P w m p q had told =
       (Stands c last k P w m p q had told × (p.levels ≡ q.levels)) ⊎ StandsIn k P w m p q had told
 
   -- THE COMMAND LED where it means: it printed the same, and the thread stands as in the world then
-  pub record LedTo (k : ℕ) (x : Command) (new : ThreadState) (p q : Place) (had told : Words)
+  pub record LedTo (k : ℕ) (x : Command) (new : ThreadState) (p q : Place) (had told : ThreadWords)
       (answer : Result Reply Fault) (r : Result Reply Fault × World) : Type 0 where
     pub pairing : Pairing
     pub stands : StandsAt k pairing r.1 new (place_after x answer p) (place_after x r.0 q)

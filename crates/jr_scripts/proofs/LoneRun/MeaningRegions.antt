@@ -1,6 +1,8 @@
 -- What a lone thread's calls of critical regions mean.
-use Rattle.std.proofs.Common.{◌≡◌, ◌≢◌, inl, inr, ℕ, zero, suc, ◌<◌, ◌≤◌, Bool, true, false, not, nat_le, List, []}
-use Rattle.std.proofs.Common.{◌∷◌, ◌++◌, map, length, slice_index, slice_set, Result, Ok, Err, refl, sym, ap, subst}
+use Rattle.std.proofs.Common.{◌≡◌, inl, inr, ℕ, ◌≤◌, Bool, true, false, not, nat_le, List, []}
+use Rattle.jr_model.specs.Parts.{not_null}
+use Rattle.jr_model.specs.References.{resolved}
+use Rattle.std.proofs.Common.{◌∷◌, map, length, slice_index, slice_set, Result, Ok, Err, refl, sym, ap, subst}
 use Rattle.std.proofs.Common.{◌∙◌, arith}
 use Rattle.std.proofs.lemmas.Bool.Decides.{nat_tests}
 use Rattle.jr_word.specs.declared.config.Config.{Config}
@@ -9,14 +11,14 @@ use Rattle.jr_word.specs.declared.fault.Fault.TheVariants.{NotArray, Range, Size
 use Rattle.jr_word.specs.declared.kind.Kind.{Kind}
 use Rattle.jr_model.specs.declared.event.Act.{Act}
 use Rattle.jr_model.specs.declared.event.Act.TheVariants.{Gate, Read, Write}
-use Rattle.jr_model.specs.declared.event.GateAct.TheVariants.{Enter, Leave}
+use Rattle.jr_model.specs.declared.event.GateAct.TheVariants.{Enter}
 use Rattle.jr_model.specs.declared.event.Role.TheVariants.{Within}
 use Rattle.jr_model.specs.declared.frames.TheConstants.{LEVELS}
 use Rattle.jr_model.specs.State.{Contents, State}
 use Rattle.jr_model.specs.Steps.{act_after}
 use Rattle.jr_model.specs.Frames.{Frames}
 use Rattle.jr_model.specs.History.{by, state_from, IsLegalFrom}
-use Rattle.jr_model.specs.Calls.{Call, ◌>>◌, act, done, entered, for_object, opened, refuse_if, some_act}
+use Rattle.jr_model.specs.Calls.{◌>>=◌, Call, ◌>>◌, act, done, entered, for_object, opened, refuse_if, some_act}
 use Rattle.jr_model.specs.Checks.{Word, is_array, is_objects, is_primitive, is_read_as, is_text}
 use Rattle.jr_model.specs.Objects as objects
 use Rattle.jr_model.specs.OpenStays.{NoneLeaves}
@@ -31,9 +33,9 @@ use Rattle.jr_scripts.specs.Meaning.{World, Meaning, goes_on, refused_if, wanted
 use Rattle.jr_scripts.specs.Meaning as meaning
 use Rattle.jr_scripts.proofs.LoneRun.MadeCalls.{Moment, Made, AreUnopposed, gone, led_on}
 use Rattle.jr_scripts.proofs.LoneRun.MeaningFrames.{Pairing}
-use Rattle.jr_scripts.proofs.LoneRun.MeaningFits.{ElementFits, Fitting, Fits, IsDone, IsSame, Later, Means, Outcome}
-use Rattle.jr_scripts.proofs.LoneRun.MeaningFits.{SameAnswer, done_means, entered_means, gone_fits, goes_on_twice}
-use Rattle.jr_scripts.proofs.LoneRun.MeaningFits.{bind_means, means_as, pass_means}
+use Rattle.jr_scripts.proofs.LoneRun.MeaningFits.{ElementFits, Fitting, Fits, IsDone, IsSame, Means, Outcome}
+use Rattle.jr_scripts.proofs.LoneRun.MeaningFits.{done_means, entered_means, gone_fits, goes_on_twice}
+use Rattle.jr_scripts.proofs.LoneRun.MeaningFits.{means_as, pass_means}
 use Rattle.jr_scripts.proofs.LoneRun.MeaningParts.{ObjectFits}
 use Rattle.jr_scripts.proofs.LoneRun.MeaningCalls.{WordFits}
 use Rattle.jr_scripts.proofs.LoneRun.MeaningObjects.{HeadersFit, check_means, header_means, headers_later, meant_in}
@@ -145,13 +147,14 @@ module _ (c : Config) (last k : ℕ) where
   -- THE OBJECT OF A NEW LEVEL
 
   -- one that passes a test, and then what follows
-  passing_means : {A : Type 0} {V : Fitting A Reply} (test : Kind → Bool) (e : Fault) (then : ℕ × Contents → Meaning Reply)
+  passing_means : {A : Type 0} {V : Fitting A Reply} (test : Kind → Bool) (e : Fault)
+      (then : ℕ × Contents → Meaning Reply)
       (z : State) (P : Pairing) (w : World) (a : Word) (g : ℕ) (rest : ℕ → Kind → Call A) → 1 ≤ c.threads
       → WordFits P w a g → HeadersFit P w z
       → ((Q : Pairing) (p o : ℕ) → ObjectFits Q w p o
       → Means c last k k V Q w (rest p (meant_in w o).kind) (then (o, meant_in w o)))
-      → Means c last k k V P w (Rattle.jr_model.specs.Calls.◌>>=◌ (Rattle.jr_model.specs.References.resolved c last 0 a)
-      (λ x. Rattle.jr_model.specs.Calls.◌>>=◌ (Rattle.jr_model.specs.Parts.not_null x)
+      → Means c last k k V P w (◌>>=◌ (resolved c last 0 a)
+      (λ x. ◌>>=◌ (not_null x)
       (λ p. for_object z p (λ t n. refuse_if (not (test t)) e >> rest p t))))
       (λ v. goes_on then (meaning.wanted_as test e g v))
   passing_means {A} {V} test e then z P w a g rest some fits headers means =
@@ -192,7 +195,8 @@ module _ (c : Config) (last k : ℕ) where
         (λ v. goes_on (λ u s. (Ok (slice_index (meant_in w o).words i), s))
         (refused_if (nat_le (length (meant_in w o).words) i) Range, v))
     get_means t is = header_means c last k z
-        (λ l n. refuse_if (not (is_read_as t l)) WrongElement >> (refuse_if (nat_le n i) Range >> some_act (Read p i))) p
+        (λ l n. refuse_if (not (is_read_as t l)) WrongElement >>
+        (refuse_if (nat_le n i) Range >> some_act (Read p i))) p
         o named headers (pass_means c last (not (is_read_as t (meant_in w o).kind)) WrongElement (ap not is)
         (check_means c last k (nat_le (length (meant_in w o).words) i) Range (λ within. weaker_means c last
         {V = λ Q v word e. ElementFits Q.object v.objects (is_objects (meant_in w o).kind) e word}

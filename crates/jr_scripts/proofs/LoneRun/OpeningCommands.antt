@@ -1,9 +1,10 @@
 -- What a lone thread's commands mean that open a critical region.
-use Rattle.std.proofs.Common.{◌≡◌, ◌≢◌, ◌≤◌, inl, inr, ℕ, List, [], ◌∷◌, ◌++◌, map, length, Result, Ok, Err, IfErr, refl, sym}
-use Rattle.std.proofs.Common.{ap, subst, ◌∙◌, arith}
+use Rattle.std.proofs.Common.{◌≡◌, ◌≤◌, inl, inr, ℕ, List, [], ◌∷◌, ◌++◌, Result, Ok, Err, IfErr, refl, sym}
+use Rattle.jr_model.specs.Objects.{level_string, level_array}
+use Rattle.std.proofs.Common.{ap, subst, ◌∙◌}
 use Rattle.jr_word.specs.declared.config.Config.{Config}
 use Rattle.jr_word.specs.declared.fault.Fault.{Fault}
-use Rattle.jr_word.specs.declared.fault.Fault.TheVariants.{InCritical, Stale, WrongKind}
+use Rattle.jr_word.specs.declared.fault.Fault.TheVariants.{Stale, WrongKind}
 use Rattle.jr_word.specs.declared.handle.Handle.{Handle as HandleWord}
 use Rattle.jr_model.specs.declared.event.Act.TheVariants.{Gate}
 use Rattle.jr_model.specs.declared.event.GateAct.TheVariants.{Enter}
@@ -11,14 +12,12 @@ use Rattle.jr_model.specs.declared.event.Role.TheVariants.{Within}
 use Rattle.jr_model.specs.State.{State}
 use Rattle.jr_model.specs.Steps.{act_after}
 use Rattle.jr_model.specs.History.{state}
-use Rattle.jr_model.specs.Calls.{Call}
 use Rattle.jr_model.specs.Checks.{Word}
 use Rattle.jr_model.proofs.Gates.{IsApart}
 use Rattle.jr_model.proofs.OpenStays.{level_array_stays, level_string_stays}
 use Rattle.jr_model.proofs.Stays.{IsStill}
 use Rattle.jr_model.proofs.Updates.{at_number_self}
 use Rattle.jr_gate.specs.Performing.{ThreadState}
-use Rattle.jr_env.specs.Deeds.{Deed, decided, ◌>>=◌}
 use Rattle.jr_syntax.specs.declared.name.Reference.{Reference}
 use Rattle.jr_syntax.specs.declared.command.Command.{Command}
 use Rattle.jr_syntax.specs.declared.command.Command.TheVariants as commands
@@ -31,7 +30,7 @@ use Rattle.jr_scripts.specs.declared.binding.Binding.TheVariants as bound
 use Rattle.jr_scripts.specs.Commands.{deed, opening_by, opening_levels, opens, tried}
 use Rattle.jr_scripts.specs.Names.{referent, wanted}
 use Rattle.jr_scripts.specs.Places.{Place, levels_after}
-use Rattle.jr_scripts.specs.Posting.{Words}
+use Rattle.jr_scripts.specs.Posting.{ThreadWords}
 use Rattle.jr_scripts.specs.Text.{printed}
 use Rattle.jr_scripts.specs.AloneAnswers.{IsCommandFault}
 use Rattle.jr_scripts.specs.Meaning.{World, goes_on}
@@ -47,15 +46,17 @@ use Rattle.jr_scripts.proofs.LoneRun.MeaningRegions.{LevelFits, behind, level_me
 use Rattle.jr_scripts.proofs.LoneRun.MeaningDeeds.{AfterDecided, BindingFits, HandleFits, IsPass, after_decided, formed}
 use Rattle.jr_scripts.proofs.LoneRun.MeaningDeeds.{made_once, names_later, now, read_fits, was_formed, words_later}
 use Rattle.jr_scripts.proofs.LoneRun.MeaningStands.{Stepped}
-use Rattle.jr_scripts.proofs.LoneRun.MeaningLevels.{AreLevels, LedTo, levels_put, some_put, stays_within}
-use Rattle.jr_scripts.proofs.LoneRun.CommandSteps.{Turn, at_most, even, handles, kept_step, nothing_then, referent_fits}
+use Rattle.jr_scripts.proofs.LoneRun.MeaningLevels.{levels_later, AreLevels, LedTo, levels_put, some_put, stays_within}
+use Rattle.jr_scripts.proofs.LoneRun.CommandSteps.{IsThen, Turn, at_most, even, handles, kept_step, nothing_then}
+use Rattle.jr_scripts.proofs.LoneRun.CommandSteps.{referent_fits}
 use Rattle.jr_scripts.proofs.LoneRun.CommandSteps.{was_made}
 use Rattle.jr_scripts.proofs.LoneRun.ElementCommands.{apart_before}
 
 -- THE CALL THAT OPENS A REGION
 module _ (c : Config) (last : ℕ) where
   open_means : (v : OpenLevel) (k : ℕ) (z : State) (P : Pairing) (w : World) (a : Word) (g : ℕ) → 1 ≤ c.threads
-      → WordFits P w a g → HeadersFit P w z → Means c last k k LevelFits P w (opens v c last 0 z a) (meaning.level v 0 g)
+      → WordFits P w a g → HeadersFit P w z
+      → Means c last k k LevelFits P w (opens v c last 0 z a) (meaning.level v 0 g)
   open_means at.Array k z P w a g some fits headers =
       opened_means c last (level_means c last k at.Array 0 z P w a g some fits headers)
   open_means at.Text k z P w a g some fits headers =
@@ -64,25 +65,25 @@ module _ (c : Config) (last : ℕ) where
   open_still : (v : OpenLevel) (z : State) (a : Word) (m n : Moment) (answer : Result ℕ Fault) → IsApart m.state.role
       → Made c last 0 (opens v c last 0 z a) m answer n → IsStill m.state n.state
   open_still at.Array z a m n answer apart r = opened_still c last
-      (Rattle.jr_model.specs.Objects.level_array c last 0 z 0 a) (level_array_stays c last 0 z 0 a) m n answer apart r
+      (level_array c last 0 z 0 a) (level_array_stays c last 0 z 0 a) m n answer apart r
   open_still at.Text z a m n answer apart r = opened_still c last
-      (Rattle.jr_model.specs.Objects.level_string c last 0 z 0 a) (level_string_stays c last 0 z 0 a) m n answer apart r
+      (level_string c last 0 z 0 a) (level_string_stays c last 0 z 0 a) m n answer apart r
 
   open_within : (v : OpenLevel) (z : State) (a : Word) (m n : Moment) (x : ℕ)
       → Made c last 0 (opens v c last 0 z a) m (Ok x) n → n.state.role 0 ≡ Within
   open_within at.Array z a m n x r =
-      let i = behind c last (Rattle.jr_model.specs.Objects.level_array c last 0 z 0 a) m n x r in
+      let i = behind c last (level_array c last 0 z 0 a) m n x r in
       ap (λ (s : State). s.role 0) i.made.leads ∙ stays_within c last (act_after m.state 0 (Gate Enter)) i.made.acts
       (at_number_self m.state.role 0 Within)
       (level_array_stays c last 0 z 0 a m.frames n.frames i.made.acts (Ok x) i.made.is) i.made.legal
   open_within at.Text z a m n x r =
-      let i = behind c last (Rattle.jr_model.specs.Objects.level_string c last 0 z 0 a) m n x r in
+      let i = behind c last (level_string c last 0 z 0 a) m n x r in
       ap (λ (s : State). s.role 0) i.made.leads ∙ stays_within c last (act_after m.state 0 (Gate Enter)) i.made.acts
       (at_number_self m.state.role 0 Within)
       (level_string_stays c last 0 z 0 a m.frames n.frames i.made.acts (Ok x) i.made.is) i.made.legal
 
 module _ {c : Config} {last turns j k : ℕ} {P : Pairing} {w : World} {old new : ThreadState} {p q : Place}
-    {had told : Words} (s : Turn c last turns j k P w old new p q had told) (levels : p.levels ≡ q.levels) where
+    {had told : ThreadWords} (s : Turn c last turns j k P w old new p q had told) (levels : p.levels ≡ q.levels) where
   -- a command that stays outside
   pub stepped_to : (x : Command) (answer : Result Reply Fault) (r : Result Reply Fault × World)
       → Stepped c last k x new p q had told answer r
@@ -106,7 +107,7 @@ module _ {c : Config} {last turns j k : ℕ} {P : Pairing} {w : World} {old new 
 
     -- it is refused
     refused : (e d : Fault) (Q : Pairing) (u : World)
-        → Rattle.jr_scripts.proofs.LoneRun.CommandSteps.IsThen s Q u → answer ≡ Err e → e ≡ d
+        → IsThen s Q u → answer ≡ Err e → e ≡ d
         → LedTo c last k opening new p q had told answer (Err d, u)
     refused e d Q u i is same =
         let step = kept_step s opening answer Q u (Err e) (Err d) i is (λ names os ws. (refl, refl, refl))
@@ -133,7 +134,7 @@ module _ {c : Config} {last turns j k : ℕ} {P : Pairing} {w : World} {old new 
             words = words_later o.later had told s.stands.words;
             levels = ap (λ l. l ++ n ∷ []) levels;
             objects = levels_put o.pairing u p.objects q.objects x f.0
-                (Rattle.jr_scripts.proofs.LoneRun.MeaningLevels.levels_later o.later p.objects q.objects none_stand) f.2;
+                (levels_later o.later p.objects q.objects none_stand) f.2;
             some = some_put p.objects x;
             role = role x refl;
           });
@@ -153,7 +154,8 @@ module _ {c : Config} {last turns j k : ℕ} {P : Pairing} {w : World} {old new 
         → tried turns (opening_by v h.0) old once new → answer ≡ formed (λ o. replies.Level o) once
         → LedTo c last k opening new p q had told answer (meaning.level v 0 g.0 w)
     open_found h g same once d is =
-        let d' = made_once (p.names, opening) (λ z. led_opening v n r z h.0) turns old new once s.alone s.some_turns d in
+        let d' = made_once (p.names, opening) (λ z. led_opening v n r z h.0) turns old new once s.alone s.some_turns d
+        in
         let a = d'.0 in
         let z = state new.pass.seen in
         let made = d'.2 in
@@ -189,10 +191,3 @@ module _ {c : Config} {last turns j k : ℕ} {P : Pairing} {w : World} {old new 
         go (bound.Reference h) (bound.Buffer b) fits once is d' = absurd fits
         go (bound.Buffer b) bound.Nothing fits once is d' = absurd fits
         go (bound.Buffer b) (bound.Reference g) fits once is d' = absurd fits
-
-  -- E19 of the commands of a region
-  pub critical_step : (x : Command) → j ≡ k → (answer : Result Reply Fault)
-      → Rattle.jr_scripts.proofs.LoneRun.MeaningStands.Keeps x (Err InCritical)
-      → (answer ≡ Err InCritical) × (new ≡ old) → Stepped c last k x new p q had told answer (Err InCritical, w)
-  critical_step x one answer keeps d = kept_step s x answer P w (Err InCritical) (Err InCritical)
-      (nothing_then s d.1 (at_most one)) d.0 keeps keeps (λ line. refl)
