@@ -217,7 +217,7 @@ module _ (turns : ℕ) (command : Asked) where
 
   -- THE CALLS THAT OPEN A REGION, of a command that is about an object
   module _ (object : WantsObject command.1) where
-    array_opening_alone : ((s : State) → SomeObject s (λ k n. is_array k ≡ false) → LacksArray s command.1)
+    pub array_opening_alone : ((s : State) → SomeObject s (λ k n. is_array k ≡ false) → LacksArray s command.1)
         → ((s : State) → SomeObject s (λ k n. (is_array k ≡ true) × (is_primitive k ≡ false))
         → LacksElements s command.0 command.1) → (w : ℕ) → LeadsAlone turns command (opening_by at.Array w)
     array_opening_alone array element w = record {
@@ -232,7 +232,7 @@ module _ (turns : ℕ) (command : Asked) where
           new.pass old.frames new.frames refl refl alone answer r;
     }
 
-    text_opening_alone : ((s : State) → SomeObject s (λ k n. is_text k ≡ false) → LacksText s command.1) → (w : ℕ)
+    pub text_opening_alone : ((s : State) → SomeObject s (λ k n. is_text k ≡ false) → LacksText s command.1) → (w : ℕ)
         → LeadsAlone turns command (opening_by at.Text w)
     text_opening_alone text w = record {
       led = λ old new answer alone d.

@@ -12,6 +12,7 @@ pub mod MeaningRow
 pub mod MeaningScopes
 pub mod MeaningObjects
 pub mod MeaningStores
+pub mod MeaningRegions
 pub mod MeaningRounds
 pub mod MeaningReach
 pub mod MeaningSweeps
@@ -19,6 +20,7 @@ pub mod MeaningCollections
 pub mod MeaningCopies
 pub mod MeaningDeeds
 pub mod MeaningStands
+pub mod MeaningLevels
 pub mod CommandSteps
 pub mod ObjectCommands
 pub mod ReferenceCommands
@@ -26,9 +28,12 @@ pub mod FrameCommands
 pub mod NoteCommands
 pub mod ElementCommands
 pub mod CollectionCommands
+pub mod LevelCommands
+pub mod OpeningCommands
 pub mod CopyCommands
 pub mod BufferCommands
 pub mod MeaningCommands
+pub mod EachCommand
 pub mod MeaningRun
 use Rattle.std.proofs.Common.{◌≡◌, ℕ, Option, List, [], ◌∷◌}
 use Rattle.std.proofs.Common.{◌++◌, length, refl, sym, ap, subst, ◌∙◌, arith}

@@ -4,7 +4,7 @@ use Rattle.std.specs.Prelude.{not}
 use Rattle.std.specs.Prelude.{nat_lt, nat_le}
 use Rattle.std.specs.Prelude.{Option, Some, None, is_some, Result, Ok, Err, List, [], ◌∷◌, ◌++◌, map, length, replicate}
 use Rattle.std.specs.Prelude.{drop, slice_index, slice_index_or, slice_set}
-use Rattle.std.specs.List.{AllByRecursion, filter, flat_map, list_any, sum_by}
+use Rattle.std.specs.List.{filter, flat_map, list_any, sum_by}
 use Rattle.jr_word.specs.declared.config.Config.{Config}
 use Rattle.jr_word.specs.declared.fault.Fault.{Fault}
 use Rattle.jr_word.specs.declared.fault.Fault.TheVariants as fault
@@ -613,38 +613,8 @@ gives_up (commands.On on.Drop r) = true
 gives_up (commands.MakeFrom make_from.Pop n r) = true
 gives_up _ = false
 
--- the commands of which it is proved so far that they print what they mean
-abbrev pub IsCovered : Command → Type 0
-IsCovered (commands.Make v n) = Unit {0}
-IsCovered (commands.MakeFrom make_from.Global n r) = Unit {0}
-IsCovered (commands.MakeFrom make_from.Weak n r) = Unit {0}
-IsCovered (commands.MakeFrom make_from.Local n r) = Unit {0}
-IsCovered (commands.MakeFrom make_from.Pop n r) = Unit {0}
-IsCovered (commands.On on.Type r) = Unit {0}
-IsCovered (commands.On on.Drop r) = Unit {0}
-IsCovered (commands.OnBoth v q r) = Unit {0}
-IsCovered (commands.OnName v n) = Unit {0}
-IsCovered (commands.WithCount v n) = Unit {0}
-IsCovered (commands.MakeSized v n len) = Unit {0}
-IsCovered (commands.MakeFilled v n len r) = Unit {0}
-IsCovered (commands.MakeText v n units) = Unit {0}
-IsCovered (commands.On on.Len r) = Unit {0}
-IsCovered (commands.On on.TextLength r) = Unit {0}
-IsCovered (commands.MakeAt v n r i) = Unit {0}
-IsCovered (commands.SetAt v r i q) = Unit {0}
-IsCovered (commands.OnAt v r i) = Unit {0}
-IsCovered (commands.StoreAt v r i x) = Unit {0}
-IsCovered (commands.MakeFrom make_from.Elements n r) = Unit {0}
-IsCovered (commands.On on.Chars r) = Unit {0}
-IsCovered (commands.OnNameAt on_name_at.Get n i) = Unit {0}
-IsCovered (commands.PutAt put_at.Put n i x) = Unit {0}
-IsCovered (commands.Release v n r mode) = Unit {0}
-IsCovered (commands.OfRoom v) = Unit {0}
-IsCovered (commands.WithTries v tries) = Unit {0}
-IsCovered _ = ⊥
-
--- THE TEXT OF A RUN IS WHAT ITS SCRIPT MEANS, where there are turns, serials have 32 bits, all commands are covered,
--- and fewer of them give up references than there are serials
+-- THE TEXT OF A RUN IS WHAT ITS SCRIPT MEANS, where there are turns, serials have 32 bits,
+-- and fewer commands give up references than there are serials
 abbrev pub MeansText : ℕ → ℕ → Config → ThreadPart → List ℕ → Type 0
 MeansText turns last c part text = turns ≢ 0 → last < 2 ^ 32 → how_many gives_up part.commands ≤ last
-    → AllByRecursion IsCovered part.commands → (memory : List Bool) × (text ≡ text_of_part memory c part)
+    → (memory : List Bool) × (text ≡ text_of_part memory c part)

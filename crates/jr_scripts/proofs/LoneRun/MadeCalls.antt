@@ -55,7 +55,7 @@ pub record IsLed (c : Config) (last : ℕ) (s : State) : Type 0 where
 
 module _ (c : Config) (last t : ℕ) where
   -- .. and goes on
-  led_on : (s : State) (acts : List Act) → IsLed c last s → IsLegalFrom c last s (map (by t) acts)
+  pub led_on : (s : State) (acts : List Act) → IsLed c last s → IsLegalFrom c last s (map (by t) acts)
       → IsLed c last (state_from s (map (by t) acts))
   led_on s acts i legal = record {
     past = i.past ++ map (by t) acts;

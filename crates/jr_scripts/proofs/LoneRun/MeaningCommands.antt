@@ -1,15 +1,16 @@
 -- What a lone thread's commands mean, each from a moment that is as the world.
 use Rattle.std.proofs.Common.{◌≡◌, ℕ, Bool, true, List, [], ◌∷◌, ◌++◌, slice_index_or, Result, IfErr, refl, sym, ap}
-use Rattle.std.proofs.Common.{subst}
+use Rattle.std.proofs.Common.{Err, subst}
 use Rattle.jr_word.specs.declared.config.Config.{Config}
 use Rattle.jr_word.specs.declared.fault.Fault.{Fault}
+use Rattle.jr_word.specs.declared.fault.Fault.TheVariants.{InCritical}
 use Rattle.jr_model.specs.History.{state}
 use Rattle.jr_gate.specs.Performing.{ThreadState}
 use Rattle.jr_syntax.specs.declared.command.Command.{Command}
 use Rattle.jr_syntax.specs.declared.command.Command.TheVariants as commands
 use Rattle.jr_syntax.specs.declared.verb.Make.TheVariants as make
 use Rattle.jr_scripts.specs.Commands.{deed}
-use Rattle.jr_scripts.specs.Meaning.{IsCovered, World, meaning_at, memory_after}
+use Rattle.jr_scripts.specs.Meaning.{World, meaning_at, memory_after}
 use Rattle.jr_syntax.specs.declared.verb.MakeFrom.TheVariants as make_from
 use Rattle.jr_syntax.specs.declared.verb.MakeAt.TheVariants as make_at
 use Rattle.jr_syntax.specs.declared.verb.On.TheVariants as on
@@ -32,8 +33,8 @@ use Rattle.jr_scripts.specs.Posting.{ThreadWords, said_alone}
 use Rattle.jr_scripts.specs.AloneAnswers.{IsAloneFault, IsFaultOutside, IsFaultWithin}
 use Rattle.jr_scripts.specs.Meaning as meaning
 use Rattle.jr_scripts.proofs.LoneRun.MeaningFrames.{Pairing}
-use Rattle.jr_scripts.proofs.LoneRun.MeaningStands.{Stepped, err_map, left_before}
-use Rattle.jr_scripts.proofs.LoneRun.CommandSteps.{Turn, Steps, referent_fits}
+use Rattle.jr_scripts.proofs.LoneRun.MeaningStands.{Keeps, Stepped, err_map, left_before}
+use Rattle.jr_scripts.proofs.LoneRun.CommandSteps.{Turn, Steps, at_most, kept_step, nothing_then, referent_fits}
 use Rattle.jr_scripts.proofs.LoneRun.ObjectCommands.{plain_step, sized_step, text_step, filled_step}
 use Rattle.jr_scripts.proofs.LoneRun.ReferenceCommands.{drop_step, global_step, local_step, same_step, type_step}
 use Rattle.jr_scripts.proofs.LoneRun.ReferenceCommands.{weak_step}
@@ -64,27 +65,39 @@ memory_left _ answer rest = refl
 abbrev next_found : List Bool → Bool
 next_found memory = slice_index_or memory 0 true
 
--- a command that is covered, and makes no copy
-abbrev IsCoveredAlone : Command → Type 0
-IsCoveredAlone (commands.MakeFrom make_from.Elements n r) = ⊥
-IsCoveredAlone (commands.On on.Chars r) = ⊥
-IsCoveredAlone x = IsCovered x
+-- a command that opens and ends no level
+abbrev pub IsSteady : Command → Type 0
+IsSteady (commands.OpenLevel v n r) = ⊥
+IsSteady (commands.CloseLevel v mode) = ⊥
+IsSteady _ = Unit {0}
+
+-- .. and makes no copy
+abbrev MakesNoCopy : Command → Type 0
+MakesNoCopy (commands.MakeFrom make_from.Elements n r) = ⊥
+MakesNoCopy (commands.On on.Chars r) = ⊥
+MakesNoCopy x = IsSteady x
 
 module _ {c : Config} {last turns j k : ℕ} {P : Pairing} {w : World} {old new : ThreadState} {p q : Place}
     {had told : ThreadWords} (s : Turn c last turns j k P w old new p q had told) where
-  fault_outside : (x : Command) (answer : Result Reply Fault)
+  pub fault_outside : (x : Command) (answer : Result Reply Fault)
       → IfErr answer (IsAloneFault turns p x new.pass new.frames)
       → IfErr answer (IsFaultOutside turns p.names x new.pass new.frames)
   fault_outside x answer fault = err_map answer (λ e h. subst (λ os. by_region os
       (IsFaultOutside turns p.names x new.pass new.frames e) (IsFaultWithin p x (state new.pass.seen) e))
       s.stands.outside h) fault
 
-  deed_outside : (x : Command) (answer : Result Reply Fault) → deed_at turns p x old answer new
+  pub deed_outside : (x : Command) (answer : Result Reply Fault) → deed_at turns p x old answer new
       → deed turns p.names x old answer new
   deed_outside x answer d =
       subst (λ os. by_region os (deed turns p.names x) (deed_within p x) old answer new) s.stands.outside d
 
-  one_step : (x : Command) → j ≡ left_before x k → (answer : Result Reply Fault) → IsCoveredAlone x
+  -- E19 of a command of a region
+  critical_step : (x : Command) → j ≡ k → (answer : Result Reply Fault) → Keeps x (Err InCritical)
+      → (answer ≡ Err InCritical) × (new ≡ old) → Steps s x answer (Err InCritical, w)
+  critical_step x one answer keeps d = kept_step s x answer P w (Err InCritical) (Err InCritical)
+      (nothing_then s d.1 (at_most one)) d.0 keeps keeps (λ line. refl)
+
+  one_step : (x : Command) → j ≡ left_before x k → (answer : Result Reply Fault) → MakesNoCopy x
       → deed turns p.names x old answer new → said_alone p.names had x old.pass.seen answer new.pass.seen
       → IfErr answer (IsFaultOutside turns p.names x new.pass new.frames)
       → Steps s x answer (meaning.outside c q.names told x w)
@@ -119,9 +132,13 @@ module _ {c : Config} {last turns j k : ℕ} {P : Pairing} {w : World} {old new 
   one_step (commands.PutAt put_at.Put n i z) one answer covered d said fault = eput_step s one n i z answer d
   one_step (commands.Release release.Elements n r mode) one answer covered d said fault =
       release_step s one n r answer mode fault d
+  one_step (commands.OnNameAt on_name_at.GetInLevel n i) one answer covered d said fault =
+      critical_step (commands.OnNameAt on_name_at.GetInLevel n i) one answer (λ names os ws. (refl, refl, refl)) d
+  one_step (commands.PutAt put_at.PutInLevel n i z) one answer covered d said fault =
+      critical_step (commands.PutAt put_at.PutInLevel n i z) one answer (λ names os ws. (refl, refl, refl)) d
   one_step x one answer covered d said fault = absurd covered
 
-  copy_step : (x : Command) → j ≡ left_before x k → (answer : Result Reply Fault) → IsCovered x
+  copy_step : (x : Command) → j ≡ left_before x k → (answer : Result Reply Fault) → IsSteady x
       → deed turns p.names x old answer new → said_alone p.names had x old.pass.seen answer new.pass.seen
       → IfErr answer (IsFaultOutside turns p.names x new.pass new.frames) → (rest : List Bool)
       → w.memory ≡ memory_shown x answer ++ rest → Steps s x answer (meaning.outside c q.names told x w)
@@ -139,7 +156,7 @@ module _ {c : Config} {last turns j k : ℕ} {P : Pairing} {w : World} {old new 
 -- ONE COMMAND, as it means
 pub step : {c : Config} {last turns k : ℕ} {P : Pairing} {w : World} {old new : ThreadState} {p q : Place}
     {had told : ThreadWords} (x : Command) (s : Turn c last turns (left_before x k) k P w old new p q had told)
-    (answer : Result Reply Fault) → IsCovered x → deed_at turns p x old answer new
+    (answer : Result Reply Fault) → IsSteady x → deed_at turns p x old answer new
     → said_alone p.names had x old.pass.seen answer new.pass.seen
     → IfErr answer (IsAloneFault turns p x new.pass new.frames) → (rest : List Bool)
     → w.memory ≡ memory_shown x answer ++ rest

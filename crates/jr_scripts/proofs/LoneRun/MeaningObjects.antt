@@ -51,7 +51,7 @@ goes_on_done (Ok x, z) = refl
 goes_on_done (Err e, z) = refl
 
 -- WHAT A STAY LEAVES: the objects have their kinds and lengths
-none_leaves : (t : ℕ) (acts : List Act) → NoneLeaves acts
+pub none_leaves : (t : ℕ) (acts : List Act) → NoneLeaves acts
     → AllByRecursion (λ e. e ≢ by t (Gate Leave)) (map (by t) acts)
 none_leaves t [] none = tt
 none_leaves t (a ∷ acts) none = (λ e. none.0 (ap (λ (f : Event). f.act) e), none_leaves t acts none.1)

@@ -1,7 +1,7 @@
 -- The text of a run is what its script means.
 use Rattle.std.proofs.Common.{◌≡◌, ◌≢◌, ℕ, zero, suc, ◌<◌, ◌≤◌, ◌+◌, ◌^◌, Bool, true, false, cond, Option, is_some}
 use Rattle.std.proofs.Common.{List, [], ◌∷◌, ◌++◌, map, length, replicate, get_or, Result, Ok, IfErr, refl, sym, ap}
-use Rattle.std.proofs.Common.{subst, ◌∙◌, arith, append_assoc}
+use Rattle.std.proofs.Common.{inl, inr, subst, ◌∙◌, arith, append_assoc}
 use Rattle.std.proofs.lemmas.List.{length-replicate}
 use Rattle.std.specs.FinMap.{get-empty}
 use Rattle.std.specs.List.{AllByRecursion, filter}
@@ -32,17 +32,16 @@ use Rattle.jr_scripts.specs.declared.binding.Binding.{Binding}
 use Rattle.jr_scripts.specs.Places.{Place, place_after}
 use Rattle.jr_scripts.specs.Posting.{ThreadWords, said_alone, words_after}
 use Rattle.jr_scripts.specs.Explains.{Explains, nothing, then}
-use Rattle.jr_scripts.specs.RegionCommands.{giving_up_all}
 use Rattle.jr_scripts.specs.Text.{heading, ending, printed}
 use Rattle.jr_scripts.specs.AloneAnswers.{AnswersAlone}
 use Rattle.jr_scripts.specs.Runs.{IsFreed, IsRun, IsUnbarred, opening_moment}
-use Rattle.jr_scripts.proofs.AloneHistories.{all_front, all_back, all_prefix}
+use Rattle.jr_scripts.proofs.AloneHistories.{all_prefix}
 use Rattle.jr_scripts.proofs.AloneCalls.{IsAlone}
 use Rattle.jr_scripts.proofs.AloneParts.{tries_alone, was_alone}
 use Rattle.jr_scripts.proofs.AloneAnswers.{all_map, given_up_alone, place_alone}
 use Rattle.jr_scripts.proofs.AloneWithin.{led_alone}
 use Rattle.jr_scripts.proofs.FreedAlone.{free_alone, plainly}
-use Rattle.jr_scripts.specs.Meaning.{IsCovered, MeansText, World, Told, gives_up, how_many, first_told, meaning_at}
+use Rattle.jr_scripts.specs.Meaning.{MeansText, World, Told, gives_up, how_many, first_told, meaning_at}
 use Rattle.jr_scripts.specs.Meaning.{refs_of, standing, summary_of, tells, told_after, told_from, text_of_part}
 use Rattle.jr_scripts.specs.Meaning.{first_world, memory_after}
 use Rattle.jr_scripts.proofs.LoneRun.MadeCalls.{Moment, IsSo, stayed}
@@ -51,8 +50,10 @@ use Rattle.jr_scripts.proofs.LoneRun.MeaningSlots.{at_index, in_row, taken_at}
 use Rattle.jr_scripts.proofs.LoneRun.MeaningFits.{Fits, counted}
 use Rattle.jr_scripts.proofs.LoneRun.MeaningScopes.{SameTables, drops_keep}
 use Rattle.jr_scripts.proofs.LoneRun.MeaningDeeds.{BindingFits, IsPass, call_made, made_once, now}
-use Rattle.jr_scripts.proofs.LoneRun.MeaningCommands.{memory_left, memory_shown, step}
-use Rattle.jr_scripts.proofs.LoneRun.MeaningStands.{Stands, Stepped, left_before, left_then}
+use Rattle.jr_scripts.proofs.LoneRun.MeaningCommands.{memory_left, memory_shown}
+use Rattle.jr_scripts.proofs.LoneRun.EachCommand.{ended_at, step_at}
+use Rattle.jr_scripts.proofs.LoneRun.MeaningLevels.{AreLevels, LedTo, StandsAt, levels_later}
+use Rattle.jr_scripts.proofs.LoneRun.MeaningStands.{Stands, left_before, left_then}
 
 -- ONE COMMAND MORE
 told_snoc : (c : Config) (line : ℕ) (before : List Command) (x : Command) (t : Told)
@@ -147,7 +148,7 @@ module _ (c : Config) (last turns : ℕ) (one : c.threads ≡ 1) (some_turns : t
   record IsTold (memory rest : List Bool) (k : ℕ) (commands : List Command) (text : List ℕ) (new : ThreadState)
       (place : Place) (words : ThreadWords) : Type 0 where
     pub pairing : Pairing
-    pub stands : Stands c last k pairing (told_from c 3 commands (first_told memory)).world new place
+    pub stands : StandsAt c last k pairing (told_from c 3 commands (first_told memory)).world new place
         (told_from c 3 commands (first_told memory)).place words (told_from c 3 commands (first_told memory)).words
     pub text_is : text ≡ (told_from c 3 commands (first_told memory)).text
     pub left : (told_from c 3 commands (first_told memory)).world.memory ≡ rest
@@ -156,7 +157,7 @@ module _ (c : Config) (last turns : ℕ) (one : c.threads ≡ 1) (some_turns : t
   record TellsSo (k : ℕ) (t : Told) (text : List ℕ) (new : ThreadState) (place : Place)
       (words : ThreadWords) : Type 0 where
     pub pairing : Pairing
-    pub stands : Stands c last k pairing t.world new place t.place words t.words
+    pub stands : StandsAt c last k pairing t.world new place t.place words t.words
     pub text_is : text ≡ t.text
 
   -- what is to come of memory is nothing of how a thread stands
@@ -182,21 +183,56 @@ module _ (c : Config) (last turns : ℕ) (one : c.threads ≡ 1) (some_turns : t
         words = s.words;
       }
 
+  remembers_levels : (P : Pairing) (w : World) (ps os : List ℕ) (memory : List Bool) → AreLevels P w ps os
+      → AreLevels P (record w { memory = memory }) ps os
+  remembers_levels P w ps os memory a = levels_later {P = P} {Q = P} {w = w} {v = record w { memory = memory }}
+      (record {
+        handles = λ i l. refl;
+        objects = λ o l. refl;
+        refs_grow = omega arith;
+        objects_stay = λ o l. l;
+      }) ps os a
+
+  remembers_at : {k : ℕ} {P : Pairing} {w : World} {m : ThreadState} {p q : Place} {had told : ThreadWords}
+      (memory : List Bool) → StandsAt c last k P w m p q had told
+      → StandsAt c last k P (record w { memory = memory }) m p q had told
+  remembers_at {k} {P} {w} {m} {p} {q} memory (inl (s, levels)) = inl (remembers memory s, levels)
+  remembers_at {k} {P} {w} {m} {p} {q} memory (inr s) =
+      let f = s.fits in
+      inr (record {
+        pass = s.pass;
+        fits = record {
+          refs = f.refs;
+          locals = f.locals;
+          slots = f.slots;
+          objects = f.objects;
+          used = f.used;
+          space = f.space;
+          agree = f.agree;
+        };
+        names = s.names;
+        words = s.words;
+        levels = s.levels;
+        objects = remembers_levels P w p.objects q.objects memory s.objects;
+        some = s.some;
+        role = s.role;
+      })
+
   tells_so : (k : ℕ) (t : Told) (line : ℕ) (x : Command) (answer : Result Reply Fault) (text : List ℕ)
       (new : ThreadState) (place : Place) (words : ThreadWords) → text ≡ t.text
-      → Stepped c last k x new place t.place words t.words answer
+      → LedTo c last k x new place t.place words t.words answer
       (meaning_at c t.place t.words t.place.objects x t.world)
       → TellsSo k (told_after c line x t) (text ++ printed line x answer) new (place_after x answer place)
       (words_after place.names x answer words)
   tells_so k t line x answer text new place words is stepped =
       go (meaning_at c t.place t.words t.place.objects x t.world) stepped
     where
-      go : (r : Result Reply Fault × World) → Stepped c last k x new place t.place words t.words answer r
+      go : (r : Result Reply Fault × World) → LedTo c last k x new place t.place words t.words answer r
           → TellsSo k (tells line x t r) (text ++ printed line x answer) new (place_after x answer place)
           (words_after place.names x answer words)
       go (b, v) s = record {
         pairing = s.pairing;
-        stands = remembers (memory_after x t.world.memory) s.stands;
+        stands = remembers_at (memory_after x t.world.memory) s.stands;
         text_is = ap (λ z. z ++ printed line x answer) is ∙ ap (λ z. t.text ++ z) (s.text line);
       }
 
@@ -207,53 +243,46 @@ module _ (c : Config) (last turns : ℕ) (one : c.threads ≡ 1) (some_turns : t
   all_told : (k : ℕ) (commands : List Command) → how_many gives_up commands + k ≤ last
       → (text : List ℕ) (new : ThreadState) (place : Place)
       (words : ThreadWords) (e : Explains said_alone turns 3 (opening_moment c last) commands text new place words)
-      → AnswersAlone e → AllByRecursion IsCovered commands → IsAlone new.pass → AllByRecursion IsUnbarred new.pass.seen
+      → AnswersAlone e → IsAlone new.pass → AllByRecursion IsUnbarred new.pass.seen
       → (rest : List Bool) → IsTold (memory_of e ++ rest) rest k commands text new place words
-  all_told k commands le text new place words nothing answers firsts alone all rest = record {
+  all_told k commands le text new place words nothing answers alone all rest = record {
     pairing = first_pairing;
-    stands = record {
-      pass = record { config = refl; last_is = refl; thread = refl };
-      fits = opening_fits rest k (omega arith);
-      names = λ n. subst (λ (o : Option Binding). BindingFits first_pairing (first_world rest) (or_nothing o)
-          (or_nothing o))
-          (sym (get-empty name_order n)) tt;
-      outside = refl;
-      outside_then = refl;
-      words = tt;
-    };
+    stands = inl (
+      record {
+        pass = record { config = refl; last_is = refl; thread = refl };
+        fits = opening_fits rest k (omega arith);
+        names = λ n. subst (λ (o : Option Binding). BindingFits first_pairing (first_world rest) (or_nothing o)
+            (or_nothing o))
+            (sym (get-empty name_order n)) tt;
+        outside = refl;
+        outside_then = refl;
+        words = tt;
+      },
+      refl,
+    );
     text_is = refl;
     left = refl;
   }
   all_told k commands le text new place words
       (then {before = before} {text = lines} {mid = mid} {place = stood} {words = had} x answer done did said) answers
-      firsts
-      alone all rest =
-      let first = (all_back IsCovered before (x ∷ []) firsts).0 in
+      alone all
+      rest =
       let y = place_alone turns stood x mid new answer alone did in
       let i = all_told (left_before x k) before (let less : how_many gives_up (before ++ x ∷ []) + k
       ≡ how_many gives_up before + left_before x k = given_up_before x k before in omega arith) lines mid stood had done
-      answers.0 (all_front IsCovered before (x ∷ []) firsts)
-      (led_alone y alone) (all_prefix IsUnbarred mid.pass.seen new.pass.seen y.begins all)
+      answers.0 (led_alone y alone) (all_prefix IsUnbarred mid.pass.seen new.pass.seen y.begins all)
       (memory_shown x answer ++ rest) in
       let memory : List Bool = memory_of done ++ (memory_shown x answer ++ rest) in
       let t = told_from c 3 before (first_told memory) in
-      let stepped = step {k = k} x (record {
-        some_turns = some_turns;
-        some = some_threads;
-        small = small;
-        slots = rows;
-        few = few;
-        stands = i.stands;
-        alone = alone;
-        all = all;
-      }) answer first did said answers.1 rest i.left in
+      let stepped = step_at {k = k} x some_turns some_threads small rows few i.stands alone all answer did said
+      answers.1 rest i.left in
       let so = tells_so k t (3 + length before) x answer lines new stood had i.text_is stepped in
       let whole = told_snoc c 3 before x (first_told memory) in
       subst (λ l. IsTold l rest k (before ++ x ∷ []) (lines ++ printed (3 + length before) x answer) new
       (place_after x answer stood) (words_after stood.names x answer had))
       (sym (append_assoc (memory_of done) (memory_shown x answer) rest)) (record {
         pairing = so.pairing;
-        stands = subst (λ (z : Told). Stands c last k so.pairing z.world new (place_after x answer stood) z.place
+        stands = subst (λ (z : Told). StandsAt c last k so.pairing z.world new (place_after x answer stood) z.place
             (words_after stood.names x answer had) z.words) (sym whole) so.stands;
         text_is = so.text_is ∙ ap (λ (z : Told). z.text) (sym whole);
         left = ap (λ (z : Told). z.world.memory) whole ∙ (tells_left (3 + length before) x t
@@ -297,10 +326,9 @@ module _ (c : Config) (last turns : ℕ) (one : c.threads ≡ 1) (some_turns : t
       (same.used ∙ f.used)
 
   pub run_means : (part : ThreadPart) (text : List ℕ) → how_many gives_up part.commands ≤ last
-      → AllByRecursion IsCovered part.commands
       → IsRun turns last c part text
       → (memory : List Bool) × (text ≡ text_of_part memory c part)
-  run_means part text within firsts r =
+  run_means part text within r =
       let x = r.explained in
       let all : AllByRecursion IsUnbarred r.left.pass.seen = subst (λ (p : PassView). AllByRecursion IsUnbarred
       p.seen) (sym r.saw) r.alone in
@@ -314,17 +342,14 @@ module _ (c : Config) (last turns : ℕ) (one : c.threads ≡ 1) (some_turns : t
       let told_alone = was_alone y alone in
       let told_all = all_prefix IsUnbarred r.told.pass.seen r.left.pass.seen y.begins all in
       let g = given_up_alone x.place.objects x.done r.told (Ok tt) told_alone x.ended in
-      let i = all_told 0 part.commands (omega arith) r.lines x.done x.place x.words x.explains r.answers firsts
+      let i = all_told 0 part.commands (omega arith) r.lines x.done x.place x.words x.explains r.answers
       (led_alone g told_alone)
       (all_prefix IsUnbarred x.done.pass.seen r.told.pass.seen g.begins told_all) [] in
       let memory : List Bool = memory_of x.explains ++ [] in
       let t = told_from c 3 part.commands (first_told memory) in
-      let still : r.told ≡ x.done =
-      (subst (λ os. giving_up_all os x.done (Ok tt) r.told) i.stands.outside x.ended).1 in
-      let same = freed_tables r.told r.left r.freed (r.freed_all some_turns)
-      (subst (λ (m : ThreadState). IsPass c last m.pass) (sym still) i.stands.pass) alone all in
-      let end = ends_so 0 i.pairing t.world (now x.done) (state r.left.pass.seen) i.stands.fits
-      (subst (λ (m : ThreadState). SameTables (state m.pass.seen) (state r.left.pass.seen)) still same) in
+      let at_end = ended_at {P = i.pairing} {w = t.world} r.told i.stands told_alone x.ended in
+      let same = freed_tables r.told r.left r.freed (r.freed_all some_turns) at_end.0 alone all in
+      let end = ends_so 0 i.pairing t.world (now r.told) (state r.left.pass.seen) at_end.1 same in
       let seen_is : state r.seen ≡ state r.left.pass.seen = ap (λ (p : PassView). state p.seen) (sym r.saw) in (
         memory,
         r.text_is ∙ (ap (λ l. heading part.name ++ l ++ ending (summary c last (state r.seen))) i.text_is
@@ -334,7 +359,7 @@ module _ (c : Config) (last turns : ℕ) (one : c.threads ≡ 1) (some_turns : t
 -- so is the text of any run
 pub meant : (turns last : ℕ) (c : Config) (part : ThreadPart) (text : List ℕ) → c.threads ≡ 1 → in_limits c ≡ true
     → IsRun turns last c part text → MeansText turns last c part text
-meant turns last c part text one limits r some few within covered =
+meant turns last c part text one limits r some few within =
     let most : c.locals ≤ 4096 = (limited c limits).locals.1 in
     let rows : c.slots ≤ 65536 = (limited c limits).slots.1 in
-    run_means c last turns one some most rows few part text within covered r
+    run_means c last turns one some most rows few part text within r

@@ -1,6 +1,6 @@
 -- What the acts of a collection leave, and how much they clear and drop.
 use Rattle.std.proofs.Common.{◌≡◌, ◌≢◌, ◌⊎◌, inl, inr, ℕ, zero, suc, ◌<◌, ◌+◌, Bool, true, false, cond, nat_eq}
-use Rattle.std.proofs.Common.{Some, None, IsSome, is_some, List, [], ◌∷◌, map, length, refl, sym}
+use Rattle.std.proofs.Common.{None, IsSome, is_some, List, [], ◌∷◌, map, length, refl, sym}
 use Rattle.std.proofs.Common.{⊎_elim, ap, subst, ◌∙◌, arith}
 use Rattle.std.specs.List.{AllByRecursion, Contains}
 use Rattle.jr_word.specs.declared.config.Config.{Config}
