@@ -1,6 +1,6 @@
 -- What calls make up a command about copied elements, for whatever was known.
 use Rattle.std.proofs.Common.{MatchOption, ◌≡◌, ◌∙◌, ℕ, ℤ, List, Option, Some, None}
-use Rattle.std.proofs.Common.{Result, Ok, Err, ap, sym, subst, refl, inl, inr, true}
+use Rattle.std.proofs.Common.{Result, Ok, Err, ap, sym, subst, refl, inl, inr}
 use Rattle.std.specs.Result.{IsErrAnd}
 use Rattle.std.specs.Option.{IsSomeAnd}
 use Rattle.std.proofs.lemmas.Result.{err_from_is_err_and}
@@ -14,7 +14,7 @@ use Rattle.jr_elements.specs.Copies.{answer_in, kept}
 use Rattle.jr_env.specs.Requests.{for_get_array_elements, told_by}
 use Rattle.jr_env.specs.Deeds.{Deed, DoesDeed, DoesOutside, answered_by, decided, done, release_answer, whole}
 use Rattle.jr_env.specs.Deeds.{release_array_elements, get_array_elements, kind_of, ◌>>◌, ◌>>=◌}
-use Rattle.jr_env.proofs.Carrying.{did_answer, did_more, did_refuse, does_nothing}
+use Rattle.jr_env.proofs.Carrying.{did_answer, did_refuse, does_nothing}
 use Rattle.jr_env.proofs.EnvCalls.{does_answer, does_refuse}
 use Rattle.jr_env.proofs.Served.{does_kept}
 use Rattle.jr_syntax.specs.declared.command.Command.TheVariants as commands
@@ -31,13 +31,10 @@ use Rattle.jr_scripts.specs.declared.buffer.CopiedElements.{CopiedElements}
 use Rattle.jr_scripts.specs.Buffers.{Copied, copied_as, copied_in, copy_of}
 use Rattle.jr_scripts.specs.Names.{Names, getting, names_put, putting, binding, binding_left}
 use Rattle.jr_scripts.specs.Numbers.{kind_numbered}
-use Rattle.jr_scripts.specs.Commands.{copying, copying_as, deed, releasing, tried}
-use Rattle.jr_env.specs.Tries.{is_tried_again}
-use Rattle.jr_scripts.specs.Tries.{Tried}
+use Rattle.jr_scripts.specs.Commands.{copying, copying_as, deed, tried}
 use Rattle.jr_scripts.specs.Text.{buffers_after, elements_left, left_by}
 use Rattle.jr_scripts.specs.Advancing.{got_by, put_by}
-use Rattle.jr_gate.specs.Performing.{ThreadState}
-use Rattle.jr_scripts.proofs.FormedTries.{formed, tried_formed}
+use Rattle.jr_scripts.proofs.Retries.{IsHandedOn}
 use Rattle.jr_scripts.proofs.CommandDeeds.{does_of_kind, does_tried_form, numbered_has}
 
 module _ {S : Type 0} {facts : S → Facts} where
@@ -97,42 +94,17 @@ none_left Commit (Ok r) values s gone = absurd cc
 none_left Abort (Ok r) values s gone = refl
 none_left mode (Err e) values s gone = absurd cc
 
--- a call that is made again leaves what stood there
-pub left_again : (mode : Mode) (answer : Result Reply Fault) (s : Binding) → is_tried_again answer ≡ true
-    → left_by mode answer s ≡ s
-left_again mode (Ok r) s more = absurd cc
-left_again mode (Err e) s more = refl
-
 module _ {S : Type 0} {facts : S → Facts} where
-  -- the same is released
-  pub does_release_same : {a b : S} {f g : Frames} {answer : Result Reply Fault} (turns w : ℕ) (mode : Mode)
-      (s t : Binding) → s ≡ t → DoesDeed facts a b f g (tried turns (releasing w mode s)) answer
-      → DoesDeed facts a b f g (tried turns (releasing w mode t)) answer
-  does_release_same {a} {b} {f} {g} {answer} turns w mode s t is =
-      subst (λ (x : Binding). DoesDeed facts a b f g (tried turns (releasing w mode x)) answer) is
-
   -- the same elements are released, and the answer is handed on
-  pub does_release_of : {a b : S} {f g : Frames} (w : ℕ) (mode : Mode) (x y : Copied)
+  pub does_release_of : {a b : S} {f g : Frames} (turns w : ℕ) (mode : Mode) (x y : Copied)
       (answer handed : Result Reply Fault) → x ≡ y → handed ≡ answer
-      → DoesDeed facts a b f g (answered_by (λ _. replies.Done) (release_array_elements x.kind w x.words mode)) answer
-      → DoesDeed facts a b f g (answered_by (λ _. replies.Done) (release_array_elements y.kind w y.words mode)) handed
-  does_release_of {a} {b} {f} {g} w mode x y answer handed is same d =
-      subst (λ (z : Copied).
-      DoesDeed facts a b f g (answered_by (λ _. replies.Done) (release_array_elements z.kind w z.words mode)) handed) is
+      → DoesDeed facts a b f g (tried turns (release_array_elements x.kind w x.words mode) >> done replies.Done) answer
+      → DoesDeed facts a b f g (tried turns (release_array_elements y.kind w y.words mode) >> done replies.Done) handed
+  does_release_of {a} {b} {f} {g} turns w mode x y answer handed is same d =
+      subst (λ (z : Copied). DoesDeed facts a b f g
+      (tried turns (release_array_elements z.kind w z.words mode) >> done replies.Done) handed) is
       (subst (λ z. DoesDeed facts a b f g
-      (answered_by (λ _. replies.Done) (release_array_elements x.kind w x.words mode)) z) (sym same) d)
-
-  -- a release whose reply is that it was done
-  pub does_released : {A : Type 0} {a b : S} {f g : Frames} {answer : Result Reply Fault} (turns : ℕ) (one : Deed A)
-      → DoesDeed facts a b f g (tried turns (answered_by (λ _. replies.Done) one)) answer
-      → DoesDeed facts a b f g (tried turns one >> done replies.Done) answer
-  does_released {A} {answer = answer} turns one =
-      did_more (λ p q d. let y = tried_formed (λ _. replies.Done) one turns p q answer d in go p q y.0 y.1 y.2)
-    where
-      go : (p q : ThreadState) (r : Result A Fault) → answer ≡ formed (λ _. replies.Done) r → Tried one turns p r q
-          → (tried turns one >> done replies.Done) p answer q
-      go p q (Ok x) is t = inl (x, q, t, (is, refl))
-      go p q (Err e) is t = inr (e, is, t)
+      (tried turns (release_array_elements x.kind w x.words mode) >> done replies.Done) z) (sym same) d)
 
   -- the answer of a call is what was read of it
   pub does_read : {A : Type 0} {a b : S} {f g : Frames} {deed : Deed A} (x y : A) → y ≡ x
@@ -162,6 +134,12 @@ module _ {S : Type 0} {facts : S → Facts} where
   pub does_release_refused : {A : Type 0} {a b : S} {f g : Frames} {one : Deed A} (e : Fault)
       → DoesDeed facts a b f g one (Err e) → DoesDeed facts a b f g (answered_by (λ _. replies.Done) one) (Err e)
   does_release_refused e d = did_refuse (λ _. replies.Done) (Err e) refl d
+
+-- a release that was done is handed on as it is
+pub release_handed : {A : Type 0} (words : A → List ℕ) (left : Option A)
+    → IsHandedOn (release_answer words (Ok left)) (release_answer words (Ok left))
+release_handed words None = refl
+release_handed words (Some x) = refl
 
 -- a release that was done leaves the elements that are kept by mode
 pub kept_left : {A : Type 0} (mode : Mode) (x : A) (r : Reply) → kept mode x ≡ elements_left mode (Ok r) x

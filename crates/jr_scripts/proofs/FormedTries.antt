@@ -1,50 +1,39 @@
 -- Calls that are made again, and whose answers have another form.
-use Rattle.std.proofs.Common.{◌≡◌, ◌∙◌, ℕ, Result, Ok, Err, refl, subst, sym, ap, inl, inr}
+use Rattle.std.proofs.Common.{◌≡◌, ◌∙◌, ℕ, false, Result, Ok, Err, refl, subst, sym, ap, inl, inr}
 use Rattle.jr_word.specs.declared.fault.Fault.{Fault}
 use Rattle.jr_word.specs.declared.fault.Fault.TheVariants as fault
 use Rattle.jr_gate.specs.Performing.{ThreadState}
 use Rattle.jr_env.specs.Deeds.{Deed, done, answered_by}
+use Rattle.jr_elements.specs.Copies.{answer_in}
 use Rattle.jr_env.specs.Tries.{is_tried_again}
+use Rattle.jr_env.proofs.MadeAgain.{worth_formed}
 use Rattle.jr_scripts.specs.Tries.{Tried, answered, again, gave_up}
-
--- an answer in another form
-abbrev pub formed : {A B : Type 0} → (A → B) → Result A Fault → Result B Fault
-formed form (Ok x) = Ok (form x)
-formed form (Err e) = Err e
-
--- whether a call is made again depends on its refusal alone
-same_again : {A B : Type 0} (form : A → B) (r : Result A Fault) → is_tried_again (formed form r) ≡ is_tried_again r
-same_again form (Ok x) = refl
-same_again form (Err (fault.Raced l f)) = refl
-same_again form (Err (fault.Moved l f)) = refl
-same_again form (Err fault.Barred) = refl
-same_again form (Err e) = refl
 
 module _ {A B : Type 0} (form : A → B) (one : Deed A) where
   -- what answered in the one form answered in the other
   once_formed : (p q : ThreadState) (r : Result B Fault) → answered_by form one p r q
-      → (r' : Result A Fault) × (r ≡ formed form r') × one p r' q
+      → (r' : Result A Fault) × (r ≡ answer_in form r') × one p r' q
   once_formed p q r (inl x) = (Ok x.0, x.3.0, subst (λ m. one p (Ok x.0) m) (sym x.3.1) x.2)
   once_formed p q r (inr y) = (Err y.0, y.1, y.2)
 
   pub tried_formed : (n : ℕ) (p q : ThreadState) (r : Result B Fault) → Tried (answered_by form one) n p r q
-      → (r' : Result A Fault) × (r ≡ formed form r') × Tried one n p r' q
+      → (r' : Result A Fault) × (r ≡ answer_in form r') × Tried one n p r' q
   tried_formed n p q r (answered o settled) =
       let x = once_formed p q r o in
-      (x.0, x.1, answered x.2 (sym (same_again form x.0) ∙ (ap is_tried_again (sym x.1) ∙ settled)))
+      (x.0, x.1, answered x.2 (sym (worth_formed false form x.0) ∙ (ap is_tried_again (sym x.1) ∙ settled)))
   tried_formed n p q r (again {n = m} {mid = mid} {once = once} o unsettled more) =
       let x = once_formed p mid once o in
       let y = tried_formed m mid q r more in
-      (y.0, y.1, again x.2 (sym (same_again form x.0) ∙ (ap is_tried_again (sym x.1) ∙ unsettled)) y.2)
+      (y.0, y.1, again x.2 (sym (worth_formed false form x.0) ∙ (ap is_tried_again (sym x.1) ∙ unsettled)) y.2)
   tried_formed n p q r gave_up = (Err fault.Turns, refl, gave_up)
 
 -- the refusal of the one form is that of the other
-pub formed_err : {A B : Type 0} (form : A → B) (r : Result A Fault) (e : Fault) → Err e ≡ formed form r → r ≡ Err e
+pub formed_err : {A B : Type 0} (form : A → B) (r : Result A Fault) (e : Fault) → Err e ≡ answer_in form r → r ≡ Err e
 formed_err form (Ok x) e is = absurd (let bad = is in cc)
 formed_err form (Err d) e is = let same = is in cc
 
 module _ {A B C : Type 0} (form : A → B) (after : B → C) (one : Deed A) (n : ℕ) (p q mid : ThreadState) where
-  pub formed_ok : (y : B) (r : Result A Fault) → Ok y ≡ formed form r → Tried one n p r mid → {answer : Result C Fault}
+  pub formed_ok : (y : B) (r : Result A Fault) → Ok y ≡ answer_in form r → Tried one n p r mid → {answer : Result C Fault}
       → done (after y) mid answer q → answered_by (λ x. after (form x)) (Tried one n) p answer q
   formed_ok y (Ok x) is t d = let same : y ≡ form x = (let e = is in cc) in
       inl (x, mid, t, (d.0 ∙ ap (λ z. Ok (after z)) same, d.1))

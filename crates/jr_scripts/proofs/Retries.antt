@@ -1,78 +1,72 @@
--- Calls that are made again, counted from the first, for whatever was known.
-use Rattle.std.proofs.Common.{◌≡◌, ◌<◌, ◌≤◌, ◌-◌, ◌+◌, ℕ, suc, true, false, Result, Err, sym, ◌∙◌, subst, arith}
+-- Calls that are made again, up to so many times.
+use Rattle.std.proofs.Common.{MatchResult, ◌≡◌, ◌⊎◌, ⊎_elim, inl, inr, ℕ, suc, Bool, true, false, Result, Ok, Err, refl}
+use Rattle.std.proofs.Common.{sym, ◌∙◌, ap, subst}
+use Rattle.std.specs.Result.{IsErrAnd}
+use Rattle.std.proofs.lemmas.Result.{err_from_is_err_and}
 use Rattle.jr_word.specs.declared.fault.Fault.{Fault}
 use Rattle.jr_word.specs.declared.fault.Fault.TheVariants as fault
-use Rattle.jr_model.specs.Frames.{Frames}
-use Rattle.jr_model.specs.declared.event.Role.{Role}
-use Rattle.jr_steps.specs.declared.known.Known.{Known}
-use Rattle.jr_steps.specs.Knowing.{Facts}
-use Rattle.jr_env.specs.Deeds.{CarriedOut, Deed, DoesDeed}
-use Rattle.jr_env.specs.Tries.{is_tried_again}
-use Rattle.jr_gate.specs.Performing.{ThreadState}
-use Rattle.jr_scripts.specs.Tries.{Tried, answered, again, gave_up}
-use Rattle.jr_scripts.specs.Commands.{tried}
-use Rattle.jr_env.specs.Tries.{MadeAgain, settled, once_more, the_last, made_again}
-use Rattle.jr_env.proofs.Carrying.{did_both, did_more, did_nowhere, does_nothing}
+use Rattle.jr_env.specs.declared.patience.Patience.{Patience}
+use Rattle.jr_env.specs.Tries.{MadeAgain, settled, once_more, the_last, is_tried_again}
+use Rattle.jr_scripts.specs.Tries.{IsPatienceFor, Tried, answered, again, gave_up, last_refusal}
 
-module _ {S : Type 0} {facts : S → Facts} {A : Type 0} {deed : Deed A} {met shown : Known → Type 0} {r : Role} where
-  pub did_from_first : {a b : S} {f g : Frames} {answer : Result A Fault} (n : ℕ)
-      → CarriedOut facts a b f g r met shown (tried (n - 0) deed) answer
-      → CarriedOut facts a b f g r met shown (tried n deed) answer
-  did_from_first {a} {b} {f} {g} {answer} n d = let e : n - 0 ≡ n = omega arith in
-      subst (λ m. CarriedOut facts a b f g r met shown (tried m deed) answer) e d
+-- what is handed on of an answer where there are no more turns
+abbrev pub IsHandedOn : {A : Type 0} → Result A Fault → Result A Fault → Type 0
+IsHandedOn once answer = MatchResult once (λ x. answer ≡ Ok x) (λ e. IsErrAnd answer (λ d. d ≡ last_refusal e))
 
-  pub did_answered : {a b : S} {f g : Frames} {answer : Result A Fault} (n k : ℕ) → k < n
-      → CarriedOut facts a b f g r met shown deed answer → is_tried_again answer ≡ false
-      → CarriedOut facts a b f g r met shown (tried (n - k) deed) answer
-  did_answered {a} {b} {f} {g} {answer} n k l d known =
-      let e : suc (n - (k + 1)) ≡ n - k = omega arith in
-      subst (λ m. CarriedOut facts a b f g r met shown (tried m deed) answer) e (did_more (λ p q o. answered o known) d)
+-- E20 of a refusal that would be tried again, and else the same
+refused_last : {A : Type 0} (e : Fault) (answer : Result A Fault) → answer ≡ Err (last_refusal e)
+    → ((is_tried_again {A = A} (Err e) ≡ true) × (answer ≡ Err fault.Turns))
+    ⊎ ((is_tried_again {A = A} (Err e) ≡ false) × (answer ≡ Err e))
+refused_last (fault.Raced l f) answer is = inl (refl, is)
+refused_last fault.Barred answer is = inl (refl, is)
+refused_last (fault.Moved l f) answer is = inl (refl, is)
+refused_last e answer is = inr (refl, is)
 
-  pub did_again : {a b c : S} {f g h : Frames} {q : Role} {mid : Known → Type 0} {once answer : Result A Fault}
-      (n k : ℕ) → k < n → CarriedOut facts a b f g q met mid deed once → is_tried_again once ≡ true
-      → CarriedOut facts b c g h r mid shown (tried (n - (k + 1)) deed) answer
-      → CarriedOut facts a c f h r met shown (tried (n - k) deed) answer
-  did_again {a} {b} {c} {f} {g} {h} {q} {mid} {once} {answer} n k l d unsettled more =
-      let e : suc (n - (k + 1)) ≡ n - k = omega arith in
-      let all : CarriedOut facts a c f h r met shown (tried (suc (n - (k + 1))) deed) answer =
-      did_both (λ p m n o t. again o unsettled t) d more in
-      subst (λ m. CarriedOut facts a c f h r met shown (tried m deed) answer) e all
+handed_last : {A : Type 0} (once answer : Result A Fault) → IsHandedOn once answer
+    → ((is_tried_again once ≡ true) × (answer ≡ Err fault.Turns)) ⊎ ((is_tried_again once ≡ false) × (answer ≡ once))
+handed_last (Ok x) answer is = inr (refl, is)
+handed_last (Err e) answer is =
+    let why = err_from_is_err_and answer is in refused_last e answer (why.1 ∙ ap (λ (v : Fault). Err v) why.2)
 
-  pub did_give_up : {a : S} {f : Frames} (n k : ℕ) → n ≤ k → (facts a).stands.role ≡ r → ((k : Known) → met k → shown k)
-      → CarriedOut facts a a f f r met shown (tried (n - k) deed) (Err fault.Turns)
-  did_give_up {a} {f} n k l is on = let e : 0 ≡ n - k = omega arith in subst
-      (λ m. CarriedOut facts a a f f r met shown (tried m deed) (Err fault.Turns)) e (did_nowhere is on (λ p. gave_up))
+module _ {M A : Type 0} {one : M → Result A Fault → M → Type 0} where
+  -- a call that was made again up to so many times is one that
+  -- was tried once more often, where its last answer settles it
+  tried_settled : {n : ℕ} {old new : M} {answer : Result A Fault} → MadeAgain false one n old answer new
+      → is_tried_again answer ≡ false → Tried one (suc n) old answer new
+  tried_settled (settled o s) is = answered o s
+  tried_settled (once_more o s t) is = again o s (tried_settled t is)
+  tried_settled (the_last o) is = answered o is
 
--- a call that was made again up to so many times is one that
--- was tried once more often, where its last answer settles it
-pub tried_settled : {A : Type 0} {one : Deed A} {n : ℕ} {p q : ThreadState} {answer : Result A Fault}
-    → MadeAgain false one n p answer q → is_tried_again answer ≡ false → Tried one (suc n) p answer q
-tried_settled (settled o s) is = answered o s
-tried_settled (once_more o s t) is = again o s (tried_settled t is)
-tried_settled (the_last o) is = answered o is
+  -- and where it doesn't the turns ran out
+  tried_out : {n : ℕ} {old new : M} {answer : Result A Fault} → MadeAgain false one n old answer new
+      → is_tried_again answer ≡ true → Tried one (suc n) old (Err fault.Turns) new
+  tried_out (settled o s) is = absurd (let no = sym s ∙ is in cc)
+  tried_out (once_more o s t) is = again o s (tried_out t is)
+  tried_out (the_last o) is = again o is gave_up
 
--- and where it doesn't the turns ran out
-pub tried_out : {A : Type 0} {one : Deed A} {n : ℕ} {p q : ThreadState} {answer : Result A Fault}
-    → MadeAgain false one n p answer q → is_tried_again answer ≡ true → Tried one (suc n) p (Err fault.Turns) q
-tried_out (settled o s) is = absurd (let no = sym s ∙ is in cc)
-tried_out (once_more o s t) is = again o s (tried_out t is)
-tried_out (the_last o) is = again o is gave_up
+  -- WITH THE PATIENCE for so many turns a call is tried so often
+  pub tried_in_turns : {turns : ℕ} (p : Patience) {old new : M} (once answer : Result A Fault)
+      → IsPatienceFor turns (Ok p) → MadeAgain p.waits_for_room one p.more old once new → IsHandedOn once answer
+      → Tried one turns old answer new
+  tried_in_turns p {old} {new} once answer is made handed =
+      let t : MadeAgain false one p.more old once new = subst (λ w. MadeAgain w one p.more old once new) is.1 made in
+      subst (λ m. Tried one m old answer new) (sym is.0) (⊎_elim
+      (λ x. subst (λ r. Tried one (suc p.more) old r new) (sym x.1) (tried_out t x.0))
+      (λ x. subst (λ r. Tried one (suc p.more) old r new) (sym x.1) (tried_settled t x.0))
+      (handed_last once answer handed))
 
-module _ {S : Type 0} {facts : S → Facts} {A : Type 0} {deed : Deed A} {a b : S} {f g : Frames}
-    {answer : Result A Fault} (n : ℕ) where
-  pub does_settle : 1 ≤ n → DoesDeed facts a b f g (made_again false (n - 1) deed) answer
-      → is_tried_again answer ≡ false → DoesDeed facts a b f g (tried n deed) answer
-  does_settle l d is =
-      let e : suc (n - 1) ≡ n = omega arith in
-      subst (λ m. DoesDeed facts a b f g (tried m deed) answer) e (did_more (λ p q t. tried_settled t is) d)
+  -- and where there is none it is not tried
+  pub tried_never : {turns : ℕ} {old : M} (e : Fault) (answer : Result A Fault) → IsErrAnd answer (λ d. d ≡ e)
+      → IsPatienceFor turns (Err e) → Tried one turns old answer old
+  tried_never {old = old} e answer given none =
+      let why = err_from_is_err_and answer given in
+      subst (λ m. Tried one m old answer old) (sym none.0) (subst (λ r. Tried one 0 old r old)
+      (sym (why.1 ∙ ap (λ (v : Fault). Err v) (why.2 ∙ none.1))) gave_up)
 
-  pub does_run_out : 1 ≤ n → DoesDeed facts a b f g (made_again false (n - 1) deed) answer
-      → is_tried_again answer ≡ true → DoesDeed facts a b f g (tried n deed) (Err fault.Turns)
-  does_run_out l d is =
-      let e : suc (n - 1) ≡ n = omega arith in
-      subst (λ m. DoesDeed facts a b f g (tried m deed) (Err fault.Turns)) e (did_more (λ p q t. tried_out t is) d)
-
-pub does_no_turns : {S : Type 0} {facts : S → Facts} {A : Type 0} {deed : Deed A} {a : S} {f : Frames} (n : ℕ) → n ≡ 0
-    → DoesDeed facts a a f f (tried n deed) (Err fault.Turns)
-does_no_turns {facts = facts} {deed = deed} {a = a} {f = f} n none =
-    subst (λ m. DoesDeed facts a a f f (tried m deed) (Err fault.Turns)) (sym none) (does_nothing (λ p. gave_up))
+-- what each try leaves as it was is so at the end
+pub tries_leave : {M A N : Type 0} {one : M → Result A Fault → M → Type 0} {waits : Bool} {n : ℕ} {old new : M}
+    {answer : Result A Fault} (part : M → N) → ((x y : M) (r : Result A Fault) → one x r y → part y ≡ part x)
+    → MadeAgain waits one n old answer new → part new ≡ part old
+tries_leave part turn (settled o is) = turn _ _ _ o
+tries_leave part turn (once_more o is t) = tries_leave part turn t ∙ turn _ _ _ o
+tries_leave part turn (the_last o) = turn _ _ _ o

@@ -5,6 +5,7 @@ use Rattle.std.specs.Prelude.{IfErr, IfOk}
 use Rattle.jr_word.specs.declared.config.Config.{Config}
 use Rattle.jr_word.specs.declared.fault.Fault.{Fault}
 use Rattle.jr_word.specs.declared.fault.Fault.TheVariants as fault
+use Rattle.jr_word.specs.declared.handle.Handle.{Handle as HandleWord}
 use Rattle.jr_word.specs.declared.kind.Kind.{Kind}
 use Rattle.jr_model.specs.declared.event.Role.{Role}
 use Rattle.jr_model.specs.declared.event.Role.TheVariants.{Within}
@@ -26,16 +27,20 @@ use Rattle.jr_critical.specs.Levels.{level_object, object_opened, objects_of, ro
 use Rattle.jr_steps.specs.declared.steps.Steps.{Ghosts}
 use Rattle.jr_env.specs.declared.env.Env.{Env}
 use Rattle.jr_env.specs.Envs.{IsOutside, WasDone}
-use Rattle.jr_env.specs.Criticals.{HasEntered, WasRefused}
+use Rattle.jr_env.specs.Turns.{TriesToOpen}
 use Rattle.jr_env.specs.Deeds.{CarriedOut, Deed, decided, done, ◌>>=◌, ◌>>◌}
+use Rattle.jr_env.proofs.MadeAgain.{worth_formed}
 use Rattle.jr_env.proofs.Carrying.{did_call, did_decided, did_decline, did_in_role, did_more, did_refused, did_reply}
-use Rattle.jr_env.proofs.Carrying.{did_then, own_call, role_kept, did_nowhere, does_nothing}
+use Rattle.jr_env.proofs.Carrying.{did_both, did_then, own_call, role_kept, did_nowhere, does_nothing}
 use Rattle.jr_syntax.specs.declared.verb.OpenLevel.{OpenLevel}
+use Rattle.jr_syntax.specs.declared.verb.OpenLevel.TheVariants as at
 use Rattle.jr_scripts.specs.declared.number.NumberKind.{NumberKind}
 use Rattle.jr_scripts.specs.declared.reply.Reply.{Reply}
 use Rattle.jr_scripts.specs.declared.reply.Reply.TheVariants as replies
 use Rattle.jr_scripts.specs.Advancing.{DidOpen, KnowsOpened, DidCommand, DidWith, StandsIn, StandsWith}
-use Rattle.jr_scripts.specs.Advancing.{answer_without_call, level_names, makes_no_call, objects_in, place_with}
+use Rattle.jr_scripts.specs.Advancing.{answer_without_call, level_names, makes_no_call, objects_in, opened_over}
+use Rattle.jr_scripts.specs.Advancing.{place_with}
+use Rattle.jr_scripts.specs.Tries.{Tried, answered, again, gave_up}
 use Rattle.jr_scripts.specs.Numbers.{has_numbers, kind_numbered, word_of_number}
 use Rattle.jr_scripts.specs.Names.{Names, word_posted}
 use Rattle.jr_scripts.specs.Text.{buffers_after}
@@ -45,7 +50,7 @@ use Rattle.jr_syntax.specs.declared.verb.PutAt.{PutAt}
 use Rattle.jr_syntax.specs.declared.verb.PutAt.TheVariants as put_at
 use Rattle.jr_syntax.specs.declared.verb.Release.TheVariants as release
 use Rattle.jr_scripts.proofs.CommandDeeds.{numbered_has}
-use Rattle.jr_scripts.specs.Commands.{opening_by, opens, deed}
+use Rattle.jr_scripts.specs.Commands.{opening_by, opens, deed, tried}
 use Rattle.jr_env.specs.Deeds.{within_by}
 use Rattle.jr_scripts.specs.RegionCommands.{deed_at, deed_within, kind_of_level, nesting, nests, read_kind}
 use Rattle.jr_scripts.specs.RegionCommands.{level_reading, reading_as, level_writing, writing_as}
@@ -131,12 +136,10 @@ module _ {S : Type 0} (facts : S → Facts) (fits : AreOf facts) where
   }
 
   -- a region was opened
-  pub did_open : {a b : S} {f g : Frames} (verb u : OpenLevel) (word : ℕ) (answer : Result Levels Fault) → verb ≡ u
-      → g ≡ f → Opens facts a b f word (opens u) answer → CarriedOut facts a b f g (role_opened answer) (Holds f)
+  did_open : {a b : S} {f g : Frames} (verb : OpenLevel) (word : ℕ) (answer : Result Levels Fault) → g ≡ f
+      → Opens facts a b f word (opens verb) answer → CarriedOut facts a b f g (role_opened answer) (Holds f)
       (KnowsOpened answer g) (opening_by verb word) (object_opened answer)
-  did_open {a} {b} {f} verb u word answer which same made =
-      let o : Opens facts a b f word (opens verb) answer =
-      subst (λ x. Opens facts a b f word (opens x) answer) (sym which) made in
+  did_open {a} {b} {f} verb word answer same o =
       subst (λ h. CarriedOut facts a b f h (role_opened answer) (Holds f) (KnowsOpened answer h) (opening_by verb word)
       (object_opened answer)) (sym same) (record {
         stands_is = o.2.stands_is;
@@ -208,24 +211,42 @@ module _ {S : Type 0} (facts : S → Facts) (fits : AreOf facts) where
         (did_decline (λ _. writing_as (level_object v i) index x k) stand.ready.role_is (λ k m. m) is)
 
 -- a region was opened, or refused, by a call of the env
-module _ {S : Type 0} {G : Ghosts S} (old new : Env S G) (u : OpenLevel) (word : ℕ) where
-  entered_opens : (r : Result Levels Fault) → IsOutside old → IfOk r (λ v. HasEntered old new v word (opens u))
-      → IfErr r (λ e. WasRefused old new word (opens u) e)
-      → Opens G.facts old.held.steps new.held.steps old.held.frames.frames word (opens u) r
-  entered_opens (Ok v) outside entered refused = entered.opens outside
-  entered_opens (Err e) outside entered refused = refused.refuses outside
+did_try : {S : Type 0} {G : Ghosts S} (fits : AreOf G.facts) (verb : OpenLevel) (h : HandleWord) (old new : Env S G)
+    (r : Result Levels Fault) → IsOutside old → TriesToOpen (opened_over verb h) old r new
+    → DidOpen old new (opening_by verb h.0) r
+did_try {G = G} fits at.Array h old new (Ok v) outside t =
+    did_open G.facts fits at.Array h.0 (Ok v) (ap (λ (t : Table). t.frames) t.0.frames) (t.0.opens outside)
+did_try {G = G} fits at.Text h old new (Ok v) outside t =
+    did_open G.facts fits at.Text h.0 (Ok v) (ap (λ (t : Table). t.frames) t.0.frames) (t.0.opens outside)
+did_try {G = G} fits at.Array h old new (Err e) outside t =
+    did_open G.facts fits at.Array h.0 (Err e) (ap (λ (t : Table). t.frames) t.frames) (t.refuses outside)
+did_try {G = G} fits at.Text h old new (Err e) outside t =
+    did_open G.facts fits at.Text h.0 (Err e) (ap (λ (t : Table). t.frames) t.frames) (t.refuses outside)
 
-  entered_frames : (r : Result Levels Fault) → IfOk r (λ v. HasEntered old new v word (opens u))
-      → IfErr r (λ e. WasRefused old new word (opens u) e) → new.held.frames ≡ old.held.frames
-  entered_frames (Ok v) entered refused = entered.frames
-  entered_frames (Err e) entered refused = refused.frames
+-- and tried to be, as often as there are turns
+module _ {S : Type 0} {G : Ghosts S} (verb : OpenLevel) (h : HandleWord) where
+  -- there is one level, or the thread stands outside
+  pub has_tried : (old new : Env S G) {n : ℕ} {r : Result Levels Fault} → IsOutside old
+      → Tried (TriesToOpen (opened_over verb h)) n old r new
+      → IfOk r (λ v. length (objects_of v) ≡ 1) × IfErr r (λ _. IsOutside new)
+  has_tried old new {r = Ok v} outside (answered o settled) = (o.0.one, tt)
+  has_tried old new {r = Err e} outside (answered o settled) = (tt, o.outside)
+  has_tried old new outside (again {once = Ok v} o unsettled t) = absurd (let no = unsettled in cc)
+  has_tried old new outside (again {once = Err e} o unsettled t) = has_tried _ _ o.outside t
+  has_tried old new outside gave_up = (tt, outside)
 
-pub did_enter : {S : Type 0} {G : Ghosts S} (fits : AreOf G.facts) (old new : Env S G) (verb u : OpenLevel) (word : ℕ)
-    (r : Result Levels Fault) → verb ≡ u → IsOutside old → IfOk r (λ v. HasEntered old new v word (opens u))
-    → IfErr r (λ e. WasRefused old new word (opens u) e) → DidOpen old new (opening_by verb word) r
-did_enter {S} {G} fits old new verb u word r which outside entered refused =
-    did_open G.facts fits verb u word r which (ap (λ (t : Table). t.frames)
-    (entered_frames old new u word r entered refused)) (entered_opens old new u word r outside entered refused)
+  pub did_tries : (fits : AreOf G.facts) (old new : Env S G) {n : ℕ} {r : Result Levels Fault} → IsOutside old
+      → Tried (TriesToOpen (opened_over verb h)) n old r new → DidOpen old new (tried n (opening_by verb h.0)) r
+  did_tries fits old new {r = Ok v} outside (answered o settled) =
+      did_more (λ p q d. answered d refl) (did_try fits verb h _ _ (Ok v) outside o)
+  did_tries fits old new {r = Err e} outside (answered o settled) =
+      did_more (λ p q d. answered d (worth_formed {B = ℕ} false (λ (v : Levels). 0) (Err e) ∙ settled))
+      (did_try fits verb h _ _ (Err e) outside o)
+  did_tries fits old new outside (again {once = Ok v} o unsettled t) = absurd (let no = unsettled in cc)
+  did_tries fits old new outside (again {once = Err e} o unsettled t) =
+      did_both (λ p m q d more. again d (worth_formed {B = ℕ} false (λ (v : Levels). 0) (Err e) ∙ unsettled) more)
+      (did_try fits verb h _ _ (Err e) outside o) (did_tries fits _ _ o.outside t)
+  did_tries fits old new outside gave_up = did_nowhere outside (λ k m. m) (λ p. gave_up)
 
 -- no buffer is changed in a region
 pub buffers_kept : (names : Names) (v : PutAt) (n : List ℕ) (i : ℕ) (x : ℤ) (r : Result Reply Fault)

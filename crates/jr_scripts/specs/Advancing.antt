@@ -1,5 +1,6 @@
 -- For the crate's own functions: where a thread stands with its region, and what it did there.
 use Rattle.std.specs.Prelude.{◌≡◌, ℕ, Bool, true, false, List, [], length, Option, Some, None, Result, Ok, Err}
+use Rattle.jr_word.specs.declared.handle.Handle.{Handle}
 use Rattle.jr_word.specs.declared.fault.Fault.{Fault}
 use Rattle.jr_word.specs.declared.fault.Fault.TheVariants as fault
 use Rattle.jr_model.specs.declared.event.Role.{Role}
@@ -11,10 +12,14 @@ use Rattle.jr_steps.specs.Knowing.{Holds}
 use Rattle.jr_critical.specs.declared.levels.Levels.{Levels}
 use Rattle.jr_critical.specs.Levels.{KnowsLevels, StandOver, object_opened, objects_of, role_opened}
 use Rattle.jr_env.specs.declared.env.Env.{Env}
+use Rattle.jr_env.specs.declared.levels_beside.First.{First}
+use Rattle.jr_env.specs.declared.levels_beside.First.TheVariants.{Array, Text}
 use Rattle.jr_env.specs.Deeds.{Deed}
 use Rattle.jr_env.specs.Envs.{IsOutside, WasDoneFrom}
 use Rattle.jr_syntax.specs.declared.command.Command.{Command}
 use Rattle.jr_syntax.specs.declared.command.Command.TheVariants as commands
+use Rattle.jr_syntax.specs.declared.verb.OpenLevel.{OpenLevel}
+use Rattle.jr_syntax.specs.declared.verb.OpenLevel.TheVariants as at
 use Rattle.jr_syntax.specs.declared.verb.OnNameAt.{OnNameAt}
 use Rattle.jr_syntax.specs.declared.verb.OnNameAt.TheVariants as on_name_at
 use Rattle.jr_syntax.specs.declared.verb.PutAt.{PutAt}
@@ -110,6 +115,11 @@ module _ {S A : Type 0} {G : Ghosts S} where
   -- the deed was done in the stay of a region, from its levels to these
   abbrev pub DidWithin : Env S G → Env S G → Levels → Levels → Deed A → Result A Fault → Type 0
   DidWithin old new v w deed answer = WasDoneFrom old new (KnowsLevels v) (KnowsLevels w) Within deed answer
+
+-- what a verb opens a region over, by the handle of it
+abbrev pub opened_over : OpenLevel → Handle → First
+opened_over at.Array h = Array h
+opened_over at.Text h = Text h
 
 module _ {S : Type 0} {G : Ghosts S} where
   -- a region was opened, or refused

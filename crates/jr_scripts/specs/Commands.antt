@@ -8,7 +8,6 @@ use Rattle.jr_word.specs.declared.kind.Kind.{Kind}
 use Rattle.jr_word.specs.declared.kind.Kind.TheVariants.{Boolean, Byte, Char, Short, Int, Long}
 use Rattle.jr_word.specs.declared.fault.Fault.{Fault}
 use Rattle.jr_word.specs.declared.fault.Fault.TheVariants as fault
-use Rattle.jr_model.specs.declared.frames.Mode.{Mode}
 use Rattle.jr_model.specs.State.{State}
 use Rattle.jr_model.specs.Calls.{Call}
 use Rattle.jr_model.specs.Checks.{Word, Nothing, Malformed, Parts}
@@ -37,8 +36,6 @@ use Rattle.jr_scripts.specs.declared.reply.Reply.{Reply}
 use Rattle.jr_scripts.specs.declared.reply.Reply.TheVariants as replies
 use Rattle.jr_frames.specs.Reading.{IsReadAs}
 use Rattle.jr_gate.specs.Performing.{HasLearned}
-use Rattle.jr_scripts.specs.declared.binding.Binding.{Binding}
-use Rattle.jr_scripts.specs.declared.binding.Binding.TheVariants as bound
 use Rattle.jr_scripts.specs.Buffers.{copy_of}
 use Rattle.jr_scripts.specs.Names.{Names, buffer_in, getting, putting, reference_in, referent, binding, wanted}
 use Rattle.jr_weak.specs.declared.collecting.Collected.{Collected}
@@ -48,7 +45,7 @@ use Rattle.jr_env.specs.Deeds.{new_reference, new_local_ref, delete_reference, d
 use Rattle.jr_env.specs.Deeds.{get_object_ref_type, push_local_frame, ensure_local_capacity, pop_local_frame}
 use Rattle.jr_env.specs.Deeds.{kind_of, get_array_length, get_string_length, get_object_array_element}
 use Rattle.jr_env.specs.Deeds.{set_object_array_element, get_array_region, set_array_region, get_array_elements}
-use Rattle.jr_env.specs.Deeds.{release_array_elements, get_string_chars, answered_by, ◌>>=◌, ◌>>◌}
+use Rattle.jr_env.specs.Deeds.{release_array_elements, get_string_chars, ◌>>=◌, ◌>>◌}
 use Rattle.jr_env.specs.Deeds.{within_by}
 use Rattle.jr_scripts.specs.Tries.{Tried}
 use Rattle.jr_scripts.specs.Numbers.{has_numbers, word_of_number, first_number}
@@ -145,13 +142,6 @@ module _ (turns : ℕ) where
     k ← tried (kind_of w)
     decided (has_numbers k)
     storing_as w i v k
-
--- the buffer that stands there is released to the array that a word names, by one call:
--- E2 where nothing stands there, E4 where a reference does
-abbrev pub releasing : ℕ → Mode → Binding → Deed Reply
-releasing w mode bound.Nothing = decided (Err fault.Stale)
-releasing w mode (bound.Reference h) = decided (Err fault.WrongKind)
-releasing w mode (bound.Buffer b) = answered_by (λ _. replies.Done) (release_array_elements b.kind w b.words mode)
 
 -- the call that opens a region
 abbrev pub opens : OpenLevel → Config → ℕ → ℕ → State → Word → Call ℕ

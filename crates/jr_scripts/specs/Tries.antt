@@ -1,7 +1,8 @@
 -- Calls of scripts that are made again.
-use Rattle.std.specs.Prelude.{◌≡◌, ℕ, suc, true, false, Result, Err}
+use Rattle.std.specs.Prelude.{◌≡◌, ℕ, suc, true, false, if◌then◌else◌, Result, Ok, Err}
 use Rattle.jr_word.specs.declared.fault.Fault.{Fault}
 use Rattle.jr_word.specs.declared.fault.Fault.TheVariants as fault
+use Rattle.jr_env.specs.declared.patience.Patience.{Patience}
 use Rattle.jr_env.specs.Tries.{is_tried_again}
 
 -- up to so many tries, until one is answered otherwise; and else the turns ran out
@@ -11,3 +12,13 @@ pub data Tried {M A : Type 0} (one : M → Result A Fault → M → Type 0) : �
   again : {n : ℕ} {old mid new : M} {once answer : Result A Fault} → one old once mid → is_tried_again once ≡ true
       → Tried one n mid answer new → Tried one (suc n) old answer new
   gave_up : {old : M} → Tried one 0 old (Err fault.Turns) old
+
+-- the patience for so many turns: a turn, and as many tries more as there are turns behind it;
+-- and where there is none the turns ran out
+abbrev pub IsPatienceFor : ℕ → Result Patience Fault → Type 0
+IsPatienceFor turns (Ok p) = (turns ≡ suc p.more) × (p.waits_for_room ≡ false)
+IsPatienceFor turns (Err e) = (turns ≡ 0) × (e ≡ fault.Turns)
+
+-- the refusal of a call that is made no more: the turns ran out where it would be made again
+abbrev pub last_refusal : Fault → Fault
+last_refusal e = if is_tried_again {A = Unit {0}} (Err e) then fault.Turns else e

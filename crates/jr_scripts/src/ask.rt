@@ -1,13 +1,36 @@
-//! Calls that are made again, and those whose answers are replies.
+//! Calls that are made again up to so many times, and those whose answers are replies.
 
+ghost use Rattle.std.specs.Prelude.{◌≡◌};
 ghost use Rattle.jr_env.specs.Deeds.{answered_by};
 ghost use Rattle.jr_env.specs.Envs.{WasDone, IsOutside};
 ghost use Rattle.jr_scripts.specs.Commands.{tried};
+ghost use Rattle.jr_scripts.specs.Tries.{IsPatienceFor, last_refusal};
 
 use crate::reply::{IntoReply, Reply};
-use jr_env::{Env, EnvCall, Patience, is_made_again};
+use jr_env::{Env, EnvCall, Patience, is_made_again, with_patience};
 use jr_steps::Steps;
 use jr_word::Fault;
+
+/// The patience with which a call is made up to so many times: E20 where it is to be made no time.
+pub(crate) fn patience_for(turns: u64) -> Result<Patience, Fault>
+    ensures { IsPatienceFor turns result }
+{
+    if turns == 0 {
+        return Err(Fault::Turns);
+    }
+    Ok(Patience::of(turns - 1).without_yields())
+}
+
+/// The refusal of a call that is made no more: E20 where it would be made again.
+pub(crate) fn no_more(fault: Fault) -> Fault
+    ensures { result ≡ last_refusal fault }
+{
+    if is_made_again::<()>(&Err(fault)) {
+        Fault::Turns
+    } else {
+        fault
+    }
+}
 
 /// Makes a call, and again as long as it is raced, barred or moved: E20 once it was made so many times.
 pub fn retry<S: Steps, C: EnvCall<S>>(
@@ -18,19 +41,8 @@ pub fn retry<S: Steps, C: EnvCall<S>>(
     requires { IsOutside env.old }
     ensures { WasDone env.old env.new (tried turns (C.deed call.now)) result }
 {
-    if turns == 0 {
-        return Err(Fault::Turns);
-    }
-    let patience = Patience {
-        more: turns - 1,
-        yields: false,
-        waits_for_room: false,
-    };
-    let answer = env.retry(call, patience);
-    if is_made_again(&answer) {
-        return Err(Fault::Turns);
-    }
-    answer
+    let patience = patience_for(turns)?;
+    with_patience(env, patience, |env| call.make(env)).map_err(no_more)
 }
 
 /// Makes a call, and again as long as it is raced or barred, and replies with its answer.

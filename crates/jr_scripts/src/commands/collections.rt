@@ -1,13 +1,14 @@
 //! Collects.
 
-ghost use Rattle.std.specs.Prelude.{◌≡◌, ◌≤◌};
+ghost use Rattle.std.specs.Prelude.{◌≡◌};
 ghost use Rattle.jr_weak.specs.Markers.{room_of};
 ghost use Rattle.jr_env.specs.Collections.{FitsRoom, announced_collection};
 ghost use Rattle.jr_env.specs.Envs.{IsOutside, WasDone};
 ghost use Rattle.jr_scripts.specs.Commands.{collecting, collecting_announced, tried};
 
+use crate::ask::{no_more, patience_for};
 use crate::reply::Reply;
-use jr_env::{Env, is_made_again};
+use jr_env::{Env, with_patience};
 use jr_steps::Steps;
 use jr_syntax::Tries;
 use jr_weak::{Collected, Marker};
@@ -39,31 +40,38 @@ pub(crate) fn collect_announced<S: Steps>(
     ensures does { WasDone env.old env.new (collecting_announced turns tries) result }
     ensures room { room_of marker.new ≡ room_of marker.old }
 {
-    match retry_announced(env, marker, turns, tries.count()) {
+    match retry_announced(env, marker, turns, tries) {
         Ok(collected) => Ok(Reply::Collected(collected)),
         Err(Fault::Busy(inside)) => Ok(Reply::Busy(inside)),
         Err(fault) => Err(fault),
     }
 }
 
-/// Makes the call of an announced collection, and again as long as it is moved: E20 once it was made so many times. (Its marker is no value that a call which `retry` makes could hold.)
+/// An env, and the marker with which it collects.
+#[derive(Drop)]
+struct Collector<'a, S: Steps> {
+    env: &'a mut Env<S>,
+    marker: &'a mut Marker,
+}
+
+/// Makes the call of an announced collection, and again as long as it is moved: E20 once it was made so many times.
 fn retry_announced<S: Steps>(
     env: &mut Env<S>,
     marker: &mut Marker,
     turns: u64,
-    tries: u32,
+    tries: Tries,
 ) -> Result<Collected, Fault>
     requires outside { IsOutside env.old }
     requires room { FitsRoom marker.old env.old }
-    requires tries { 1 ≤ tries }
     ensures does { WasDone env.old env.new (tried turns (announced_collection tries)) result }
     ensures room { room_of marker.new ≡ room_of marker.old }
 {
-    for _ in 0..turns {
-        let answer = env.collect_announced(marker, tries);
-        if !is_made_again(&answer) {
-            return answer;
-        }
-    }
-    Err(Fault::Turns)
+    let patience = patience_for(turns)?;
+    let mut collector = Collector { env, marker };
+    with_patience(&mut collector, patience, |collector| {
+        collector
+            .env
+            .collect_announced(&mut *collector.marker, tries.count())
+    })
+    .map_err(no_more)
 }

@@ -9,11 +9,11 @@ ghost use Rattle.jr_syntax.specs.declared.verb.Release.TheVariants as release_ve
 ghost use Rattle.jr_scripts.specs.declared.reply.Reply.TheVariants as replies;
 ghost use Rattle.jr_scripts.specs.declared.binding.Binding.TheVariants.{Buffer as Holds};
 ghost use Rattle.jr_scripts.specs.Names.{getting, names_put, putting, binding as binding_at, binding_left};
-ghost use Rattle.jr_scripts.specs.Commands.{copying, deed, releasing, tried};
+ghost use Rattle.jr_scripts.specs.Commands.{copying, deed, tried};
 ghost use Rattle.jr_scripts.specs.Text.{buffers_after, elements_left, left_by};
 ghost use Rattle.jr_scripts.specs.Advancing.{got_by, put_by as put_by_verb};
 
-use crate::ask::{ask, retry};
+use crate::ask::{ask, no_more, patience_for, retry};
 use crate::binding::Binding;
 use crate::buffer::{Buffer, CopiedElements};
 use crate::calls::copies::GetElements;
@@ -21,8 +21,8 @@ use crate::names::Names;
 use crate::number::NumberKind;
 use crate::reply::Reply;
 use jr_elements::Elements;
+use jr_env::Env;
 use jr_env::calls::KindOf;
-use jr_env::{Env, is_made_again};
 use jr_model::Mode;
 use jr_steps::Steps;
 use jr_syntax::{Name, OnNameAt, PutAt, Reference as Target};
@@ -96,20 +96,25 @@ struct Released {
     answer: Result<Reply, Fault>,
 }
 
-/// Releases copied elements of one type; those that are left come first.
+/// Releases copied elements of one type, and again as long as the call is barred: E20 once it was made so many times. Those that are left come first.
 fn release_elements<S: Steps, E: Elem>(
     env: &mut Env<S>,
+    turns: u64,
     array: Handle,
     elements: Elements<E>,
     mode: Mode,
 ) -> (Option<Elements<E>>, Result<Reply, Fault>)
     requires { IsOutside env.old }
-    ensures call { WasDone env.old env.new (answered_by (λ _. replies.Done) (release_array_elements E.KIND array.0 (map E.word_of elements) mode)) result.1 }
+    ensures call { WasDone env.old env.new (answered_by (λ _. replies.Done) (tried turns (release_array_elements E.KIND array.0 (map E.word_of elements) mode))) result.1 }
     ensures left { result.0 ≡ elements_left mode result.1 elements }
 {
-    match env.release_array_elements(array, elements, mode) {
+    let patience = match patience_for(turns) {
+        Ok(patience) => patience,
+        Err(fault) => return (Some(elements), Err(fault)),
+    };
+    match env.retry_release(array, elements, mode, patience) {
         Ok(left) => (left, Ok(Reply::Done)),
-        Err((elements, fault)) => (Some(elements), Err(fault)),
+        Err((elements, fault)) => (Some(elements), Err(no_more(fault))),
     }
 }
 
@@ -126,82 +131,43 @@ fn with_left(left: Option<CopiedElements>, answer: Result<Reply, Fault>) -> Rele
 }
 
 /// Releases a buffer, by the call of its kind.
-fn release_buffer<S: Steps>(env: &mut Env<S>, array: Handle, buffer: Buffer, mode: Mode) -> Released
+fn release_buffer<S: Steps>(
+    env: &mut Env<S>,
+    turns: u64,
+    array: Handle,
+    buffer: Buffer,
+    mode: Mode,
+) -> Released
     requires { IsOutside env.old }
-    ensures call { WasDone env.old env.new (answered_by (λ _. replies.Done) (release_array_elements buffer.kind array.0 buffer.words mode)) result.answer }
+    ensures call { WasDone env.old env.new (answered_by (λ _. replies.Done) (tried turns (release_array_elements buffer.kind array.0 buffer.words mode))) result.answer }
     ensures left { result.left ≡ left_by mode result.answer (Holds buffer) }
 {
     let Buffer { elements } = buffer;
     match elements {
         CopiedElements::Boolean(elements) => {
-            let (left, answer) = release_elements(env, array, elements, mode);
+            let (left, answer) = release_elements(env, turns, array, elements, mode);
             with_left(left.map(CopiedElements::Boolean), answer)
         }
         CopiedElements::Byte(elements) => {
-            let (left, answer) = release_elements(env, array, elements, mode);
+            let (left, answer) = release_elements(env, turns, array, elements, mode);
             with_left(left.map(CopiedElements::Byte), answer)
         }
         CopiedElements::Char(elements) => {
-            let (left, answer) = release_elements(env, array, elements, mode);
+            let (left, answer) = release_elements(env, turns, array, elements, mode);
             with_left(left.map(CopiedElements::Char), answer)
         }
         CopiedElements::Short(elements) => {
-            let (left, answer) = release_elements(env, array, elements, mode);
+            let (left, answer) = release_elements(env, turns, array, elements, mode);
             with_left(left.map(CopiedElements::Short), answer)
         }
         CopiedElements::Int(elements) => {
-            let (left, answer) = release_elements(env, array, elements, mode);
+            let (left, answer) = release_elements(env, turns, array, elements, mode);
             with_left(left.map(CopiedElements::Int), answer)
         }
         CopiedElements::Long(elements) => {
-            let (left, answer) = release_elements(env, array, elements, mode);
+            let (left, answer) = release_elements(env, turns, array, elements, mode);
             with_left(left.map(CopiedElements::Long), answer)
         }
-    }
-}
-
-/// Releases the buffer that stands there, by one call: E2 where nothing stands there, E4 where a reference does.
-fn release_once<S: Steps>(env: &mut Env<S>, array: Handle, binding: Binding, mode: Mode) -> Released
-    requires { IsOutside env.old }
-    ensures call { WasDone env.old env.new (releasing array.0 mode binding) result.answer }
-    ensures left { result.left ≡ left_by mode result.answer binding }
-{
-    match binding {
-        Binding::Buffer(buffer) => release_buffer(env, array, buffer, mode),
-        Binding::Nothing => Released {
-            left: Binding::Nothing,
-            answer: Err(Fault::Stale),
-        },
-        Binding::Reference(handle) => Released {
-            left: Binding::Reference(handle),
-            answer: Err(Fault::WrongKind),
-        },
-    }
-}
-
-/// Releases the buffer that stands there, and again as long as the call is raced or barred: E20 once it was made so many times.
-fn release_again<S: Steps>(
-    env: &mut Env<S>,
-    turns: u64,
-    array: Handle,
-    binding: Binding,
-    mode: Mode,
-) -> Released
-    requires { IsOutside env.old }
-    ensures call { WasDone env.old env.new (tried turns (releasing array.0 mode binding)) result.answer }
-    ensures left { result.left ≡ left_by mode result.answer binding }
-{
-    let mut left = binding;
-    for _ in 0..turns {
-        let released = release_once(env, array, left, mode);
-        if !is_made_again(&released.answer) {
-            return released;
-        }
-        left = released.left;
-    }
-    Released {
-        left,
-        answer: Err(Fault::Turns),
     }
 }
 
@@ -220,8 +186,10 @@ pub(crate) fn release<S: Steps>(
 {
     names.buffer(name)?;
     let array = names.wanted(target)?;
-    let binding = names.take(name);
-    let released = release_again(env, turns, array, binding, mode);
+    let Binding::Buffer(buffer) = names.take(name) else {
+        unreachable!();
+    };
+    let released = release_buffer(env, turns, array, buffer, mode);
     let _ = names.set(name, released.left);
     released.answer
 }

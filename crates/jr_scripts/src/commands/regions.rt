@@ -6,34 +6,32 @@ ghost use Rattle.jr_syntax.specs.declared.command.Command.TheVariants as command
 ghost use Rattle.jr_syntax.specs.declared.verb.PutAt.TheVariants as put_verbs;
 ghost use Rattle.jr_critical.specs.Levels.{level_object, level_nested, objects_of, StandOver, WasAdded};
 ghost use Rattle.jr_env.specs.Envs.{IsOutside};
-ghost use Rattle.jr_scripts.specs.Advancing.{level_names, objects_in, place_with, DidWith, DidWithin, DidOpen, StandsIn, StandsWith};
+ghost use Rattle.jr_scripts.specs.Advancing.{level_names, objects_in, opened_over, place_with, DidWith, DidWithin, DidOpen, StandsIn, StandsWith};
 ghost use Rattle.jr_scripts.specs.Commands.{deed, opening_by, opening_levels, tried};
 ghost use Rattle.jr_scripts.specs.Places.{all_but_last, levels_after, objects_after};
 ghost use Rattle.jr_scripts.specs.RegionCommands.{deed_within, giving_up, giving_up_all, nesting, read_kind as kind_read, level_reading, reading_as, reading_at, reading_by, level_writing, writing_as, writing_at, writing_by};
 
+use crate::ask::{no_more, patience_for};
 use crate::names::Names;
 use crate::number::{Number, NumberKind};
 use crate::region::{Region, first};
 use crate::reply::Reply;
 use jr_critical::Levels;
-use jr_env::{Env, is_made_again, levels_beside};
+use jr_env::levels_beside::{First, retry_open};
+use jr_env::{Env, levels_beside};
 use jr_model::Mode;
 use jr_steps::Steps;
 use jr_syntax::{Name, OnNameAt, OpenLevel, PutAt, Reference as Target};
 use jr_word::{Fault, Handle, Kind};
 use std::mem;
 
-/// Opens a region over what a handle names, by one call.
-fn open_once<S: Steps>(env: &mut Env<S>, verb: OpenLevel, handle: Handle) -> Result<Levels, Fault>
-    requires { IsOutside env.old }
-    ensures does { DidOpen env.old env.new (opening_by verb handle.0) result }
-    ensures stand { IfOk result (λ v. StandOver v env.new.held) }
-    ensures one { IfOk result (λ v. length (objects_of v) ≡ 1) }
-    ensures outside { IfErr result (λ _. IsOutside env.new) }
+/// What a verb opens a region over, by the handle of it.
+fn first_of(verb: OpenLevel, handle: Handle) -> First
+    ensures { result ≡ opened_over verb handle }
 {
     match verb {
-        OpenLevel::Array => levels_beside::open_array(env, handle),
-        OpenLevel::Text => levels_beside::open_string(env, handle),
+        OpenLevel::Array => First::Array(handle),
+        OpenLevel::Text => First::Text(handle),
     }
 }
 
@@ -50,17 +48,8 @@ fn open<S: Steps>(
     ensures one { IfOk result (λ v. length (objects_of v) ≡ 1) }
     ensures outside { IfErr result (λ _. IsOutside env.new) }
 {
-    for _ in 0..turns {
-        match open_once(env, verb, handle) {
-            Ok(levels) => return Ok(levels),
-            Err(fault) => {
-                if !is_made_again::<()>(&Err(fault)) {
-                    return Err(fault);
-                }
-            }
-        }
-    }
-    Err(Fault::Turns)
+    let patience = patience_for(turns)?;
+    retry_open(env, first_of(verb, handle), patience).map_err(no_more)
 }
 
 /// Opens a region over what a reference names.

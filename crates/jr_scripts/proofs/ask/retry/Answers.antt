@@ -1,13 +1,15 @@
-use Rattle.std.proofs.Common.{rules, arith}
-use Rattle.jr_scripts.proofs.Retries.{does_no_turns, does_run_out, does_settle}
+use Rattle.std.proofs.Common.{◌≡◌, rules, of_calls, refl}
+use Rattle.jr_env.proofs.Carrying.{did_more, does_nothing}
+use Rattle.jr_env.proofs.MadeAgain.{does_again}
+use Rattle.jr_scripts.proofs.Retries.{tried_in_turns, tried_never}
 use Rattle.jr_scripts.proofs.ask.retry.Goals as goal
 
-pub returns-then-turns-eq0 : goal.returns-then-turns-eq0
-returns-then-turns-eq0 g c = does_no_turns c.args.turns (omega arith)
-
-pub returns-then-is_made_again : goal.returns-then-is_made_again
-returns-then-is_made_again g c =
-    does_run_out c.args.turns (omega arith) (c.retry-answer.ensures.does c.requires) (search rules)
+pub returns-in_err-patience : goal.returns-in_err-patience
+returns-in_err-patience g c = does_nothing (λ p. tried_never c.in_err-patience.field-0.0 c.from_residual.result
+    c.from_residual.ensures.1 c.in_err-patience.ensures)
 
 pub returns : goal.returns
-returns g c = does_settle c.args.turns (omega arith) (c.retry-answer.ensures.does c.requires) (search rules)
+returns g c = did_more (λ p q t. tried_in_turns c.in_ok-patience.patience _ _ c.in_ok-patience.ensures t
+    c.map_err.ensures.cases)
+    ((does_again (λ x. x.1.held.steps) (λ x. x.1.held.frames.frames) (λ x. x.0.0.now ≡ c.args.call.now)
+    (λ x y r s o. search (rules, of_calls)) refl c.with_patience.ensures.1).does c.requires)

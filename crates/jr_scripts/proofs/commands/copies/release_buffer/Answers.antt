@@ -12,7 +12,8 @@ pub returns-in-Boolean-clause-call : goal.returns-in-Boolean-clause-call
 returns-in-Boolean-clause-call g c =
     let is : copied_as kinds.Boolean bool_word c.in-Boolean.elements ≡ c.args.buffer =
     ap copied_in (sym c.in-Boolean.is) ∙ c.buffer.view_is in
-    does_release_of c.args.array.0 c.args.mode (copied_as kinds.Boolean bool_word c.in-Boolean.elements) c.args.buffer
+    does_release_of c.args.turns c.args.array.0 c.args.mode (copied_as kinds.Boolean bool_word c.in-Boolean.elements)
+    c.args.buffer
     c.release_elements-left.result.1 c.with_left.result.answer is c.with_left.ensures.answer
     c.release_elements-left.ensures.call
 
@@ -30,7 +31,8 @@ pub returns-in-Byte-clause-call : goal.returns-in-Byte-clause-call
 returns-in-Byte-clause-call g c =
     let is : copied_as kinds.Byte (signed_word w8) c.in-Byte.elements ≡ c.args.buffer =
     ap copied_in (sym c.in-Byte.is) ∙ c.buffer.view_is in
-    does_release_of c.args.array.0 c.args.mode (copied_as kinds.Byte (signed_word w8) c.in-Byte.elements) c.args.buffer
+    does_release_of c.args.turns c.args.array.0 c.args.mode (copied_as kinds.Byte (signed_word w8) c.in-Byte.elements)
+    c.args.buffer
     c.release_elements-left-in-Byte.result.1 c.with_left-in-Byte.result.answer is c.with_left-in-Byte.ensures.answer
     c.release_elements-left-in-Byte.ensures.call
 
@@ -48,7 +50,8 @@ pub returns-in-Char-clause-call : goal.returns-in-Char-clause-call
 returns-in-Char-clause-call g c =
     let is : copied_as kinds.Char (λ unit. unit) c.in-Char.elements ≡ c.args.buffer =
     ap copied_in (sym c.in-Char.is) ∙ c.buffer.view_is in
-    does_release_of c.args.array.0 c.args.mode (copied_as kinds.Char (λ unit. unit) c.in-Char.elements) c.args.buffer
+    does_release_of c.args.turns c.args.array.0 c.args.mode (copied_as kinds.Char (λ unit. unit) c.in-Char.elements)
+    c.args.buffer
     c.release_elements-left-in-Char.result.1 c.with_left-in-Char.result.answer is c.with_left-in-Char.ensures.answer
     c.release_elements-left-in-Char.ensures.call
 
@@ -66,7 +69,8 @@ pub returns-in-Short-clause-call : goal.returns-in-Short-clause-call
 returns-in-Short-clause-call g c =
     let is : copied_as kinds.Short (signed_word w16) c.in-Short.elements ≡ c.args.buffer =
     ap copied_in (sym c.in-Short.is) ∙ c.buffer.view_is in
-    does_release_of c.args.array.0 c.args.mode (copied_as kinds.Short (signed_word w16) c.in-Short.elements)
+    does_release_of c.args.turns c.args.array.0 c.args.mode
+    (copied_as kinds.Short (signed_word w16) c.in-Short.elements)
     c.args.buffer c.release_elements-left-in-Short.result.1 c.with_left-in-Short.result.answer is
     c.with_left-in-Short.ensures.answer c.release_elements-left-in-Short.ensures.call
 
@@ -84,7 +88,8 @@ pub returns-in-Int-clause-call : goal.returns-in-Int-clause-call
 returns-in-Int-clause-call g c =
     let is : copied_as kinds.Int (signed_word w32) c.in-Int.elements ≡ c.args.buffer =
     ap copied_in (sym c.in-Int.is) ∙ c.buffer.view_is in
-    does_release_of c.args.array.0 c.args.mode (copied_as kinds.Int (signed_word w32) c.in-Int.elements) c.args.buffer
+    does_release_of c.args.turns c.args.array.0 c.args.mode (copied_as kinds.Int (signed_word w32) c.in-Int.elements)
+    c.args.buffer
     c.release_elements-left-in-Int.result.1 c.with_left-in-Int.result.answer is c.with_left-in-Int.ensures.answer
     c.release_elements-left-in-Int.ensures.call
 
@@ -102,7 +107,8 @@ pub returns-in-Long-clause-call : goal.returns-in-Long-clause-call
 returns-in-Long-clause-call g c =
     let is : copied_as kinds.Long (signed_word w64) c.in-Long.elements ≡ c.args.buffer =
     ap copied_in (sym c.in-Long.is) ∙ c.buffer.view_is in
-    does_release_of c.args.array.0 c.args.mode (copied_as kinds.Long (signed_word w64) c.in-Long.elements) c.args.buffer
+    does_release_of c.args.turns c.args.array.0 c.args.mode (copied_as kinds.Long (signed_word w64) c.in-Long.elements)
+    c.args.buffer
     c.release_elements-left-in-Long.result.1 c.with_left-in-Long.result.answer is c.with_left-in-Long.ensures.answer
     c.release_elements-left-in-Long.ensures.call
 

@@ -1,5 +1,5 @@
 use Rattle.std.proofs.Common.{refl}
-use Rattle.jr_env.specs.Deeds.{decided, ◌>>=◌, ◌>>◌}
+use Rattle.jr_env.specs.Deeds.{decided, ◌>>◌}
 use Rattle.jr_env.proofs.Carrying.{did_decline, did_refused, did_residual, does_then}
 use Rattle.jr_scripts.specs.Commands.{loading_as}
 use Rattle.jr_scripts.specs.Numbers.{has_numbers}

@@ -2,7 +2,7 @@ use Rattle.std.proofs.Common.{◌≡◌, Ok, Err, refl, subst, w64}
 use Rattle.std.proofs.lemmas.Int.{to_z-of_z}
 use Rattle.jr_scripts.specs.Commands.{storing_as}
 use Rattle.jr_scripts.specs.Numbers.{has_numbers, word_of_number, kind_numbered, word_of_element}
-use Rattle.jr_env.specs.Deeds.{decided, ◌>>=◌, ◌>>◌}
+use Rattle.jr_env.specs.Deeds.{decided, ◌>>◌}
 use Rattle.jr_env.proofs.Carrying.{did_decline, did_refused, did_residual, does_then}
 use Rattle.jr_scripts.proofs.CommandDeeds.{does_store, does_refuse_number}
 use Rattle.jr_scripts.proofs.commands.elements.store.Goals as goal
