@@ -143,9 +143,6 @@ no_shut cleared dropped used = append_all (λ a. a ≢ Gate Shut) (sweeping_acts
 module _ {old new : PassView} {cleared : List Handle} {dropped : List ℕ} {used : ℕ}
     (d : Collects old new cleared dropped used) (thread : old.thread ≡ 0)
     (seen : new.seen ≡ old.seen ++ map (by 0) (collection_acts cleared dropped used)) where
-  rest : History
-  rest = d.place.from.0
-
   same_rest : (ys : History) → ys ++ (by old.thread (Gate Shut) ∷ (d.place.inside ++ by old.thread (Gate Reopen)
       ∷ d.place.rest)) ≡ map (by 0) (collection_acts cleared dropped used) → ys ≡ []
   same_rest [] is = refl
