@@ -83,6 +83,7 @@ impl<S: Steps> NativeCaller<S> for Env<S> {
 
     ghost made = { λ old new request answer. Does old new (whole request) answer };
 
+    #[inline(always)]
     fn make<C: NativeCall<S> + Drop>(&mut self, call: C) -> Result<C::Answer, Fault> {
         make_whole(&mut self.held, &mut self.numbers, call)
     }

@@ -27,6 +27,7 @@ mod plain;
 mod pools;
 #[cfg(test)]
 mod references;
+mod remedies;
 #[cfg(test)]
 mod scopes;
 #[cfg(test)]
