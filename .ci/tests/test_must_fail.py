@@ -50,7 +50,7 @@ class StandIn:
             edit.place = edit.home
         if len(edits) > self.most:
             return 137, "killed\n", 0.0
-        edited = {edit.function and edit.tried() for edit in edits}
+        edited = {edit.tried() for edit in edits}
         self.left_open.append(set() if None in edited else set(known.places) - edited - unknown)
         missing = {it for it in edited | self.left_open[-1] if it in {f"low::{name}" for name in self.unknown}} | {f"low::{name}" for name in self.lacks}
         lines = [f"error: the crate has no function `{it}`" for it in sorted(missing)]
@@ -58,7 +58,7 @@ class StandIn:
         unread = [edit for edit, it in said.items() if it is None]
         lines += [f"src/lib.rt:{edit.place[1] if edit.function else 1}:9: error: expected an expression" for edit in unread]
         if not unread and not missing:
-            lines += [f"fn {edit.tried() if edit.function else 'low::one'}: {it}" for edit, it in said.items()] + ["only=asked"]
+            lines += [f"fn {edit.tried() or 'low::one'}: {it}" for edit, it in said.items()] + ["only=asked"]
         return int(bool(missing or unread)), "\n".join(lines) + "\n", 0.0
 
 
@@ -145,6 +145,16 @@ class Checks(unittest.TestCase):
         self.assertEqual(sorted(prover.sizes), [1, 1])
         self.assertIn(set(), prover.left_open)
 
+    def test_an_edit_of_a_definition_is_a_check_of_the_proof_that_it_names(self):
+        told, prover = tried([], [(".ci/edits/low/named.edit", f"proof: two\n{edit('Word', 3)[1]}")])
+        self.refused(told)
+        self.assertEqual((prover.sizes, prover.left_open), ([1], [{"low::one", "low::three"}]))
+
+    def test_a_proof_that_no_function_has_is_a_check_of_the_whole_crate(self):
+        told, prover = tried([], [(".ci/edits/low/named.edit", f"proof: four\n{edit('Word', 3)[1]}")], unknown=("four",))
+        self.refused(told)
+        self.assertEqual(prover.left_open[-1], set())
+
     def test_a_crate_that_is_not_proved_is_told(self):
         told, prover = tried([("one", 1)], is_proved=False)
         self.assertEqual((told, prover.sizes), ({"one_1": "NOT REFUSED: the crate itself is not proved"}, []))
@@ -184,6 +194,15 @@ class Verdicts(unittest.TestCase):
     def test_any_goal_of_the_crate_counts_for_an_edit_of_a_definition(self):
         self.assertIsNone(self.verdict("proofs/two/Answers.antt:3:4: error: `shows`: it has another type\n", function="Word"))
         self.assertEqual(self.verdict("holes=0\n", 0, "Word"), "all is still proved")
+
+    def test_a_lemma_or_the_named_proof_counts_for_an_edit_that_names_one(self):
+        path, text = edit("Word", 1)
+        with repository({**FILES, path: f"proof: two\n{text}"}):
+            module = script("must-fail")
+            verdict = lambda said: module.why_not_refused(module.Edit(path, "low"), 1, said)
+            self.assertIsNone(verdict("proofs/Lemmas.antt:3:4: error: `shows`: it has another type\nonly=1\n"))
+            self.assertIsNone(verdict(f"fn low::two: {REFUSED}\nonly=1\n"))
+            self.assertEqual(verdict(f"fn low::one: {REFUSED}\nonly=1\n"), "all is still proved")
 
 
 class Kept(unittest.TestCase):

@@ -1,5 +1,5 @@
 -- What is handed on with a note, and what is learned by it.
-use Rattle.std.proofs.Common.{◌≡◌, ◌∙◌, ℕ, [], Result, Ok, ap, sym, subst, refl}
+use Rattle.std.proofs.Common.{◌≡◌, ◌∙◌, ℕ, [], Result, Ok, ap, sym, subst, refl, arith}
 use mathlib.Core.Logic.{∥∥₁_map}
 use Rattle.jr_word.specs.declared.config.Config.{Config}
 use Rattle.jr_word.specs.declared.fault.Fault.{Fault}
@@ -75,6 +75,9 @@ module _ {S : Type 0} {facts : S → Facts} where
               held = x.3;
               fresh = ap (λ (z : Standing). z.fresh) took.stands_is;
               hint = took.hint_is;
+              without = 1;
+              most = omega arith;
+              taken = (x.2).taken;
             },
           ),
         );

@@ -19,7 +19,7 @@ use Rattle.jr_threads.specs.Parts.{DidWithPass, RanTogether}
 use Rattle.jr_threads.specs.Sites.{IsBack}
 use Rattle.jr_threads.proofs.OneHistory.{have_run}
 use Rattle.jr_threads.proofs.Passes.{is_back, opened_so}
-use Rattle.first_room.specs.Calls.{Found, Shared, Visited, story}
+use Rattle.first_room.specs.Calls.{Findings, Shared, Visited, story}
 use Rattle.first_room.specs.Hour.{IsTrueReport}
 use Rattle.first_room.specs.Sites.{HasCome, IsRoomOf}
 use Rattle.first_room.proofs.ReadIsWritten.{read_is_written}
@@ -49,7 +49,7 @@ both_passes r ps qs rs p q o first rest second none =
     go (x ∷ y ∷ z ∷ zs) e f s n = absurd cc
 
 -- a pass that came back to the room
-pub came_back : (site : Option TableId) (sizes : Config) (room : Room LAST) (t : ℕ) (p q : Pass) (x : Found)
+pub came_back : (site : Option TableId) (sizes : Config) (room : Room LAST) (t : ℕ) (p q : Pass) (x : Findings)
     → IsRoomOf site sizes room → p.thread ≡ t → HasCome site sizes t p q x → IsBack room.row p q
 came_back site sizes room t p q x is own h = is_back room p q
     (subst (λ (z : Option TableId × Config × ℕ). IsPassOf z.0 z.1 LAST z.2 q)

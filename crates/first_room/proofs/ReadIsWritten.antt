@@ -22,7 +22,7 @@ use Rattle.jr_model.proofs.Moments.{prefix_trans}
 use Rattle.jr_model.proofs.Stays.{append_cancel, did_then, mine_did, still_along}
 use Rattle.jr_threads.specs.Parts.{ComesOfDeed, IsThreadPart, pass_that_saw, start_moment}
 use Rattle.first_room.specs.declared.TheConstants.{LAST, SIZES}
-use Rattle.first_room.specs.Calls.{Found, Visited, story, visiting}
+use Rattle.first_room.specs.Calls.{Findings, Visited, story, visiting}
 use Rattle.first_room.proofs.InHistory.{all_acts, all_both, all_each, all_own, all_parts}
 use Rattle.first_room.proofs.InHistory.{count, count_append, count_none, legal_prefix, none_counted, threads_below}
 use Rattle.first_room.proofs.Ints.{IsOnly, IsTwenty, MakesOnly, WritesTwenty, only_along, twenty_along}
@@ -156,7 +156,7 @@ visit_quiet {x} old mid new learned h =
     quiet_then (record { acts = []; did = learned; none = tt }) (quiet_then h.begins (quiet_then reads h.ends))
 
 -- THE ELEMENT THAT WAS READ IS THE ONE THAT WAS WRITTEN
-pub read_is_written : (whole : History) (y : Found) (x : ℕ) → IsLegal SIZES LAST whole
+pub read_is_written : (whole : History) (y : Findings) (x : ℕ) → IsLegal SIZES LAST whole
     → IsThreadPart (λ z. true) story SIZES LAST whole 0 y
     → IsThreadPart (λ z. true) story SIZES LAST whole 1 (Visited x) → x ≡ 20
 read_is_written whole y x legal one two = ∥∥₁_elim h.prepared (hlevel props) (λ z.

@@ -23,7 +23,7 @@ use Rattle.jr_env.specs.Requests.{packed}
 use Rattle.jr_env.specs.Deeds.{call_by, ◌>>=◌, ◌>>◌}
 use Rattle.jr_env.specs.Requests.{making_steps}
 use Rattle.first_room.specs.declared.TheConstants.{TRIES}
-use Rattle.first_room.specs.Calls.{Found, GotNoTurn, Shared, again, clearing, collecting_in_turn, collecting_twice}
+use Rattle.first_room.specs.Calls.{Findings, GotNoTurn, Shared, again, clearing, collecting_in_turn, collecting_twice}
 use Rattle.first_room.specs.Calls.{getting_no_turn, is_kept_out, none, preparing, sharing, word_made}
 use Rattle.first_room.proofs.Answered.{MakesOne, ints_written, made_one, one_between, stayed}
 use Rattle.first_room.proofs.Ints.{HasInts}
@@ -183,9 +183,9 @@ pub record HasShared (old new : PassView) : Type 0 where
   pub traced : IsTraced old mid
   pub ends : IsQuiet mid new
 
-pub has_shared : (old new : ThreadState) (x : Found) → sharing old (Ok x) new → HasShared old.pass new.pass
+pub has_shared : (old new : ThreadState) (x : Findings) → sharing old (Ok x) new → HasShared old.pass new.pass
 has_shared old new x was =
-    let clears : ℕ × ℕ → ℕ → Deed Found = λ words inside. clearing words.0 words.1
+    let clears : ℕ × ℕ → ℕ → Deed Findings = λ words inside. clearing words.0 words.1
     >>= (λ found. done (Shared inside found.0 found.1)) in
     let s1 = both_done preparing (λ words. collecting_twice >>= clears words) old new x was in
     let s2 = both_done collecting_twice (clears s1.x) s1.mid new x s1.two in

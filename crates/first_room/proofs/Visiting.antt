@@ -7,10 +7,10 @@ use Rattle.jr_model.specs.declared.event.Act.TheVariants.{Gate, Read}
 use Rattle.jr_model.specs.declared.event.GateAct.TheVariants.{Leave}
 use Rattle.jr_model.specs.History.{Did, History, state}
 use Rattle.jr_model.specs.Objects as objects
-use Rattle.jr_gate.specs.Performing.{ThreadState}
+use Rattle.jr_gate.specs.Performing.{HasLearned, ThreadState}
 use Rattle.jr_env.specs.Deeds.{Deed, done, new_object_array, new_plain, pop_local_frame, push_local_frame, ◌>>=◌, ◌>>◌}
 use Rattle.jr_env.specs.Deeds.{within_by}
-use Rattle.first_room.specs.Calls.{Found, HasPrepared, SeesMore, Visited, is_handed, opens_region, reading_within}
+use Rattle.first_room.specs.Calls.{Findings, HasPrepared, Visited, is_handed, opens_region, reading_within}
 use Rattle.first_room.specs.Calls.{visiting}
 use Rattle.first_room.proofs.Answered.{ints_read}
 use Rattle.first_room.proofs.Spared.{both_done, made_quiet, objects_spared, plain_spared, pop_spared, push_spared}
@@ -18,7 +18,7 @@ use Rattle.first_room.proofs.Sparing.{opened_spares, opening_spares}
 use Rattle.first_room.proofs.Traces.{HasRead, quiet_then}
 
 -- its calls once it was handed the word
-abbrev pub rest_of_visit : ℕ → Deed Found
+abbrev pub rest_of_visit : ℕ → Deed Findings
 rest_of_visit global = push_local_frame 4 >> (new_plain >>= (λ object. new_object_array 2 object.0
     >> (pop_local_frame 0 >> (reading_within global >>= (λ word. done (Visited word))))))
 
@@ -29,7 +29,7 @@ pub record WasHanded (x : ℕ) (old new : ThreadState) : Type 0 where
   pub mid : ThreadState
   pub prepared : ∥ HasPrepared w noted ∥₁
   pub begins : IsPrefix noted mid.pass.seen
-  pub learned : SeesMore old mid
+  pub learned : HasLearned old mid
   pub rest : rest_of_visit w mid (Ok (Visited x)) new
 
 pub was_handed : (old new : ThreadState) (x : ℕ) → visiting old (Ok (Visited x)) new → WasHanded x old new
@@ -47,17 +47,17 @@ was_handed old new x was =
     }
 
 same_word : (a b c : ℕ) → ◌≡◌ {A = Result ℕ Fault} (Ok b) (Ok a)
-    → ◌≡◌ {A = Result Found Fault} (Ok (Visited c)) (Ok (Visited b)) → a ≡ c
+    → ◌≡◌ {A = Result Findings Fault} (Ok (Visited c)) (Ok (Visited b)) → a ≡ c
 same_word a b c e f = cc
 
 -- and read an element
 pub has_read : (w x : ℕ) (old new : ThreadState) → rest_of_visit w old (Ok (Visited x)) new
     → HasRead x old.pass new.pass
 has_read w x old new was =
-    let y : Found = Visited x in
+    let y : Findings = Visited x in
     let ends : ℕ → Deed ℕ = λ v. within_by (λ c. 0) (λ c last t s. objects.region_release 1) >> done v in
     let gets : ℕ → Deed ℕ = λ o. within_by (λ c. 0) (λ c last t s. objects.region_get c last t s Int o 1) in
-    let tells : ℕ → Deed Found = λ word. done (Visited word) in
+    let tells : ℕ → Deed Findings = λ word. done (Visited word) in
     let s1 = both_done (push_local_frame 4) (λ _. new_plain
     >>= (λ object. new_object_array 2 object.0 >> (pop_local_frame 0 >> (reading_within w >>= tells)))) old new y was in
     let s2 =

@@ -8,10 +8,10 @@ use Rattle.jr_word.specs.declared.handle.Handle.{Handle}
 use Rattle.jr_word.specs.declared.handle.RefKind.TheVariants.{Global, Weak}
 use Rattle.jr_word.specs.declared.kind.Kind.TheVariants.{Int, Long}
 use Rattle.jr_model.specs.Checks.{Word}
-use Rattle.jr_model.specs.History.{Did, History}
+use Rattle.jr_model.specs.History.{History}
 use Rattle.jr_model.specs.Objects.{get_array_critical, region_get, region_release}
 use Rattle.jr_frames.specs.Reading.{IsReadAs}
-use Rattle.jr_gate.specs.Performing.{ThreadState}
+use Rattle.jr_gate.specs.Performing.{HasLearned, ThreadState}
 use Rattle.jr_weak.specs.declared.collecting.Collected.{Collected}
 use Rattle.jr_env.specs.Collections.{announced_collection, collection}
 use Rattle.jr_env.specs.Deeds.{Deed, done, new_plain, new_array, new_object_array, new_reference}
@@ -22,9 +22,9 @@ use Rattle.jr_threads.specs.Parts.{ComesOfDeed}
 
 -- what a thread found: the first, how many threads were inside as a collection was refused, whether its weak
 -- reference is to null, and the type of its global one, once it is deleted; the second, the word of an element
-pub data Found : Type 0 where
-  Shared : ℕ → Bool → ℕ → Found
-  Visited : ℕ → Found
+pub data Findings : Type 0 where
+  Shared : ℕ → Bool → ℕ → Findings
+  Visited : ℕ → Findings
 
 -- the word of a reference that was made, 0 for NULL
 abbrev pub word_made : Option Handle → ℕ
@@ -80,7 +80,7 @@ clearing weak global = do
   done (cleared, kind)
 
 -- THE FIRST THREAD does this
-abbrev pub sharing : Deed Found
+abbrev pub sharing : Deed Findings
 sharing = do
   words ← preparing
   inside ← collecting_twice
@@ -91,19 +91,11 @@ sharing = do
 abbrev pub HasPrepared : ℕ → History → Type 0
 HasPrepared global seen = (weak : ℕ) × ComesOfDeed SIZES LAST 0 preparing (weak, global) seen
 
--- it may see more, and no more than that has changed
-pub record SeesMore (old new : ThreadState) : Type 0 where
-  pub did : Did old.pass new.pass []
-  pub frames : new.frames ≡ old.frames
-  pub held : new.held ≡ old.held
-  pub fresh : new.fresh ≡ old.fresh
-  pub hint : new.hint ≡ old.hint
-
 -- the word of the first thread's global reference was handed over with a note, and the note was learned:
 -- all that the first thread had seen by then is seen
 abbrev pub is_handed : Deed ℕ
 is_handed old answer new = (w : ℕ) × (answer ≡ Ok w) × (noted : History)
-    × ∥ HasPrepared w noted ∥₁ × IsPrefix noted new.pass.seen × SeesMore old new
+    × ∥ HasPrepared w noted ∥₁ × IsPrefix noted new.pass.seen × HasLearned old new
 
 -- a critical region is opened over the array that a word names: its object
 abbrev pub opens_region : ℕ → Deed ℕ
@@ -120,7 +112,7 @@ reading_within global = do
 
 -- THE SECOND THREAD is handed the global reference's word, and makes two objects in a frame;
 -- and it reads an element of the array that the word names
-abbrev pub visiting : Deed Found
+abbrev pub visiting : Deed Findings
 visiting = do
   global ← is_handed
   push_local_frame 4
@@ -131,6 +123,6 @@ visiting = do
   done (Visited word)
 
 -- what the thread of a number does
-abbrev pub story : ℕ → Deed Found
+abbrev pub story : ℕ → Deed Findings
 story zero = sharing
 story (suc t) = visiting

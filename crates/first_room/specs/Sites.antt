@@ -9,7 +9,7 @@ use Rattle.jr_model.specs.declared.event.Role.TheVariants.{Outside}
 use Rattle.jr_rule.specs.Passes.{IsOpened, holder_of}
 use Rattle.jr_rule.specs.Sites.{IsPassOf, IsSiteOf}
 use Rattle.jr_threads.specs.Parts.{DidWithPass}
-use Rattle.first_room.specs.Calls.{Found, story}
+use Rattle.first_room.specs.Calls.{Findings, story}
 
 -- the room is the site's, with its sizes
 pub record IsRoomOf (site : Option TableId) (sizes : Config) (room : Room LAST) : Type 0 where
@@ -25,7 +25,7 @@ pub record IsPassOfThread (site : Option TableId) (sizes : Config) (room : Room 
   pub thread : p.thread ≡ t
 
 -- THE THREAD HAS COME to its end, with its pass: with this it did its story, and found this
-pub record HasCome (site : Option TableId) (sizes : Config) (t : ℕ) (old new : Pass) (x : Found) : Type 0 where
+pub record HasCome (site : Option TableId) (sizes : Config) (t : ℕ) (old new : Pass) (x : Findings) : Type 0 where
   pub back : IsPassOf site sizes LAST t new
   pub outside : new.role ≡ Outside
   pub did : DidWithPass (story t) old (holder_of new) x

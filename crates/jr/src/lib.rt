@@ -1,7 +1,7 @@
 //! What an embedder names, from one crate: the room, its passes and steps, the env with its calls, and what these answer.
 #![tactic(auto)]
 
-pub use jr_census::{Census, KindCounts, Objects, Slots, Words};
+pub use jr_census::{Census, KindCounts, Objects, Slots, WordCounts};
 pub use jr_elements::{Elements, text_of, utf16_of};
 pub use jr_env::{
     Checked, Env, EnvCall, Evidence, Examined, Explains, Explanation, Handed, LocalFrames,

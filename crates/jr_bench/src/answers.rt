@@ -1,7 +1,8 @@
 //! The fixed text: how often calls answer as they should.
 
-use crate::beside::{BESIDE, Task, Tries, is_right};
-use crate::case::CASES;
+use crate::beside::{Attempts, BESIDE, Task, is_right};
+use crate::case::{CASES, Case, WATCHED};
+use crate::checked::{Caller, CheckedCase};
 use crate::collections::{COLLECTING, Collections, WAYS};
 use crate::measure::time_of;
 use crate::notes::NOTES;
@@ -53,11 +54,26 @@ pub(crate) fn print<R: Threads + Clock + Print + Sync>(rt: &R, alloc: Global) ->
         let two = right(rt, alloc, Job::Owned(case, work_of(2)));
         println!(rt; "{OWNED}{name}: {one} by one thread, {two} by two")?;
     }
+    print_checked(rt, alloc)?;
     let one = right(rt, alloc, Job::Notes(work_of(1)));
     let two = right(rt, alloc, Job::Notes(work_of(2)));
     println!(rt; "{NOTES}: {one} by one thread, {two} by two")?;
     print_collections(rt, alloc)?;
     print_beside(rt, alloc)
+}
+
+/// Prints how often calls with a watcher answered as they should.
+fn print_checked<R: Threads + Clock + Print + Sync>(rt: &R, alloc: Global) -> io::Result<()> {
+    for call in WATCHED {
+        for caller in [Caller::CheckedEnv, Caller::CheckedStay] {
+            let case = CheckedCase { call, caller };
+            let one = right(rt, alloc, Job::Calls(Case::Checked(case), work_of(1)));
+            let two = right(rt, alloc, Job::Calls(Case::Checked(case), work_of(2)));
+            let (before, name) = (case.before_name(), case.name());
+            println!(rt; "{before}{name}: {one} by one thread, {two} by two")?;
+        }
+    }
+    Ok(())
 }
 
 /// Prints whether collections answered as they should.
@@ -79,7 +95,7 @@ fn print_collections<R: Threads + Clock + Print + Sync>(rt: &R, alloc: Global) -
 
 /// Prints whether each collection beside a thread that calls was made, or refused as it may be.
 fn print_beside<R: Threads + Clock + Print + Sync>(rt: &R, alloc: Global) -> io::Result<()> {
-    let tries = Tries {
+    let tries = Attempts {
         callers: 1,
         count: CALLS,
     };

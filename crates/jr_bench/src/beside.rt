@@ -59,7 +59,7 @@ pub(crate) struct Beside {
 
 /// Collections that are tried beside threads that call without a break.
 #[derive(Clone, Copy)]
-pub(crate) struct Tries {
+pub(crate) struct Attempts {
     /// How many threads call.
     pub(crate) callers: u32,
     /// How often a collection is tried.
@@ -70,7 +70,7 @@ pub(crate) struct Tries {
 #[derive(Clone, Copy)]
 pub(crate) struct Task {
     /// The tries, and how many threads call.
-    pub(crate) tries: Tries,
+    pub(crate) tries: Attempts,
     /// How each collection is made.
     pub(crate) way: Way,
     /// What the threads call.
@@ -86,7 +86,7 @@ const BUSY: u128 = 1 << 32;
 /// The same of a try that was refused by E23, since another thread went in or out just then.
 const MOVED: u128 = 1;
 
-impl Tries {
+impl Attempts {
     fn threads(self) -> u32 {
         self.callers.saturating_add(1)
     }
@@ -203,7 +203,7 @@ pub(crate) fn is_right<R: Threads + Clock + Sync>(rt: &R, alloc: Global, task: T
 pub(crate) fn print<R: Threads + Clock + Print + Sync>(
     rt: &R,
     alloc: Global,
-    tries: Tries,
+    tries: Attempts,
     rounds: u32,
 ) -> io::Result<()> {
     for (beside, call) in BESIDE {

@@ -5,6 +5,7 @@ use crate::calls::{
     DeleteGlobal, DeleteLocal, DeleteWeak, NewGlobal, NewLocal, NewPlain, NewWeak, Same,
     TypeOfGlobal, TypeOfNull, make_each,
 };
+use crate::checked::{Caller, CheckedCase};
 use crate::copies::CopyCase;
 use crate::criticals::CriticalCase;
 use crate::stays::StayCase;
@@ -32,6 +33,7 @@ pub(crate) enum Case {
     Copies(CopyCase),
     Criticals(CriticalCase),
     Stays(StayCase),
+    Checked(CheckedCase),
 }
 
 /// Which calls for frames are made.
@@ -83,6 +85,26 @@ pub(crate) const CASES: [Case; 39] = [
     Case::Stays(StayCase::Same),
     Case::Stays(StayCase::TypeOfGlobal),
     Case::Stays(StayCase::Length),
+];
+
+/// The calls that are made with a watcher too.
+pub(crate) const WATCHED: [StayCase; 8] = [
+    StayCase::TypeOfNull,
+    StayCase::NewGlobal,
+    StayCase::DeleteGlobal,
+    StayCase::NewLocal,
+    StayCase::DeleteLocal,
+    StayCase::Same,
+    StayCase::TypeOfGlobal,
+    StayCase::Length,
+];
+
+/// By whom each of these is made: without a watcher, and with one.
+pub(crate) const CALLERS: [Caller; 4] = [
+    Caller::Env,
+    Caller::CheckedEnv,
+    Caller::Stay,
+    Caller::CheckedStay,
 ];
 
 /// Each case of a stay, behind the same call with an entry and an exit of its own.
@@ -137,6 +159,7 @@ impl Case {
             Case::Copies(case) => case.name(),
             Case::Criticals(case) => case.name(),
             Case::Stays(case) => case.name(),
+            Case::Checked(case) => case.name(),
         }
     }
 
@@ -152,7 +175,9 @@ impl Case {
             Case::Arrays(case) => case.array(env, local)?,
             Case::Copies(case) => case.array(env)?,
             Case::Criticals(case) => case.array(env)?,
-            Case::Stays(case) => case.named(env, local)?,
+            Case::Stays(case) | Case::Checked(CheckedCase { call: case, .. }) => {
+                case.named(env, local)?
+            }
             _ => local,
         };
         let global = env.new_global_ref(named).ok()??;
@@ -171,7 +196,9 @@ impl Case {
                 Case::DeleteGlobal => env.new_global_ref(local).ok()??,
                 Case::DeleteWeak => env.new_weak_global_ref(local).ok()??,
                 Case::DeleteLocal => env.new_local_ref(global).ok()??,
-                Case::Stays(case) => case.handle(env, local, global)?,
+                Case::Stays(case) | Case::Checked(CheckedCase { call: case, .. }) => {
+                    case.handle(env, local, global)?
+                }
             };
             handed.push(handle).ok()?;
         }
@@ -202,6 +229,7 @@ impl Case {
             Case::Copies(case) => case.make_all(env, alloc, handed),
             Case::Criticals(case) => case.make_all(env, handed),
             Case::Stays(case) => case.make_all(env, handed),
+            Case::Checked(case) => case.make_all(env, handed),
         }
     }
 }

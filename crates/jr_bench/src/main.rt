@@ -1,7 +1,7 @@
 //! How long the calls for references and arrays take in a room that threads share, how often they answer as they should, and how many collections come in beside them.
 //!
 //! With no word it makes each call a few hundred times, by one thread and by two, and prints how often each answered as it should: the same text on every machine.
-//! With the words THREADS STANDING CALLS ROUNDS it measures each call, with stays before them just those that are made in stays too with notes a note that is made and learned and with owned each call over steps that own their room too, and with the words collect ARRAYS EVERY ROUNDS a collection, announced or not, and a census: `measure` tells what it prints.
+//! With the words THREADS STANDING CALLS ROUNDS it measures each call, with stays before them just those that are made in stays too, with checked those that are made with a watcher too, with notes a note that is made and learned and with owned each call over steps that own their room too, and with the words collect ARRAYS EVERY ROUNDS a collection, announced or not, and a census: `measure` tells what it prints.
 //! With the words beside CALLERS TRIES ROUNDS it counts how many collections come in beside so many threads that call without a break: `beside` tells what it prints.
 #![tactic(auto)]
 
@@ -10,6 +10,7 @@ mod arrays;
 mod beside;
 mod calls;
 mod case;
+mod checked;
 mod collections;
 mod copies;
 mod criticals;
@@ -19,7 +20,7 @@ mod owned;
 mod round;
 mod stays;
 
-use crate::beside::Tries;
+use crate::beside::Attempts;
 use crate::case::{CASES, WITH_STAYS};
 use crate::collections::Collections;
 use crate::round::Work;
@@ -38,6 +39,8 @@ enum Measured {
     Calls(Work),
     /// Each call that is made in stays too.
     Stays(Work),
+    /// Each call that is made with a watcher too.
+    Checked(Work),
     /// A note that is made and learned.
     Notes(Work),
     /// Each call, over steps that own their room too.
@@ -45,7 +48,7 @@ enum Measured {
     /// A collection, and a census.
     Collection(Collections),
     /// How many collections come in beside threads that call.
-    Beside(Tries),
+    Beside(Attempts),
 }
 
 /// Does what the words of the command line ask for.
@@ -61,6 +64,9 @@ fn act<R: AllocGlobal + Env + Print + Eprint + Clock + Threads + Sync>(rt: &R) -
         Some((Measured::Stays(work), rounds)) => {
             measure::print(rt, rt.alloc(), &WITH_STAYS, work, rounds)
         }
+        Some((Measured::Checked(work), rounds)) => {
+            measure::print_checked(rt, rt.alloc(), work, rounds)
+        }
         Some((Measured::Notes(work), rounds)) => notes::print(rt, rt.alloc(), work, rounds),
         Some((Measured::Owned(work), rounds)) => owned::print(rt, rt.alloc(), work, rounds),
         Some((Measured::Collection(work), rounds)) => {
@@ -69,7 +75,7 @@ fn act<R: AllocGlobal + Env + Print + Eprint + Clock + Threads + Sync>(rt: &R) -
         Some((Measured::Beside(tries), rounds)) => beside::print(rt, rt.alloc(), tries, rounds),
         None => {
             eprintln!(rt;
-                "usage: jr_bench [[stays | notes | owned] THREADS STANDING CALLS ROUNDS | collect ARRAYS EVERY ROUNDS | beside CALLERS TRIES ROUNDS]"
+                "usage: jr_bench [[stays | checked | notes | owned] THREADS STANDING CALLS ROUNDS | collect ARRAYS EVERY ROUNDS | beside CALLERS TRIES ROUNDS]"
             )?;
             Err(io::Error::from(io::ErrorKind::InvalidInput))
         }
@@ -90,7 +96,7 @@ fn asked(words: &[String]) -> Option<(Measured, u32)> {
             arrays: number(second)?,
             every: number(third)?,
         }),
-        "beside" => Measured::Beside(Tries {
+        "beside" => Measured::Beside(Attempts {
             callers: number(second)?,
             count: number(third)?,
         }),
@@ -103,6 +109,7 @@ fn asked(words: &[String]) -> Option<(Measured, u32)> {
 fn of_kind(kind: &String, work: Work) -> Option<Measured> {
     match kind.as_str() {
         "stays" => Some(Measured::Stays(work)),
+        "checked" => Some(Measured::Checked(work)),
         "notes" => Some(Measured::Notes(work)),
         "owned" => Some(Measured::Owned(work)),
         _ => None,

@@ -1,7 +1,8 @@
 //! The measuring.
 
 use crate::beside::tries_of;
-use crate::case::Case;
+use crate::case::{CALLERS, Case, WATCHED};
+use crate::checked::CheckedCase;
 use crate::round::{Done, Job, Work, done_at, round};
 use std::alloc::Global;
 use std::io;
@@ -77,6 +78,24 @@ pub(crate) fn print<R: Threads + Clock + Print + Sync>(
     for case in cases {
         let times = times_of(rt, alloc, Job::Calls(*case, work), rounds)?;
         print_times(rt, case.name(), times.as_slice())?;
+    }
+    Ok(())
+}
+
+/// Prints four lines for each call: of an env and of a stay, without a watcher and with one, as those of calls are.
+pub(crate) fn print_checked<R: Threads + Clock + Print + Sync>(
+    rt: &R,
+    alloc: Global,
+    work: Work,
+    rounds: u32,
+) -> io::Result<()> {
+    for call in WATCHED {
+        for caller in CALLERS {
+            let case = CheckedCase { call, caller };
+            let times = times_of(rt, alloc, Job::Calls(Case::Checked(case), work), rounds)?;
+            print!(rt; "{}", case.before_name())?;
+            print_times(rt, case.name(), times.as_slice())?;
+        }
     }
     Ok(())
 }

@@ -1,7 +1,8 @@
 //! The calls in stays of sixteen, of which each is a type: so the loop that makes it is a loop of its own.
 
-use crate::case::Env;
-use jr_env::{NativeInterface, Stay};
+use crate::arrays::ArrayCase;
+use crate::case::{Case, Env};
+use jr_env::NativeInterface;
 use jr_steps::Steps;
 use jr_word::Handle;
 
@@ -36,6 +37,20 @@ impl StayCase {
             StayCase::Same => "in_a_stay:is_same_object(global,global)",
             StayCase::TypeOfGlobal => "in_a_stay:get_object_ref_type(global)",
             StayCase::Length => "in_a_stay:get_array_length",
+        }
+    }
+
+    /// The same call with an entry and an exit of its own.
+    pub(crate) fn whole(self) -> Case {
+        match self {
+            StayCase::TypeOfNull => Case::TypeOfNull,
+            StayCase::NewGlobal => Case::NewGlobal,
+            StayCase::DeleteGlobal => Case::DeleteGlobal,
+            StayCase::NewLocal => Case::NewLocal,
+            StayCase::DeleteLocal => Case::DeleteLocal,
+            StayCase::Same => Case::Same,
+            StayCase::TypeOfGlobal => Case::TypeOfGlobal,
+            StayCase::Length => Case::Arrays(ArrayCase::Length),
         }
     }
 
@@ -78,97 +93,142 @@ impl StayCase {
     }
 }
 
-/// A call that is made in a stay. Each is a function of its own and no part of the loop that makes it, as none is of native code.
-trait StayCall {
+/// A call that is made in a stay, or by an env with a watcher. Each is a function of its own and no part of the loop that makes it, as none is of native code.
+pub(crate) trait StayCall {
     /// Makes it, with the first handle and another one: whether it answered as it should.
-    fn is_right<S: Steps>(&self, stay: &mut Stay<'_, S>, first: Handle, at: Handle) -> bool;
+    fn is_right<S: Steps, N: NativeInterface<S>>(
+        &self,
+        made: &mut N,
+        first: Handle,
+        at: Handle,
+    ) -> bool;
 }
 
 /// What NULL is.
 #[derive(Clone, Copy)]
-struct TypeOfNull;
+pub(crate) struct TypeOfNull;
 
 impl StayCall for TypeOfNull {
     #[inline(never)]
-    fn is_right<S: Steps>(&self, stay: &mut Stay<'_, S>, _first: Handle, at: Handle) -> bool {
-        matches!(stay.get_object_ref_type(at), Ok(0))
+    fn is_right<S: Steps, N: NativeInterface<S>>(
+        &self,
+        made: &mut N,
+        _first: Handle,
+        at: Handle,
+    ) -> bool {
+        matches!(made.get_object_ref_type(at), Ok(0))
     }
 }
 
 /// A global reference.
 #[derive(Clone, Copy)]
-struct NewGlobal;
+pub(crate) struct NewGlobal;
 
 impl StayCall for NewGlobal {
     #[inline(never)]
-    fn is_right<S: Steps>(&self, stay: &mut Stay<'_, S>, _first: Handle, at: Handle) -> bool {
-        matches!(stay.new_global_ref(at), Ok(Some(_)))
+    fn is_right<S: Steps, N: NativeInterface<S>>(
+        &self,
+        made: &mut N,
+        _first: Handle,
+        at: Handle,
+    ) -> bool {
+        matches!(made.new_global_ref(at), Ok(Some(_)))
     }
 }
 
 /// A global reference is deleted.
 #[derive(Clone, Copy)]
-struct DeleteGlobal;
+pub(crate) struct DeleteGlobal;
 
 impl StayCall for DeleteGlobal {
     #[inline(never)]
-    fn is_right<S: Steps>(&self, stay: &mut Stay<'_, S>, _first: Handle, at: Handle) -> bool {
-        stay.delete_global_ref(at).is_ok()
+    fn is_right<S: Steps, N: NativeInterface<S>>(
+        &self,
+        made: &mut N,
+        _first: Handle,
+        at: Handle,
+    ) -> bool {
+        made.delete_global_ref(at).is_ok()
     }
 }
 
 /// A local reference.
 #[derive(Clone, Copy)]
-struct NewLocal;
+pub(crate) struct NewLocal;
 
 impl StayCall for NewLocal {
     #[inline(never)]
-    fn is_right<S: Steps>(&self, stay: &mut Stay<'_, S>, _first: Handle, at: Handle) -> bool {
-        matches!(stay.new_local_ref(at), Ok(Some(_)))
+    fn is_right<S: Steps, N: NativeInterface<S>>(
+        &self,
+        made: &mut N,
+        _first: Handle,
+        at: Handle,
+    ) -> bool {
+        matches!(made.new_local_ref(at), Ok(Some(_)))
     }
 }
 
 /// A local reference is deleted.
 #[derive(Clone, Copy)]
-struct DeleteLocal;
+pub(crate) struct DeleteLocal;
 
 impl StayCall for DeleteLocal {
     #[inline(never)]
-    fn is_right<S: Steps>(&self, stay: &mut Stay<'_, S>, _first: Handle, at: Handle) -> bool {
-        stay.delete_local_ref(at).is_ok()
+    fn is_right<S: Steps, N: NativeInterface<S>>(
+        &self,
+        made: &mut N,
+        _first: Handle,
+        at: Handle,
+    ) -> bool {
+        made.delete_local_ref(at).is_ok()
     }
 }
 
 /// Whether two references name one object.
 #[derive(Clone, Copy)]
-struct Same;
+pub(crate) struct Same;
 
 impl StayCall for Same {
     #[inline(never)]
-    fn is_right<S: Steps>(&self, stay: &mut Stay<'_, S>, first: Handle, at: Handle) -> bool {
-        matches!(stay.is_same_object(first, at), Ok(true))
+    fn is_right<S: Steps, N: NativeInterface<S>>(
+        &self,
+        made: &mut N,
+        first: Handle,
+        at: Handle,
+    ) -> bool {
+        matches!(made.is_same_object(first, at), Ok(true))
     }
 }
 
 /// What a global reference is.
 #[derive(Clone, Copy)]
-struct TypeOfGlobal;
+pub(crate) struct TypeOfGlobal;
 
 impl StayCall for TypeOfGlobal {
     #[inline(never)]
-    fn is_right<S: Steps>(&self, stay: &mut Stay<'_, S>, _first: Handle, at: Handle) -> bool {
-        matches!(stay.get_object_ref_type(at), Ok(2))
+    fn is_right<S: Steps, N: NativeInterface<S>>(
+        &self,
+        made: &mut N,
+        _first: Handle,
+        at: Handle,
+    ) -> bool {
+        matches!(made.get_object_ref_type(at), Ok(2))
     }
 }
 
 /// How many elements an array has.
 #[derive(Clone, Copy)]
-struct Length;
+pub(crate) struct Length;
 
 impl StayCall for Length {
     #[inline(never)]
-    fn is_right<S: Steps>(&self, stay: &mut Stay<'_, S>, _first: Handle, at: Handle) -> bool {
-        matches!(stay.get_array_length(at), Ok(LONG))
+    fn is_right<S: Steps, N: NativeInterface<S>>(
+        &self,
+        made: &mut N,
+        _first: Handle,
+        at: Handle,
+    ) -> bool {
+        matches!(made.get_array_length(at), Ok(LONG))
     }
 }
 

@@ -34,9 +34,9 @@ use Rattle.jr_census.specs.Dumps.{HasObjects, HasPlaces, HasPlacesOf, HasSlots, 
 use Rattle.jr_census.specs.declared.taking.Census.{Census}
 use Rattle.jr_census.specs.declared.slots.Slots.{Slots}
 use Rattle.jr_census.specs.declared.objects.Objects.{Objects as ObjectCounts}
-use Rattle.jr_census.specs.declared.words.Words.{Words}
+use Rattle.jr_census.specs.declared.words.WordCounts.{WordCounts}
 use Rattle.jr_census.specs.Counts.{AreLocals, AreObjects, AreSlots, HaveWords, unmarked}
-use Rattle.jr_census.specs.Taking.{Counts, IsCensusOf, IsDumpOf, IsTold, Notes, ShutIn}
+use Rattle.jr_census.specs.Taking.{CountsOnce, IsCensusOf, IsDumpOf, IsTold, NotesOnce, ShutIn}
 use Rattle.jr_census.specs.Taking.{TakesTold, TakesToldAnnounced, TellsOnce, ToldFrom, counting_steps, noting_steps}
 use Rattle.jr_census.specs.Telling.{LoadsTell}
 use Rattle.jr_census.proofs.SlotsCounted.{slots_on}
@@ -214,7 +214,7 @@ module _ {S : Type 0} {facts : S → Facts} (fits : AreOf facts) (marks : List B
       ))
 
   -- all counts are of one state
-  pub all_told : {v : S} (words : Words)
+  pub all_told : {v : S} (words : WordCounts)
       → LoadsTell facts (λ j. 1) f v (λ k. HaveWords x.words y.words words × ShowsUsed words.used k)
       → LoadsTell facts (λ j. counting_steps j.config) b v (λ k. IsCensusOf k.config k.last (state_of k)
       (record { slots = slots; locals = locals; objects = x; unreached = y; words = words }))
@@ -236,10 +236,10 @@ module _ {S : Type 0} {facts : S → Facts} (fits : AreOf facts) (marks : List B
       })
 
   -- THE STATE WAS COUNTED, and the gate opened
-  pub counts : {v z : S} (words : Words)
+  pub counts : {v z : S} (words : WordCounts)
       → LoadsTell facts (λ j. 1) f v (λ k. HaveWords x.words y.words words × ShowsUsed words.used k)
       → Took facts v z (Gate Reopen ∷ []) CanReopen lets_go
-      → Counts facts b z (record { slots = slots; locals = locals; objects = x; unreached = y; words = words })
+      → CountsOnce facts b z (record { slots = slots; locals = locals; objects = x; unreached = y; words = words })
   counts words top_told opened =
       let census : Census = record { slots = slots; locals = locals; objects = x; unreached = y; words = words } in
       tells_once fits counting_steps (λ c last s. IsCensusOf c last s census)
@@ -330,7 +330,7 @@ module _ {S : Type 0} {facts : S → Facts} (fits : AreOf facts) where
       → LoadsTell facts (λ j. j.config.threads * j.config.locals) c d (PlacesNoted locals)
       → LoadsTell facts (λ j. j.config.objects + j.config.words) d e
       (λ k. HasObjects k.config.objects (state_of k) headers words)
-      → Took facts e z (Gate Reopen ∷ []) CanReopen lets_go → Notes facts b z noted locals headers words
+      → Took facts e z (Gate Reopen ∷ []) CanReopen lets_go → NotesOnce facts b z noted locals headers words
   notes {b} {d = d} noted locals headers words collecting slots places objects opened = tells_once fits noting_steps
       (λ c last s. IsDumpOf c last s noted locals headers words) (dump_on noted locals headers words) collecting
       (told_then fits (λ j. noting_steps j.config) collecting references objects (λ k k' same config.

@@ -18,7 +18,7 @@ use Rattle.jr_weak.specs.Marks.{IsExactly}
 use Rattle.jr_weak.proofs.Collects.{same_back}
 use Rattle.jr_weak.proofs.Leading.{reached_on}
 use Rattle.jr_census.specs.declared.objects.Objects.{Objects as ObjectCounts}
-use Rattle.jr_census.specs.declared.words.Words.{Words}
+use Rattle.jr_census.specs.declared.words.WordCounts.{WordCounts}
 use Rattle.jr_census.specs.Counts.{AreObjects, AreUsedWords, HaveWords, marked, unless, unmarked}
 use Rattle.jr_census.specs.Telling.{LoadsTell, HasUsed}
 use Rattle.jr_census.proofs.Turns.{may_told, told_none, told_so, told_turn}
@@ -40,7 +40,7 @@ both_parts n marks objects =
     (λ o. length_of (objects o)) (λ o. parts_of (slice_index_or marks o false) (objects o))
 
 -- so the words are, by those of the objects
-pub words_from : (c : Config) (s : State) (marks : List Bool) (x y : ObjectCounts) (w : Words) → IsExactly marks s
+pub words_from : (c : Config) (s : State) (marks : List Bool) (x y : ObjectCounts) (w : WordCounts) → IsExactly marks s
     → AreObjects c.objects s.objects x → AreObjects c.objects (unmarked marks s.objects) y → HaveWords x.words y.words w
     → w.used ≡ s.used → AreUsedWords c s w
 words_from c s marks x y w exactly present unreached have is =
@@ -56,7 +56,8 @@ words_from c s marks x y w exactly present unreached have is =
     }
 
 -- they are so of the same tables
-pub words_on : (c : Config) (w : Words) {s t : State} → HaveSameTables s t → AreUsedWords c s w → AreUsedWords c t w
+pub words_on : (c : Config) (w : WordCounts) {s t : State} → HaveSameTables s t → AreUsedWords c s w
+    → AreUsedWords c t w
 words_on c w {s} {t} same are = record {
   used = are.used ∙ sym same.used;
   lost =
@@ -96,7 +97,7 @@ module _ {S : Type 0} {facts : S → Facts} (fits : AreOf facts) where
       let most = k.2.2 in (k.2.1, omega arith))
 
   -- THE TOP TELLS the rest
-  pub words_told : {a b : S} (present unreached : ℕ) (w : Words) → (facts a).stands.role ≡ Collecting
+  pub words_told : {a b : S} (present unreached : ℕ) (w : WordCounts) → (facts a).stands.role ≡ Collecting
       → Took facts a b [] anything (λ j k. ShowsUsed w.used k × keeps j k) → HaveWords present unreached w
       → LoadsTell facts (λ j. 1) a b (λ k. HaveWords present unreached w × ShowsUsed w.used k)
   words_told {a} present unreached w collects t have = told_so fits (λ j. 1) (λ k s. omega arith) (λ k s h. h)

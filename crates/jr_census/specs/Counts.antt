@@ -20,7 +20,7 @@ use Rattle.jr_weak.specs.Marks.{IsExactly}
 use Rattle.jr_census.specs.declared.slots.Slots.{Slots}
 use Rattle.jr_census.specs.declared.objects.KindCounts.{KindCounts}
 use Rattle.jr_census.specs.declared.objects.Objects.{Objects as ObjectCounts}
-use Rattle.jr_census.specs.declared.words.Words.{Words}
+use Rattle.jr_census.specs.declared.words.WordCounts.{WordCounts}
 
 -- a reference stands that is cleared
 abbrev pub is_cleared : Found → Bool
@@ -100,7 +100,7 @@ AreReached c s n =
 
 -- SO MANY WORDS ARE USED, so many of them no present object has, so many have the
 -- objects that are reached, and so many are the others, which a collection frees
-pub record AreUsedWords (c : Config) (s : State) (x : Words) : Type 0 where
+pub record AreUsedWords (c : Config) (s : State) (x : WordCounts) : Type 0 where
   pub used : x.used ≡ s.used
   pub lost : x.lost + present_words c s ≡ s.used
   pub reached : AreReached c s x.reached
@@ -156,7 +156,7 @@ pub record IsRoomFor (h : Option HeaderParts) (x : ObjectCounts) : Type 0 where
 
 -- For the crate's own functions:
 -- the words that are used, of which the present objects have so many, and those that nothing reaches so many
-pub record HaveWords (present unreached : ℕ) (x : Words) : Type 0 where
+pub record HaveWords (present unreached : ℕ) (x : WordCounts) : Type 0 where
   pub lost : x.lost + present ≡ x.used
   pub reached : x.reached + unreached ≡ present
   pub freed : x.freed + x.reached ≡ x.used

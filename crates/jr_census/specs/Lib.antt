@@ -1,4 +1,4 @@
-pub mod Counts
+pub mod CountsOnce
 pub mod Dumps
 pub mod Taking
 pub mod Laws

@@ -91,8 +91,8 @@ module _ {S : Type 0} (facts : S → Facts) (most : Config → ℕ) (tells : Con
 
 module _ {S : Type 0} (facts : S → Facts) (old new : S) where
   -- For the crate's own functions: it was counted, once the gate was shut
-  abbrev pub Counts : Census → Type 0
-  Counts x = TellsOnce facts counting_steps (λ c last s. IsCensusOf c last s x) old new
+  abbrev pub CountsOnce : Census → Type 0
+  CountsOnce x = TellsOnce facts counting_steps (λ c last s. IsCensusOf c last s x) old new
 
   -- A CENSUS WAS TAKEN
   abbrev pub TakesCensus : Census → Type 0
@@ -104,8 +104,8 @@ module _ {S : Type 0} (facts : S → Facts) (old new : S) where
       TakesToldAnnounced facts counting_steps (λ c last s. IsCensusOf c last s x) tries old new
 
   -- For the crate's own functions: it was noted, once the gate was shut
-  abbrev pub Notes : List SlotParts → List LocalParts → List (Option HeaderParts) → List ℕ → Type 0
-  Notes noted locals headers words =
+  abbrev pub NotesOnce : List SlotParts → List LocalParts → List (Option HeaderParts) → List ℕ → Type 0
+  NotesOnce noted locals headers words =
       TellsOnce facts noting_steps (λ c last s. IsDumpOf c last s noted locals headers words) old new
 
   -- A DUMP WAS TAKEN

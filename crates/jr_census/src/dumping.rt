@@ -6,7 +6,7 @@ ghost use Rattle.jr_model.specs.declared.event.Act.TheVariants.{ShutBusy};
 ghost use Rattle.jr_steps.specs.Knowing.{anything, keeps, CanReopen, IsLone, MayKnow, Took};
 ghost use Rattle.jr_gate.specs.Stays.{IsOwnCollection};
 ghost use Rattle.jr_weak.specs.Collecting.{GivesUp};
-ghost use Rattle.jr_census.specs.Taking.{Notes, TakesDump, TakesDumpAnnounced};
+ghost use Rattle.jr_census.specs.Taking.{NotesOnce, TakesDump, TakesDumpAnnounced};
 
 use crate::dump::{note_locals, note_objects, note_slots};
 use jr_gate::{Shut, shut_gate};
@@ -115,7 +115,7 @@ fn note<S: Steps>(
     ensures locals { length locals.new ≡ length locals.old }
     ensures headers { length headers.new ≡ length headers.old }
     ensures words { length words.new ≡ length words.old }
-    ensures all { Notes S.facts steps.old steps.new slots.new locals.new headers.new words.new }
+    ensures all { NotesOnce S.facts steps.old steps.new slots.new locals.new headers.new words.new }
 {
     note_slots(steps, slots);
     note_locals(steps, locals);

@@ -16,4 +16,4 @@ pub use laws::censuses_foretell_collections;
 pub use objects::{KindCounts, Objects};
 pub use slots::Slots;
 pub use taking::{Census, take_census, take_census_announced};
-pub use words::Words;
+pub use words::WordCounts;

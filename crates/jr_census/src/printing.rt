@@ -1,7 +1,7 @@
 //! A census as text, a line for each thing that it counts.
 use crate::objects::{KindCounts, Objects};
 use crate::taking::Census;
-use crate::words::Words;
+use crate::words::WordCounts;
 use jr_word::Kind;
 use std::fmt;
 
@@ -40,9 +40,9 @@ impl fmt::Display for Objects {
 }
 
 /// How many are used, and what for.
-impl fmt::Display for Words {
+impl fmt::Display for WordCounts {
     fn fmt<W: fmt::Write>(&self, f: &mut fmt::Formatter<W>) -> fmt::Result {
-        let Words {
+        let WordCounts {
             used,
             lost,
             reached,

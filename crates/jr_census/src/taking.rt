@@ -7,12 +7,12 @@ ghost use Rattle.jr_steps.specs.Knowing.{anything, keeps, CanReopen, IsLone, May
 ghost use Rattle.jr_gate.specs.Stays.{IsOwnCollection};
 ghost use Rattle.jr_weak.specs.Collecting.{GivesUp};
 ghost use Rattle.jr_weak.specs.Markers.{room_of};
-ghost use Rattle.jr_census.specs.Taking.{Counts, TakesCensus, TakesCensusAnnounced};
+ghost use Rattle.jr_census.specs.Taking.{CountsOnce, TakesCensus, TakesCensusAnnounced};
 
 use crate::locals::count_locals;
 use crate::objects::{Objects, count_objects};
 use crate::slots::{Slots, count_slots};
-use crate::words::{Words, count_words};
+use crate::words::{WordCounts, count_words};
 use jr_gate::{Shut, shut_gate};
 use jr_steps::Steps;
 use jr_weak::{Marker, shut_announced};
@@ -30,7 +30,7 @@ pub struct Census {
     /// Those of them that nothing reaches: what a collection would drop.
     pub unreached: Objects,
     /// The words of array space that are used, and what for.
-    pub words: Words,
+    pub words: WordCounts,
 }
 
 /// Tells what stands in the room at the step that shuts the gate for it, and opens the gate again. It changes nothing, takes no memory, and never waits. The marker, made for a room of so many objects, is for what nothing reaches, and serves again. The thread has to stand outside.
@@ -92,7 +92,7 @@ fn count<S: Steps>(steps: &mut S, shut: Shut, marker: &mut Marker) -> Census
     requires closed { MayKnow S.facts steps.old CanReopen }
     requires room { room_of marker.old ≡ (S.facts steps.old).stands.config.objects }
     ensures room { room_of marker.new ≡ room_of marker.old }
-    ensures all { Counts S.facts steps.old steps.new result }
+    ensures all { CountsOnce S.facts steps.old steps.new result }
 {
     marker.mark(steps);
     let slots = count_slots(steps);

@@ -9,7 +9,7 @@ use jr_steps::Steps;
 
 /// How many words of array space are used, and what for.
 #[derive(Clone, Copy, Debug, PartialEq, Eq)]
-pub struct Words {
+pub struct WordCounts {
     /// How many are used: those of the objects that are present, and lost ones.
     pub used: u32,
     /// Those that no object has: creations reserved them that were refused afterwards.
@@ -21,14 +21,14 @@ pub struct Words {
 }
 
 /// Looks how many words are used, where so many of them are those of the objects that are present, and so many those of such as nothing reaches.
-pub(crate) fn count_words<S: Steps>(steps: &mut S, present: u32, unreached: u32) -> Words
+pub(crate) fn count_words<S: Steps>(steps: &mut S, present: u32, unreached: u32) -> WordCounts
     requires role { (S.facts steps.old).stands.role ≡ Collecting }
     requires few { MayKnow S.facts steps.old (HasUsed present unreached) }
     ensures { LoadsTell S.facts (λ j. 1) steps.old steps.new (λ k. HaveWords present unreached result × ShowsUsed result.used k) }
 {
     let used = steps.scan_top();
     let reached = present - unreached;
-    Words {
+    WordCounts {
         used,
         lost: used - present,
         reached,

@@ -1,5 +1,5 @@
 -- A word is explained by a call of an env.
-use Rattle.std.proofs.Common.{◌≡◌, ◌||◌, ℕ, Bool, true, false, cond, [], ◌∷◌, ◌++◌, map, List, Result}
+use Rattle.std.proofs.Common.{◌≡◌, ◌||◌, ℕ, Bool, true, false, cond, [], ◌∷◌, ◌++◌, map, Result}
 use Rattle.std.proofs.Common.{Ok, Err, IfOk, refl, sym, ap, subst, ◌∙◌}
 use Rattle.std.specs.Result.{IsErrAnd}
 use mathlib.Core.List.{IsPrefix}

@@ -12,6 +12,7 @@ pub mod ExplainedWords
 pub mod ReadWords
 pub mod Served
 pub mod MadeAgain
+pub mod GivingBack
 pub mod FrameCalls
 pub mod ObjectLooks
 pub mod ElementChecks

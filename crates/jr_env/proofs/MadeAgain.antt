@@ -5,13 +5,11 @@ use Rattle.jr_word.specs.declared.fault.Fault.{Fault}
 use Rattle.jr_model.specs.Frames.{Frames}
 use Rattle.jr_steps.specs.Knowing.{Facts}
 use Rattle.jr_gate.specs.Performing.{ThreadState}
-use Rattle.jr_weak.specs.declared.collecting.Collected.{Collected}
 use Rattle.jr_elements.specs.Copies.{answer_in}
-use Rattle.jr_env.specs.Collections.{collection}
 use Rattle.jr_env.specs.Deeds.{Deed, DoesOutside}
 use Rattle.jr_env.proofs.EnvCalls.{does_more, does_next}
 use Rattle.jr_env.specs.Tries.{MadeAgain, settled, once_more, the_last, served, collected}
-use Rattle.jr_env.specs.Tries.{kept_out, is_worth_a_try, lacks_room, made_again, made_collecting}
+use Rattle.jr_env.specs.Tries.{MadeCollecting, kept_out, is_worth_a_try, lacks_room, made_again}
 
 module _ {M A : Type 0} {one : M → Result A Fault → M → Type 0} {waits : Bool} where
   pub tries_from_first : {old new : M} {answer : Result A Fault} (n : ℕ) → MadeAgain waits one (n - 0) old answer new
@@ -83,22 +81,23 @@ module _ {S : Type 0} {facts : S → Facts} where
         does_next (λ p m q d e. once_more d is e) x.0 (does_again steps frames kept turn x.1 t)
     does_again steps frames kept turn k (the_last o) = does_more (λ p q d. the_last d) (turn _ _ _ k o).0
 
-    pub was_served : {a b : S} {f g : Frames} {answer : Result A Fault} (n : ℕ)
-        → DoesOutside facts a b f g (made_again waits n deed) answer → lacks_room answer ≡ false
-        → DoesOutside facts a b f g (made_collecting waits n deed) answer
-    was_served n d is = does_more (λ p q t. served t is) d
+    module _ {C : Type 0} {collects : Deed C} where
+      pub was_served : {a b : S} {f g : Frames} {answer : Result A Fault} (n : ℕ)
+          → DoesOutside facts a b f g (made_again waits n deed) answer → lacks_room answer ≡ false
+          → DoesOutside facts a b f g (MadeCollecting (made_again waits n deed) collects) answer
+      was_served n d is = does_more (λ p q t. served t is) d
 
-    pub was_collected : {a b c d : S} {f g h i : Frames} {once answer : Result A Fault} (n : ℕ) (x : Collected)
-        → DoesOutside facts a b f g (made_again waits n deed) once → lacks_room once ≡ true
-        → DoesOutside facts b c g h collection (Ok x) → DoesOutside facts c d h i (made_again waits n deed) answer
-        → DoesOutside facts a d f i (made_collecting waits n deed) answer
-    was_collected {once = once} {answer = answer} n x first is between second =
-        does_next (λ p m q t rest. collected t is rest.1 rest.2) first
-        (does_next {both = λ p r q. (m : ThreadState) × collection p (Ok x) m × made_again waits n deed m r q}
-        (λ p m q c t. (m, c, t)) between second)
+      pub was_collected : {a b c d : S} {f g h i : Frames} {once answer : Result A Fault} (n : ℕ) (x : C)
+          → DoesOutside facts a b f g (made_again waits n deed) once → lacks_room once ≡ true
+          → DoesOutside facts b c g h collects (Ok x) → DoesOutside facts c d h i (made_again waits n deed) answer
+          → DoesOutside facts a d f i (MadeCollecting (made_again waits n deed) collects) answer
+      was_collected {once = once} {answer = answer} n x first is between second =
+          does_next (λ p m q t rest. collected t is rest.1 rest.2) first
+          (does_next {both = λ p r q. (m : ThreadState) × collects p (Ok x) m × made_again waits n deed m r q}
+          (λ p m q c t. (m, c, t)) between second)
 
-    pub was_kept_out : {a b c : S} {f g h : Frames} {once : Result A Fault} (n : ℕ) (e : Fault)
-        → DoesOutside facts a b f g (made_again waits n deed) once → lacks_room once ≡ true
-        → DoesOutside facts b c g h collection (Err e)
-        → DoesOutside facts a c f h (made_collecting waits n deed) (Err e)
-    was_kept_out n e first is between = does_next (λ p m q t c. kept_out t is c) first between
+      pub was_kept_out : {a b c : S} {f g h : Frames} {once : Result A Fault} (n : ℕ) (e : Fault)
+          → DoesOutside facts a b f g (made_again waits n deed) once → lacks_room once ≡ true
+          → DoesOutside facts b c g h collects (Err e)
+          → DoesOutside facts a c f h (MadeCollecting (made_again waits n deed) collects) (Err e)
+      was_kept_out n e first is between = does_next (λ p m q t c. kept_out t is c) first between

@@ -1,5 +1,5 @@
 -- Each call moves the frames of its thread, whatever it requests.
-use Rattle.std.proofs.Common.{◌≡◌, ℕ, List, Result, Ok, Err, inl, inr, sym, subst}
+use Rattle.std.proofs.Common.{ℕ, List, Ok, Err, inl, inr, sym, subst}
 use Rattle.jr_word.specs.declared.config.Config.{Config}
 use Rattle.jr_model.specs.declared.event.Act.{Act}
 use Rattle.jr_model.specs.State.{State}
@@ -9,8 +9,8 @@ use Rattle.jr_model.specs.Calls.{Call, entered}
 use Rattle.jr_model.proofs.Lawful.{same_leads}
 use Rattle.jr_gate.specs.Performing.{ThreadState}
 use Rattle.jr_elements.specs.Copies.{answer_in}
-use Rattle.jr_env.specs.Requests.{IsLawfulWork, Request, asks, gives, on_word, on_words, told_by}
-use Rattle.jr_env.specs.Deeds.{Deed, How, after_exit, answered_by, call_by, deed_of, whole, within_by, in_a_stay}
+use Rattle.jr_env.specs.Requests.{IsLawfulWork, Request, asks, gives, named, on_word, on_words, told_by}
+use Rattle.jr_env.specs.Deeds.{Deed, How, after_exit, answered_by, call_by, deed_of, whole, within_by}
 use Rattle.jr_env.specs.Moving.{DeedMovesFrames, RequestMovesFrames}
 
 -- the answer in another form moves what the deed moves
@@ -31,6 +31,7 @@ each how moved (on_words v w next) old new answer d = each how moved (next d.0 d
 each how moved (gives form first) old new answer d =
     in_form form (deed_of how first) (each how moved first) old new answer d
 each how moved (told_by form first) old new answer d = each how moved first old new (answer_in form answer) d
+each how moved (named name first) old new answer d = each how moved first old new answer d
 
 -- a whole call does: its entry and its exit leave the frames, and so does a shut gate
 whole_moves : {A : Type 0} (silent : Config → ℕ) (work : Config → ℕ → ℕ → State → Call A) → IsLawfulWork work

@@ -23,7 +23,7 @@ use Rattle.jr_frames.specs.Table.{Table}
 use Rattle.jr_frames.specs.Ready.{StandsReady, KeepsOwner}
 use Rattle.jr_frames.specs.Steady.{IsSteady}
 use Rattle.jr_frames.proofs.StillReady.{ready_after}
-use Rattle.jr_env.specs.Requests.{Request, asks, gives, on_word, on_words, told_by}
+use Rattle.jr_env.specs.Requests.{Request, asks, gives, named, on_word, on_words, told_by}
 use Rattle.jr_env.specs.Deeds.{DoesDeed, DoesOutside, answered_by, whole, in_a_stay}
 use Rattle.jr_env.specs.OpenStays.{StaysOn}
 use Rattle.jr_env.specs.Works.{EndsStay, Serves}
@@ -105,6 +105,7 @@ module _ {S : Type 0} {facts : S → Facts} where
   ready_served (on_words v w next) answer r o p = ready_served (next p.0 p.1) answer r o p.4
   ready_served (gives form first) answer r o p = ready_served first p.0 r o p.2
   ready_served (told_by form first) answer r o p = ready_served first (answer_in form answer) r o p
+  ready_served (named name first) answer r o p = ready_served first answer r o p
 
   module _ (fits : AreOf facts) where
     -- a request that was served between an entry and an exit, once a stay that was left has been ended
@@ -124,6 +125,7 @@ module _ {S : Type 0} {facts : S → Facts} where
         does_found form first p.0 p.1 (does_served first p.0 ended e p.2 own l)
     does_served (told_by form first) answer ended e p own l =
         does_more (λ k m x. x) (does_served first (answer_in form answer) ended e p own l)
+    does_served (named name first) answer ended e p own l = does_served first answer ended e p own l
 
     -- and where the gate was found shut
     pub does_barred : {A : Type 0} {o a b : S} {r t : Table} {e : Fault} (request : Request A) (answer : Result A Fault)
@@ -143,6 +145,7 @@ module _ {S : Type 0} {facts : S → Facts} where
         does_found form first (Err e) (refused_is answer given) (does_barred first (Err e) ended refl why)
     does_barred (told_by form first) answer ended given why =
         does_more (λ k m x. x) (does_barred first (answer_in form answer) ended (kept_is _ form answer given) why)
+    does_barred (named name first) answer ended given why = does_barred first answer ended given why
 
     -- a request that was served in a stay
     pub did_served : {A : Type 0} {a b : S} {f g : Frames} (request : Request A) (answer : Result A Fault)
@@ -153,6 +156,7 @@ module _ {S : Type 0} {facts : S → Facts} where
         did_more (λ k m x. (p.0, p.1, p.2, p.3, x)) (did_served (next p.0 p.1) answer p.4)
     did_served (gives form first) answer p = did_found form first p.0 p.1 (did_served first p.0 p.2)
     did_served (told_by form first) answer p = did_more (λ k m x. x) (did_served first (answer_in form answer) p)
+    did_served (named name first) answer p = did_served first answer p
 
   -- a call whose answer is kept in a form of the code's own
   pub does_kept : {A B : Type 0} {a b : S} {f g : Frames} (form : A → B) (request : Request B) {answer : Result A Fault}
@@ -169,3 +173,4 @@ module _ {S : Type 0} {G : Ghosts S} (fits : AreOf G.facts) (old new : Held S G)
   on_served (on_words v w next) answer p = on_served (next p.0 p.1) answer p.4
   on_served (gives form first) answer p = on_served first p.0 p.2
   on_served (told_by form first) answer p = on_served first (answer_in form answer) p
+  on_served (named name first) answer p = on_served first answer p

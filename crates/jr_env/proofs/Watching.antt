@@ -4,7 +4,7 @@ use Rattle.jr_word.specs.declared.fault.Fault.{Fault}
 use Rattle.jr_frames.specs.declared.explaining.Explanation.{Explanation}
 use Rattle.jr_env.specs.declared.checked.Checked.{Checked}
 use Rattle.jr_env.specs.declared.checked.Refusal.{Refusal}
-use Rattle.jr_env.specs.Requests.{Request, request_words}
+use Rattle.jr_env.specs.Requests.{Request, request_name, request_words}
 use Rattle.jr_env.specs.Watching.{HasTold, WasWatched}
 
 module _ {N W A : Type 0} {explained : N → N → ℕ → Result Explanation Fault → Type 0} {thread : N → ℕ}
@@ -18,15 +18,17 @@ module _ {N W A : Type 0} {explained : N → N → ℕ → Result Explanation Fa
       record { same_reference = same; mid = mid; call = call; watcher = watcher; tells = refl }
 
   -- where it was, the watcher was
-  pub refused : {new : Checked N W} {words : List ℕ} (e : Fault) → made old.caller.now mid.caller.now request (Err e)
+  pub refused : {new : Checked N W} {name words : List ℕ} (e : Fault)
+      → made old.caller.now mid.caller.now request (Err e)
       → mid.caller.ghost_name ≡ old.caller.ghost_name → mid.watcher ≡ old.watcher
-      → new.caller.ghost_name ≡ mid.caller.ghost_name → words ≡ request_words request
-      → HasTold explained thread hears mid new words e
+      → new.caller.ghost_name ≡ mid.caller.ghost_name → name ≡ request_name request
+      → words ≡ request_words request → HasTold explained thread hears mid new name words e
       → WasWatched explained thread hears made old new request (Err e)
-  refused {new} e call same watcher then are told = record {
+  refused {new} {name} {words} e call same watcher then called are told = record {
     same_reference = then ∙ same;
     mid = mid;
     call = call;
     watcher = watcher;
-    tells = subst (λ ws. HasTold explained thread hears mid new ws e) are told;
+    tells = subst (λ n. HasTold explained thread hears mid new n (request_words request) e) called
+        (subst (λ ws. HasTold explained thread hears mid new name ws e) are told);
   }

@@ -23,7 +23,7 @@ use Rattle.jr_steps.specs.Knowing.{Facts, Leads, Holds}
 use Rattle.jr_frames.specs.Reading.{IsReadAs}
 use Rattle.jr_gate.specs.Performing.{IsAsBefore, ThreadState, thread_state, IsMade}
 use Rattle.jr_elements.specs.Copies.{answer_in}
-use Rattle.jr_env.specs.Requests.{Request, asks, gives, on_word, on_words, told_by}
+use Rattle.jr_env.specs.Requests.{Request, asks, gives, named, on_word, on_words, told_by}
 use Rattle.jr_env.specs.Requests as requests
 
 -- from an old moment this answer and the new moment may come
@@ -101,6 +101,7 @@ deed_of how (on_words v w next) =
     λ old answer new. (a b : Word) × IsReadAs v a × IsReadAs w b × deed_of how (next a b) old answer new
 deed_of how (gives form first) = answered_by form (deed_of how first)
 deed_of how (told_by form first) = λ old answer new. deed_of how first old (answer_in form answer) new
+deed_of how (named name first) = deed_of how first
 
 -- A WHOLE CALL of what is requested: the work in a stay of its own, or the gate is shut
 abbrev pub whole : {A : Type 0} → Request A → Deed A

@@ -7,6 +7,7 @@ pub mod Criticals
 pub mod Collections
 pub mod Censuses
 pub mod Tries
+pub mod Remedies
 pub mod Turns
 pub mod Scopes
 pub mod Texts

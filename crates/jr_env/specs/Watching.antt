@@ -7,7 +7,7 @@ use Rattle.jr_env.specs.declared.checked.Evidence.{Evidence}
 use Rattle.jr_env.specs.declared.checked.Evidence.TheVariants.{Nothing, One, Both}
 use Rattle.jr_env.specs.declared.checked.Examined.{Examined}
 use Rattle.jr_env.specs.declared.checked.Refusal.{Refusal}
-use Rattle.jr_env.specs.Requests.{Request, request_words}
+use Rattle.jr_env.specs.Requests.{Request, request_name, request_words}
 
 -- the words that a watcher is told of, with what each is
 abbrev pub evidence_of : Evidence → List Examined
@@ -29,18 +29,19 @@ module _ {N : Type 0} (explained : N → N → ℕ → Result Explanation Fault 
 
 module _ {N W : Type 0} (explained : N → N → ℕ → Result Explanation Fault → Type 0) (thread : N → ℕ)
     (hears : W → W → Refusal → Type 0) where
-  -- THE WATCHER WAS TOLD of one refusal: whose it is, why, and of each word that was handed in what it is
-  pub record HasTold (old new : Checked N W) (words : List ℕ) (fault : Fault) : Type 0 where
+  -- THE WATCHER WAS TOLD of one refusal: whose it is, of which call, why, and what each word is that was handed in
+  pub record HasTold (old new : Checked N W) (name words : List ℕ) (fault : Fault) : Type 0 where
     pub refusal : Refusal
     pub heard : hears old.watcher new.watcher refusal
     pub whose : refusal.thread ≡ thread old.caller.now
+    pub which : refusal.call.now ≡ name
     pub why : refusal.fault ≡ fault
     pub looks : ExaminesEach explained old.caller.now new.caller.now words (evidence_of refusal.evidence)
 
   -- what stands behind the call beneath: where it was not refused that, and nothing was told; and else what was told
-  abbrev pub TellsOf : {A : Type 0} → Checked N W → Checked N W → List ℕ → Result A Fault → Type 0
-  TellsOf old new words (Ok x) = new ≡ old
-  TellsOf old new words (Err e) = HasTold old new words e
+  abbrev pub TellsOf : {A : Type 0} → Checked N W → Checked N W → List ℕ → List ℕ → Result A Fault → Type 0
+  TellsOf old new name words (Ok x) = new ≡ old
+  TellsOf old new name words (Err e) = HasTold old new name words e
 
   -- THE CALL'S ANSWER IS THAT OF THE CALLER BENEATH, and the watcher was told of it just where it is a refusal
   pub record WasWatched {A : Type 0} (made : N → N → Request A → Result A Fault → Type 0) (old new : Checked N W)
@@ -49,4 +50,4 @@ module _ {N W : Type 0} (explained : N → N → ℕ → Result Explanation Faul
     pub mid : Checked N W
     pub call : made old.caller.now mid.caller.now request answer
     pub watcher : mid.watcher ≡ old.watcher
-    pub tells : TellsOf mid new (request_words request) answer
+    pub tells : TellsOf mid new (request_name request) (request_words request) answer

@@ -25,7 +25,7 @@ use Rattle.jr_frames.specs.Ready.{StandsReady}
 use Rattle.jr_frames.specs.Reading.{IsReadAs}
 use Rattle.jr_frames.specs.Steady.{IsSteady}
 use Rattle.jr_elements.specs.Copies.{answer_in}
-use Rattle.jr_env.specs.Requests.{Request, asks, gives, on_word, on_words, told_by}
+use Rattle.jr_env.specs.Requests.{Request, asks, gives, named, on_word, on_words, told_by}
 use Rattle.jr_env.specs.Deeds.{DoesDeed, DoesOutside, whole, in_a_stay}
 use Rattle.jr_env.specs.Requests.{making_steps}
 
@@ -77,6 +77,7 @@ module _ {S : Type 0} (facts : S → Facts) where
   Serves old new f g (gives {B = B} form first) answer =
       (found : Result B Fault) × (answer ≡ answer_in form found) × Serves old new f g first found
   Serves old new f g (told_by form first) answer = Serves old new f g first (answer_in form answer)
+  Serves old new f g (named name first) answer = Serves old new f g first answer
 
   -- a stay that was left was ended: where the thread stood outside nothing changed, and else it went out, by one step;
   -- and it stands ready outside, with the same frames

@@ -9,6 +9,7 @@ mod explaining;
 mod frames;
 mod making;
 mod meeting;
+pub(crate) mod names;
 mod notes;
 mod objects;
 mod references;

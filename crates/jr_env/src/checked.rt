@@ -2,6 +2,7 @@
 ghost use Rattle.std.specs.Prelude.{◌≡◌};
 ghost use Rattle.jr_env.specs.Watching.{Examines};
 
+use crate::calls::names;
 use crate::env::Env;
 use crate::native_call::{Handed, NativeCall, NativeCaller};
 use crate::stay::Stay;
@@ -131,6 +132,37 @@ pub struct Checked<'e, N, W> {
     pub watcher: W,
 }
 
+impl<'e, N, W> Checked<'e, N, W> {
+    ghost use Rattle.std.specs.Prelude.{◌≡◌};
+
+    /// The env or the stay, with a watcher.
+    #[inline(always)]
+    pub fn new(caller: &'e mut N, watcher: W) -> Self
+        ensures same_reference { result.caller.ghost_name ≡ caller.entry.ghost_name }
+        ensures caller { result.caller.now ≡ caller.old }
+        ensures watcher { result.watcher ≡ watcher }
+    {
+        Checked { caller, watcher }
+    }
+
+    /// The watcher, with what it was told so far.
+    pub fn watcher(&self) -> &W
+        ensures { result.now ≡ self.now.watcher }
+    {
+        &self.watcher
+    }
+
+    /// Who makes the calls, and the watcher with what it was told.
+    pub fn into_parts(self) -> (&'e mut N, W)
+        ensures same_reference { result.0.ghost_name ≡ self.entry.caller.ghost_name }
+        ensures caller { result.0.now ≡ self.entry.caller.now }
+        ensures watcher { result.1 ≡ self.entry.watcher }
+    {
+        let Checked { caller, watcher } = self;
+        (caller, watcher)
+    }
+}
+
 impl<N: Explains, W: Watcher> Checked<'_, N, W> {
     ghost use Rattle.jr_env.specs.Requests.{handed_words};
     ghost use Rattle.jr_env.specs.Watching.{ExaminesEach, HasTold, evidence_of};
@@ -155,7 +187,7 @@ impl<N: Explains, W: Watcher> Checked<'_, N, W> {
     #[cold]
     fn tell(&mut self, call: &'static str, handed: Handed, fault: Fault)
         ensures same_reference { self.new.caller.ghost_name ≡ self.old.caller.ghost_name }
-        ensures told { HasTold N.explained N.thread W.hears self.old self.new (handed_words handed) fault }
+        ensures told { HasTold N.explained N.thread W.hears self.old self.new call.now (handed_words handed) fault }
     {
         let thread = self.caller.thread();
         let evidence = self.gather(handed);
@@ -175,11 +207,12 @@ impl<S: Steps, N: NativeCaller<S> + Explains, W: Watcher> NativeCaller<S> for Ch
 
     #[inline(always)]
     fn make<C: NativeCall<S> + Drop>(&mut self, call: C) -> Result<C::Answer, Fault> {
+        let name = call.name();
         let handed = call.handed();
         match self.caller.make(call) {
             Ok(answer) => Ok(answer),
             Err(fault) => {
-                self.tell(C::NAME, handed, fault);
+                self.tell(name, handed, fault);
                 Err(fault)
             }
         }
@@ -195,7 +228,7 @@ impl<S: Steps, N: NativeCaller<S> + Explains, W: Watcher> NativeCaller<S> for Ch
         match self.caller.copy_part(array, start, elements) {
             Ok(()) => Ok(()),
             Err(fault) => {
-                self.tell("Get<PrimitiveType>ArrayRegion", Handed::One(array), fault);
+                self.tell(names::get_region(E::KIND), Handed::One(array), fault);
                 Err(fault)
             }
         }

@@ -84,6 +84,7 @@ impl<S: Steps> NativeCaller<S> for Env<S> {
 
     ghost made = { λ old new request answer. Does old new (whole request) answer };
 
+    #[inline(always)]
     fn make<C: NativeCall<S> + Drop>(&mut self, call: C) -> Result<C::Answer, Fault> {
         let held = &mut self.held;
         outside(held);

@@ -12,6 +12,7 @@ pub mod levels_beside;
 mod native_call;
 mod native_interface;
 mod patience;
+mod remedies;
 mod reporting;
 mod retrying;
 mod scope;

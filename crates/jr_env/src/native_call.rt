@@ -23,18 +23,19 @@ pub trait NativeCall<S: Steps> {
     ghost use Rattle.jr_gate.specs.Stays.{IsOwnStay};
     ghost use Rattle.jr_frames.specs.Ready.{StandsReady, KeepsOwner};
     ghost use Rattle.std.specs.Prelude.{◌≡◌};
-    ghost use Rattle.jr_env.specs.Requests.{Request, handed_words, request_words};
+    ghost use Rattle.jr_env.specs.Requests.{Request, handed_words, request_name, request_words};
     ghost use Rattle.jr_env.specs.Works.{Serves};
 
     /// What it answers.
     type Answer: Drop;
 
-    /// What it is called: as the Java Native Interface does, where that has it.
-    const NAME: &'static str;
-
     ghost request: { Self → Request Self.Answer };
 
-    /// The words that it is handed as references.
+    /// What it is called: as the Java Native Interface does, where that has it.
+    fn name(&self) -> &'static str
+        ensures { result.now ≡ request_name (request self.now) };
+
+    /// The words that it is handed as references. Of a request that reads more by what these say, they are the first.
     fn handed(&self) -> Handed
         ensures { handed_words result ≡ request_words (request self.now) };
 

@@ -74,7 +74,7 @@ impl Patience {
     }
 
     /// Lets others run before the next try, where that is wanted.
-    fn pause(self) {
+    pub(crate) fn pause(self) {
         if self.yields {
             thread::yield_now();
         }

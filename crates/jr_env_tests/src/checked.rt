@@ -36,13 +36,12 @@ fn said(rt: &impl Abort, alloc: Global, last: Option<Refusal>, wanted: &str) -> 
     Ok(())
 }
 
-/// The env, with a tally that was told nothing.
-fn watched<S: Steps>(caller: &mut Env<S>) -> Checked<'_, Env<S>, Tally> {
-    let watcher = Tally {
+/// A tally that was told nothing.
+fn nothing_told() -> Tally {
+    Tally {
         counts: [0; 24],
         last: None,
-    };
-    Checked { caller, watcher }
+    }
 }
 
 /// Each refused call is told with what its words are, and one that is not refused isn't.
@@ -53,15 +52,15 @@ pub(crate) fn are_told<S: Steps>(
 ) -> Result<(), Fail> {
     let string = env.new_string(&[7])?;
     let array = env.new_array::<i32>(2)?;
-    let mut checked = watched(env);
+    let mut checked = Checked::new(env, nothing_told());
     checked.get_array_length(array)?;
-    assert!(rt; checked.watcher.last.is_none());
+    assert!(rt; checked.watcher().last.is_none());
     let refused = checked.get_array_length(string);
     assert!(rt; refused == Err(Fault::NotArray));
     said(
         rt,
         alloc,
-        checked.watcher.last,
+        checked.watcher().last,
         "thread 0: GetArrayLength: E5, the object is not an array; 0x1 is a local reference to a String",
     )?;
     let refused = checked.is_same_object(array, Handle(u64::MAX));
@@ -69,11 +68,20 @@ pub(crate) fn are_told<S: Steps>(
     said(
         rt,
         alloc,
-        checked.watcher.last,
+        checked.watcher().last,
         "thread 0: IsSameObject: E2, no reference of this word stands; 0x400000001 is a local reference to an int[]; 0xffffffffffffffff is no handle",
+    )?;
+    let refused = checked.set_array_region(array, 1, &[7i64]);
+    assert!(rt; refused == Err(Fault::WrongElement));
+    said(
+        rt,
+        alloc,
+        checked.watcher().last,
+        "thread 0: SetLongArrayRegion: E6, the array's elements are of another kind than the call is for; 0x400000001 is a local reference to an int[]",
     )?;
     let refused = checked.new_array::<i64>(u32::MAX);
     assert!(rt; refused.is_err());
-    assert!(rt; checked.watcher.counts[2] == 1 && checked.watcher.counts[5] == 1);
+    let (_env, tally) = checked.into_parts();
+    assert!(rt; tally.counts[2] == 1 && tally.counts[5] == 1 && tally.counts[6] == 1);
     Ok(())
 }

@@ -25,6 +25,7 @@ mod owners;
 mod plain;
 #[cfg(test)]
 mod references;
+mod remedies;
 #[cfg(test)]
 mod scopes;
 #[cfg(test)]

@@ -6,6 +6,7 @@ use crate::explained::are_explained;
 use crate::frames::frees_all;
 use crate::handles::{place_gives_more, slot_gives_more};
 use crate::references::{are_deleted_by_kind, goes_round};
+use crate::remedies::give_back;
 use crate::scopes::are_made;
 use jr_env::Env;
 use jr_fixtures::plain_env;
@@ -36,6 +37,8 @@ pub(crate) enum Case {
     OfOthers,
     /// Calls that are made again.
     Again,
+    /// What gives a full room back.
+    Remedies,
 }
 
 /// Tries it in an env in which nothing stands.
@@ -55,6 +58,7 @@ fn try_case<S: Steps>(
         Case::Place => place_gives_more(rt, env),
         Case::OfOthers => are_made(rt, alloc, env),
         Case::Again => is_made_behind(rt, alloc, env),
+        Case::Remedies => give_back(rt, alloc, env),
     }
 }
 

@@ -4,7 +4,7 @@ use Rattle.jr_word.specs.declared.fault.Fault.{Fault}
 use Rattle.jr_model.specs.declared.event.Act.{Act}
 use Rattle.jr_model.specs.declared.event.Act.TheVariants.{Create}
 use Rattle.jr_model.specs.State.{State}
-use Rattle.jr_model.specs.History.{PassView}
+use Rattle.jr_model.specs.History.{Did, PassView}
 use Rattle.jr_model.specs.Frames.{Frames}
 use Rattle.jr_model.specs.Calls.{Call, Ran}
 use Rattle.jr_steps.specs.declared.known.Known.{Known}
@@ -48,6 +48,18 @@ thread_state_with fresh hint k f =
 -- its state where so much is known of such a pass
 abbrev pub thread_state : Facts → Known → Frames → ThreadState
 thread_state s = thread_state_with s.stands.fresh s.hint
+
+-- A THREAD LEARNS:
+-- all that others have done in between is seen, by at most one operation, and nothing else of it changes
+pub record HasLearned (old new : ThreadState) : Type 0 where
+  pub did : Did old.pass new.pass []
+  pub frames : new.frames ≡ old.frames
+  pub held : new.held ≡ old.held
+  pub fresh : new.fresh ≡ old.fresh
+  pub hint : new.hint ≡ old.hint
+  pub without : ℕ
+  pub most : without ≤ 1
+  pub taken : new.taken ≡ old.taken + without
 
 -- what acts take from a pass: one operation each, and at most so many more, of which nobody else could tell;
 -- it is as fresh as they leave it, and its next search begins where they leave it

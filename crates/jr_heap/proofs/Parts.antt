@@ -2,7 +2,6 @@
 use Rattle.std.proofs.Common.{◌≡◌, ◌≢◌, ◌<◌, ◌+◌, ℕ, suc, true, List, [], ◌∷◌, ◌++◌, take}
 use Rattle.std.proofs.Common.{map, length, get_or, Ok, refl, sym, ap, subst, ◌∙◌, arith}
 use Rattle.std.proofs.lemmas.List.{map-append, length-map, length-take-le, take_all, take_more}
-use Rattle.std.proofs.Math.Logic.{∥∥₁_elim}
 use Rattle.std.proofs.Props.{props}
 use mathlib.Core.Logic.{∥∥₁_map}
 use Rattle.jr_word.specs.declared.header.HeaderParts.{HeaderParts}
@@ -17,7 +16,7 @@ use Rattle.jr_model.specs.State.{State, IsWord}
 use Rattle.jr_model.specs.History.{Did}
 use Rattle.jr_model.specs.Checks.{is_read_as, same_element}
 use Rattle.jr_model.specs.Parts.{read, write, read_acts, write_acts}
-use Rattle.jr_model.proofs.Stays.{did_nothing, did_then}
+use Rattle.jr_model.proofs.Stays.{did_then}
 use Rattle.jr_model.proofs.Windows.{AreWithin, window_within}
 use Rattle.jr_steps.specs.declared.known.Known.{Known}
 use Rattle.jr_steps.specs.declared.known.Holdings.{Holdings}
@@ -26,9 +25,8 @@ use Rattle.jr_steps.specs.Knowing.{AreOf, Facts, Leads, MayKnow, Standing, keeps
 use Rattle.jr_steps.specs.Knowing.{standing_after, KnowsHeader, IsWordNow, Took, Takes}
 use Rattle.jr_steps.proofs.StepFacts.{goes_did}
 use Rattle.jr_heap.specs.Heap.{Called, by_steps, HoldsHeader, LeavesObject}
-use Rattle.jr_heap.proofs.Calling.{no_step, called_by}
+use Rattle.jr_heap.proofs.Calling.{called_by}
 use Rattle.jr_heap.proofs.StayFacts.{object_later}
-use Rattle.jr_heap.proofs.Elements.{read_word}
 
 -- ACTS, one more at the end
 

@@ -7,7 +7,7 @@ use jr_model::Found;
 
 /// What is compared of a census.
 #[derive(Clone, Copy, PartialEq, Eq)]
-pub(crate) struct Counts {
+pub(crate) struct CensusCounts {
     /// Global references.
     globals: u32,
     /// Weak ones, cleared ones too.
@@ -26,14 +26,14 @@ pub(crate) struct Counts {
     freed: u32,
 }
 
-impl Counts {
+impl CensusCounts {
     /// What a census of a room tells.
     pub(crate) fn of(census: &Census) -> Self {
         let mut locals = 0u32;
         for count in census.locals {
             locals = locals.saturating_add(count);
         }
-        Counts {
+        CensusCounts {
             globals: census.slots.globals,
             weaks: census.slots.weaks,
             cleared: census.slots.cleared,
@@ -57,10 +57,10 @@ impl Machine {
     }
 
     /// What a census counts in this state.
-    fn counts(&self) -> Counts {
+    fn counts(&self) -> CensusCounts {
         let summary = self.summary();
         let (unreached, reached_words) = self.unreached();
-        Counts {
+        CensusCounts {
             globals: summary.globals,
             weaks: summary.weaks,
             cleared: self.cleared(),

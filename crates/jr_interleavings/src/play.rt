@@ -1,7 +1,7 @@
 //! What one thread of a run does: it makes ready what it needs, and makes its calls.
 
 use crate::case::{Call, Name};
-use crate::counted::Counts;
+use crate::counted::CensusCounts;
 use crate::run::Baton;
 use crate::scheduled::Scheduled;
 use crate::seen::Answer;
@@ -34,10 +34,10 @@ fn collect<S: Steps>(env: &mut Env<S>, alloc: Global, tries: u32) -> Result<Coll
 }
 
 /// Takes a census.
-fn counted<S: Steps>(env: &mut Env<S>, alloc: Global) -> Result<Counts, Fault> {
+fn counted<S: Steps>(env: &mut Env<S>, alloc: Global) -> Result<CensusCounts, Fault> {
     let mut marker = Marker::new(alloc, env.held.steps.config())?;
     let census = env.census(&mut marker)?;
-    Ok(Counts::of(&census))
+    Ok(CensusCounts::of(&census))
 }
 
 /// A new reference, to null where there is none.

@@ -1,7 +1,7 @@
 //! What a call has seen of the machine, and the answer that it makes.
 
 use crate::case::Call;
-use crate::counted::Counts;
+use crate::counted::CensusCounts;
 use crate::machine::{Machine, Verdict, add, must};
 use jr_model::Found;
 use jr_weak::Collected;
@@ -63,7 +63,7 @@ pub(crate) enum Answer {
     /// What a collection did.
     Collected(Collected),
     /// What a census counted.
-    Counted(Counts),
+    Counted(CensusCounts),
     /// It was refused.
     Refused(Fault),
 }

@@ -11,15 +11,15 @@ use Rattle.jr_model.specs.declared.event.Act.TheVariants.{Gate, Create, Delete, 
 use Rattle.jr_model.specs.declared.event.GateAct.TheVariants.{Shut, Reopen}
 use Rattle.jr_model.specs.State.{Handle, same_handle, Contents, State, IsReached, present_words}
 use Rattle.jr_model.specs.Steps.{Needs, ActNeeds, act_after, after}
-use Rattle.jr_model.specs.History.{History, by, state, state_from, IsLegal, IsLegalFrom, mine, PassView, Did}
+use Rattle.jr_model.specs.History.{History, by, state, state_from, IsLegal, IsLegalFrom, mine}
 use Rattle.jr_model.specs.CollectionCalls.{IsToClear, IsToDrop, IsWhole, IsExact, KeepsReached}
-use Rattle.jr_model.specs.CollectionCalls.{sweeping_acts, collection_acts, CollectionIn, Collects}
+use Rattle.jr_model.specs.CollectionCalls.{sweeping_acts}
 use Rattle.jr_model.specs.Laws.{CollectionIsExact}
 use Rattle.jr_model.proofs.Updates.{at_number, at_number_self, at_handle, at_handle_self}
 use Rattle.jr_model.proofs.Updates.{eq_self, eq_true, eq_false, handle_true}
 use Rattle.jr_model.proofs.Histories.{legal_append, legal_from_append, state_append, state_from_append, mine_append}
 use Rattle.jr_model.proofs.Gates.{IsApart, apart_after, apart_state, collection_act}
-use Rattle.jr_model.proofs.Stays.{never, mine_did, same_along}
+use Rattle.jr_model.proofs.Stays.{never, same_along}
 use Rattle.jr_model.proofs.Moments.{first_act}
 use Rattle.jr_model.proofs.Collections.{IsSameReach, same_reach_act, same_trans, reached_mono, contents}
 

@@ -3,7 +3,7 @@ ghost use Rattle.std.specs.Prelude.{◌≡◌};
 ghost use Rattle.jr_model.specs.declared.event.Role.TheVariants.{Outside};
 
 use crate::shared::{Case, in_a_room};
-use jr_env::Env;
+use jr_env::{Env, Patience};
 use jr_fixtures::{has_type, is_refused};
 use jr_gate::shut_gate;
 use jr_steps::Steps;
@@ -36,6 +36,8 @@ fn is_kept_out<S: Steps>(
     }
     let mut marker = Marker::new(alloc, env.held.steps.config())?;
     assert!(rt; is_refused(env.collect(&mut marker), Some(Fault::Busy(1))));
+    let refused = env.collect_in_turn(&mut marker, 2, Patience::of(3));
+    assert!(rt; is_refused(refused, Some(Fault::Busy(1))));
     has_type(env, Handle::NULL, 0)
 }
 

@@ -29,7 +29,7 @@ use Rattle.jr_rule.proofs.GateSteps.{CanShutFrom, shutter, gate_fits, gate_most,
 use Rattle.jr_rule.proofs.GateSteps.{goes_out, counted, shut_counted, announced_counted, gate_seen}
 use Rattle.jr_rule.proofs.GateSteps.{holds_nothing, bars, bars_lost, announces, cancels, unbars}
 use Rattle.jr_rule.proofs.LegalSteps.{quiet, gaining, written, unwritten, won, lost, one_legal, none_legal}
-use Rattle.jr_rule.proofs.Told.{Entered, Left, Barred, Announced, Cancelled, Reopened, SawGate}
+use Rattle.jr_rule.proofs.Told.{Entered, Exited, Barred, Announced, Cancelled, Reopened, SawGate}
 use Rattle.jr_rule.proofs.ActEffects.{gate_load_state}
 
 -- who is within or knocking has no move unfinished
@@ -62,7 +62,7 @@ module _ (k : Known) where
       (g.parts, gate_fits k.config (state log).role n few g, g.word, refl, refl)
 
   pub leaves : (role_of (view k) ≡ Within) ⊎ (role_of (view k) ≡ Knocking)
-      → Owes k 0 (λ n. (n + (2 ^ 64 - 1)) % 2 ^ 64) (Left k)
+      → Owes k 0 (λ n. (n + (2 ^ 64 - 1)) % 2 ^ 64) (Exited k)
   leaves counts log words held f =
       let n : ℕ = get_or words 0 0 in
       let role = role_of (view k) in
@@ -73,7 +73,7 @@ module _ (k : Known) where
       image_let_go k.config k.last words (state log) held f.image k.thread (may_let_go k log words held f counts) in
       let t = goes_out k.config k.last log k.thread words f.legal (hold held k.thread empty) image f.fits.row role
       ((n + (2 ^ 64 - 1)) % 2 ^ 64) (hold_here held k.thread empty) (omega arith) counts (role_at k log words held f) in
-      gaining k log (slice_set words 0 ((n + (2 ^ 64 - 1)) % 2 ^ 64)) held (Left k n) (act_of_exit role ∷ []) empty
+      gaining k log (slice_set words 0 ((n + (2 ^ 64 - 1)) % 2 ^ 64)) held (Exited k n) (act_of_exit role ∷ []) empty
       t (refl, refl)
 
   pub shuts : (from : GateState) → CanShutFrom from → role_of (view k) ≡ shutter from

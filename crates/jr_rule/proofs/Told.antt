@@ -72,8 +72,8 @@ abbrev pub Entered : Told
 Entered k n acts k' =
     (p : GateParts) × IsGate p × (n ≡ gate_word p) × (acts ≡ act_of_entry (not (is_closed p.state)) ∷ []) × keeps k k'
 
-abbrev pub Left : Told
-Left k n acts k' = (acts ≡ act_of_exit (role_of (view k)) ∷ []) × lets_go k k'
+abbrev pub Exited : Told
+Exited k n acts k' = (acts ≡ act_of_exit (role_of (view k)) ∷ []) × lets_go k k'
 
 -- a gate that was found empty, and in this state, is shut
 abbrev pub Barred : GateState → Told
@@ -241,7 +241,7 @@ entry shut b is e = record {
   read = λ k k' done among role met s. (s.3 ∙ ap (λ x. act_of_entry (not x) ∷ []) (sym (is s.0 s.1 s.2) ∙ e), s.4);
 }
 
-pub exit : {z : Sight} (r : Role) {n : ℕ} → Reads z r anything Left n (λ k. act_of_exit r ∷ []) lets_go
+pub exit : {z : Sight} (r : Role) {n : ℕ} → Reads z r anything Exited n (λ k. act_of_exit r ∷ []) lets_go
 exit r = record { read = λ k k' done among role met s. (s.0 ∙ ap (λ x. act_of_exit x ∷ []) role, s.1) }
 
 pub barred : {z : Sight} {n : ℕ} (from : GateState) (role : Role) → n ≡ state_bits from

@@ -5,7 +5,7 @@ ghost use Rattle.std.specs.Slots.{slots_items, slots_len, IsFull};
 use crate::over_room::RoomSteps;
 use crate::pass::Pass;
 use crate::room::Room;
-use crate::summing::Words;
+use crate::summing::RowWords;
 use crate::words::all_counted;
 use atomic_table::Closed;
 use jr_model::Summary;
@@ -77,7 +77,7 @@ pub(crate) struct ClosedWords {
     ghost full: { IsFull closed.words × (slots_len closed.words ≡ length (slots_items closed.words)) },
 }
 
-impl Words for ClosedWords {
+impl RowWords for ClosedWords {
     ghost words = { λ w. slots_items w.closed.words };
 
     fn word(&self, at: usize) -> u64 {

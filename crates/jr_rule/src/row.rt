@@ -44,7 +44,7 @@ use crate::parts::{Parts, load_each};
 use crate::pass::Pass;
 use crate::room::Room;
 use crate::rule::{
-    Again, Counting, Deal, Gather, Jot, Learning, Meeting, Part, Rule, Sizes, Tell, View,
+    Again, Counting, Deal, Gather, Jot, Learning, LeaveFirst, Meeting, Rule, Sizes, Tell, View,
 };
 use crate::summing::summary;
 use crate::words::{GATE, all_counted, first_element, first_header};
@@ -206,7 +206,7 @@ impl Row {
         ensures ok { IfOk result (λ s. (s.table_id ≡ seat.table_id) × HasCounted (crowd_of seat.me (map known_of others.items) no_seat) s.me 0) }
         ensures err { IfErr result (λ p. IsParted seat others.items p) }
     {
-        let none = self.table.shared.split_seat::<Part>(&mut seat);
+        let none = self.table.shared.split_seat::<LeaveFirst>(&mut seat);
         self.count_all(seat, none, others)
     }
 
@@ -231,7 +231,7 @@ impl Row {
             if inside == 0 {
                 return Ok(first);
             }
-            let rest = shared.split_seat::<Part>(&mut first);
+            let rest = shared.split_seat::<LeaveFirst>(&mut first);
             return Err(Parted {
                 inside,
                 first,
@@ -310,7 +310,7 @@ impl RoomCells {
         let shared = &room.row.table.shared;
         shared.join_seat::<Gather>(&mut self.seat, other);
         shared.load::<Meeting>(&mut self.seat, GATE);
-        shared.split_seat::<Part>(&mut self.seat)
+        shared.split_seat::<LeaveFirst>(&mut self.seat)
     }
 
     /// A note of what the seat's pass has seen, in a seat of its own.

@@ -87,9 +87,9 @@ impl Split<View> for Deal {
 }
 
 /// All passes but the first leave the seat.
-pub struct Part;
+pub struct LeaveFirst;
 
-impl Split<View> for Part {
+impl Split<View> for LeaveFirst {
     ghost use Rattle.jr_rule.specs.Rule.{first_alone, without_first};
 
     ghost left = { first_alone };

@@ -10,7 +10,7 @@ use jr_model::Summary;
 use jr_word::{Config, RefKind, SlotWord, TopWord};
 
 /// A row of words that can be read.
-pub(crate) trait Words {
+pub(crate) trait RowWords {
     ghost words: { Self → List ℕ };
 
     /// The word at a place of the row.
@@ -19,7 +19,7 @@ pub(crate) trait Words {
         ensures { result ≡ slice_index (words self.now) at };
 }
 
-impl Words for Vec<u64> {
+impl RowWords for Vec<u64> {
     ghost words = { λ v. v.items };
 
     fn word(&self, at: usize) -> u64 {
@@ -28,7 +28,7 @@ impl Words for Vec<u64> {
 }
 
 /// What stands in the room. It takes no memory.
-pub(crate) fn summary<W: Words>(row: &W, config: &Config) -> Summary
+pub(crate) fn summary<W: RowWords>(row: &W, config: &Config) -> Summary
     requires limited { IsLimited config.now }
     requires history { HasHistory config.now (W.words row.now) }
     ensures { (last : ℕ) (log : History) → IsHistoryOf config.now (W.words row.now) last log → result ≡ summary_of config.now last (state log) }
@@ -43,7 +43,7 @@ pub(crate) fn summary<W: Words>(row: &W, config: &Config) -> Summary
 }
 
 /// How many references of the kind stand.
-fn references<W: Words>(row: &W, config: &Config, kind: RefKind) -> u32
+fn references<W: RowWords>(row: &W, config: &Config, kind: RefKind) -> u32
     requires limited { IsLimited config.now }
     requires history { HasHistory config.now (W.words row.now) }
     ensures { (last : ℕ) (log : History) → IsHistoryOf config.now (W.words row.now) last log → result ≡ references config.now last kind (state log) }
@@ -59,7 +59,7 @@ fn references<W: Words>(row: &W, config: &Config, kind: RefKind) -> u32
 }
 
 /// How many objects are present.
-fn objects<W: Words>(row: &W, config: &Config) -> u32
+fn objects<W: RowWords>(row: &W, config: &Config) -> u32
     requires limited { IsLimited config.now }
     requires history { HasHistory config.now (W.words row.now) }
     ensures { (last : ℕ) (log : History) → IsHistoryOf config.now (W.words row.now) last log → result ≡ (summary_of config.now last (state log)).live }

@@ -147,7 +147,7 @@ told_alone P (Err (Busy n)) h = tt
 told_alone P (Err _) h = h
 
 module _ (turns tries : ℕ) (names : Names) where
-  once_led : (n : ℕ)
+  pub once_led : (n : ℕ)
       → LeadsAlone n (names, commands.WithTries with_tries.CollectAnnounced tries) (announced_collection tries)
   once_led n = record { led = led }
     where

@@ -19,7 +19,7 @@ use Rattle.jr_scripts.specs.Places.{Place, by_region}
 use Rattle.jr_scripts.specs.Commands.{collecting, deed}
 use Rattle.jr_scripts.specs.RegionCommands.{deed_at, deed_within, giving_up_all}
 use Rattle.jr_gate.specs.Performing.{ThreadState}
-use Rattle.jr_scripts.specs.Posting.{Speech, Words}
+use Rattle.jr_scripts.specs.Posting.{Speech, ThreadWords}
 use Rattle.jr_scripts.specs.Explains.{Explains, nothing, then}
 use Rattle.jr_scripts.specs.AloneAnswers.{AnswersAlone, IsAloneFault, IsCommandFault, IsFaultOutside, IsFaultWithin}
 use Rattle.jr_scripts.specs.Runs.{IsUnbarred}
@@ -116,13 +116,15 @@ given_up_alone (o ∷ os) old new answer alone d = (giving_up_by {P = λ s e. �
 
 -- each answer is a lone thread's, and no reservation was lost
 pub record WentAlone {talk : Speech} {turns first : ℕ} {old new : ThreadState} {commands : List Command} {text : List ℕ}
-    {place : Place} {words : Words} (e : Explains talk turns first old commands text new place words) : Type 0 where
+    {place : Place} {words : ThreadWords}
+    (e : Explains talk turns first old commands text new place words) : Type 0 where
   pub answers : AnswersAlone e
   pub uncontended : AllUncontended old.pass.seen → AllUncontended new.pass.seen
 
 -- where all that was seen in the end is the thread's own, the commands went so
 pub went_alone : {talk : Speech} (turns first : ℕ) (old new : ThreadState) (commands : List Command) (text : List ℕ)
-    (place : Place) (words : Words) (e : Explains talk turns first old commands text new place words) → IsAlone new.pass
+    (place : Place) (words : ThreadWords) (e : Explains talk turns first old commands text new place words)
+    → IsAlone new.pass
     → WentAlone e
 went_alone turns first old new commands text place words nothing alone = record { answers = tt; uncontended = λ m. m }
 went_alone turns first old new commands text place words

@@ -32,7 +32,7 @@ past_end : (i n : ℕ) → nat_lt i n ≡ false → n ≤ i
 past_end i n past = grind (arith, nat_tests)
 
 -- what stands there is the buffer that was found
-buffer_found : (s : Binding) (b : Copied) → buffer_in s ≡ Ok b → s ≡ bound.Buffer b
+pub buffer_found : (s : Binding) (b : Copied) → buffer_in s ≡ Ok b → s ≡ bound.Buffer b
 buffer_found bound.Nothing b is = absurd cc
 buffer_found (bound.Reference h) b is = absurd cc
 buffer_found (bound.Buffer c) b is = let same : c ≡ b = cc in ap (λ (x : Copied). bound.Buffer x) same

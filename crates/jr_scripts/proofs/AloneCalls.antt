@@ -22,9 +22,8 @@ use Rattle.jr_model.proofs.Composed.{Gives, entered_gives, opened_gives}
 use Rattle.jr_model.proofs.Exactly.{append_all}
 use Rattle.jr_model.proofs.Moments.{prefix_trans}
 use Rattle.jr_model.proofs.Stays.{mine_did}
-use Rattle.jr_gate.specs.Performing.{ThreadState}
+use Rattle.jr_gate.specs.Performing.{HasLearned, ThreadState}
 use Rattle.jr_env.specs.Deeds.{Deed, call_by}
-use Rattle.jr_scripts.specs.Commands.{HasLearned}
 use Rattle.jr_scripts.specs.AloneAnswers.{IsCommandFault, IsShort, LacksSpace}
 use Rattle.jr_scripts.proofs.AloneHistories.{all_back, own_acts, own_events, still_so, stays_occupied, stays_present}
 use Rattle.jr_scripts.proofs.SpaceAlone.{found_short, never_lost}

@@ -7,7 +7,6 @@ use Rattle.jr_word.specs.declared.kind.Kind.{Kind}
 use Rattle.jr_model.specs.State.{Handle}
 use Rattle.jr_model.specs.Frames.{Frames}
 use Rattle.jr_model.specs.Checks.{Parts}
-use Rattle.jr_syntax.specs.declared.command.Command.{Command}
 use Rattle.jr_syntax.specs.declared.verb.Release.{Release}
 use Rattle.jr_syntax.specs.declared.verb.Release.TheVariants as release
 use Rattle.jr_syntax.specs.declared.verb.OnBoth.{OnBoth}
@@ -23,9 +22,8 @@ use Rattle.jr_scripts.specs.declared.number.NumberKind.TheVariants as number
 use Rattle.jr_scripts.specs.declared.number.Element.{Element}
 use Rattle.jr_scripts.specs.Numbers.{has_numbers, first_number, number_of_word, word_of_number}
 use Rattle.jr_scripts.specs.Numbers.{kind_numbered, kind_of_element, word_of_element}
-use Rattle.jr_scripts.specs.Commands.{deed, tried, deleted_of, deletion, loading, loading_as, storing, storing_as}
+use Rattle.jr_scripts.specs.Commands.{tried, deleted_of, deletion, loading, loading_as, storing, storing_as}
 use Rattle.jr_scripts.specs.Tries.{Tried}
-use Rattle.jr_scripts.specs.Names.{Names}
 use Rattle.jr_scripts.proofs.FormedTries.{tried_formed, formed_ok, formed_err}
 use Rattle.jr_env.proofs.Carrying.{did_decided, did_decline, did_more, does_then}
 
@@ -119,12 +117,6 @@ module _ {S : Type 0} {facts : S → Facts} where
       does_of_kind turns w k (kind_numbered n) (storing_as turns w i v) is (numbered_has n) first
       (did_decline (λ word. tried turns (set_array_region (kind_numbered n) w i (word ∷ [])) >> done replies.Done) refl
       (λ k m. m) word)
-
-  -- the deed of a command that is known
-  pub does_command : {a b : S} {f g : Frames} {answer : Result Reply Fault} (turns : ℕ) (names : Names) (c d : Command)
-      → c ≡ d → DoesDeed facts a b f g (deed turns names d) answer → DoesDeed facts a b f g (deed turns names c) answer
-  does_command {a} {b} {f} {g} {answer} turns names c d is =
-      subst (λ x. DoesDeed facts a b f g (deed turns names x) answer) (sym is)
 
   -- the number of an element, by the call of a kind that is known
   pub does_number_of : {a b : S} {f g : Frames} {answer : Result ℤ Fault} (w i : ℕ) (n m : NumberKind) → n ≡ m

@@ -20,7 +20,7 @@ use Rattle.jr_scripts.specs.RegionCommands.{giving_up_all}
 use Rattle.jr_scripts.specs.Advancing.{KnowsWith, deed_spoken, level_names, objects_in, place_with, role_with}
 use Rattle.jr_scripts.specs.Text.{buffers_after, printed, names_set}
 use Rattle.jr_scripts.specs.Explains.{Explains, nothing, then, unwritten}
-use Rattle.jr_scripts.specs.Posting.{Speech, Words, words_after}
+use Rattle.jr_scripts.specs.Posting.{Speech, ThreadWords, words_after}
 use Rattle.jr_scripts.specs.Runs.{WritesDown, running}
 use Rattle.jr_scripts.proofs.Speaking.{Carries, explains_still, words_same}
 use Rattle.jr_gate.specs.Performing.{IsAsBefore, thread_state}
@@ -30,7 +30,7 @@ use Rattle.jr_steps.specs.Knowing.{Standing}
 module _ {S : Type 0} (facts : S → Facts) where
   -- so far these commands were done, the output grew, and what was known explains by how much
   pub record Going (old now : S) (before after : Frames) (talk : Speech) (turns first : ℕ) (done : List Command)
-      (out out' : List ℕ) (names : Names) (words : Words) (region : Option Region) : Type 0 where
+      (out out' : List ℕ) (names : Names) (words : ThreadWords) (region : Option Region) : Type 0 where
     pub text : List ℕ
     pub grew : out' ≡ out ++ text
     pub stands_is : IsAsBefore (record ((facts old).stands) { role = role_with region }) (facts now).stands
@@ -63,8 +63,9 @@ place_next c answer names between names' region left changed set levels objects 
     place n l o = record { names = n; levels = l; objects = o }
 
 -- what holds of the words behind a command holds of those that are kept
-pub followed : (c : Command) (names between names' : Names) (answer : Result Reply Fault) (had words words' : Words)
-    (number : ℕ) (out out' : List ℕ) (r : Result (Unit {0}) AllocError) (so : Words → Type 0) → had ≡ words
+pub followed : (c : Command) (names between names' : Names) (answer : Result Reply Fault)
+    (had words words' : ThreadWords)
+    (number : ℕ) (out out' : List ℕ) (r : Result (Unit {0}) AllocError) (so : ThreadWords → Type 0) → had ≡ words
     → between ≡ buffers_after c answer names → WritesDown number c answer between names' words words' r out out'
     → r ≡ Ok tt → so (words_after names c answer had) → so words'
 followed c names between names' answer had words words' number out out' r so same changed kept good held =
@@ -74,7 +75,8 @@ followed c names between names' answer had words words' number out out' r so sam
     (sym (w.1 ∙ (words_same names between c answer words changed ∙ ap (words_after names c answer) (sym same)))) held
 
 module _ {S : Type 0} {facts : S → Facts} where
-  pub begun : (old : S) (f : Frames) (talk : Speech) (turns first : ℕ) (out : List ℕ) (names : Names) (words : Words)
+  pub begun : (old : S) (f : Frames) (talk : Speech) (turns first : ℕ) (out : List ℕ) (names : Names)
+      (words : ThreadWords)
       → (facts old).stands.role ≡ Outside → names ≡ no_names → words ≡ []
       → Going facts old old f f talk turns first [] out out names words None
   begun old f talk turns first out names words outside e none = record {
@@ -93,7 +95,7 @@ module _ {S : Type 0} {facts : S → Facts} where
 
   -- all commands were done, and a region that stood was given up
   pub finished : {old now last : S} {f g h : Frames} {talk : Speech} {turns first : ℕ} {commands : List Command}
-      {out out' : List ℕ} {names : Names} {words : Words} {region : Option Region} (i : ℕ)
+      {out out' : List ℕ} {names : Names} {words : ThreadWords} {region : Option Region} (i : ℕ)
       → (facts old).stands.role ≡ Outside → length commands ≤ i
       → Going facts old now f g talk turns first (take i commands) out out' names words region
       → CarriedOut facts now last g h Outside (KnowsWith region g) (Holds h) (giving_up_all (objects_in region)) (Ok tt)
@@ -126,7 +128,7 @@ module _ {S : Type 0} {facts : S → Facts} where
 
   -- what was done with these words was done with those
   with_words : {mid new : S} {g h : Frames} (talk : Speech) (turns : ℕ) (c : Command) (names : Names)
-      (had words : Words) (region left : Option Region) {answer : Result Reply Fault} → had ≡ words
+      (had words : ThreadWords) (region left : Option Region) {answer : Result Reply Fault} → had ≡ words
       → CarriedOut facts mid new g h (role_with left) (KnowsWith region g) (KnowsWith left h)
       (deed_spoken talk turns (place_with names region) had c) answer
       → CarriedOut facts mid new g h (role_with left) (KnowsWith region g) (KnowsWith left h)
@@ -136,7 +138,7 @@ module _ {S : Type 0} {facts : S → Facts} where
       (deed_spoken talk turns (place_with names region) ws c) answer) same does
 
   module _ {old mid new : S} {f g h : Frames} {earlier talk : Speech} (carries : Carries earlier talk) (turns first : ℕ)
-      (commands : List Command) (i : ℕ) (c : Command) (names between names' : Names) (had words words' : Words)
+      (commands : List Command) (i : ℕ) (c : Command) (names between names' : Names) (had words words' : ThreadWords)
       (same : had ≡ words) (region left : Option Region) {answer : Result Reply Fault} {out out' out'' : List ℕ} where
     pub went_on : (r : Result (Unit {0}) AllocError) → i < length commands → get_or commands i c ≡ c
         → Going facts old mid f g earlier turns first (take i commands) out out' names words region

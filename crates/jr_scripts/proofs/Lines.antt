@@ -2,8 +2,6 @@
 use Rattle.std.proofs.Common.{◌≡◌, ◌+◌, ◌<◌, ◌≤◌, ℕ, zero, suc, true, List, []}
 use Rattle.std.proofs.Common.{◌∷◌, length, drop, refl, sym, ap, ◌∙◌, arith}
 use Rattle.std.proofs.lemmas.List.{length-map, length-append}
-use Rattle.std.proofs.lemmas.Slice.Zip.{AllZip-long}
-use Rattle.std.specs.List.{AllZip}
 use Rattle.jr_word.specs.declared.config.Config.{Config}
 use Rattle.jr_word.specs.Config.{in_limits}
 use Rattle.jr_word.proofs.Limits.{limited}
@@ -15,7 +13,7 @@ use Rattle.jr_scripts.specs.declared.part.Job.{Job}
 use Rattle.jr_rule.specs.declared.site.Site.{Ghosts}
 use Rattle.jr_scripts.specs.declared.part.ThreadRun.{ThreadRun}
 use Rattle.jr_scripts.specs.AllRuns.{lines_of_parts}
-use Rattle.jr_scripts.specs.Jobs.{HasRun, AreJobsOf, AreTold}
+use Rattle.jr_scripts.specs.Jobs.{AreJobsOf, AreTold}
 use Rattle.jr_scripts.proofs.JobLists.{nothing_left}
 
 pub lines_end : (i : ℕ) (parts : List ThreadPart) → length parts ≤ i → lines_of_parts (drop i parts) ≡ 0
@@ -39,11 +37,6 @@ jobs_long turns line (p ∷ ps) [] js jobs = absurd jobs
 jobs_long turns line (p ∷ ps) (q ∷ qs) [] jobs = absurd jobs
 jobs_long turns line (p ∷ ps) (q ∷ qs) (j ∷ js) jobs =
     ap suc (jobs_long turns (line + 1 + length q.commands) ps qs js jobs.1)
-
--- one run a part
-pub runs_long : {Q : Type 0} {G : Ghosts Q} (turns line : ℕ) (ps : List Pass) (qs : List ThreadPart) (js : List Job)
-    (xs : List (ThreadRun Q G)) → AreJobsOf turns line ps qs js → AllZip HasRun js xs → length xs ≡ length qs
-runs_long turns line ps qs js xs jobs ran = AllZip-long HasRun js xs ran ∙ jobs_long turns line ps qs js jobs
 
 ends_long : {Q : Type 0} {G : Ghosts Q} (qs : List ThreadPart) (xs : List (ThreadRun Q G)) (ends : List Pass)
     (text : List ℕ) → AreTold qs xs ends text → length ends ≡ length qs

@@ -2,6 +2,7 @@
 pub mod MadeCalls
 pub mod MeaningFrames
 pub mod MeaningSlots
+pub mod MeaningMatches
 pub mod MeaningFits
 pub mod MeaningCounts
 pub mod MeaningParts
@@ -11,6 +12,11 @@ pub mod MeaningRow
 pub mod MeaningScopes
 pub mod MeaningObjects
 pub mod MeaningStores
+pub mod MeaningRounds
+pub mod MeaningReach
+pub mod MeaningSweeps
+pub mod MeaningCollections
+pub mod MeaningCopies
 pub mod MeaningDeeds
 pub mod MeaningStands
 pub mod CommandSteps
@@ -19,6 +25,9 @@ pub mod ReferenceCommands
 pub mod FrameCommands
 pub mod NoteCommands
 pub mod ElementCommands
+pub mod CollectionCommands
+pub mod CopyCommands
+pub mod BufferCommands
 pub mod MeaningCommands
 pub mod MeaningRun
 use Rattle.std.proofs.Common.{◌≡◌, ℕ, Option, List, [], ◌∷◌}

@@ -19,12 +19,12 @@ use Rattle.jr_scripts.specs.Names.{Names, word_posted}
 use Rattle.jr_scripts.specs.Places.{Place}
 use Rattle.jr_scripts.specs.Explains.{Explains, nothing, then}
 use Rattle.jr_scripts.specs.Posted.{IsPosted}
-use Rattle.jr_scripts.specs.Posting.{IsAnswered, Words, said}
+use Rattle.jr_scripts.specs.Posting.{IsAnswered, ThreadWords, said}
 use Rattle.jr_scripts.specs.Posting.{said_alone, word_under, words_after, words_with}
 use Rattle.jr_scripts.proofs.Speaking.{found_words}
 
 -- a word is under the name
-abbrev pub Has : Words → List ℕ → Type 0
+abbrev pub Has : ThreadWords → List ℕ → Type 0
 Has words n = is_some (word_under words n) ≡ true
 
 same_name : (n m : List ℕ) → bytes_eq n m ≡ true → n ≡ m
@@ -40,7 +40,7 @@ some_is : (o : Option ℕ) (w : ℕ) → o ≡ Some w → is_some o ≡ true
 some_is o w is = ap is_some is
 
 -- what holds of each name with a word
-ranked_below : (rank : List ℕ → ℕ) (words : Words) (n : List ℕ) (r : ℕ)
+ranked_below : (rank : List ℕ → ℕ) (words : ThreadWords) (n : List ℕ) (r : ℕ)
     → AllByRecursion (λ (x : List ℕ × ℕ). rank x.0 < r) words → Has words n → rank n < r
 ranked_below rank [] n r all has = absurd cc
 ranked_below rank (x ∷ xs) n r all has = go (bytes_eq n x.0) refl (ranked_below rank xs n r all.1)
@@ -51,7 +51,7 @@ ranked_below rank (x ∷ xs) n r all has = go (bytes_eq n x.0) refl (ranked_belo
 
 -- ONE WORD MORE
 
-had_before : (xs ys : Words) (n : List ℕ) → Has xs n → Has (xs ++ ys) n
+had_before : (xs ys : ThreadWords) (n : List ℕ) → Has xs n → Has (xs ++ ys) n
 had_before [] ys n has = absurd cc
 had_before (x ∷ xs) ys n has = go (bytes_eq n x.0) refl (had_before xs ys n)
   where
@@ -60,7 +60,7 @@ had_before (x ∷ xs) ys n has = go (bytes_eq n x.0) refl (had_before xs ys n)
     go false is again = ap (λ b. is_some (cond b (Some x.1) (word_under (xs ++ ys) n))) is
         ∙ again (sym (ap (λ b. is_some (cond b (Some x.1) (word_under xs n))) is) ∙ has)
 
-has_last : (xs : Words) (n : List ℕ) (w : ℕ) → Has (xs ++ (n, w) ∷ []) n
+has_last : (xs : ThreadWords) (n : List ℕ) (w : ℕ) → Has (xs ++ (n, w) ∷ []) n
 has_last [] n w = ap (λ b. is_some (cond b (Some w) None)) (itself n)
 has_last (x ∷ xs) n w = go (bytes_eq n x.0) refl (has_last xs n w)
   where
@@ -68,7 +68,7 @@ has_last (x ∷ xs) n w = go (bytes_eq n x.0) refl (has_last xs n w)
     go true is again = ap (λ b. is_some (cond b (Some x.1) (word_under (xs ++ (n, w) ∷ []) n))) is
     go false is again = ap (λ b. is_some (cond b (Some x.1) (word_under (xs ++ (n, w) ∷ []) n))) is ∙ again
 
-had_or_last : (xs : Words) (m : List ℕ) (w : ℕ) (n : List ℕ) → Has (xs ++ (m, w) ∷ []) n → Has xs n ⊎ (n ≡ m)
+had_or_last : (xs : ThreadWords) (m : List ℕ) (w : ℕ) (n : List ℕ) → Has (xs ++ (m, w) ∷ []) n → Has xs n ⊎ (n ≡ m)
 had_or_last [] m w n has = go (bytes_eq n m) refl
   where
     go : (b : Bool) → bytes_eq n m ≡ b → Has [] n ⊎ (n ≡ m)
@@ -85,21 +85,22 @@ had_or_last (x ∷ xs) m w n has = go (bytes_eq n x.0) refl (had_or_last xs m w 
     go false is again =
         back is (again (sym (ap (λ b. is_some (cond b (Some x.1) (word_under (xs ++ (m, w) ∷ []) n))) is) ∙ has))
 
-has_still : (words : Words) (m : List ℕ) (w : ℕ) (n : List ℕ) → Has words n → Has (words_with words m w) n
+has_still : (words : ThreadWords) (m : List ℕ) (w : ℕ) (n : List ℕ) → Has words n → Has (words_with words m w) n
 has_still words m w n has = go (is_some (word_under words m))
   where
     go : (b : Bool) → Has (cond b words (words ++ (m, w) ∷ [])) n
     go true = has
     go false = had_before words ((m, w) ∷ []) n has
 
-has_now : (words : Words) (n : List ℕ) (w : ℕ) → Has (words_with words n w) n
+has_now : (words : ThreadWords) (n : List ℕ) (w : ℕ) → Has (words_with words n w) n
 has_now words n w = go (is_some (word_under words n)) refl
   where
     go : (b : Bool) → is_some (word_under words n) ≡ b → Has (cond b words (words ++ (n, w) ∷ [])) n
     go true is = is
     go false is = has_last words n w
 
-had_or_now : (words : Words) (m : List ℕ) (w : ℕ) (n : List ℕ) → Has (words_with words m w) n → Has words n ⊎ (n ≡ m)
+had_or_now : (words : ThreadWords) (m : List ℕ) (w : ℕ) (n : List ℕ) → Has (words_with words m w) n → Has words n ⊎
+    (n ≡ m)
 had_or_now words m w n = go (is_some (word_under words m))
   where
     go : (b : Bool) → Has (cond b words (words ++ (m, w) ∷ [])) n → Has words n ⊎ (n ≡ m)
@@ -108,7 +109,7 @@ had_or_now words m w n = go (is_some (word_under words m))
 
 -- BEHIND A COMMAND
 
-has_after : (names : Names) (c : Command) (answer : Result Reply Fault) (words : Words) (n : List ℕ) → Has words n
+has_after : (names : Names) (c : Command) (answer : Result Reply Fault) (words : ThreadWords) (n : List ℕ) → Has words n
     → Has (words_after names c answer words) n
 has_after names (commands.OnName v m) answer words n has = has_still words m (word_posted names m) n has
 has_after names (commands.Make make.Wait m) (Ok (replies.Made (Some h))) words n has = has_still words m h.0 n has
@@ -119,7 +120,7 @@ has_after names _ answer words n has = has
 
 module _ {board : List ℕ → Option (ℕ × History)} {rank : List ℕ → ℕ} {turns first : ℕ} {old : ThreadState} where
   -- what a line posted has a word
-  posted_has : {cs : List Command} {text : List ℕ} {new : ThreadState} {place : Place} {words : Words}
+  posted_has : {cs : List Command} {text : List ℕ} {new : ThreadState} {place : Place} {words : ThreadWords}
       → Explains (said board rank) turns first old cs text new place words → (n : List ℕ) → IsPosted cs n → Has words n
   posted_has nothing n posted = let bad = posted.1 in absurd (omega arith)
   posted_has (then {before = done} {place = place} {words = had} c answer before did spoke) n posted =
@@ -132,7 +133,7 @@ module _ {board : List ℕ → Option (ℕ × History)} {rank : List ℕ → ℕ
           subst (λ d. Has (words_after place.names d answer had) n) (sym is) (has_now had n (word_posted place.names n))
 
   -- a name that has a word has one on the board
-  pub on_board : {cs : List Command} {text : List ℕ} {new : ThreadState} {place : Place} {words : Words}
+  pub on_board : {cs : List Command} {text : List ℕ} {new : ThreadState} {place : Place} {words : ThreadWords}
       → Explains (said board rank) turns first old cs text new place words → (n : List ℕ) → Has words n
       → (x : ℕ × History) × (board n ≡ Some x)
   on_board nothing n has = absurd cc
@@ -169,7 +170,7 @@ module _ {board : List ℕ → Option (ℕ × History)} {rank : List ℕ → ℕ
       by_command known _ x h = known n h
 
   -- where each word is of a name that a line before posted, the thread hears nothing of others
-  pub heard_alone : {cs : List Command} {text : List ℕ} {new : ThreadState} {place : Place} {words : Words}
+  pub heard_alone : {cs : List Command} {text : List ℕ} {new : ThreadState} {place : Place} {words : ThreadWords}
       → Explains (said board rank) turns first old cs text new place words
       → ((n : List ℕ) → Has words n → IsPosted cs n) → Explains said_alone turns first old cs text new place words
   heard_alone nothing all = nothing

@@ -15,8 +15,8 @@ use Rattle.jr_syntax.specs.declared.command.Command.TheVariants as commands
 use Rattle.jr_syntax.specs.declared.verb.OnName.TheVariants as on_name
 use Rattle.jr_syntax.specs.declared.thread.ThreadPart.{ThreadPart}
 use Rattle.jr_scripts.specs.Names.{name_order}
-use Rattle.jr_scripts.specs.declared.note.Note.{Note}
-use Rattle.jr_scripts.specs.declared.note.Posted.{Posted}
+use Rattle.jr_scripts.specs.declared.sighting.Sighting.{Sighting}
+use Rattle.jr_scripts.specs.declared.sighting.Posted.{Posted}
 use Rattle.jr_scripts.specs.Layouts.{cell_number}
 use Rattle.jr_scripts.specs.Noting.{posted_by_number, posted_noted}
 use Rattle.jr_scripts.specs.Posted.{AddsPosted, IsOfPosts, IsPosted, commands_of}
@@ -84,7 +84,7 @@ adds_part ps i p old mid new some is first second = subst (λ l. AddsPosted l ol
     (sym (all_commands ps i p some is)) (adds_then (commands_of (take i ps)) p.commands old mid new first second)
 
 -- a name under which something is noted has a number
-pub noted_numbered : {T A : Type 0} (numbers numbers' : List (List ℕ × ℕ)) (notes : List (Option (Note T)))
+pub noted_numbered : {T A : Type 0} (numbers numbers' : List (List ℕ × ℕ)) (notes : List (Option (Sighting T)))
     (entry : Option (Posted T) → Option A) → entry None ≡ None → numbers ≡ numbers' → (n : List ℕ) (x : A)
     → entry (posted_noted numbers notes n) ≡ Some x → IsSome (cell_number numbers' n)
 noted_numbered {A = A} numbers numbers' notes entry none same n x is =

@@ -5,8 +5,8 @@ use Rattle.std.specs.List.{AllByRecursion}
 use mathlib.Core.List.{IsPrefix}
 use Rattle.std.proofs.Common.{◌≡◌, ◌⊎◌, ◌<◌, ◌≤◌, ◌++◌, ◌∙◌, ℕ, zero, suc, Bool, true, false, List, [], ◌∷◌}
 use Rattle.std.proofs.Common.{Option, Some, None, inl, inr, get_or, length, nat_lt, refl, sym, ap, subst, arith}
-use Rattle.jr_scripts.specs.declared.note.Note.{Note}
-use Rattle.jr_scripts.specs.declared.note.Posted.{Posted}
+use Rattle.jr_scripts.specs.declared.sighting.Sighting.{Sighting}
+use Rattle.jr_scripts.specs.declared.sighting.Posted.{Posted}
 use Rattle.jr_scripts.specs.Layouts.{cell_number}
 use Rattle.jr_scripts.specs.Noting.{AreBelow, HasAllOf, IsBlank, HasNoted, StaysNoted}
 use Rattle.jr_scripts.specs.Noting.{posted_by_number, posted_in, posted_noted, words_noted}
@@ -15,7 +15,7 @@ use Rattle.jr_rule.specs.Rooms.{seen_by_pinned}
 use Rattle.jr_rule.specs.declared.site.Site.{Ghosts}
 use Rattle.jr_rule.specs.declared.site.PinnedNoteOf.{PinnedNoteOf}
 use Rattle.jr_scripts.specs.declared.part.ThreadRun.{ThreadRun}
-use Rattle.jr_scripts.specs.Posting.{Words, word_under, words_with}
+use Rattle.jr_scripts.specs.Posting.{ThreadWords, word_under, words_with}
 use Rattle.jr_scripts.specs.Telling.{has_seen, have_seen}
 use Rattle.jr_scripts.specs.Jobs.{IsToldBy, board_noted, entry_of, rank_noted, stamp_of}
 
@@ -24,24 +24,24 @@ module _ {T : Type 0} where
   pub blank_none : IsBlank {T = T} []
   blank_none i = refl
 
-  pub blank_more : (notes : List (Option (Note T))) → IsBlank notes → IsBlank (notes ++ None ∷ [])
+  pub blank_more : (notes : List (Option (Sighting T))) → IsBlank notes → IsBlank (notes ++ None ∷ [])
   blank_more [] blank zero = refl
   blank_more [] blank (suc i) = refl
   blank_more (x ∷ xs) blank zero = blank zero
   blank_more (x ∷ xs) blank (suc i) = blank_more xs (λ k. blank (suc k)) i
 
   -- what is noted under a name
-  kept_at : (old new : List (Option (Note T))) → StaysNoted old new → (number : Option ℕ) (p : Posted T)
+  kept_at : (old new : List (Option (Sighting T))) → StaysNoted old new → (number : Option ℕ) (p : Posted T)
       → posted_by_number old number ≡ Some p → posted_by_number new number ≡ Some p
   kept_at old new kept None p is = is
   kept_at old new kept (Some i) p is = kept i p is
 
-  pub kept_under : (numbers : List (List ℕ × ℕ)) (old new : List (Option (Note T))) → StaysNoted old new
+  pub kept_under : (numbers : List (List ℕ × ℕ)) (old new : List (Option (Sighting T))) → StaysNoted old new
       → (n : List ℕ) (p : Posted T) → posted_noted numbers old n ≡ Some p → posted_noted numbers new n ≡ Some p
   kept_under numbers old new kept n p is = kept_at old new kept (cell_number numbers n) p is
 
   -- a word that is noted is noted still, on the same board
-  pub noted_still : {numbers numbers' : List (List ℕ × ℕ)} {old new : List (Option (Note T))} {n : List ℕ} {w : ℕ}
+  pub noted_still : {numbers numbers' : List (List ℕ × ℕ)} {old new : List (Option (Sighting T))} {n : List ℕ} {w : ℕ}
       {so so' : Posted T → Type 0} → numbers' ≡ numbers → StaysNoted old new → ((t : Posted T) → so t → so' t)
       → HasNoted numbers old n w so → HasNoted numbers' new n w so'
   noted_still {numbers} {numbers'} {old} {new} {n} same kept on x = record {
@@ -52,7 +52,7 @@ module _ {T : Type 0} where
   }
 
   -- the same, where notes may be lost
-  pub told_still : {lost lost' : Bool} {numbers numbers' : List (List ℕ × ℕ)} {old new : List (Option (Note T))}
+  pub told_still : {lost lost' : Bool} {numbers numbers' : List (List ℕ × ℕ)} {old new : List (Option (Sighting T))}
       {n : List ℕ} {w : ℕ} {so so' : Posted T → Type 0} → (lost ≡ true → lost' ≡ true) → numbers' ≡ numbers
       → StaysNoted old new → ((p : Posted T) → so p → so' p)
       → (lost ≡ true) ⊎ HasNoted numbers old n w so → (lost' ≡ true) ⊎ HasNoted numbers' new n w so'
@@ -60,7 +60,7 @@ module _ {T : Type 0} where
   told_still gone same kept on (inr x) = inr (noted_still same kept on x)
 
   -- what was kept at the number of a name is noted under it
-  pub noted_at : {lost : Bool} {numbers numbers' : List (List ℕ × ℕ)} (notes : List (Option (Note T))) (n : List ℕ)
+  pub noted_at : {lost : Bool} {numbers numbers' : List (List ℕ × ℕ)} (notes : List (Option (Sighting T))) (n : List ℕ)
       (i : ℕ) (p q : Posted T) (w : ℕ) (so : Posted T → Type 0) → numbers' ≡ numbers → cell_number numbers n ≡ Some i
       → p.word ≡ w → so p → p ≡ q
       → (lost ≡ true) ⊎ (posted_in (get_or notes i None) ≡ Some q) → (lost ≡ true) ⊎ HasNoted numbers' notes n w so
@@ -78,8 +78,9 @@ module _ {T : Type 0} where
   -- WORDS THAT ARE NOTED
 
   -- they are still, below the same stamp or a greater one
-  pub below_still : {numbers numbers' : List (List ℕ × ℕ)} (old new : List (Option (Note T))) {stamp stamp' : ℕ}
-      (words : Words) → numbers' ≡ numbers → StaysNoted old new → stamp ≤ stamp' → AreBelow numbers old stamp words
+  pub below_still : {numbers numbers' : List (List ℕ × ℕ)} (old new : List (Option (Sighting T))) {stamp stamp' : ℕ}
+      (words : ThreadWords) → numbers' ≡ numbers → StaysNoted old new → stamp ≤ stamp'
+      → AreBelow numbers old stamp words
       → AreBelow numbers' new stamp' words
   below_still old new [] same kept more below = tt
   below_still {numbers} {numbers'} old new (x ∷ xs) same kept more below =
@@ -93,14 +94,15 @@ module _ {T : Type 0} where
         below_still old new xs same kept more below.1,
       )
 
-  below_last : (numbers : List (List ℕ × ℕ)) (notes : List (Option (Note T))) (stamp : ℕ) (words : Words)
+  below_last : (numbers : List (List ℕ × ℕ)) (notes : List (Option (Sighting T))) (stamp : ℕ) (words : ThreadWords)
       (x : List ℕ × ℕ) → (p : Posted T) × (posted_noted numbers notes x.0 ≡ Some p) × (p.stamp < stamp)
       → AreBelow numbers notes stamp words → AreBelow numbers notes stamp (words ++ x ∷ [])
   below_last numbers notes stamp [] x one below = (one, tt)
   below_last numbers notes stamp (y ∷ ys) x one below = (below.0, below_last numbers notes stamp ys x one below.1)
 
   -- one word more, under a name that has none
-  below_with : (numbers : List (List ℕ × ℕ)) (notes : List (Option (Note T))) (stamp : ℕ) (words : Words) (n : List ℕ)
+  below_with : (numbers : List (List ℕ × ℕ)) (notes : List (Option (Sighting T))) (stamp : ℕ) (words : ThreadWords)
+      (n : List ℕ)
       (w : ℕ) (p : Posted T) → posted_noted numbers notes n ≡ Some p → p.stamp < stamp
       → AreBelow numbers notes stamp words → AreBelow numbers notes stamp (words_with words n w)
   below_with numbers notes stamp words n w p is less below = go (is_some (word_under words n))
@@ -110,8 +112,9 @@ module _ {T : Type 0} where
       go false = below_last numbers notes stamp words (n, w) (p, is, less) below
 
   -- the words of a thread that posted or heard one
-  pub words_more : {lost lost' : Bool} {numbers numbers' : List (List ℕ × ℕ)} (old : List (Option (Note T)))
-      {new : List (Option (Note T))} {heard heard' : ℕ} {so : Posted T → Type 0} (words : Words) (n : List ℕ) (w : ℕ)
+  pub words_more : {lost lost' : Bool} {numbers numbers' : List (List ℕ × ℕ)} (old : List (Option (Sighting T)))
+      {new : List (Option (Sighting T))} {heard heard' : ℕ} {so : Posted T → Type 0} (words : ThreadWords)
+      (n : List ℕ) (w : ℕ)
       → (lost ≡ true → lost' ≡ true) → numbers' ≡ numbers → StaysNoted old new
       → ((p : Posted T) → so p → p.stamp ≤ heard')
       → (lost' ≡ true) ⊎ (heard ≤ heard') → (lost' ≡ true) ⊎ HasNoted numbers' new n w so
@@ -125,8 +128,8 @@ module _ {T : Type 0} where
       (below_still old new words same kept (omega arith) y))
 
   -- of one that posted
-  pub put_words : {lost lost' : Bool} {numbers numbers' : List (List ℕ × ℕ)} (old : List (Option (Note T)))
-      {new : List (Option (Note T))} {heard heard' : ℕ} {told : T} (words : Words) (n : List ℕ) (w : ℕ)
+  pub put_words : {lost lost' : Bool} {numbers numbers' : List (List ℕ × ℕ)} (old : List (Option (Sighting T)))
+      {new : List (Option (Sighting T))} {heard heard' : ℕ} {told : T} (words : ThreadWords) (n : List ℕ) (w : ℕ)
       → (lost ≡ true → lost' ≡ true) → numbers' ≡ numbers → StaysNoted old new
       → (lost' ≡ true) ⊎ (suc heard ≤ heard')
       → (lost' ≡ true) ⊎ HasNoted numbers new n w (λ p. (p.told ≡ told) × (p.stamp ≡ suc heard))
@@ -137,8 +140,9 @@ module _ {T : Type 0} where
       (told_still (λ z. z) same (λ i p is. is) (λ p e. e.1) noted) had
 
   -- what is told with a word that was posted behind these
-  pub posted_behind : {lost lost' : Bool} {numbers numbers' : List (List ℕ × ℕ)} (old : List (Option (Note T)))
-      {new : List (Option (Note T))} {heard : ℕ} {told : T} (so : T → Type 0) (words : Words) (n : List ℕ) (w : ℕ)
+  pub posted_behind : {lost lost' : Bool} {numbers numbers' : List (List ℕ × ℕ)} (old : List (Option (Sighting T)))
+      {new : List (Option (Sighting T))} {heard : ℕ} {told : T} (so : T → Type 0) (words : ThreadWords) (n : List ℕ)
+      (w : ℕ)
       → (lost ≡ true → lost' ≡ true) → numbers' ≡ numbers → StaysNoted old new → so told
       → (lost' ≡ true) ⊎ HasNoted numbers new n w (λ p. (p.told ≡ told) × (p.stamp ≡ suc heard))
       → words_noted lost numbers old heard words
@@ -151,12 +155,12 @@ module _ {T : Type 0} where
 
   -- ALL THAT ANOTHER NOTED
 
-  nothing_past : (notes : List (Option (Note T))) (i : ℕ) → length notes ≤ i → get_or notes i None ≡ None
+  nothing_past : (notes : List (Option (Sighting T))) (i : ℕ) → length notes ≤ i → get_or notes i None ≡ None
   nothing_past [] i past = refl
   nothing_past (x ∷ xs) zero past = absurd (omega arith)
   nothing_past (x ∷ xs) (suc i) past = nothing_past xs i (omega arith)
 
-  pub has_all : (ours theirs : List (Option (Note T))) (k : ℕ) → length theirs ≤ k → ((i : ℕ) (p : Posted T) → i < k
+  pub has_all : (ours theirs : List (Option (Sighting T))) (k : ℕ) → length theirs ≤ k → ((i : ℕ) (p : Posted T) → i < k
       → posted_in (get_or theirs i None) ≡ Some p → posted_in (get_or ours i None) ≡ Some p) → StaysNoted theirs ours
   has_all ours theirs k all so i p is = go (nat_lt i k) refl
     where
@@ -166,7 +170,7 @@ module _ {T : Type 0} where
           let bad = ap posted_in none in absurd cc
 
   -- what a thread's notes tell, those tell that have all of them
-  pub told_by_all : {numbers : List (List ℕ × ℕ)} {ours theirs : List (Option (Note T))} {lost : Bool} {n : List ℕ}
+  pub told_by_all : {numbers : List (List ℕ × ℕ)} {ours theirs : List (Option (Sighting T))} {lost : Bool} {n : List ℕ}
       {w : ℕ} {so so' : Posted T → Type 0} → HasAllOf ours lost theirs → ((p : Posted T) → so p → so' p)
       → (lost ≡ true) ⊎ HasNoted numbers theirs n w so → HasNoted numbers ours n w so'
   told_by_all h on (inl x) = let safe = h.safe in absurd cc
@@ -175,15 +179,15 @@ module _ {T : Type 0} where
 -- THE BOARD OF A ROOM
 
 module _ {Q : Type 0} {G : Ghosts Q} (numbers : List (List ℕ × ℕ))
-    (notes : List (Option (Note (PinnedNoteOf Q G)))) where
+    (notes : List (Option (Sighting (PinnedNoteOf Q G)))) where
   -- names that are noted below a stamp have a lower rank
-  ranked : (stamp : ℕ) (words : Words) → AreBelow numbers notes stamp words
+  ranked : (stamp : ℕ) (words : ThreadWords) → AreBelow numbers notes stamp words
       → AllByRecursion (λ (x : List ℕ × ℕ). rank_noted numbers notes x.0 < stamp) words
   ranked stamp [] below = tt
   ranked stamp (x ∷ xs) below = let one = below.0 in
       (subst (λ r. r < stamp) (sym (ap stamp_of one.1)) one.2, ranked stamp xs below.1)
 
-  entry_posted : (words : Words) (n : List ℕ) (w : ℕ) (h : History)
+  entry_posted : (words : ThreadWords) (n : List ℕ) (w : ℕ) (h : History)
       → HasNoted numbers notes n w (λ p. has_seen p.told h × AreBelow numbers notes p.stamp words)
       → (board_noted numbers notes n ≡ Some (w, h))
       × AllByRecursion (λ (x : List ℕ × ℕ). rank_noted numbers notes x.0 < rank_noted numbers notes n) words
@@ -203,7 +207,8 @@ module _ {Q : Type 0} {G : Ghosts Q} (numbers : List (List ℕ × ℕ))
 
 -- what a thread's notes tell is what the board has whose notes have all of them
 pub told_by_board : {Q : Type 0} {G : Ghosts Q} (numbers : List (List ℕ × ℕ))
-    (notes : List (Option (Note (PinnedNoteOf Q G)))) (r : ThreadRun Q G) → r.notes.posts.now.numbers.entries ≡ numbers
+    (notes : List (Option (Sighting (PinnedNoteOf Q G)))) (r : ThreadRun Q G)
+    → r.notes.posts.now.numbers.entries ≡ numbers
     → HasAllOf notes r.notes.is_lost r.notes.notes.items
     → IsToldBy (board_noted numbers notes) (rank_noted numbers notes) r
 told_by_board numbers notes r same has =

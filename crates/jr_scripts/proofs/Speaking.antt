@@ -41,7 +41,7 @@ use Rattle.jr_scripts.specs.RegionCommands.{deed_at, deed_within}
 use Rattle.jr_scripts.specs.Places.{Place, by_region, is_speaking, levels_after, objects_after}
 use Rattle.jr_scripts.specs.Text.{buffers_after}
 use Rattle.jr_scripts.specs.Posting.{Account, Awaits, HasLookedFor, HasPosted, HasSpoken, HasWaited, IsAnswered}
-use Rattle.jr_scripts.specs.Posting.{LearnsByLook, LearnsOf, LooksInVain, Keeps, SaysSo, Speech, WasInVain, Words}
+use Rattle.jr_scripts.specs.Posting.{LearnsByLook, LearnsOf, LooksInVain, Keeps, SaysSo, Speech, WasInVain, ThreadWords}
 use Rattle.jr_scripts.specs.Posting.{one_more, reply_to_wait, speaks, talk_of, word_under}
 use Rattle.jr_scripts.specs.Posting.{words_after, words_found, words_with}
 use Rattle.jr_scripts.specs.Explains.{Explains, IsCutOff, LeavesText, nothing, then, unwritten, written}
@@ -70,7 +70,7 @@ keeps_all = record { same = refl; serves = λ room s. s; posted = λ words n w h
 
 -- whatever the one says, the other says too
 pub record Carries (t u : Speech) : Type 0 where
-  pub still : (names : Names) (words : Words) (c : Command) (before : History) (answer : Result Reply Fault)
+  pub still : (names : Names) (words : ThreadWords) (c : Command) (before : History) (answer : Result Reply Fault)
       (after : History) → t names words c before answer after → u names words c before answer after
 
 answered_still : (known : Option ℕ) (heard heard' : ℕ → Type 0) (vain vain' : Type 0) (answer : Result Reply Fault)
@@ -81,15 +81,15 @@ answered_still None heard heard' vain vain' answer more none (Some w, is, x) = (
 answered_still None heard heard' vain vain' answer more none (None, is, x) = (None, is, none x)
 
 -- whoever says it by these says it by those that follow from them
-pub carried : (posted posted' : Words → List ℕ → ℕ → History → Type 0) (heard heard' : List ℕ → ℕ → History → Type 0)
-    (vain vain' : List ℕ → Type 0)
-    → ((words : Words) (n : List ℕ) (w : ℕ) (h : History) → posted words n w h → posted' words n w h)
+pub carried : (posted posted' : ThreadWords → List ℕ → ℕ → History → Type 0)
+    (heard heard' : List ℕ → ℕ → History → Type 0) (vain vain' : List ℕ → Type 0)
+    → ((words : ThreadWords) (n : List ℕ) (w : ℕ) (h : History) → posted words n w h → posted' words n w h)
     → ((n : List ℕ) (w : ℕ) (h : History) → heard n w h → heard' n w h) → ((n : List ℕ) → vain n → vain' n)
     → Carries (speaks posted heard vain) (speaks posted' heard' vain')
 carried posted posted' heard heard' vain vain' p h v =
     record { still = λ names words c before answer after x. go names words c before answer after x }
   where
-    go : (names : Names) (words : Words) (c : Command) (before : History) (answer : Result Reply Fault)
+    go : (names : Names) (words : ThreadWords) (c : Command) (before : History) (answer : Result Reply Fault)
         (after : History) → speaks posted heard vain names words c before answer after
         → speaks posted' heard' vain' names words c before answer after
     go names words (commands.OnName v n) before answer after x = p words n (word_posted names n) before x
@@ -105,8 +105,8 @@ carries_on layout tells looked turns old new keeps = carried (tells old).posted 
     (tells new).heard (WasInVain looked turns) (WasInVain looked turns) keeps.posted keeps.heard (λ n v. v)
 
 -- a command that is none of those by which threads hand each other something
-silent : (posted : Words → List ℕ → ℕ → History → Type 0) (heard : List ℕ → ℕ → History → Type 0)
-    (vain : List ℕ → Type 0) (names : Names) (words : Words) (c : Command) (before : History)
+silent : (posted : ThreadWords → List ℕ → ℕ → History → Type 0) (heard : List ℕ → ℕ → History → Type 0)
+    (vain : List ℕ → Type 0) (names : Names) (words : ThreadWords) (c : Command) (before : History)
     (answer : Result Reply Fault) (after : History) → is_speaking c ≡ false
     → speaks posted heard vain names words c before answer after
 silent posted heard vain names words (commands.OnName v n) before answer after is = absurd cc
@@ -116,7 +116,7 @@ silent posted heard vain names words _ before answer after is = tt
 -- so it does, with what it says, what it does
 pub did_silent : {S B : Type 0} {facts : S → Facts} {a b : S} {f g : Frames} {met shown : Known → Type 0} {role : Role}
     {answer : Result Reply Fault} (tells : B → Account) (looked : B → List ℕ → Option ℕ → B → Type 0) (board : B)
-    (turns : ℕ) (p : Place) (words : Words) (c : Command) → is_speaking c ≡ false
+    (turns : ℕ) (p : Place) (words : ThreadWords) (c : Command) → is_speaking c ≡ false
     → CarriedOut facts a b f g role met shown (deed_at turns p c) answer
     → CarriedOut facts a b f g role met shown (deed_spoken (talk_of tells looked turns board) turns p words c) answer
 did_silent {answer = answer} tells looked board turns p words c is = did_more (λ old new d. (
@@ -126,14 +126,14 @@ did_silent {answer = answer} tells looked board turns p words c is = did_more (�
 ))
 
 -- and the thread has the words that it had
-pub silent_words : (names : Names) (c : Command) (answer : Result Reply Fault) (words : Words) → is_speaking c ≡ false
-    → words ≡ words_after names c answer words
+pub silent_words : (names : Names) (c : Command) (answer : Result Reply Fault) (words : ThreadWords)
+    → is_speaking c ≡ false → words ≡ words_after names c answer words
 silent_words names (commands.OnName v n) answer words is = absurd cc
 silent_words names (commands.Make make.Wait n) answer words is = absurd cc
 silent_words names _ answer words is = refl
 
 -- what a command sets besides is no matter for the word that it posts or hears
-pub words_same : (names between : Names) (c : Command) (answer : Result Reply Fault) (words : Words)
+pub words_same : (names between : Names) (c : Command) (answer : Result Reply Fault) (words : ThreadWords)
     → between ≡ buffers_after c answer names → words_after between c answer words ≡ words_after names c answer words
 words_same names between (commands.OnName v n) answer words is =
     ap (λ (z : Names). words_with words n (word_posted z n)) is
@@ -142,7 +142,7 @@ words_same names between (commands.Make make.Wait n) answer words is =
 words_same names between _ answer words is = refl
 
 -- a wait that found this has these words behind it
-pub found_words : (names : Names) (n : List ℕ) (found : Option ℕ) (answer : Result Reply Fault) (words : Words)
+pub found_words : (names : Names) (n : List ℕ) (found : Option ℕ) (answer : Result Reply Fault) (words : ThreadWords)
     → answer ≡ reply_to_wait found
     → words_after names (commands.Make make.Wait n) answer words ≡ words_found n found words
 found_words names n (Some w) answer words is =
@@ -151,7 +151,7 @@ found_words names n None answer words is =
     ap (λ (z : Result Reply Fault). words_after names (commands.Make make.Wait n) z words) is
 
 -- a word that the thread has is no more
-pub known_words : (n : List ℕ) (w : ℕ) (words : Words) → word_under words n ≡ Some w
+pub known_words : (n : List ℕ) (w : ℕ) (words : ThreadWords) → word_under words n ≡ Some w
     → words ≡ words_found n (Some w) words
 known_words n w words is = sym (ap (λ o. cond (is_some o) words (words ++ (n, w) ∷ [])) is)
 
@@ -268,7 +268,7 @@ module _ {S : Type 0} (facts : S → Facts) where
 
   -- a wait is a command by which threads hand each other something
   pub spoke_waiting : {B : Type 0} {a b : S} {n : List ℕ} (tells : B → Account)
-      (looked : B → List ℕ → Option ℕ → B → Type 0) (turns : ℕ) (board : B) (names : Names) (words : Words)
+      (looked : B → List ℕ → Option ℕ → B → Type 0) (turns : ℕ) (board : B) (names : Names) (words : ThreadWords)
       (c : Command) (v : Make) (answer : Result Reply Fault) → c ≡ commands.Make v n → is_speaking c ≡ true
       → HasWaited facts a b (tells board) (WasInVain looked turns n) n (word_under words n) answer
       → HasSpoken facts a b (talk_of tells looked turns board) names words c answer
@@ -281,7 +281,7 @@ module _ {S : Type 0} (facts : S → Facts) where
 
   -- and so is a post
   pub spoke_posting : {B : Type 0} {a b : S} {n : List ℕ} {w : ℕ} (tells : B → Account)
-      (looked : B → List ℕ → Option ℕ → B → Type 0) (turns : ℕ) (board : B) (names : Names) (words : Words)
+      (looked : B → List ℕ → Option ℕ → B → Type 0) (turns : ℕ) (board : B) (names : Names) (words : ThreadWords)
       (c : Command) (v : OnName) → c ≡ commands.OnName v n → w ≡ word_posted names n
       → HasPosted facts a b (tells board) words n w
       → HasSpoken facts a b (talk_of tells looked turns board) names words c (Ok replies.Done)
@@ -373,12 +373,12 @@ module _ {S : Type 0} (facts : S → Facts) where
     agrees = ∥∥₁_map own.agrees (λ k. let x = w.leads k.0 k.1 tt in (x.0, x.1, held k.0 x.0 x.2 k.2));
   }
 
-  pub own_said : {a b : S} {t : Table} (talk : Speech) (names : Names) (words : Words) (c : Command)
+  pub own_said : {a b : S} {t : Table} (talk : Speech) (names : Names) (words : ThreadWords) (c : Command)
       (answer : Result Reply Fault) → HasSpoken facts a b talk names words c answer → AreOwn facts a t
       → AreOwn facts b t
   own_said {t = t} talk names words c answer w own = own_still w (holds_said t.frames c answer) own
 
-  pub own_posted : {a b : S} {t : Table} (account : Account) (words : Words) (n : List ℕ) (w : ℕ)
+  pub own_posted : {a b : S} {t : Table} (account : Account) (words : ThreadWords) (n : List ℕ) (w : ℕ)
       → HasPosted facts a b account words n w → AreOwn facts a t → AreOwn facts b t
   own_posted {t = t} account words n w p own = own_still p (λ k k' same. subst (Holds t.frames) (sym same)) own
 
@@ -394,7 +394,7 @@ module _ {S : Type 0} {G : Ghosts S} where
 
 module _ {S : Type 0} {G : Ghosts S} (fits : AreOf G.facts) where
   -- what such a command does, with what it says
-  pub did_speak : (talk : Speech) (turns : ℕ) (names : Names) (words : Words) (region : Option Region)
+  pub did_speak : (talk : Speech) (turns : ℕ) (names : Names) (words : ThreadWords) (region : Option Region)
       (old new : Env S G) (c : Command) (answer : Result Reply Fault) → StandsWith region old
       → new.held.frames ≡ old.held.frames → HasSpoken G.facts old.held.steps new.held.steps talk names words c answer
       → CarriedOut G.facts old.held.steps new.held.steps old.held.frames.frames new.held.frames.frames
@@ -423,7 +423,7 @@ module _ {S : Type 0} {G : Ghosts S} (fits : AreOf G.facts) where
       })
 
   -- where the thread stood it stands
-  pub stands_still : (talk : Speech) (names : Names) (words : Words) (region : Option Region) (old new : Env S G)
+  pub stands_still : (talk : Speech) (names : Names) (words : ThreadWords) (region : Option Region) (old new : Env S G)
       (c : Command) (answer : Result Reply Fault) → StandsWith region old → new.held.frames ≡ old.held.frames
       → HasSpoken G.facts old.held.steps new.held.steps talk names words c answer → StandsWith region new
   stands_still talk names words None old new c answer stands frames w =
@@ -475,8 +475,8 @@ said_buffers _ answer names said = absurd cc
 -- WHAT ELSE MAY BE TOLD
 
 module _ {t u : Speech} (s : Carries t u) {turns first : ℕ} {old : ThreadState} where
-  pub explains_still : {commands : List Command} {text : List ℕ} {new : ThreadState} {place : Place} {words : Words}
-      → Explains t turns first old commands text new place words
+  pub explains_still : {commands : List Command} {text : List ℕ} {new : ThreadState} {place : Place}
+      {words : ThreadWords} → Explains t turns first old commands text new place words
       → Explains u turns first old commands text new place words
   explains_still nothing = nothing
   explains_still (then {mid = mid} {new = new} {place = place} {words = words} c answer before did said) =
@@ -523,7 +523,7 @@ module _ {P : Type 0} {G : CellGhosts RoomCells P} where
       }
 
   -- a word was posted with all that the thread has seen
-  pub room_posted : {s u : StepsOver RoomCells P G} (account : Account) (words : Words) (n : List ℕ) (w : ℕ)
+  pub room_posted : {s u : StepsOver RoomCells P G} (account : Account) (words : ThreadWords) (n : List ℕ) (w : ℕ)
       (p : PinnedNote) → AreAsBefore s u → WasPinned s p
       → ((h : History) → seen_by_pinned p ≡ h → account.posted words n w h)
       → HasPosted (λ (x : StepsOver RoomCells P G). facts_of (holder_over x)) s u account words n w

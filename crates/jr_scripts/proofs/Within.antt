@@ -60,7 +60,7 @@ use Rattle.jr_syntax.specs.declared.verb.OnName.{OnName}
 use Rattle.jr_scripts.specs.declared.region.Region.{Region}
 use Rattle.jr_scripts.specs.Layouts.{Layout}
 use Rattle.jr_scripts.specs.Places.{is_speaking, levels_after, objects_after}
-use Rattle.jr_scripts.specs.Posting.{Account, HasPosted, HasSpoken, HasWaited, Keeps, WasInVain, Words}
+use Rattle.jr_scripts.specs.Posting.{Account, HasPosted, HasSpoken, HasWaited, Keeps, WasInVain, ThreadWords}
 use Rattle.jr_scripts.specs.Posting.{reply_to_wait, talk_of, word_under, words_after, words_found, words_with}
 use Rattle.jr_scripts.proofs.CopyDeeds.{does_get, does_put}
 use Rattle.jr_scripts.proofs.Speaking.{did_silent, did_speak, keeps_all, said_buffers, said_levels, said_objects}
@@ -319,7 +319,8 @@ is_of_region (commands.Make make.Wait n) = true
 is_of_region _ = false
 
 module _ {S B : Type 0} {G : Ghosts S} {layout : B → Layout} {tells : B → Account}
-    {looked : B → List ℕ → Option ℕ → B → Type 0} {follows : B → Words → Type 0} {turns : ℕ} {words : Words} where
+    {looked : B → List ℕ → Option ℕ → B → Type 0} {follows : B → ThreadWords → Type 0} {turns : ℕ}
+    {words : ThreadWords} where
   module _ {old new : Env S G} {names names' : Names} {region' : Option Region} {board : B}
       {answer : Result Reply Fault} (c d : Command) (is : c ≡ d) where
     -- a command by which threads hand each other nothing, where no region stood

@@ -31,7 +31,7 @@ use Rattle.jr_scripts.specs.declared.reply.Reply.TheVariants as replies
 use Rattle.jr_scripts.specs.Names.{Names, binding, getting, putting}
 use Rattle.jr_scripts.specs.Layouts.{Layout}
 use Rattle.jr_scripts.specs.Text.{buffers_after}
-use Rattle.jr_scripts.specs.Posting.{Account, Keeps, Speech, Words, talk_of, words_after}
+use Rattle.jr_scripts.specs.Posting.{Account, Keeps, Speech, ThreadWords, talk_of, words_after}
 use Rattle.jr_scripts.specs.Places.{Place, levels_after, objects_after}
 use Rattle.jr_scripts.specs.RegionCommands.{deed_at}
 
@@ -62,7 +62,7 @@ answer_without_call names (commands.PutAt v n i x) =
 answer_without_call names _ = Err fault.InCritical
 
 -- what a command does where the thread stands, with what it says and hears
-abbrev pub deed_spoken : Speech → ℕ → Place → Words → Command → Deed Reply
+abbrev pub deed_spoken : Speech → ℕ → Place → ThreadWords → Command → Deed Reply
 deed_spoken speech turns p words c old answer new =
     deed_at turns p c old answer new × speech p.names words c old.pass.seen answer new.pass.seen
 
@@ -130,8 +130,8 @@ module _ {S : Type 0} {G : Ghosts S} where
 -- A COMMAND WAS DONE where the thread stood, with its board: it did what the command does there, with what it said and
 -- heard, and stands where the command leaves it; nothing else of the names, the region and the board was changed
 module _ {S B : Type 0} {G : Ghosts S} (layout : B → Layout) (tells : B → Account)
-    (looked : B → List ℕ → Option ℕ → B → Type 0) (has : B → Words → Type 0) where
-  pub record DidCommand (turns : ℕ) (c : Command) (words : Words) (old new : Env S G) (named named' : Names)
+    (looked : B → List ℕ → Option ℕ → B → Type 0) (has : B → ThreadWords → Type 0) where
+  pub record DidCommand (turns : ℕ) (c : Command) (words : ThreadWords) (old new : Env S G) (named named' : Names)
       (region region' : Option Region) (board board' : B) (answer : Result Reply Fault) : Type 0 where
     pub does : DidWith old new region region'
         (deed_spoken (talk_of tells looked turns board') turns (place_with named region) words c) answer

@@ -29,7 +29,7 @@ use Rattle.jr_scripts.specs.declared.binding.Binding.TheVariants as bound
 use Rattle.jr_scripts.specs.Buffers.{Copied}
 use Rattle.jr_scripts.specs.Names.{Names, referent, binding}
 use Rattle.jr_gate.specs.Performing.{ThreadState}
-use Rattle.jr_scripts.specs.Posting.{Speech, Words}
+use Rattle.jr_scripts.specs.Posting.{Speech, ThreadWords}
 use Rattle.jr_scripts.specs.Explains.{Explains, nothing, then}
 use Rattle.jr_scripts.specs.Numbers.{is_number_of}
 use Rattle.jr_scripts.specs.Places.{Place, by_region, newest, nth_object}
@@ -299,8 +299,8 @@ IsAloneFault turns p c now frames e =
 
 -- each answer of the explanation that is a refusal is a lone thread's, at the moment after its command
 abbrev pub AnswersAlone : {speech : Speech} {turns first : ℕ} {old new : ThreadState} {commands : List Command}
-    {text : List ℕ} {place : Place} {words : Words} → Explains speech turns first old commands text new place words
-    → Type 0
+    {text : List ℕ} {place : Place} {words : ThreadWords}
+    → Explains speech turns first old commands text new place words → Type 0
 AnswersAlone nothing = Unit {0}
 AnswersAlone {turns = turns} (then {new = now} {place = place} c answer before did said) =
     AnswersAlone before × IfErr answer (IsAloneFault turns place c now.pass now.frames)

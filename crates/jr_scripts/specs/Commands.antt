@@ -1,5 +1,5 @@
 -- What commands do.
-use Rattle.std.specs.Prelude.{◌≡◌, ◌⊎◌, ◌≤◌, ◌+◌, ℕ, ℤ, Option, Some, None, Result, Ok, Err, IfErr, [], ◌∷◌}
+use Rattle.std.specs.Prelude.{◌≡◌, ◌⊎◌, ℕ, ℤ, Option, Some, None, Result, Ok, Err, IfErr, [], ◌∷◌}
 use Rattle.jr_word.specs.declared.config.Config.{Config}
 use Rattle.jr_word.specs.declared.handle.RefKind.{RefKind}
 use Rattle.jr_word.specs.declared.handle.RefKind.TheVariants.{Local, Global, Weak}
@@ -9,7 +9,6 @@ use Rattle.jr_word.specs.declared.kind.Kind.TheVariants.{Boolean, Byte, Char, Sh
 use Rattle.jr_word.specs.declared.fault.Fault.{Fault}
 use Rattle.jr_word.specs.declared.fault.Fault.TheVariants as fault
 use Rattle.jr_model.specs.State.{State}
-use Rattle.jr_model.specs.History.{Did}
 use Rattle.jr_model.specs.Calls.{Call}
 use Rattle.jr_model.specs.Checks.{Word, Nothing, Malformed, Parts}
 use Rattle.jr_model.specs.Objects.{get_array_critical, get_string_critical}
@@ -36,7 +35,7 @@ use Rattle.jr_syntax.specs.declared.verb.OpenLevel.TheVariants as at
 use Rattle.jr_scripts.specs.declared.reply.Reply.{Reply}
 use Rattle.jr_scripts.specs.declared.reply.Reply.TheVariants as replies
 use Rattle.jr_frames.specs.Reading.{IsReadAs}
-use Rattle.jr_gate.specs.Performing.{ThreadState}
+use Rattle.jr_gate.specs.Performing.{HasLearned}
 use Rattle.jr_scripts.specs.Buffers.{copy_of}
 use Rattle.jr_scripts.specs.Names.{Names, buffer_in, getting, putting, reference_in, referent, binding, wanted}
 use Rattle.jr_weak.specs.declared.collecting.Collected.{Collected}
@@ -172,18 +171,6 @@ told (Err e) = Err e
 abbrev pub collecting_announced : ℕ → ℕ → Deed Reply
 collecting_announced turns tries old answer new =
     (once : Result Collected Fault) × (answer ≡ told once) × tried turns (announced_collection tries) old once new
-
--- A THREAD LEARNS:
--- all that others have done in between is seen, by at most one operation, and nothing else of it changes
-pub record HasLearned (old new : ThreadState) : Type 0 where
-  pub did : Did old.pass new.pass []
-  pub frames : new.frames ≡ old.frames
-  pub held : new.held ≡ old.held
-  pub fresh : new.fresh ≡ old.fresh
-  pub hint : new.hint ≡ old.hint
-  pub without : ℕ
-  pub most : without ≤ 1
-  pub taken : new.taken ≡ old.taken + without
 
 -- a name was waited for: some word, with which the thread learns what its poster had seen;
 -- or the turns ran out, and nothing has changed

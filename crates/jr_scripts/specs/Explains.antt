@@ -6,7 +6,7 @@ use Rattle.jr_syntax.specs.declared.command.Command.{Command}
 use Rattle.jr_scripts.specs.declared.reply.Reply.{Reply}
 use Rattle.jr_gate.specs.Performing.{ThreadState}
 use Rattle.jr_scripts.specs.Places.{Place, nowhere, place_after}
-use Rattle.jr_scripts.specs.Posting.{Speech, Words, words_after}
+use Rattle.jr_scripts.specs.Posting.{Speech, ThreadWords, words_after}
 use Rattle.jr_scripts.specs.RegionCommands.{deed_at, giving_up_all}
 use Rattle.jr_scripts.specs.Text.{printed}
 
@@ -14,10 +14,10 @@ module _ (speech : Speech) (turns first : ℕ) (old : ThreadState) where
   -- From the old moment to the new one the commands were done, each once and in order, the
   -- first on the line `first`, and printed the text; what they posted and waited for is said
   -- so, with what the thread had seen; then the thread stands there, and has these words
-  pub data Explains : List Command → List ℕ → ThreadState → Place → Words → Type 0 where
+  pub data Explains : List Command → List ℕ → ThreadState → Place → ThreadWords → Type 0 where
     nothing : Explains [] [] old nowhere []
-    then : {before : List Command} {text : List ℕ} {mid new : ThreadState} {place : Place} {words : Words} (c : Command)
-        (answer : Result Reply Fault)
+    then : {before : List Command} {text : List ℕ} {mid new : ThreadState} {place : Place} {words : ThreadWords}
+        (c : Command) (answer : Result Reply Fault)
         → Explains before text mid place words → deed_at turns place c mid answer new
         → speech place.names words c mid.pass.seen answer new.pass.seen
         → Explains (before ++ c ∷ []) (text ++ printed (first + length before) c answer) new
@@ -26,7 +26,7 @@ module _ (speech : Speech) (turns first : ℕ) (old : ThreadState) where
   -- THE TEXT IS EXPLAINED: it is that of all commands, and a region that stood then was given up
   pub record Explained (commands : List Command) (text : List ℕ) (new : ThreadState) : Type 0 where
     pub place : Place
-    pub words : Words
+    pub words : ThreadWords
     pub done : ThreadState
     pub explains : Explains commands text done place words
     pub ended : giving_up_all place.objects done (Ok tt) new
@@ -34,11 +34,11 @@ module _ (speech : Speech) (turns first : ℕ) (old : ThreadState) where
   -- the first commands were done and no others, and a region that stood then was given up;
   -- the text has all their lines, or lacks that of the last
   pub data IsCutOff (commands : List Command) (text : List ℕ) (new : ThreadState) : Type 0 where
-    written : (before rest : List Command) (place : Place) (words : Words) (done : ThreadState)
+    written : (before rest : List Command) (place : Place) (words : ThreadWords) (done : ThreadState)
         → commands ≡ before ++ rest → Explains before text done place words
         → giving_up_all place.objects done (Ok tt) new → IsCutOff commands text new
     unwritten : (before : List Command) (last : Command) (rest : List Command) (mid done : ThreadState) (place : Place)
-        (words : Words) (answer : Result Reply Fault)
+        (words : ThreadWords) (answer : Result Reply Fault)
         → commands ≡ before ++ last ∷ rest → Explains before text mid place words
         → deed_at turns place last mid answer done → speech place.names words last mid.pass.seen answer done.pass.seen
         → giving_up_all (place_after last answer place).objects done (Ok tt) new → IsCutOff commands text new

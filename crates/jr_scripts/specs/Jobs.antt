@@ -11,10 +11,10 @@ use Rattle.jr_scripts.specs.declared.part.Job.{Job}
 use Rattle.jr_scripts.specs.declared.part.ThreadRun.{ThreadRun}
 use Rattle.jr_scripts.specs.Text.{heading}
 use Rattle.jr_scripts.specs.Layouts.{Layout, cell_number, layout_of}
-use Rattle.jr_scripts.specs.Posting.{Account, Words, said}
+use Rattle.jr_scripts.specs.Posting.{Account, ThreadWords, said}
 use Rattle.jr_scripts.specs.declared.board.Posts.{Posts}
-use Rattle.jr_scripts.specs.declared.note.Note.{Note}
-use Rattle.jr_scripts.specs.declared.note.Posted.{Posted}
+use Rattle.jr_scripts.specs.declared.sighting.Sighting.{Sighting}
+use Rattle.jr_scripts.specs.declared.sighting.Posted.{Posted}
 use Rattle.jr_rule.specs.declared.site.Site.{Ghosts}
 use Rattle.jr_rule.specs.declared.site.PinnedNoteOf.{PinnedNoteOf}
 use Rattle.jr_scripts.specs.Noting.{posted_noted}
@@ -39,7 +39,7 @@ module _ {Q : Type 0} {G : Ghosts Q} where
 
   -- what the thread's notes tell is what the board has
   pub record IsToldBy (board : List ℕ → Option (ℕ × History)) (rank : List ℕ → ℕ) (r : ThreadRun Q G) : Type 0 where
-    pub posted : (words : Words) (n : List ℕ) (w : ℕ) (h : History) → (account_in r).posted words n w h
+    pub posted : (words : ThreadWords) (n : List ℕ) (w : ℕ) (h : History) → (account_in r).posted words n w h
         → (board n ≡ Some (w, h)) × AllByRecursion (λ x. rank x.0 < rank n) words
     pub heard : (n : List ℕ) (w : ℕ) (h : History) → (account_in r).heard n w h
         → (begun : History) × (board n ≡ Some (w, begun)) × IsPrefix begun h
@@ -89,11 +89,12 @@ entry_of None = None
 
 module _ {Q : Type 0} {G : Ghosts Q} where
   -- the board that is noted
-  abbrev pub board_noted : List (List ℕ × ℕ) → List (Option (Note (PinnedNoteOf Q G))) → List ℕ → Option (ℕ × History)
+  abbrev pub board_noted : List (List ℕ × ℕ) → List (Option (Sighting (PinnedNoteOf Q G))) → List ℕ
+      → Option (ℕ × History)
   board_noted numbers notes n = entry_of (posted_noted numbers notes n)
 
   -- the rank of a name is the stamp that is noted
-  abbrev pub rank_noted : List (List ℕ × ℕ) → List (Option (Note (PinnedNoteOf Q G))) → List ℕ → ℕ
+  abbrev pub rank_noted : List (List ℕ × ℕ) → List (Option (Sighting (PinnedNoteOf Q G))) → List ℕ → ℕ
   rank_noted numbers notes n = stamp_of (posted_noted numbers notes n)
 
   -- the thread was not refused memory

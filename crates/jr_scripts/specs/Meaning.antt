@@ -42,7 +42,7 @@ use Rattle.jr_scripts.specs.Commands.{kind_made}
 use Rattle.jr_scripts.specs.Names.{Names, binding, buffer_in, getting, putting, reference_in, referent, wanted}
 use Rattle.jr_scripts.specs.Numbers.{has_numbers, number_of_word, word_of_number}
 use Rattle.jr_scripts.specs.Places.{Place, all_but_last, level_wanted, newest, nowhere, nth_object, place_after}
-use Rattle.jr_scripts.specs.Posting.{Words, reply_to_wait, word_under, words_after}
+use Rattle.jr_scripts.specs.Posting.{ThreadWords, reply_to_wait, word_under, words_after}
 use Rattle.jr_scripts.specs.RegionCommands.{read_kind}
 use Rattle.jr_scripts.specs.Text.{ending, heading, printed}
 
@@ -326,15 +326,11 @@ writes_number o x i number = do
   rewrites o x (slice_set x.words i word)
   done replies.Done
 
--- memory is taken: E16 where there is none
-abbrev pub takes_memory : Meaning (Unit {0})
-takes_memory w = (refused_if (not (slice_index_or w.memory 0 true)) fault.Memory, record w { memory = drop 1 w.memory })
-
--- a copy of words, which takes memory where there are some
+-- a copy of words: E16 where there are some, and it finds no memory
 abbrev pub copy : List ℕ → Meaning (List ℕ)
 copy [] = done []
 copy (word ∷ words) = do
-  takes_memory
+  refuse_where (λ w. not (slice_index_or w.memory 0 true)) fault.Memory
   done (word ∷ words)
 
 -- a buffer is copied back to a whole array: E5, E6 for another kind, E7 for another length; to abort does nothing
@@ -442,10 +438,10 @@ type_named None = done 0
 type_named (Some h) = type_meant h.0
 
 -- the word that an earlier line posted under a name: E20 where none did
-abbrev pub waits : Words → List ℕ → Meaning Reply
+abbrev pub waits : ThreadWords → List ℕ → Meaning Reply
 waits words n = decided (reply_to_wait (word_under words n))
 
-module _ (c : Config) (names : Names) (words : Words) where
+module _ (c : Config) (names : Names) (words : ThreadWords) where
   -- what is made of what a word stands for
   abbrev pub made_from : MakeFrom → ℕ → Meaning Reply
   made_from make_from.Global n = makes (object n >>= new_global c Global)
@@ -564,7 +560,7 @@ module _ (c : Config) (names : Names) (words : Words) where
   within levels objects _ = decided (Err fault.InCritical)
 
 -- what a command means where the thread stands, with these words
-abbrev pub meaning_at : Config → Place → Words → List ℕ → Command → Meaning Reply
+abbrev pub meaning_at : Config → Place → ThreadWords → List ℕ → Command → Meaning Reply
 meaning_at c p words [] x = outside c p.names words x
 meaning_at c p words (o ∷ os) x = within c p.names words p.levels p.objects x
 
@@ -572,8 +568,14 @@ meaning_at c p words (o ∷ os) x = within c p.names words p.levels p.objects x
 pub record Told : Type 0 where
   pub text : List ℕ
   pub place : Place
-  pub words : Words
+  pub words : ThreadWords
   pub world : World
+
+-- the copies to come behind a command: `elems` and `chars` are one
+abbrev pub memory_after : Command → List Bool → List Bool
+memory_after (commands.MakeFrom make_from.Elements n r) memory = drop 1 memory
+memory_after (commands.On on.Chars r) memory = drop 1 memory
+memory_after _ memory = memory
 
 -- one more command, on this line
 abbrev pub tells : ℕ → Command → Told → Result Reply Fault × World → Told
@@ -581,7 +583,7 @@ tells line x t (answer, w) = record {
   text = t.text ++ printed line x answer;
   place = place_after x answer t.place;
   words = words_after t.place.names x answer t.words;
-  world = w;
+  world = record w { memory = memory_after x t.world.memory };
 }
 
 abbrev pub told_after : Config → ℕ → Command → Told → Told
@@ -632,6 +634,13 @@ IsCovered (commands.MakeAt v n r i) = Unit {0}
 IsCovered (commands.SetAt v r i q) = Unit {0}
 IsCovered (commands.OnAt v r i) = Unit {0}
 IsCovered (commands.StoreAt v r i x) = Unit {0}
+IsCovered (commands.MakeFrom make_from.Elements n r) = Unit {0}
+IsCovered (commands.On on.Chars r) = Unit {0}
+IsCovered (commands.OnNameAt on_name_at.Get n i) = Unit {0}
+IsCovered (commands.PutAt put_at.Put n i x) = Unit {0}
+IsCovered (commands.Release v n r mode) = Unit {0}
+IsCovered (commands.OfRoom v) = Unit {0}
+IsCovered (commands.WithTries v tries) = Unit {0}
 IsCovered _ = ⊥
 
 -- THE TEXT OF A RUN IS WHAT ITS SCRIPT MEANS, where there are turns, serials have 32 bits, all commands are covered,

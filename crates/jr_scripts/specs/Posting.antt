@@ -25,20 +25,20 @@ reply_to_wait (Some w) = Ok (replies.Made (Some (record { 0 = w })))
 reply_to_wait None = Err fault.Turns
 
 -- the words of a thread: those that it posted and heard so far, each with its name
-abbrev pub Words : Type 0
-Words = List (List ℕ × ℕ)
+abbrev pub ThreadWords : Type 0
+ThreadWords = List (List ℕ × ℕ)
 
 -- THE WORD THAT A THREAD HAS under a name, none where it posted and heard none
-abbrev pub word_under : Words → List ℕ → Option ℕ
+abbrev pub word_under : ThreadWords → List ℕ → Option ℕ
 word_under [] n = None
 word_under (x ∷ xs) n = cond (bytes_eq n x.0) (Some x.1) (word_under xs n)
 
 -- they are one more, under a name that has none
-abbrev pub words_with : Words → List ℕ → ℕ → Words
+abbrev pub words_with : ThreadWords → List ℕ → ℕ → ThreadWords
 words_with words n w = cond (is_some (word_under words n)) words (words ++ (n, w) ∷ [])
 
 -- THE WORDS AFTER A COMMAND, before which the names stand for this: one more where it posted or heard one
-abbrev pub words_after : Names → Command → Result Reply Fault → Words → Words
+abbrev pub words_after : Names → Command → Result Reply Fault → ThreadWords → ThreadWords
 words_after names (commands.OnName v n) answer words = words_with words n (word_posted names n)
 words_after names (commands.Make make.Wait n) (Ok (replies.Made (Some h))) words = words_with words n h.0
 words_after names _ _ words = words
@@ -46,7 +46,7 @@ words_after names _ _ words = words
 -- what commands may say and hear: before which names stand for this, and of a thread
 -- with these words, between two moments of which it has seen this, with this answer
 abbrev pub Speech : Type 1
-Speech = Names → Words → Command → History → Result Reply Fault → History → Type 0
+Speech = Names → ThreadWords → Command → History → Result Reply Fault → History → Type 0
 
 -- THE ANSWER TO A WAIT: at once the word that the thread has;
 -- else one that it heard, or E20, where it looked for one in vain
@@ -57,7 +57,7 @@ IsAnswered None heard vain answer = (found : Option ℕ) × (answer ≡ reply_to
 -- WHAT A COMMAND SAYS AND HEARS: `post` has posted the word of the reference for which its name
 -- stands, 0 where it stands for none, with the thread's words and all that was seen before it,
 -- and `wait` is answered by a word that is heard of behind it; no other command does either
-abbrev pub speaks : (Words → List ℕ → ℕ → History → Type 0) → (List ℕ → ℕ → History → Type 0) → (List ℕ → Type 0)
+abbrev pub speaks : (ThreadWords → List ℕ → ℕ → History → Type 0) → (List ℕ → ℕ → History → Type 0) → (List ℕ → Type 0)
     → Speech
 speaks posted heard vain names words (commands.OnName v n) before answer after =
     posted words n (word_posted names n) before
@@ -81,7 +81,7 @@ said_alone = speaks (λ words n w seen. Unit {0}) (λ n w seen. ⊥) (λ n. Unit
 -- and that whoever has seen this has heard of a word that was posted under a name
 pub record Account : Type 1 where
   pub serves : Option TableId → Type 0
-  pub posted : Words → List ℕ → ℕ → History → Type 0
+  pub posted : ThreadWords → List ℕ → ℕ → History → Type 0
   pub heard : List ℕ → ℕ → History → Type 0
 
 -- so many looks at a board for a name, one after the other, of which each found nothing
@@ -100,19 +100,19 @@ abbrev pub talk_of : {B : Type 0} → (B → Account) → (B → List ℕ → Op
 talk_of tells looked turns board = speaks (tells board).posted (tells board).heard (WasInVain looked turns)
 
 -- the words of a thread that looked for a name, and found this
-abbrev pub words_found : List ℕ → Option ℕ → Words → Words
+abbrev pub words_found : List ℕ → Option ℕ → ThreadWords → ThreadWords
 words_found n (Some w) words = words_with words n w
 words_found n None words = words
 
 -- where the thread of a board had words, it has these now
-abbrev pub Follows : {B : Type 0} → (B → Words → Type 0) → B → B → (Words → Words) → Type 0
-Follows follows old new now = (words : Words) → follows old words → follows new (now words)
+abbrev pub Follows : {B : Type 0} → (B → ThreadWords → Type 0) → B → B → (ThreadWords → ThreadWords) → Type 0
+Follows follows old new now = (words : ThreadWords) → follows old words → follows new (now words)
 
 -- WHAT STAYS of a board, whatever a thread posts or looks for: how it is laid out, whom it serves, and what it told
 pub record Keeps {B : Type 0} (layout : B → Layout) (tells : B → Account) (old new : B) : Type 0 where
   pub same : layout new ≡ layout old
   pub serves : (room : Option TableId) → (tells old).serves room → (tells new).serves room
-  pub posted : (words : Words) (n : List ℕ) (w : ℕ) (h : History) → (tells old).posted words n w h
+  pub posted : (words : ThreadWords) (n : List ℕ) (w : ℕ) (h : History) → (tells old).posted words n w h
       → (tells new).posted words n w h
   pub heard : (n : List ℕ) (w : ℕ) (h : History) → (tells old).heard n w h → (tells new).heard n w h
 
@@ -145,7 +145,7 @@ SaysSo _ answer k k' = ⊥
 module _ {S : Type 0} (facts : S → Facts) where
   -- A WORD WAS POSTED under a name by a thread with these words:
   -- it stands as it did, and knows what it knew, which is told with the word
-  abbrev pub HasPosted : S → S → Account → Words → List ℕ → ℕ → Type 0
+  abbrev pub HasPosted : S → S → Account → ThreadWords → List ℕ → ℕ → Type 0
   HasPosted old new account words n w =
       Went facts old new (facts old).stands anything (λ k k'. k' ≡ k) (λ k k'. account.posted words n w k.seen)
 
@@ -160,6 +160,6 @@ module _ {S : Type 0} (facts : S → Facts) where
       (λ k k'. IsAnswered known (λ w. account.heard n w k'.seen) vain answer)
 
   -- A COMMAND WAS DONE by which threads hand each other something
-  abbrev pub HasSpoken : S → S → Speech → Names → Words → Command → Result Reply Fault → Type 0
+  abbrev pub HasSpoken : S → S → Speech → Names → ThreadWords → Command → Result Reply Fault → Type 0
   HasSpoken old new speech names words c answer = Went facts old new (facts old).stands anything (SaysSo c answer)
       (λ k k'. speech names words c k.seen answer k'.seen)

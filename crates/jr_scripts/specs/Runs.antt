@@ -23,7 +23,7 @@ use Rattle.jr_env.specs.Deeds.{Deed, free_locals}
 use Rattle.jr_env.specs.Envs.{WasDone}
 use Rattle.jr_scripts.specs.declared.reply.Reply.{Reply}
 use Rattle.jr_scripts.specs.Names.{Names}
-use Rattle.jr_scripts.specs.Posting.{Speech, Words, said_alone, words_after}
+use Rattle.jr_scripts.specs.Posting.{Speech, ThreadWords, said_alone, words_after}
 use Rattle.jr_scripts.specs.Commands.{tried}
 use Rattle.jr_scripts.specs.Text.{printed, names_set, heading, ending}
 use Rattle.jr_scripts.specs.Explains.{Explained, LeavesText}
@@ -59,8 +59,8 @@ module _ {S : Type 0} {G : Ghosts S} where
 
 -- what is kept of a command that was done:
 -- its line is written, its name set, and its word kept, or memory was refused and nothing is written
-abbrev pub WritesDown : ℕ → Command → Result Reply Fault → Names → Names → Words → Words → Result (Unit {0}) AllocError
-    → List ℕ → List ℕ → Type 0
+abbrev pub WritesDown : ℕ → Command → Result Reply Fault → Names → Names → ThreadWords → ThreadWords
+    → Result (Unit {0}) AllocError → List ℕ → List ℕ → Type 0
 WritesDown number c answer names names' words words' (Ok _) old new = (names' ≡ names_set c answer names)
     × (words' ≡ words_after names c answer words) × (new ≡ old ++ printed number c answer)
 WritesDown number c answer names names' words words' (Err _) old new = new ≡ old

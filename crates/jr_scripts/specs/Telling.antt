@@ -5,7 +5,7 @@ use Rattle.jr_model.specs.History.{History}
 use Rattle.jr_rule.specs.Rooms.{seen_by_pinned}
 use Rattle.jr_rule.specs.declared.site.Site.{Ghosts}
 use Rattle.jr_rule.specs.declared.site.PinnedNoteOf.{PinnedNoteOf}
-use Rattle.jr_scripts.specs.declared.note.Note.{Note}
+use Rattle.jr_scripts.specs.declared.sighting.Sighting.{Sighting}
 use Rattle.jr_scripts.specs.Posting.{Account, Speech, speaks}
 use Rattle.jr_scripts.specs.Noting.{account_noted}
 
@@ -19,10 +19,10 @@ module _ {Q : Type 0} {G : Ghosts Q} where
   have_seen t seen = IsPrefix (seen_by_pinned t.pinned) seen
 
   -- what a thread's notes of a room's board tell
-  abbrev pub account_told : Bool → List (List ℕ × ℕ) → List (Option (Note (PinnedNoteOf Q G))) → Account
+  abbrev pub account_told : Bool → List (List ℕ × ℕ) → List (Option (Sighting (PinnedNoteOf Q G))) → Account
   account_told = account_noted (λ room. room ≡ G.room) has_seen have_seen
 
   -- what a thread said and heard by them
-  abbrev pub talk_told : Bool → List (List ℕ × ℕ) → List (Option (Note (PinnedNoteOf Q G))) → Speech
+  abbrev pub talk_told : Bool → List (List ℕ × ℕ) → List (Option (Sighting (PinnedNoteOf Q G))) → Speech
   talk_told lost numbers notes =
       speaks (account_told lost numbers notes).posted (account_told lost numbers notes).heard (λ n. Unit {0})

@@ -1,6 +1,6 @@
 //! What the threads of a script post to each other, by name.
 
-use crate::note::Posted;
+use crate::sighting::Posted;
 use jr_steps::Steps;
 use jr_syntax::{Command, Name, OnName};
 use std::alloc::{AllocError, Global};
@@ -11,7 +11,7 @@ use std::sync::OnceLock;
 pub trait Board<S: Steps> {
     ghost use Rattle.std.specs.Prelude.{ℕ, List, Option};
     ghost use Rattle.jr_scripts.specs.Layouts.{Layout};
-    ghost use Rattle.jr_scripts.specs.Posting.{Account, Follows, HasLookedFor, HasPosted, Keeps, Words, words_found, words_with};
+    ghost use Rattle.jr_scripts.specs.Posting.{Account, Follows, HasLookedFor, HasPosted, Keeps, ThreadWords, words_found, words_with};
 
     /// How the board is laid out, which nothing changes.
     ghost layout: { Self → Layout };
@@ -20,7 +20,7 @@ pub trait Board<S: Steps> {
     ghost tells: { Self → Account };
 
     /// The thread of the board has these words, which it posted and heard there.
-    ghost follows: { Self → Words → Type 0 };
+    ghost follows: { Self → ThreadWords → Type 0 };
 
     /// A look for this name found this, and left the board so.
     ghost looked: { Self → List ℕ → Option ℕ → Self → Type 0 };
@@ -32,7 +32,7 @@ pub trait Board<S: Steps> {
     /// None that a clause counts.
     fn post(&mut self, steps: &mut S, name: &Name, word: u64)
         requires { (tells self.old).serves (S.facts steps.old).stands.room }
-        ensures posted { (words : Words) → follows self.old words → HasPosted S.facts steps.old steps.new (tells self.new) words name.now word }
+        ensures posted { (words : ThreadWords) → follows self.old words → HasPosted S.facts steps.old steps.new (tells self.new) words name.now word }
         ensures follows { Follows follows self.old self.new (λ words. words_with words name.now word) }
         ensures kept { Keeps layout tells self.old self.new };
 

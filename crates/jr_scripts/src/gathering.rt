@@ -7,9 +7,9 @@ ghost use Rattle.jr_scripts.specs.Jobs.{board_noted, rank_noted, AreTold, AreTol
 ghost use Rattle.jr_scripts.specs.Layouts.{layout_of};
 
 use crate::board::Posts;
-use crate::notes::Notes;
 use crate::part::ThreadRun;
 use crate::printed::heading;
+use crate::sightings::Sightings;
 use jr_rule::{Pass, PinnedNoteOf, Site};
 use jr_syntax::ThreadPart;
 use jr_word::Fault;
@@ -27,7 +27,7 @@ fn told_by<'a, Q: Site>(
     alloc: Global,
     parts: &[ThreadPart],
     mut runs: Vec<ThreadRun<'a, Q>>,
-    all: &Notes<'a, PinnedNoteOf<Q>>,
+    all: &Sightings<'a, PinnedNoteOf<Q>>,
 ) -> Result<(Vec<Pass>, Vec<u8>), Fault>
     requires long { length runs.items ≡ length parts.now }
     requires over { All (IsOver (layout_of all.now.posts.now)) runs.items }
@@ -69,6 +69,6 @@ pub(crate) fn told<'a, Q: Site>(
     ensures ok { IfOk result (λ r. AreToldAlike board.now.numbers.entries parts.now runs.entry.items r.0.items r.1.items) }
     ensures err { IfErr result (λ e. e ≡ Memory) }
 {
-    let all = Notes::of_all(alloc, board);
+    let all = Sightings::of_all(alloc, board);
     told_by(alloc, parts, runs, &all)
 }

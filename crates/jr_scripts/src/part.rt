@@ -9,8 +9,8 @@ ghost use Rattle.jr_scripts.specs.Jobs.{IsForPart};
 
 use crate::board::Posts;
 use crate::hold::Hold;
-use crate::notes::Notes;
 use crate::opening::opened_env;
+use crate::sightings::Sightings;
 use crate::to_end::run_to_end;
 use jr_rule::{Pass, PinnedNoteOf, Room, RoomSteps, Site};
 use jr_syntax::ThreadPart;
@@ -32,7 +32,7 @@ pub(crate) struct ThreadRun<'a, Q: Site> {
     pub(crate) pass: Pass,
     pub(crate) text: Vec<u8>,
     pub(crate) answer: Result<(), Fault>,
-    pub(crate) notes: Notes<'a, PinnedNoteOf<Q>>,
+    pub(crate) notes: Sightings<'a, PinnedNoteOf<Q>>,
 }
 
 /// Does a job, and frees the thread's local references at its end.
@@ -53,7 +53,7 @@ pub(crate) fn run_job<'a, Q: Site, H: Hold, const LAST: u32>(
 {
     let mut text = Vec::new(alloc);
     let mut env = opened_env(RoomSteps::new(room, pass));
-    let mut notes = Notes::new(alloc, board);
+    let mut notes = Sightings::new(alloc, board);
     let commands = part.commands.as_slice();
     let answer = run_to_end(
         alloc, &mut env, first, commands, &mut notes, hold, turns, &mut text,

@@ -6,12 +6,12 @@ ghost use Rattle.jr_scripts.specs.Noting.{words_noted};
 ghost use Rattle.jr_scripts.specs.Telling.{account_told};
 
 use crate::board::Board;
-use crate::notes::Notes;
+use crate::sightings::Sightings;
 use jr_rule::{PinnedNoteOf, RoomSteps, Site};
 use jr_syntax::Name;
 
 /// In a room, a board tells with each word all that its poster had seen. A look that comes while another thread reads what was told finds nothing.
-impl<Q: Site, const LAST: u32> Board<RoomSteps<'_, LAST>> for Notes<'_, PinnedNoteOf<Q>> {
+impl<Q: Site, const LAST: u32> Board<RoomSteps<'_, LAST>> for Sightings<'_, PinnedNoteOf<Q>> {
     ghost layout = { λ board. layout_of board.posts.now };
 
     ghost tells = { λ board. account_told board.is_lost board.posts.now.numbers.entries board.notes.items };

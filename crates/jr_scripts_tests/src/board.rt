@@ -4,7 +4,7 @@ use crate::printing::{BEFORE, TURNS, prints};
 use crate::scripts::{SIZES, name_of};
 use crate::threads::HANDED_OVER;
 use jr_rule::PlainSteps;
-use jr_scripts::{Board, NoHold, Notes, Posts, run_all, run_one};
+use jr_scripts::{Board, NoHold, Posts, Sightings, run_all, run_one};
 use jr_steps::Steps;
 use jr_syntax::{Command, OnName, Script, Sequence, ThreadPart, parse};
 use jr_word::Fault;
@@ -28,7 +28,7 @@ const SIX_POSTS: &[u8] =
 fn have_numbers<S: Steps>(
     rt: &impl Abort,
     steps: &mut S,
-    notes: &mut Notes<'_, ()>,
+    notes: &mut Sightings<'_, ()>,
     commands: &[Command],
     any: bool,
 ) {
@@ -42,7 +42,7 @@ fn have_numbers<S: Steps>(
 }
 
 /// Posts the number of each command under the name that it posts.
-fn post_numbers<S: Steps>(steps: &mut S, notes: &mut Notes<'_, ()>, commands: &[Command]) {
+fn post_numbers<S: Steps>(steps: &mut S, notes: &mut Sightings<'_, ()>, commands: &[Command]) {
     for (i, command) in commands.iter().enumerate() {
         if let Command::OnName { verb: _, name } = command {
             notes.post(steps, name, i as u64);
@@ -61,12 +61,12 @@ fn each_name_has_a_word_of_its_own(rt: HostRuntime) -> Result<(), Fail> {
     assert!(rt; commands.len() == 6);
     let mut posts = Posts::<()>::new(alloc);
     posts.add(commands)?;
-    let mut notes = Notes::new(alloc, &posts);
+    let mut notes = Sightings::new(alloc, &posts);
     let mut steps = PlainSteps::<2>::new(alloc, SIZES)?;
     have_numbers(&rt, &mut steps, &mut notes, commands, false);
     post_numbers(&mut steps, &mut notes, commands);
     have_numbers(&rt, &mut steps, &mut notes, commands, true);
-    let mut others = Notes::new(alloc, &posts);
+    let mut others = Sightings::new(alloc, &posts);
     have_numbers(&rt, &mut steps, &mut others, commands, true);
     Ok(())
 }
@@ -77,7 +77,7 @@ fn the_first_word_of_a_name_stays(rt: HostRuntime) -> Result<(), Fail> {
     let mut posts = Posts::<()>::new(alloc);
     let name = name_of(b"g")?;
     posts.add(&[posting(b"g")?])?;
-    let mut notes = Notes::new(alloc, &posts);
+    let mut notes = Sightings::new(alloc, &posts);
     let mut steps = PlainSteps::<2>::new(alloc, SIZES)?;
     notes.post(&mut steps, &name, 0);
     notes.post(&mut steps, &name, 6);
@@ -118,7 +118,7 @@ fn a_name_without_a_cell_is_not_posted(rt: HostRuntime) -> Result<(), Fail> {
     let alloc = rt.alloc();
     let mut posts = Posts::<()>::new(alloc);
     posts.add(&[posting(b"g")?])?;
-    let mut notes = Notes::new(alloc, &posts);
+    let mut notes = Sightings::new(alloc, &posts);
     let mut steps = PlainSteps::<2>::new(alloc, SIZES)?;
     let other = name_of(b"ga")?;
     notes.post(&mut steps, &other, 6);

@@ -5,7 +5,7 @@ ghost use Rattle.jr_env.specs.Envs.{IsOutside};
 use crate::printing::{BEFORE, TURNS, leaves};
 use crate::thread_ends::plain_env;
 use jr_env::Env;
-use jr_scripts::{Hold, NoHold, Notes, Posts, run_all, run_one, run_thread};
+use jr_scripts::{Hold, NoHold, Posts, Sightings, run_all, run_one, run_thread};
 use jr_steps::Steps;
 use jr_syntax::{Command, Name, Script, Sequence, ThreadPart, is_name, parse};
 use jr_weak::Marker;
@@ -81,7 +81,7 @@ fn run_from_line_10<S: Steps>(
         &mut marker,
         10,
         commands,
-        &mut Notes::new(alloc, &board),
+        &mut Sightings::new(alloc, &board),
         &NoHold,
         turns,
         out,
@@ -119,12 +119,12 @@ const BUSY_OUTPUT: &[u8] =
 
 /// Counts the commands that have begun, and those that were answered.
 #[derive(Drop)]
-struct Counts {
+struct CommandCounts {
     begun: AtomicU64,
     answered: AtomicU64,
 }
 
-impl Hold for Counts {
+impl Hold for CommandCounts {
     fn before(&self, _thread: u8, _line: usize) {
         self.begun.fetch_add(1, Ordering::SeqCst);
     }
@@ -139,7 +139,7 @@ fn three_threads_of_one_script_run_in_one_room(rt: HostRuntime) -> Result<(), Fa
     let alloc = rt.alloc();
     let script = parse(alloc, BUSY)?;
     let mut out = Vec::from_slice(alloc, BEFORE)?;
-    let hold = Counts {
+    let hold = CommandCounts {
         begun: AtomicU64::new(0),
         answered: AtomicU64::new(0),
     };

@@ -7,7 +7,7 @@ use crate::scripts::SIZES;
 use jr_env::{Env, NativeInterface};
 use jr_model::Summary;
 use jr_rule::PlainSteps;
-use jr_scripts::{NoHold, Notes, Posts, run_to_end};
+use jr_scripts::{NoHold, Posts, Sightings, run_to_end};
 use jr_steps::Steps;
 use jr_word::{Fault, Handle};
 use std::alloc::Global;
@@ -30,7 +30,7 @@ fn ends<S: Steps>(rt: &impl Abort, alloc: Global, env: &mut Env<S>, turns: u64) 
     ensures { IsOutside env.new }
 {
     let posts = Posts::<()>::new(alloc);
-    let mut notes = Notes::new(alloc, &posts);
+    let mut notes = Sightings::new(alloc, &posts);
     let mut out = Vec::from_slice(alloc, BEFORE)?;
     run_to_end(alloc, env, 3, &[], &mut notes, &NoHold, turns, &mut out)?;
     assert!(rt; out.as_slice() == BEFORE);

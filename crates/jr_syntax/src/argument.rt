@@ -14,7 +14,7 @@ use crate::name::{Name, Reference, is_name, is_reference};
 use crate::number::{is_number, number_up_to};
 use crate::tries::Tries;
 use crate::value::{is_value, long_of};
-use crate::word::Words;
+use crate::word::LineWords;
 use jr_model::Mode;
 use std::alloc::AllocError;
 
@@ -182,7 +182,7 @@ impl Argument for Mode {
 }
 
 /// Reads words that are no argument.
-pub fn none(mut words: Words) -> Result<(), LineError>
+pub fn none(mut words: LineWords) -> Result<(), LineError>
     ensures { Reads (reading nothing) words.entry result }
 {
     if words.next().is_some() {
@@ -192,7 +192,7 @@ pub fn none(mut words: Words) -> Result<(), LineError>
 }
 
 /// Reads words that are one argument.
-pub fn one<A: Argument>(mut words: Words) -> Result<A, LineError>
+pub fn one<A: Argument>(mut words: LineWords) -> Result<A, LineError>
     ensures { Reads (reading (one_of A.kind)) words.entry result }
 {
     let (Some(a), None) = (words.next(), words.next()) else {
@@ -208,7 +208,7 @@ pub fn one<A: Argument>(mut words: Words) -> Result<A, LineError>
 }
 
 /// Reads words that are two arguments.
-pub fn two<A: Argument, B: Argument>(mut words: Words) -> Result<(A, B), LineError>
+pub fn two<A: Argument, B: Argument>(mut words: LineWords) -> Result<(A, B), LineError>
     ensures { Reads (reading (two_of A.kind B.kind)) words.entry result }
 {
     let (Some(a), Some(b), None) = (words.next(), words.next(), words.next()) else {
@@ -225,7 +225,7 @@ pub fn two<A: Argument, B: Argument>(mut words: Words) -> Result<(A, B), LineErr
 
 /// Reads words that are three arguments.
 pub fn three<A: Argument, B: Argument, C: Argument>(
-    mut words: Words,
+    mut words: LineWords,
 ) -> Result<(A, B, C), LineError>
     ensures { Reads (reading (three_of A.kind B.kind C.kind)) words.entry result }
 {

@@ -16,7 +16,7 @@ use crate::verb::{
     CloseLevel, Make, MakeAt, MakeFilled, MakeFrom, MakeSized, MakeText, OfRoom, On, OnAt, OnBoth,
     OnName, OnNameAt, OpenLevel, PutAt, Release, SetAt, StoreAt, Verb, WithCount, WithTries,
 };
-use crate::word::Words;
+use crate::word::LineWords;
 use jr_model::Mode;
 use std::alloc::AllocError;
 
@@ -146,7 +146,7 @@ pub enum Command {
 impl Command {
     /// The command that a verb and the words behind it are.
     #[tactic(auto, unfolding(crate::specs::Command::behind_verb))]
-    fn read(verb: Verb, words: Words) -> Result<Command, LineError>
+    fn read(verb: Verb, words: LineWords) -> Result<Command, LineError>
         ensures { Reads (behind_verb verb) words.entry result }
     {
         match verb {
@@ -192,7 +192,7 @@ impl Command {
     }
 
     #[tactic(auto, unfolding(crate::specs::Command::behind_verb))]
-    fn read_sized(verb: MakeSized, words: Words) -> Result<Command, LineError>
+    fn read_sized(verb: MakeSized, words: LineWords) -> Result<Command, LineError>
         ensures { Reads (behind_verb (with.MakeSized verb)) words.entry result }
     {
         let (name, length) = two(words)?;
@@ -200,7 +200,7 @@ impl Command {
     }
 
     #[tactic(auto, unfolding(crate::specs::Command::behind_verb))]
-    fn read_filled(verb: MakeFilled, words: Words) -> Result<Command, LineError>
+    fn read_filled(verb: MakeFilled, words: LineWords) -> Result<Command, LineError>
         ensures { Reads (behind_verb (with.MakeFilled verb)) words.entry result }
     {
         let (name, length, target) = three(words)?;
@@ -213,7 +213,7 @@ impl Command {
     }
 
     #[tactic(auto, unfolding(crate::specs::Command::behind_verb))]
-    fn read_text(verb: MakeText, words: Words) -> Result<Command, LineError>
+    fn read_text(verb: MakeText, words: LineWords) -> Result<Command, LineError>
         ensures { Reads (behind_verb (with.MakeText verb)) words.entry result }
     {
         let (name, units) = named_units(words)?;
@@ -221,7 +221,7 @@ impl Command {
     }
 
     #[tactic(auto, unfolding(crate::specs::Command::behind_verb))]
-    fn read_made_at(verb: MakeAt, words: Words) -> Result<Command, LineError>
+    fn read_made_at(verb: MakeAt, words: LineWords) -> Result<Command, LineError>
         ensures { Reads (behind_verb (with.MakeAt verb)) words.entry result }
     {
         let (name, target, index) = three(words)?;
@@ -234,7 +234,7 @@ impl Command {
     }
 
     #[tactic(auto, unfolding(crate::specs::Command::behind_verb))]
-    fn read_at(verb: OnAt, words: Words) -> Result<Command, LineError>
+    fn read_at(verb: OnAt, words: LineWords) -> Result<Command, LineError>
         ensures { Reads (behind_verb (with.OnAt verb)) words.entry result }
     {
         let (target, index) = two(words)?;
@@ -246,7 +246,7 @@ impl Command {
     }
 
     #[tactic(auto, unfolding(crate::specs::Command::behind_verb))]
-    fn read_set(verb: SetAt, words: Words) -> Result<Command, LineError>
+    fn read_set(verb: SetAt, words: LineWords) -> Result<Command, LineError>
         ensures { Reads (behind_verb (with.SetAt verb)) words.entry result }
     {
         let (target, index, value) = three(words)?;
@@ -259,7 +259,7 @@ impl Command {
     }
 
     #[tactic(auto, unfolding(crate::specs::Command::behind_verb))]
-    fn read_stored(verb: StoreAt, words: Words) -> Result<Command, LineError>
+    fn read_stored(verb: StoreAt, words: LineWords) -> Result<Command, LineError>
         ensures { Reads (behind_verb (with.StoreAt verb)) words.entry result }
     {
         let (target, index, value) = three(words)?;
@@ -272,7 +272,7 @@ impl Command {
     }
 
     #[tactic(auto, unfolding(crate::specs::Command::behind_verb))]
-    fn read_name_at(verb: OnNameAt, words: Words) -> Result<Command, LineError>
+    fn read_name_at(verb: OnNameAt, words: LineWords) -> Result<Command, LineError>
         ensures { Reads (behind_verb (with.OnNameAt verb)) words.entry result }
     {
         let (name, index) = two(words)?;
@@ -280,7 +280,7 @@ impl Command {
     }
 
     #[tactic(auto, unfolding(crate::specs::Command::behind_verb))]
-    fn read_put(verb: PutAt, words: Words) -> Result<Command, LineError>
+    fn read_put(verb: PutAt, words: LineWords) -> Result<Command, LineError>
         ensures { Reads (behind_verb (with.PutAt verb)) words.entry result }
     {
         let (name, index, value) = three(words)?;
@@ -293,7 +293,7 @@ impl Command {
     }
 
     #[tactic(auto, unfolding(crate::specs::Command::behind_verb))]
-    fn read_release(verb: Release, words: Words) -> Result<Command, LineError>
+    fn read_release(verb: Release, words: LineWords) -> Result<Command, LineError>
         ensures { Reads (behind_verb (with.Release verb)) words.entry result }
     {
         let (name, target, mode) = three(words)?;
@@ -306,7 +306,7 @@ impl Command {
     }
 
     #[tactic(auto, unfolding(crate::specs::Command::behind_verb))]
-    fn read_opening(verb: OpenLevel, words: Words) -> Result<Command, LineError>
+    fn read_opening(verb: OpenLevel, words: LineWords) -> Result<Command, LineError>
         ensures { Reads (behind_verb (with.OpenLevel verb)) words.entry result }
     {
         let (name, target) = two(words)?;
@@ -314,7 +314,7 @@ impl Command {
     }
 
     #[tactic(auto, unfolding(crate::specs::Command::behind_verb))]
-    fn read_closing(verb: CloseLevel, words: Words) -> Result<Command, LineError>
+    fn read_closing(verb: CloseLevel, words: LineWords) -> Result<Command, LineError>
         ensures { Reads (behind_verb (with.CloseLevel verb)) words.entry result }
     {
         let mode = one(words)?;
@@ -322,7 +322,7 @@ impl Command {
     }
 
     #[tactic(auto, unfolding(crate::specs::Command::behind_verb))]
-    fn read_of_room(verb: OfRoom, words: Words) -> Result<Command, LineError>
+    fn read_of_room(verb: OfRoom, words: LineWords) -> Result<Command, LineError>
         ensures { Reads (behind_verb (with.OfRoom verb)) words.entry result }
     {
         none(words)?;
@@ -330,7 +330,7 @@ impl Command {
     }
 
     #[tactic(auto, unfolding(crate::specs::Command::behind_verb))]
-    fn read_with_tries(verb: WithTries, words: Words) -> Result<Command, LineError>
+    fn read_with_tries(verb: WithTries, words: LineWords) -> Result<Command, LineError>
         ensures { Reads (behind_verb (with.WithTries verb)) words.entry result }
     {
         let tries = one(words)?;
@@ -446,7 +446,7 @@ impl Command {
 
 /// The command that a line is.
 #[tactic(auto, unfolding(crate::specs::Command::line_has_form, crate::specs::Command::line_in_range, crate::specs::Command::line_command))]
-pub fn command_of(mut words: Words) -> Result<Command, LineError>
+pub fn command_of(mut words: LineWords) -> Result<Command, LineError>
     ensures { ReadsLine words.entry result }
 {
     let Some(word) = words.next() else {

@@ -18,7 +18,7 @@ use crate::script::Script;
 use crate::sequence::Sequence;
 use crate::thread::{ThreadPart, thread_of};
 use crate::verb::OnName;
-use crate::word::Words;
+use crate::word::LineWords;
 use jr_word::Config;
 use std::alloc::{AllocError, Global};
 
@@ -150,7 +150,7 @@ impl Draft {
     }
 
     /// The command that a line's words are, where it may stand behind what was read.
-    fn command(&self, words: Words) -> Result<Command, Reason>
+    fn command(&self, words: LineWords) -> Result<Command, Reason>
         ensures { GaveSome (command_rows self.now words.entry) result (line_command words.entry) }
     {
         if self.last.is_none() {
@@ -177,7 +177,7 @@ impl Draft {
     }
 
     /// Adds the command that a line's words are.
-    fn add(&mut self, words: Words) -> Result<(), LineFault>
+    fn add(&mut self, words: LineWords) -> Result<(), LineFault>
         ensures { Adds self.old words.entry result self.new }
     {
         let command = self.command(words)?;
@@ -204,9 +204,9 @@ impl Draft {
         if !is_printable(line) {
             return Err(LineFault::Fault(Reason::NotAscii));
         }
-        match thread_of(Words::new(line)) {
+        match thread_of(LineWords::new(line)) {
             Some(name) => self.begin(alloc, name),
-            None => self.add(Words::new(line)),
+            None => self.add(LineWords::new(line)),
         }
     }
 

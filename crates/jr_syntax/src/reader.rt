@@ -13,7 +13,7 @@ use crate::fault::{Reason, ScriptFault};
 use crate::line::{Lines, is_printable};
 use crate::script::Script;
 use crate::vm_line::config_of;
-use crate::word::Words;
+use crate::word::LineWords;
 use jr_word::Config;
 use std::alloc::Global;
 
@@ -30,7 +30,7 @@ fn first_line(line: &[u8], finished: bool) -> Result<Config, Reason>
     if !is_printable(line) {
         return Err(Reason::NotAscii);
     }
-    match config_of(Words::new(line)) {
+    match config_of(LineWords::new(line)) {
         Ok(config) => Ok(config),
         Err(LineError::Form) => Err(Reason::VmLineExpected),
         Err(LineError::Range) => Err(Reason::NumberOutOfRange),

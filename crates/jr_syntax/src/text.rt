@@ -9,11 +9,11 @@ ghost use Rattle.jr_syntax.specs.Units.{unit as unit_word, units as unit_words};
 use crate::argument::{Argument, LineError, put_one};
 use crate::name::{Name, is_name};
 use crate::units::Units;
-use crate::word::Words;
+use crate::word::LineWords;
 use std::alloc::AllocError;
 
 /// Reads words that are units.
-fn units_of(mut words: Words) -> Result<Units, LineError>
+fn units_of(mut words: LineWords) -> Result<Units, LineError>
     ensures { Reads (reading unit_words) words.entry result }
 {
     let mut units = Units::new();
@@ -34,7 +34,7 @@ fn units_of(mut words: Words) -> Result<Units, LineError>
 }
 
 /// Reads words that are a name and units.
-pub fn named_units(mut words: Words) -> Result<(Name, Units), LineError>
+pub fn named_units(mut words: LineWords) -> Result<(Name, Units), LineError>
     ensures { Reads (reading (before name_word unit_words)) words.entry result }
 {
     let Some(word) = words.next() else {

@@ -7,7 +7,7 @@ ghost use Rattle.jr_syntax.specs.Name.{is_name as name_word};
 use crate::command::Command;
 use crate::name::{Name, is_name};
 use crate::sequence::Sequence;
-use crate::word::Words;
+use crate::word::LineWords;
 
 /// What one thread does.
 #[derive(Debug, Drop)]
@@ -19,7 +19,7 @@ pub struct ThreadPart {
 }
 
 /// The name of a thread line.
-pub fn thread_of<'a>(mut words: Words<'a>) -> Option<&'a [u8]>
+pub fn thread_of<'a>(mut words: LineWords<'a>) -> Option<&'a [u8]>
     ensures none { IfNone result (thread.has_form words.entry ≡ false) }
     ensures some { IfSome result (λ n. (thread.has_form words.entry ≡ true) × (n.now ≡ thread.value words.entry)) }
     ensures name { IfSome result (λ n. name_word n.now ≡ true) }

@@ -8,11 +8,11 @@ ghost use Rattle.jr_syntax.specs.VmLine.{vm_words, AreNumbers};
 
 use crate::argument::LineError;
 use crate::number::{is_number, number_up_to};
-use crate::word::Words;
+use crate::word::LineWords;
 use jr_word::Config;
 
 /// Reads a key and a number.
-fn pair<'a>(words: &mut Words<'a>, key: &[u8]) -> Option<&'a [u8]>
+fn pair<'a>(words: &mut LineWords<'a>, key: &[u8]) -> Option<&'a [u8]>
     ensures none { IfNone result (is_pair key.now words.old ≡ false) }
     ensures some { IfSome result (λ n. (words.old ≡ key.now ∷ n.now ∷ words.new) × (number_word n.now ≡ true)) }
 {
@@ -36,7 +36,7 @@ struct SizeWords<'a> {
 }
 
 /// The words of the sizes, where words have the form of a first line.
-fn size_words<'a>(mut words: Words<'a>) -> Option<SizeWords<'a>>
+fn size_words<'a>(mut words: LineWords<'a>) -> Option<SizeWords<'a>>
     ensures none { IfNone result (vm.has_form words.entry ≡ false) }
     ensures some { IfSome result (λ s. words.entry ≡ vm_words s.threads.now s.slots.now s.objects.now s.words.now s.locals.now) }
     ensures numbers { IfSome result (λ s. AreNumbers s.threads.now s.slots.now s.objects.now s.words.now s.locals.now) }
@@ -74,7 +74,7 @@ fn sizes(words: &SizeWords) -> Option<Config>
 }
 
 /// The sizes that the words of the first line say.
-pub fn config_of(words: Words) -> Result<Config, LineError>
+pub fn config_of(words: LineWords) -> Result<Config, LineError>
     ensures { Reads (reading vm) words.entry result }
 {
     let Some(words) = size_words(words) else {

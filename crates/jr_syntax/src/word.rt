@@ -23,11 +23,11 @@ pub fn first_at(byte: u8, bytes: &[u8]) -> Option<usize>
 
 /// The words of a line, or those that are left of them.
 #[derive(Drop)]
-pub struct Words<'a> {
+pub struct LineWords<'a> {
     rest: Option<&'a [u8]>,
 }
 
-impl<'a> Model for Words<'a> {
+impl<'a> Model for LineWords<'a> {
     ghost use Rattle.std.specs.Prelude.{List, ℕ};
     ghost use Rattle.jr_syntax.specs.Line.{words_left};
 
@@ -36,12 +36,12 @@ impl<'a> Model for Words<'a> {
     ghost view = { λ w. words_left w.rest };
 }
 
-impl<'a> Words<'a> {
+impl<'a> LineWords<'a> {
     /// The words of a line.
-    pub fn new(line: &'a [u8]) -> Words<'a>
+    pub fn new(line: &'a [u8]) -> LineWords<'a>
         ensures { result ≡ words_of line.now }
     {
-        Words { rest: Some(line) }
+        LineWords { rest: Some(line) }
     }
 
     /// The next word.

@@ -98,15 +98,6 @@ within_sum : (t1 t2 t3 t4 t5 t6 mark clear drop objects words used room : ℕ) �
     → t6 ≤ t1 + (mark + clear + drop + (objects + (words + words + words) + 1) + 1)
 within_sum t1 t2 t3 t4 t5 t6 mark clear drop objects words used room fits less a b c d e = omega arith
 
-same_then : {r s t : State} → HaveSameTables r s → HaveSameTables s t → HaveSameTables r t
-same_then a b = record {
-  refs = b.refs ∙ a.refs;
-  given = b.given ∙ a.given;
-  locals = b.locals ∙ a.locals;
-  objects = b.objects ∙ a.objects;
-  used = b.used ∙ a.used;
-}
-
 pub same_back : {s t : State} → HaveSameTables s t → HaveSameTables t s
 same_back a =
     record { refs = sym a.refs; given = sym a.given; locals = sym a.locals; objects = sym a.objects; used = sym a.used }

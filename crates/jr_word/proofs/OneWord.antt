@@ -4,15 +4,11 @@ use Rattle.std.proofs.lemmas.Grind.{common_steps}
 use Rattle.jr_word.specs.declared.gate.GateParts.{GateParts}
 use Rattle.jr_word.specs.declared.handle.HandleParts.{HandleParts}
 use Rattle.jr_word.specs.declared.header.HeaderParts.{HeaderParts}
-use Rattle.jr_word.specs.declared.local.LocalParts.{LocalParts}
 use Rattle.jr_word.specs.declared.slot.SlotParts.{SlotParts}
-use Rattle.jr_word.specs.declared.top.TopParts.{TopParts}
 use Rattle.jr_word.specs.Gate.{gate_word, IsGate}
 use Rattle.jr_word.specs.Handle.{handle_word, IsHandle}
 use Rattle.jr_word.specs.Header.{header_word, IsHeader}
-use Rattle.jr_word.specs.Local.{local_word, IsLocalPlace}
 use Rattle.jr_word.specs.Slot.{slot_word, IsSlot}
-use Rattle.jr_word.specs.Top.{top_word, IsTop}
 
 pub handle_word-injective : (p q : HandleParts) → IsHandle p → IsHandle q → handle_word p ≡ handle_word q → p ≡ q
 handle_word-injective p q hp hq e = grind (arith, common_steps)
@@ -23,11 +19,5 @@ slot_word-injective p q hp hq e = grind (arith, common_steps)
 pub gate_word-injective : (p q : GateParts) → IsGate p → IsGate q → gate_word p ≡ gate_word q → p ≡ q
 gate_word-injective p q hp hq e = grind (arith, common_steps)
 
-pub top_word-injective : (p q : TopParts) → IsTop p → IsTop q → top_word p ≡ top_word q → p ≡ q
-top_word-injective p q hp hq e = grind (arith, common_steps)
-
 pub header_word-injective : (p q : HeaderParts) → IsHeader p → IsHeader q → header_word p ≡ header_word q → p ≡ q
 header_word-injective p q hp hq e = grind (arith, common_steps)
-
-pub local_word-injective : (p q : LocalParts) → IsLocalPlace p → IsLocalPlace q → local_word p ≡ local_word q → p ≡ q
-local_word-injective p q hp hq e = grind (arith, common_steps)

@@ -1,6 +1,6 @@
 //! The collector collects while the others work, and once more when they have left.
 
-use crate::board::Board;
+use crate::symbol_table::SymbolTable;
 use crate::{PATIENCE, SYMBOLS};
 use jr::calls::IsSameObject;
 use jr::{Env, Fault, Handle, Steps};
@@ -14,13 +14,17 @@ const ROUNDS: u32 = 1 << 22;
 const SHUTS: u32 = 1_000;
 
 /// Collects until the others have left, and once more, and tells how many weak references of the cache are cleared then.
-pub(crate) fn run<S: Steps>(alloc: Global, env: &mut Env<S>, board: &Board) -> Result<u32, Fault> {
+pub(crate) fn run<S: Steps>(
+    alloc: Global,
+    env: &mut Env<S>,
+    table: &SymbolTable,
+) -> Result<u32, Fault> {
     let mut marker = env.marker(alloc)?;
     for _ in 0..ROUNDS {
-        let is_last = board.have_left(2);
-        let collected = env.collect_announced(&mut marker, SHUTS);
-        if is_last && collected.is_ok() {
-            return cleared(env, board);
+        let is_last = table.have_left(2);
+        env.collect_in_turn(&mut marker, SHUTS, PATIENCE)?;
+        if is_last {
+            return cleared(env, table);
         }
         thread::yield_now();
     }
@@ -28,10 +32,10 @@ pub(crate) fn run<S: Steps>(alloc: Global, env: &mut Env<S>, board: &Board) -> R
 }
 
 /// How many weak references of the cache are cleared.
-fn cleared<S: Steps>(env: &mut Env<S>, board: &Board) -> Result<u32, Fault> {
+fn cleared<S: Steps>(env: &mut Env<S>, table: &SymbolTable) -> Result<u32, Fault> {
     let mut cleared = 0u32;
     for symbol in 0..SYMBOLS {
-        if env.retry(&IsSameObject(board.kept(symbol), Handle::NULL), PATIENCE)? {
+        if env.retry(&IsSameObject(table.kept(symbol), Handle::NULL), PATIENCE)? {
             cleared = cleared.wrapping_add(1);
         }
     }

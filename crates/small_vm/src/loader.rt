@@ -1,6 +1,6 @@
 //! The loader makes the symbols: each is an array of its name and its numbers.
 
-use crate::board::Board;
+use crate::symbol_table::SymbolTable;
 use crate::{PATIENCE, SYMBOLS};
 use jr::calls::{
     FreeLocals, GetStringLength, NewArray, NewGlobalRef, NewObjectArray, NewString, SetArrayRegion,
@@ -9,19 +9,19 @@ use jr::calls::{
 use jr::{Env, Fault, Handle, Steps, with_local_frame};
 
 /// Loads all symbols, hands each on by a global reference, and answers how many units their names have.
-pub(crate) fn run<S: Steps>(env: &mut Env<S>, board: &Board) -> Result<u32, Fault> {
-    let units = load_all(env, board);
+pub(crate) fn run<S: Steps>(env: &mut Env<S>, table: &SymbolTable) -> Result<u32, Fault> {
+    let units = load_all(env, table);
     let freed = env.retry(&FreeLocals, PATIENCE);
-    board.leave();
+    table.leave();
     freed?;
     units
 }
 
 /// Loads all symbols, each in a frame of its own.
-fn load_all<S: Steps>(env: &mut Env<S>, board: &Board) -> Result<u32, Fault> {
+fn load_all<S: Steps>(env: &mut Env<S>, table: &SymbolTable) -> Result<u32, Fault> {
     let mut units = 0u32;
     for symbol in 0..SYMBOLS {
-        let loaded = with_local_frame(env, 8, PATIENCE, |env| load(env, board, symbol)).map_err(
+        let loaded = with_local_frame(env, 8, PATIENCE, |env| load(env, table, symbol)).map_err(
             |unscoped| unscoped.fault(),
         )?;
         units = units.wrapping_add(loaded?);
@@ -30,7 +30,7 @@ fn load_all<S: Steps>(env: &mut Env<S>, board: &Board) -> Result<u32, Fault> {
 }
 
 /// Loads a symbol, and answers how many units its name has.
-fn load<S: Steps>(env: &mut Env<S>, board: &Board, symbol: u32) -> Result<u32, Fault> {
+fn load<S: Steps>(env: &mut Env<S>, table: &SymbolTable, symbol: u32) -> Result<u32, Fault> {
     let name = env.retry(&NewString(&name_of(symbol)), PATIENCE)?;
     let numbers = env.retry(&NewArray::<i32>::of(4), PATIENCE)?;
     let first = i32::try_from(symbol).unwrap_or(0);
@@ -39,7 +39,7 @@ fn load<S: Steps>(env: &mut Env<S>, board: &Board, symbol: u32) -> Result<u32, F
     env.retry(&SetObjectArrayElement(entry, 1, numbers), PATIENCE)?;
     let length = env.retry(&GetStringLength(name), PATIENCE)?;
     let shared = env.retry(&NewGlobalRef(entry), PATIENCE)?;
-    board.post(symbol, Handle::or_null(shared));
+    table.post(symbol, Handle::or_null(shared));
     Ok(length)
 }
 

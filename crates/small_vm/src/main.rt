@@ -1,17 +1,17 @@
 //! A small machine of three native threads over one room: a loader, a worker and a collector, each with an env of its own.
 #![tactic(auto)]
 
-mod board;
 mod collector;
 mod loader;
+mod symbol_table;
 mod worker;
 
-use board::Board;
 use jr::{Config, Env, Fault, NativeCode, Patience, Steps, Summary, run_native};
 use std::alloc::{AllocError, Global};
 use std::io;
+use symbol_table::SymbolTable;
 use thiserror::Error;
-use worker::Found;
+use worker::Totals;
 
 /// How many symbols there are.
 const SYMBOLS: u32 = 24;
@@ -35,7 +35,7 @@ const SIZES: Config = Config {
 #[derive(Drop)]
 struct Machine {
     alloc: Global,
-    board: Board,
+    table: SymbolTable,
 }
 
 /// What a thread did.
@@ -44,7 +44,7 @@ enum Done {
     /// The loader gave the symbols names of so many units.
     Loaded(u32),
     /// The worker found this.
-    Worked(Found),
+    Worked(Totals),
     /// The collector left so many weak references of the cache cleared.
     Collected(u32),
 }
@@ -54,9 +54,9 @@ impl NativeCode for Machine {
 
     fn run<S: Steps + Drop>(&self, thread: u8, env: &mut Env<S>) -> Result<Done, Fault> {
         match thread {
-            0 => Ok(Done::Loaded(loader::run(env, &self.board)?)),
-            1 => Ok(Done::Worked(worker::run(self.alloc, env, &self.board)?)),
-            _ => Ok(Done::Collected(collector::run(self.alloc, env, &self.board)?)),
+            0 => Ok(Done::Loaded(loader::run(env, &self.table)?)),
+            1 => Ok(Done::Worked(worker::run(self.alloc, env, &self.table)?)),
+            _ => Ok(Done::Collected(collector::run(self.alloc, env, &self.table)?)),
         }
     }
 }
@@ -77,8 +77,8 @@ enum Trouble {
 
 fn main(rt: HostRuntime) -> Result<(), Trouble> {
     let alloc = rt.alloc();
-    let board = Board::new(alloc, SYMBOLS)?;
-    let machine = Machine { alloc, board };
+    let table = SymbolTable::new(alloc, SYMBOLS)?;
+    let machine = Machine { alloc, table };
     let ran = run_native(&rt, alloc, SIZES, &machine)?;
     for answer in ran.answers {
         print_done(&rt, answer?)?;

@@ -1,6 +1,6 @@
 //! The worker reads each symbol, keeps a weak reference to its numbers, and lets go of it.
 
-use crate::board::Board;
+use crate::symbol_table::SymbolTable;
 use crate::{PATIENCE, SYMBOLS};
 use jr::calls::{
     DeleteGlobalRef, FreeLocals, GetObjectArrayElement, GetStringChars, NewWeakGlobalRef,
@@ -10,7 +10,7 @@ use std::alloc::Global;
 
 /// What the worker read.
 #[derive(Clone, Copy)]
-pub(crate) struct Found {
+pub(crate) struct Totals {
     /// How many units of names.
     pub(crate) units: usize,
     /// The sum of the numbers.
@@ -21,22 +21,26 @@ pub(crate) struct Found {
 pub(crate) fn run<S: Steps>(
     alloc: Global,
     env: &mut Env<S>,
-    board: &Board,
-) -> Result<Found, Fault> {
-    let found = work_all(alloc, env, board);
+    table: &SymbolTable,
+) -> Result<Totals, Fault> {
+    let found = work_all(alloc, env, table);
     let freed = env.retry(&FreeLocals, PATIENCE);
-    board.leave();
+    table.leave();
     freed?;
     found
 }
 
 /// Works through all symbols, each in a frame of its own.
-fn work_all<S: Steps>(alloc: Global, env: &mut Env<S>, board: &Board) -> Result<Found, Fault> {
-    let mut found = Found { units: 0, sum: 0 };
+fn work_all<S: Steps>(
+    alloc: Global,
+    env: &mut Env<S>,
+    table: &SymbolTable,
+) -> Result<Totals, Fault> {
+    let mut found = Totals { units: 0, sum: 0 };
     for symbol in 0..SYMBOLS {
-        let shared = board.wait(symbol)?;
+        let shared = table.wait(symbol)?;
         let worked = with_local_frame(env, 8, PATIENCE, |env| {
-            work(alloc, env, board, symbol, shared)
+            work(alloc, env, table, symbol, shared)
         })
         .map_err(|unscoped| unscoped.fault())?;
         let one = worked?;
@@ -51,16 +55,16 @@ fn work_all<S: Steps>(alloc: Global, env: &mut Env<S>, board: &Board) -> Result<
 fn work<S: Steps>(
     alloc: Global,
     env: &mut Env<S>,
-    board: &Board,
+    table: &SymbolTable,
     symbol: u32,
     shared: Handle,
-) -> Result<Found, Fault> {
+) -> Result<Totals, Fault> {
     let string = made(env, &GetObjectArrayElement(shared, 0))?;
     let numbers = made(env, &GetObjectArrayElement(shared, 1))?;
     let units = env.retry(&GetStringChars { alloc, string }, PATIENCE)?;
     let sum = added(env, numbers)?;
-    board.keep(symbol, made(env, &NewWeakGlobalRef(numbers))?);
-    Ok(Found {
+    table.keep(symbol, made(env, &NewWeakGlobalRef(numbers))?);
+    Ok(Totals {
         units: units.len(),
         sum,
     })

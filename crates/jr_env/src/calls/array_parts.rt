@@ -14,6 +14,7 @@ ghost use Rattle.jr_env.specs.OpenStays.{StaysOn};
 ghost use Rattle.jr_env.specs.ArrayParts.{FindsPart};
 ghost use Rattle.jr_env.specs.Works.{Serves, ServesWhole, ServesWithin};
 
+use crate::calls::names;
 use crate::env::Env;
 use crate::env_call::EnvCall;
 use crate::native_call::{Handed, NativeCall, NativeCaller};
@@ -36,7 +37,10 @@ impl<S: Steps, E: Elem> NativeCall<S> for SetArrayRegion<'_, E> {
 
     ghost request = { λ c. for_set_array_region E.KIND c.0.0 c.1 (map E.word_of c.2.now) };
 
-    const NAME: &'static str = "Set<PrimitiveType>ArrayRegion";
+    #[inline(always)]
+    fn name(&self) -> &'static str {
+        names::set_region(E::KIND)
+    }
 
     #[inline(always)]
     fn handed(&self) -> Handed {
@@ -53,7 +57,7 @@ impl<S: Steps, E: Elem> NativeCall<S> for SetArrayRegion<'_, E> {
     ) -> Result<(), Fault> {
         let SetArrayRegion(handle, start, elements) = self;
         let array = Reference::of(handle);
-        let part = Part { array, start };
+        let part = ArrayPart { array, start };
         let (object, header) = find_part(steps, inside, frames, part, E::KIND, elements.len())?;
         write_part(steps, object, header, start, elements);
         Ok(())
@@ -75,7 +79,7 @@ impl<S: Steps, E: Elem> EnvCall<S> for SetArrayRegion<'_, E> {
 
 /// A part of an array, of as many elements as are handed in beside it.
 #[derive(Clone, Copy)]
-struct Part {
+struct ArrayPart {
     /// The array.
     array: Reference,
     /// The index at which the part begins.
@@ -155,7 +159,7 @@ fn read_into<S: Steps, E: Elem>(
     ensures err { IfErr result (λ _. elements.new ≡ elements.old) }
 {
     let array = Reference::of(handle);
-    let part = Part { array, start };
+    let part = ArrayPart { array, start };
     let (object, header) = find_part(steps, inside, frames, part, E::KIND, elements.len())?;
     read_part(steps, object, header, start, elements);
     Ok(())
@@ -167,7 +171,7 @@ fn find_part<S: Steps>(
     steps: &mut S,
     inside: &Inside,
     frames: &Frames,
-    part: Part,
+    part: ArrayPart,
     kind: Kind,
     count: usize,
 ) -> Result<(u16, HeaderParts), Fault>

@@ -1,5 +1,6 @@
 //! The calls of the Java Native Interface that copy all elements of an array or string out, and back, over any steps.
 use crate::calls::array_parts::same_element;
+use crate::calls::names;
 use crate::env::Env;
 use crate::env_call::EnvCall;
 use crate::native_call::{Handed, NativeCall, NativeCaller};
@@ -129,7 +130,10 @@ impl<S: Steps, E: Elem> NativeCall<S> for GetArrayElements<E> {
 
     ghost request = { λ c. told_by (map E.word_of) (for_get_array_elements E.KIND c.array.0) };
 
-    const NAME: &'static str = "Get<PrimitiveType>ArrayElements";
+    #[inline(always)]
+    fn name(&self) -> &'static str {
+        names::get_elements(E::KIND)
+    }
 
     #[inline(always)]
     fn handed(&self) -> Handed {
@@ -187,7 +191,10 @@ impl<S: Steps> NativeCall<S> for GetStringChars {
 
     ghost request = { λ c. told_by (λ units. units.items) (for_get_string_chars c.string.0) };
 
-    const NAME: &'static str = "GetStringChars";
+    #[inline(always)]
+    fn name(&self) -> &'static str {
+        "GetStringChars"
+    }
 
     #[inline(always)]
     fn handed(&self) -> Handed {
@@ -241,7 +248,10 @@ impl<S: Steps, E: Elem> NativeCall<S> for CopyBack<'_, E> {
 
     ghost request = { λ c. for_copy_back E.KIND c.array.0 (map E.word_of c.elements.now) };
 
-    const NAME: &'static str = "Release<PrimitiveType>ArrayElements";
+    #[inline(always)]
+    fn name(&self) -> &'static str {
+        names::release_elements(E::KIND)
+    }
 
     #[inline(always)]
     fn handed(&self) -> Handed {

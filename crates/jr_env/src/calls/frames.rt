@@ -105,7 +105,10 @@ impl<S: Steps> NativeCall<S> for PopLocalFrame {
 
     ghost request = { λ c. for_pop_local_frame c.0.0 };
 
-    const NAME: &'static str = "PopLocalFrame";
+    #[inline(always)]
+    fn name(&self) -> &'static str {
+        "PopLocalFrame"
+    }
 
     #[inline(always)]
     fn handed(&self) -> Handed {
@@ -154,7 +157,10 @@ impl<S: Steps> NativeCall<S> for FreeLocals {
 
     ghost request = { λ _. for_free_locals };
 
-    const NAME: &'static str = "FreeLocals";
+    #[inline(always)]
+    fn name(&self) -> &'static str {
+        "FreeLocals"
+    }
 
     #[inline(always)]
     fn handed(&self) -> Handed {

@@ -10,6 +10,7 @@ ghost use Rattle.jr_frames.specs.Ready.{StandsReady, KeepsOwner};
 ghost use Rattle.jr_frames.specs.Table.{IsNext};
 ghost use Rattle.jr_env.specs.Works.{Refers, MakesArray};
 
+use crate::calls::names;
 use crate::calls::objects::element_word;
 use crate::env::Env;
 use crate::env_call::EnvCall;
@@ -32,7 +33,10 @@ impl<S: Steps> NativeCall<S> for NewPlain {
 
     ghost request = { λ _. for_new_plain };
 
-    const NAME: &'static str = "NewPlain";
+    #[inline(always)]
+    fn name(&self) -> &'static str {
+        "NewPlain"
+    }
 
     #[inline(always)]
     fn handed(&self) -> Handed {
@@ -78,7 +82,10 @@ impl<S: Steps> NativeCall<S> for NewObjectArray {
 
     ghost request = { λ c. for_new_object_array c.0 c.1.0 };
 
-    const NAME: &'static str = "NewObjectArray";
+    #[inline(always)]
+    fn name(&self) -> &'static str {
+        "NewObjectArray"
+    }
 
     #[inline(always)]
     fn handed(&self) -> Handed {
@@ -124,7 +131,10 @@ impl<S: Steps> NativeCall<S> for NewString<'_> {
 
     ghost request = { λ c. for_new_string c.0.now };
 
-    const NAME: &'static str = "NewString";
+    #[inline(always)]
+    fn name(&self) -> &'static str {
+        "NewString"
+    }
 
     #[inline(always)]
     fn handed(&self) -> Handed {
@@ -182,7 +192,10 @@ impl<S: Steps, E: Elem> NativeCall<S> for NewArray<E> {
 
     ghost request = { λ c. for_new_array E.KIND c.length };
 
-    const NAME: &'static str = "New<PrimitiveType>Array";
+    #[inline(always)]
+    fn name(&self) -> &'static str {
+        names::new_array(E::KIND)
+    }
 
     #[inline(always)]
     fn handed(&self) -> Handed {

@@ -24,7 +24,10 @@ impl<S: Steps> NativeCall<S> for KindOf {
 
     ghost request = { λ c. for_kind_of c.0.0 };
 
-    const NAME: &'static str = "KindOf";
+    #[inline(always)]
+    fn name(&self) -> &'static str {
+        "KindOf"
+    }
 
     #[inline(always)]
     fn handed(&self) -> Handed {
@@ -68,7 +71,10 @@ impl<S: Steps> NativeCall<S> for GetArrayLength {
 
     ghost request = { λ c. for_get_array_length c.0.0 };
 
-    const NAME: &'static str = "GetArrayLength";
+    #[inline(always)]
+    fn name(&self) -> &'static str {
+        "GetArrayLength"
+    }
 
     #[inline(always)]
     fn handed(&self) -> Handed {
@@ -115,7 +121,10 @@ impl<S: Steps> NativeCall<S> for GetStringLength {
 
     ghost request = { λ c. for_get_string_length c.0.0 };
 
-    const NAME: &'static str = "GetStringLength";
+    #[inline(always)]
+    fn name(&self) -> &'static str {
+        "GetStringLength"
+    }
 
     #[inline(always)]
     fn handed(&self) -> Handed {
@@ -162,7 +171,10 @@ impl<S: Steps> NativeCall<S> for GetObjectArrayElement {
 
     ghost request = { λ c. for_get_object_array_element c.0.0 c.1 };
 
-    const NAME: &'static str = "GetObjectArrayElement";
+    #[inline(always)]
+    fn name(&self) -> &'static str {
+        "GetObjectArrayElement"
+    }
 
     #[inline(always)]
     fn handed(&self) -> Handed {
@@ -210,7 +222,10 @@ impl<S: Steps> NativeCall<S> for SetObjectArrayElement {
 
     ghost request = { λ c. for_set_object_array_element c.0.0 c.1 c.2.0 };
 
-    const NAME: &'static str = "SetObjectArrayElement";
+    #[inline(always)]
+    fn name(&self) -> &'static str {
+        "SetObjectArrayElement"
+    }
 
     #[inline(always)]
     fn handed(&self) -> Handed {

@@ -36,7 +36,10 @@ impl<S: Steps> NativeCall<S> for NewGlobalRef {
 
     ghost request = { λ c. for_new_reference Global c.0.0 };
 
-    const NAME: &'static str = "NewGlobalRef";
+    #[inline(always)]
+    fn name(&self) -> &'static str {
+        "NewGlobalRef"
+    }
 
     #[inline(always)]
     fn handed(&self) -> Handed {
@@ -80,7 +83,10 @@ impl<S: Steps> NativeCall<S> for NewWeakGlobalRef {
 
     ghost request = { λ c. for_new_reference Weak c.0.0 };
 
-    const NAME: &'static str = "NewWeakGlobalRef";
+    #[inline(always)]
+    fn name(&self) -> &'static str {
+        "NewWeakGlobalRef"
+    }
 
     #[inline(always)]
     fn handed(&self) -> Handed {
@@ -123,7 +129,10 @@ impl<S: Steps> NativeCall<S> for NewLocalRef {
 
     ghost request = { λ c. for_new_local_ref c.0.0 };
 
-    const NAME: &'static str = "NewLocalRef";
+    #[inline(always)]
+    fn name(&self) -> &'static str {
+        "NewLocalRef"
+    }
 
     #[inline(always)]
     fn handed(&self) -> Handed {
@@ -169,7 +178,10 @@ impl<S: Steps> NativeCall<S> for DeleteGlobalRef {
 
     ghost request = { λ c. for_delete_reference Global c.0.0 };
 
-    const NAME: &'static str = "DeleteGlobalRef";
+    #[inline(always)]
+    fn name(&self) -> &'static str {
+        "DeleteGlobalRef"
+    }
 
     #[inline(always)]
     fn handed(&self) -> Handed {
@@ -213,7 +225,10 @@ impl<S: Steps> NativeCall<S> for DeleteWeakGlobalRef {
 
     ghost request = { λ c. for_delete_reference Weak c.0.0 };
 
-    const NAME: &'static str = "DeleteWeakGlobalRef";
+    #[inline(always)]
+    fn name(&self) -> &'static str {
+        "DeleteWeakGlobalRef"
+    }
 
     #[inline(always)]
     fn handed(&self) -> Handed {
@@ -256,7 +271,10 @@ impl<S: Steps> NativeCall<S> for DeleteLocalRef {
 
     ghost request = { λ c. for_delete_local_ref c.0.0 };
 
-    const NAME: &'static str = "DeleteLocalRef";
+    #[inline(always)]
+    fn name(&self) -> &'static str {
+        "DeleteLocalRef"
+    }
 
     #[inline(always)]
     fn handed(&self) -> Handed {
@@ -303,7 +321,10 @@ impl<S: Steps> NativeCall<S> for IsSameObject {
 
     ghost request = { λ c. for_is_same_object c.0.0 c.1.0 };
 
-    const NAME: &'static str = "IsSameObject";
+    #[inline(always)]
+    fn name(&self) -> &'static str {
+        "IsSameObject"
+    }
 
     #[inline(always)]
     fn handed(&self) -> Handed {
@@ -318,10 +339,6 @@ impl<S: Steps> NativeCall<S> for IsSameObject {
         frames: &mut Frames,
         _numbers: &mut Numbers,
     ) -> Result<bool, Fault> {
-        if self.0.is_shared() && self.1.is_shared() {
-            // (the same, in a place of its own: there the compiler knows how most of the tests end)
-            return compare(steps, inside, frames, self.0, self.1);
-        }
         compare(steps, inside, frames, self.0, self.1)
     }
 }
@@ -349,7 +366,10 @@ impl<S: Steps> NativeCall<S> for GetObjectRefType {
 
     ghost request = { λ c. for_get_object_ref_type c.0.0 };
 
-    const NAME: &'static str = "GetObjectRefType";
+    #[inline(always)]
+    fn name(&self) -> &'static str {
+        "GetObjectRefType"
+    }
 
     #[inline(always)]
     fn handed(&self) -> Handed {

@@ -50,12 +50,12 @@ fn rooms_beyond_the_limits(rt: HostRuntime) -> Result<(), Fail> {
 fn fits_no_collection<S: Steps>(rt: &impl Abort, env: &mut Env<S>, marker: &mut Marker) {
     assert!(rt; is_refused(env.collect(marker), Some(Fault::Size)));
     assert!(rt; is_refused(env.collect_announced(marker, 3), Some(Fault::Size)));
-    assert!(rt;
-        is_refused(
-            env.retry_collecting(marker, &NewPlain, Patience::of(3)),
-            Some(Fault::Size)
-        )
-    );
+    let few = Patience::of(3);
+    assert!(rt; is_refused(env.collect_in_turn(marker, 3, few), Some(Fault::Size)));
+    let made = env.retry_collecting(marker, &NewPlain, few);
+    assert!(rt; is_refused(made, Some(Fault::Size)));
+    let made = env.retry_collecting_in_turn(marker, 3, &NewPlain, few);
+    assert!(rt; is_refused(made, Some(Fault::Size)));
 }
 
 /// Deletes the reference to an object, which the next collection drops.

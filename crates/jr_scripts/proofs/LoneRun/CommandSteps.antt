@@ -4,7 +4,7 @@ use Rattle.std.proofs.Common.{IfErr, refl, sym, ap, subst, ◌∙◌, arith}
 use Rattle.std.specs.List.{AllByRecursion}
 use Rattle.jr_word.specs.declared.config.Config.{Config}
 use Rattle.jr_word.specs.declared.fault.Fault.{Fault}
-use Rattle.jr_word.specs.declared.fault.Fault.TheVariants.{Stale}
+use Rattle.jr_word.specs.declared.fault.Fault.TheVariants.{Stale, WrongKind}
 use Rattle.jr_word.specs.declared.handle.Handle.{Handle as HandleWord}
 use Rattle.jr_word.specs.Handle.{handle_word, IsHandle}
 use Rattle.jr_model.specs.State.{Handle, State}
@@ -29,7 +29,7 @@ use Rattle.jr_scripts.specs.declared.binding.Binding.{Binding}
 use Rattle.jr_scripts.specs.declared.binding.Binding.TheVariants as bound
 use Rattle.jr_scripts.specs.Names.{referent, wanted, with_name}
 use Rattle.jr_scripts.specs.Places.{Place, objects_after}
-use Rattle.jr_scripts.specs.Posting.{Words, words_after}
+use Rattle.jr_scripts.specs.Posting.{ThreadWords, words_after}
 use Rattle.jr_scripts.specs.Text.{names_after, printed, reference_made, says}
 use Rattle.jr_scripts.specs.AloneAnswers.{IsCommandFault}
 use Rattle.jr_scripts.specs.Runs.{IsUnbarred}
@@ -45,7 +45,7 @@ use Rattle.jr_scripts.proofs.LoneRun.MeaningStands.{pass_later, so_of}
 
 -- A COMMAND'S TURN: the thread stands as in the world before it, and is alone in its room behind it
 pub record Turn (c : Config) (last turns j k : ℕ) (P : Pairing) (w : World) (old new : ThreadState) (p q : Place)
-    (had told : Words) : Type 0 where
+    (had told : ThreadWords) : Type 0 where
   pub some_turns : turns ≢ 0
   pub some : 1 ≤ c.threads
   pub small : c.locals ≤ 4096
@@ -65,7 +65,7 @@ even {c = c} {last = last} {j = j} {P = P} {w = w} {V = V} {call = call} {meant 
     subst (λ z. Means c last j z V P w call meant) one means
 
 module _ {c : Config} {last turns j k : ℕ} {P : Pairing} {w : World} {old new : ThreadState} {p q : Place}
-    {had told : Words} (s : Turn c last turns j k P w old new p q had told) where
+    {had told : ThreadWords} (s : Turn c last turns j k P w old new p q had told) where
   -- what a refusal says of the room is so at the end
   so_then : (x : Command) (answer : Result Reply Fault) → IsPass c last new.pass
       → IfErr answer (IsCommandFault turns p.names x new.pass new.frames)
@@ -109,20 +109,21 @@ module _ {c : Config} {last turns j k : ℕ} {P : Pairing} {w : World} {old new 
     Steps r = Stepped c last k x new p q had told answer r
 
     -- a command that keeps all
-    pub kept_step : (Q : Pairing) (v : World) (a b : Result Reply Fault) → IsThen Q v → answer ≡ a → Keeps x a
+    pub kept_as : (Q : Pairing) (v : World) (a b : Result Reply Fault) → IsPass c last new.pass
+        → Fits c last k Q v (now new) → NamesFit Q v p.names q.names → WordsFit Q v had told → answer ≡ a → Keeps x a
         → Keeps x b → ((line : ℕ) → printed line x a ≡ printed line x b) → Steps (b, v)
-    kept_step Q v a b i is keeps keeps' text =
+    kept_as Q v a b pass fits same_names same_words is keeps keeps' text =
         subst (λ z. Stepped c last k x new p q had told z (b, v)) (sym is) (record {
           pairing = Q;
           stands = record {
-            pass = i.pass;
-            fits = i.fits;
+            pass = pass;
+            fits = fits;
             names = subst (λ n. NamesFit Q v n (names_after x b q.names)) (sym one.0)
-                (subst (λ n. NamesFit Q v p.names n) (sym two.0) (names_later i.later p.names q.names s.stands.names));
+                (subst (λ n. NamesFit Q v p.names n) (sym two.0) same_names);
             outside = one.1 ∙ s.stands.outside;
             outside_then = two.1 ∙ s.stands.outside_then;
             words = subst (λ l. WordsFit Q v l (words_after q.names x b told)) (sym one.2)
-                (subst (λ l. WordsFit Q v had l) (sym two.2) (words_later i.later had told s.stands.words));
+                (subst (λ l. WordsFit Q v had l) (sym two.2) same_words);
           };
           text = text;
         })
@@ -135,39 +136,43 @@ module _ {c : Config} {last turns j k : ℕ} {P : Pairing} {w : World} {old new 
             × (words_after q.names x b told ≡ told)
         two = keeps' q.names q.objects told
 
-    -- one that makes a reference, or NULL
-    pub made_step : (n : List ℕ) (Q : Pairing) (v : World) (h g : Option HandleWord) → IsThen Q v
-        → answer ≡ Ok (replies.Made h) → Sets x n → says x (replies.Made h) ≡ says x (replies.Made g)
-        → HandleFits Q v (reference_made h).0 (reference_made g).0 → Steps (Ok (replies.Made g), v)
-    made_step n Q v h g i is sets text fits =
-        subst (λ z. Stepped c last k x new p q had told z (Ok (replies.Made g), v)) (sym is) (record {
+    pub kept_step : (Q : Pairing) (v : World) (a b : Result Reply Fault) → IsThen Q v → answer ≡ a → Keeps x a
+        → Keeps x b → ((line : ℕ) → printed line x a ≡ printed line x b) → Steps (b, v)
+    kept_step Q v a b i = kept_as Q v a b i.pass i.fits (names_later i.later p.names q.names s.stands.names)
+        (words_later i.later had told s.stands.words)
+
+    -- one that sets a name
+    pub named_step : (n : List ℕ) (Q : Pairing) (v : World) (a b : Result Reply Fault) (t u : Binding) → IsThen Q v
+        → answer ≡ a
+        → (names_after x a p.names ≡ with_name p.names n t) × (objects_after x a p.objects ≡ p.objects)
+        × (words_after p.names x a had ≡ had)
+        → (names_after x b q.names ≡ with_name q.names n u) × (objects_after x b q.objects ≡ q.objects)
+        × (words_after q.names x b told ≡ told)
+        → ((line : ℕ) → printed line x a ≡ printed line x b) → BindingFits Q v t u → Steps (b, v)
+    named_step n Q v a b t u i is one two text fits =
+        subst (λ z. Stepped c last k x new p q had told z (b, v)) (sym is) (record {
           pairing = Q;
           stands = record {
             pass = i.pass;
             fits = i.fits;
-            names = subst (λ l. NamesFit Q v l (names_after x (Ok (replies.Made g)) q.names)) (sym one.0)
-                (subst (λ l. NamesFit Q v (with_name p.names n (bound.Reference (reference_made h))) l) (sym two.0)
-                (names_set_fit Q v p.names q.names n (bound.Reference (reference_made h))
-                (bound.Reference (reference_made g)) (names_later i.later p.names q.names s.stands.names) fits));
+            names = subst (λ l. NamesFit Q v l (names_after x b q.names)) (sym one.0)
+                (subst (λ l. NamesFit Q v (with_name p.names n t) l) (sym two.0)
+                (names_set_fit Q v p.names q.names n t u (names_later i.later p.names q.names s.stands.names) fits));
             outside = one.1 ∙ s.stands.outside;
             outside_then = two.1 ∙ s.stands.outside_then;
-            words = subst (λ l. WordsFit Q v l (words_after q.names x (Ok (replies.Made g)) told)) (sym one.2)
+            words = subst (λ l. WordsFit Q v l (words_after q.names x b told)) (sym one.2)
                 (subst (λ l. WordsFit Q v had l) (sym two.2) (words_later i.later had told s.stands.words));
           };
-          text = λ line. text;
+          text = text;
         })
-      where
-        one : (names_after x (Ok (replies.Made h)) p.names
-            ≡ with_name p.names n (bound.Reference (reference_made h)))
-            × (objects_after x (Ok (replies.Made h)) p.objects ≡ p.objects)
-            × (words_after p.names x (Ok (replies.Made h)) had ≡ had)
-        one = sets h p.names p.objects had
 
-        two : (names_after x (Ok (replies.Made g)) q.names
-            ≡ with_name q.names n (bound.Reference (reference_made g)))
-            × (objects_after x (Ok (replies.Made g)) q.objects ≡ q.objects)
-            × (words_after q.names x (Ok (replies.Made g)) told ≡ told)
-        two = sets g q.names q.objects told
+    -- one that makes a reference, or NULL
+    pub made_step : (n : List ℕ) (Q : Pairing) (v : World) (h g : Option HandleWord) → IsThen Q v
+        → answer ≡ Ok (replies.Made h) → Sets x n → says x (replies.Made h) ≡ says x (replies.Made g)
+        → HandleFits Q v (reference_made h).0 (reference_made g).0 → Steps (Ok (replies.Made g), v)
+    made_step n Q v h g i is sets text fits = named_step n Q v (Ok (replies.Made h)) (Ok (replies.Made g))
+        (bound.Reference (reference_made h)) (bound.Reference (reference_made g)) i is (sets h p.names p.objects had)
+        (sets g q.names q.objects told) (λ line. text) fits
 
     module _ (fault : IfErr answer (IsCommandFault turns p.names x new.pass new.frames)) where
       pub was_made : {A : Type 0} (form : A → Reply) (n : ℕ) (asked : Config → ℕ → ℕ → State → Call A)
@@ -256,11 +261,15 @@ module _ {c : Config} {last turns j k : ℕ} {P : Pairing} {w : World} {old new 
         kept_step P w (Err Stale) (Err Stale) (nothing_then r.1 le) r.0 (quiet _) (quiet _) (λ line. refl)
     bound_step le next then (bound.Reference h) (bound.Reference g) fits quiet d found =
         found h g fits (after_decided next old new answer (wanted (bound.Reference h)) d)
+    bound_step le next then (bound.Buffer b) (bound.Buffer e) fits quiet d found =
+        let r = after_decided next old new answer (wanted (bound.Buffer b)) d in
+        kept_step P w (Err WrongKind) (Err WrongKind) (nothing_then r.1 le) r.0 (quiet _) (quiet _) (λ line. refl)
     bound_step le next then bound.Nothing (bound.Reference g) fits quiet d found = absurd fits
     bound_step le next then bound.Nothing (bound.Buffer b) fits quiet d found = absurd fits
     bound_step le next then (bound.Reference h) bound.Nothing fits quiet d found = absurd fits
     bound_step le next then (bound.Reference h) (bound.Buffer b) fits quiet d found = absurd fits
-    bound_step le next then (bound.Buffer b) b' fits quiet d found = absurd fits
+    bound_step le next then (bound.Buffer b) bound.Nothing fits quiet d found = absurd fits
+    bound_step le next then (bound.Buffer b) (bound.Reference g) fits quiet d found = absurd fits
 
     pub wanted_step : k ≤ j → (next : HandleWord → Deed Reply) (then : ℕ → Meaning Reply) (r : Reference)
         → ((e : Fault) → Keeps x (Err e)) → (decided (wanted (referent p.names r)) >>= next) old answer new

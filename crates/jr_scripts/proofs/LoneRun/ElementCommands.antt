@@ -35,7 +35,7 @@ use Rattle.jr_scripts.specs.Commands.{deed, loading_as, makes_reference, storing
 use Rattle.jr_scripts.specs.Names.{referent, wanted}
 use Rattle.jr_scripts.specs.Numbers.{first_number, has_numbers, word_of_number}
 use Rattle.jr_scripts.specs.Places.{Place}
-use Rattle.jr_scripts.specs.Posting.{Words}
+use Rattle.jr_scripts.specs.Posting.{ThreadWords}
 use Rattle.jr_scripts.specs.Runs.{IsUnbarred}
 use Rattle.jr_scripts.specs.Text.{printed}
 use Rattle.jr_scripts.specs.Tries.{Tried}
@@ -48,6 +48,7 @@ use Rattle.jr_scripts.proofs.AloneDeeds.{set_alone, text_length_alone, write_alo
 use Rattle.jr_scripts.proofs.AloneHistories.{all_prefix}
 use Rattle.jr_scripts.proofs.AloneParts.{tries_alone, was_alone}
 use Rattle.jr_scripts.proofs.Uncontended.{Asked}
+use Rattle.jr_scripts.proofs.LoneRun.MadeCalls.{Made}
 use Rattle.jr_scripts.proofs.LoneRun.MeaningFrames.{Pairing}
 use Rattle.jr_scripts.proofs.LoneRun.MeaningFits.{Fits, Fitting, IsDone, IsSame, Later, Means, Outcome}
 use Rattle.jr_scripts.proofs.LoneRun.MeaningFits.{goes_on_same, goes_on_twice}
@@ -63,32 +64,51 @@ use Rattle.jr_scripts.proofs.LoneRun.CommandSteps.{CallMeant, Steps, Turn, at_mo
 use Rattle.jr_scripts.proofs.LoneRun.CommandSteps.{makes_after, nothing_then, same_after, wanted_step, was_made}
 
 -- nobody was within where a thread collected, before what a thread did
-apart_before : (old new : PassView) (acts : List Act) → Did old new acts → IsApart (state old.seen).role
+pub apart_before : (old new : PassView) (acts : List Act) → Did old new acts → IsApart (state old.seen).role
 apart_before old new acts d = apart_state old.config old.last old.seen
     ((legal_append old.config old.last old.seen d.begins.0).0
     (subst (IsLegal old.config old.last) (sym d.begins.1) d.legal)).0
 
 module _ {c : Config} {last turns j k : ℕ} {P : Pairing} {w : World} {old new : ThreadState} {p q : Place}
-    {had told : Words} (s : Turn c last turns j k P w old new p q had told) where
+    {had told : ThreadWords} (s : Turn c last turns j k P w old new p q had told) where
   module _ (x : Command) (answer : Result Reply Fault)
       (fault : IfErr answer (IsCommandFault turns p.names x new.pass new.frames)) where
     -- A CALL AT OBJECTS, which names the state that it leaves
+    object_outcome : {A B : Type 0} {V : Fitting A B} (form : A → Reply) (work : Config → ℕ → ℕ → State → Call A)
+        → IsLawfulWork work → (meant : Meaning B) (once : Result A Fault)
+        → ((z : State) → HeadersFit P w z → Made c last 0 (entered (work c last 0 z)) (now old) once (now new)
+        → Outcome c last k V P w once (meant w) (now new))
+        → IsMade 1 old new (entered (work old.pass.config old.pass.last old.pass.thread (state new.pass.seen))) once
+        → answer ≡ formed form once → CallMeant s V once (meant w)
+    object_outcome form work lawful meant once outcome made is =
+        let m = was_made s x answer fault form 1 (λ l n t z. entered (work l n t z)) once made is in
+        let z = state new.pass.seen in
+        let still = stay_still c last (work c last 0 z) (lawful.stays c last 0 z) (now old) (now new) once
+        (apart_before old.pass new.pass made.ran.acts made.ran.did) m.1 in
+        record { pass = m.0; outcome = outcome z (headers_fit s.stands.fits still) m.1 }
+
     object_made : {A B : Type 0} {V : Fitting A B} (form : A → Reply) (work : Config → ℕ → ℕ → State → Call A)
         → IsLawfulWork work → (meant : Meaning B) (once : Result A Fault)
         → ((z : State) → HeadersFit P w z → Means c last j k V P w (entered (work c last 0 z)) meant)
         → IsMade 1 old new (entered (work old.pass.config old.pass.last old.pass.thread (state new.pass.seen))) once
         → answer ≡ formed form once → CallMeant s V once (meant w)
-    object_made form work lawful meant once means made is =
-        let m = was_made s x answer fault form 1 (λ l n t z. entered (work l n t z)) once made is in
-        let z = state new.pass.seen in
-        let still = stay_still c last (work c last 0 z) (lawful.stays c last 0 z) (now old) (now new) once
-        (apart_before old.pass new.pass made.ran.acts made.ran.did) m.1 in
-        record {
-          pass = m.0;
-          outcome = (means z (headers_fit s.stands.fits still)).outcome (now old) (now new) once s.stands.fits m.1;
-        }
+    object_made {V = V} form work lawful meant once means = object_outcome {V = V} form work lawful meant once
+        (λ z headers m. (means z headers).outcome (now old) (now new) once s.stands.fits m)
 
     -- one that is handed a word
+    pub word_outcome : {A B : Type 0} {V : Fitting A B} (form : A → Reply)
+        (work : Config → ℕ → ℕ → State → Word → Call A) → ((a : Word) → IsLawfulWork (λ l n t z. work l n t z a))
+        → (meant : Meaning B) (once : Result A Fault) (h g : ℕ) → HandleFits P w h g
+        → ((a : Word) (z : State) → WordFits P w a g → HeadersFit P w z
+        → Made c last 0 (entered (work c last 0 z a)) (now old) once (now new)
+        → Outcome c last k V P w once (meant w) (now new))
+        → call_on_by (λ l. 1) h (λ l n t z a. entered (work l n t z a)) old once new → answer ≡ formed form once
+        → CallMeant s V once (meant w)
+    word_outcome {V = V} form work lawful meant once h g fits outcome d is =
+        let a = d.0 in
+        object_outcome {V = V} form (λ l n t z. work l n t z a) (lawful a) meant once
+        (λ z headers m. outcome a z (read_fits P w h g a (handles s) d.1 fits) headers m) (d.2).0 is
+
     object_call : {A B : Type 0} {V : Fitting A B} (form : A → Reply) (work : Config → ℕ → ℕ → State → Word → Call A)
         → ((a : Word) → IsLawfulWork (λ l n t z. work l n t z a)) → (meant : Meaning B) (once : Result A Fault)
         (h g : ℕ) → HandleFits P w h g
@@ -96,22 +116,20 @@ module _ {c : Config} {last turns j k : ℕ} {P : Pairing} {w : World} {old new 
         → Means c last j k V P w (entered (work c last 0 z a)) meant)
         → call_on_by (λ l. 1) h (λ l n t z a. entered (work l n t z a)) old once new → answer ≡ formed form once
         → CallMeant s V once (meant w)
-    object_call {V = V} form work lawful meant once h g fits means d is =
-        let a = d.0 in
-        object_made {V = V} form (λ l n t z. work l n t z a) (lawful a) meant once
-        (λ z headers. means a z (read_fits P w h g a (handles s) d.1 fits) headers) (d.2).0 is
+    object_call {V = V} form work lawful meant once h g fits means = word_outcome {V = V} form work lawful meant once h
+        g fits (λ a z word headers m. (means a z word headers).outcome (now old) (now new) once s.stands.fits m)
 
 module _ {c : Config} {last turns j k : ℕ} {P : Pairing} {w : World} {old new : ThreadState} {p q : Place}
-    {had told : Words} (s : Turn c last turns j k P w old new p q had told) where
+    {had told : ThreadWords} (s : Turn c last turns j k P w old new p q had told) where
   -- before the last call the thread is alone too
-  record AloneBefore (m : ThreadState) : Type 0 where
-    alone : IsAlone m.pass
-    all : AllByRecursion IsUnbarred m.pass.seen
+  pub record AloneBefore (m : ThreadState) : Type 0 where
+    pub alone : IsAlone m.pass
+    pub all : AllByRecursion IsUnbarred m.pass.seen
 
   alone_at : (m : ThreadState) → new ≡ m → AloneBefore m
   alone_at m same = subst AloneBefore same (record { alone = s.alone; all = s.all })
 
-  alone_before : {A : Type 0} {one : Deed A} (command : Asked) → ((n : ℕ) → LeadsAlone n command one)
+  pub alone_before : {A : Type 0} {one : Deed A} (command : Asked) → ((n : ℕ) → LeadsAlone n command one)
       → (m : ThreadState) (once : Result A Fault) → Tried one turns m once new → AloneBefore m
   alone_before command led m once d =
       let y = tries_alone command led turns m new once s.alone d in
@@ -217,10 +235,10 @@ module _ {c : Config} {last turns j k : ℕ} {P : Pairing} {w : World} {old new 
       (rest : (Q : Pairing) (m : ThreadState) (y : Turn c last turns j k Q w m new p q had told) (h g o : ℕ)
       → HandleFits Q w h g → wanted_object g w ≡ (Ok (o, meant_in w o), w) → (t : Kind) → t ≡ (meant_in w o).kind
       → is_primitive t ≡ true → next h t m answer new → Steps y x answer (then (o, meant_in w o) w)) where
-    abbrev numbered : ℕ → Deed Reply
+    abbrev pub numbered : ℕ → Deed Reply
     numbered h = tried turns (kind_of h) >>= (λ t. decided (has_numbers t) >>= (λ u. next h t))
 
-    abbrev numbered_meant : ℕ × Contents → Meaning Reply
+    abbrev pub numbered_meant : ℕ × Contents → Meaning Reply
     numbered_meant a v = goes_on (λ u. then a) (has_numbers a.1.kind, v)
 
     -- the call for the kind
@@ -314,7 +332,7 @@ module _ {c : Config} {last turns j k : ℕ} {P : Pairing} {w : World} {old new 
             (rest (i.1).pairing m (turn_then a i) h.0 g.0 (i.1).object word (i.1).known t (i.1).kind (are_numbers t is)
             d')
 
-    numbered_step : (decided (wanted (referent p.names r)) >>= (λ h. numbered h.0)) old answer new
+    pub numbered_step : (decided (wanted (referent p.names r)) >>= (λ h. numbered h.0)) old answer new
         → Steps s x answer (goes_on numbered_meant (goes_on wanted_object
         (goes_on (λ h v. (Ok h.0, v)) (wanted (referent q.names r), w))))
     numbered_step d = subst (Steps s x answer) (sym (goes_on_twice wanted_object numbered_meant

@@ -16,7 +16,7 @@ use Rattle.jr_syntax.specs.declared.verb.WithCount.TheVariants as with_count
 use Rattle.jr_scripts.specs.declared.reply.Reply.{Reply}
 use Rattle.jr_scripts.specs.declared.reply.Reply.TheVariants as replies
 use Rattle.jr_scripts.specs.Places.{Place}
-use Rattle.jr_scripts.specs.Posting.{Words}
+use Rattle.jr_scripts.specs.Posting.{ThreadWords}
 use Rattle.jr_scripts.specs.AloneAnswers.{IsCommandFault}
 use Rattle.jr_scripts.proofs.Uncontended.{Asked}
 use Rattle.jr_scripts.specs.Meaning as meaning
@@ -28,7 +28,7 @@ use Rattle.jr_scripts.proofs.LoneRun.MeaningDeeds.{made_once, was_formed}
 use Rattle.jr_scripts.proofs.LoneRun.CommandSteps.{Turn, Steps, made_call, made_of_step, same_after, even}
 
 module _ {c : Config} {last turns j k : ℕ} {P : Pairing} {w : World} {old new : ThreadState} {p q : Place}
-    {had told : Words} (s : Turn c last turns j k P w old new p q had told) where
+    {had told : ThreadWords} (s : Turn c last turns j k P w old new p q had told) where
   -- ENSURE
 
   pub ensure_step : j ≡ k → (n : ℕ) (answer : Result Reply Fault)

@@ -134,6 +134,20 @@ module _ (c : Config) (last t : ℕ) where
             },
           )
 
+  -- the call is another, between these moments and with this answer
+  pub made_as : {A : Type 0} {call call' : Call A} {m n : Moment} {answer : Result A Fault}
+      → ((acts : List Act) → call m.frames acts answer n.frames → call' m.frames acts answer n.frames)
+      → Made call m answer n → Made call' m answer n
+  made_as to r = record {
+    led = r.led;
+    acts = r.acts;
+    is = to r.acts r.is;
+    legal = r.legal;
+    leads = r.leads;
+    unopposed = r.unopposed;
+    so = r.so;
+  }
+
   -- nothing happened
   pub still : {m n : Moment} (acts : List Act) → acts ≡ [] → n.state ≡ state_from m.state (map (by t) acts)
       → n.frames ≡ m.frames → n ≡ m

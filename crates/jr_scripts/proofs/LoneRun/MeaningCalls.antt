@@ -1,5 +1,6 @@
 -- What a lone thread's calls of references mean.
-use Rattle.std.proofs.Common.{◌≡◌, ◌≢◌, ℕ, zero, suc, ◌<◌, ◌≤◌, ◌+◌, ◌==◌, ◌||◌, Bool, true, false, not, cond, nat_lt}
+use Rattle.std.proofs.Common.{◌≡◌, ◌≢◌, inr, IsSome, ℕ, zero, suc, ◌<◌, ◌≤◌, ◌+◌, ◌==◌, ◌||◌, Bool, true, false, not}
+use Rattle.std.proofs.Common.{cond, nat_lt}
 use Rattle.std.proofs.Common.{Option, Some, None, List, [], ◌∷◌, ◌++◌, length, map, slice_index, slice_set, Result, Ok}
 use Rattle.std.proofs.Common.{refl, sym, ap, subst, ◌∙◌, arith, replicate}
 use Rattle.std.specs.List.{filter}
@@ -17,7 +18,7 @@ use Rattle.jr_model.specs.declared.event.Act.TheVariants.{LocalPut, LocalDrop}
 use Rattle.jr_model.specs.declared.event.Found.{Found}
 use Rattle.jr_model.specs.declared.event.Found.TheVariants.{Object, Cleared, Stale}
 use Rattle.jr_model.specs.declared.frames.LocalRef.{LocalRef}
-use Rattle.jr_model.specs.State.{Handle, same_handle, same_kind}
+use Rattle.jr_model.specs.State.{Contents, Handle, same_handle, same_kind}
 use Rattle.jr_model.specs.Steps.{act_after}
 use Rattle.jr_model.specs.Frames.{Frames, IsAdded, adds, all_refs, is_held, object_of, object_where, without_local}
 use Rattle.jr_model.specs.Calls.{◌>>=◌, decided, done}
@@ -26,7 +27,7 @@ use Rattle.jr_model.specs.Checks.{is_malformed, is_objects, element_word, is_of_
 use Rattle.jr_model.specs.Checks.{type_local}
 use Rattle.jr_model.specs.Parts.{delete_local_at, drop_local, found_answer, local_answer, look, looked}
 use Rattle.jr_model.specs.References as references
-use Rattle.jr_model.proofs.Agreement.{added_sound, deleted_refs, deleted_sound, other_than}
+use Rattle.jr_model.proofs.Agreement.{added_at, added_sound, deleted_at, deleted_refs, deleted_sound, other_than}
 use Rattle.jr_model.proofs.Gone.{taken_is_gone}
 use Rattle.jr_model.proofs.Locals.{past_move, past_not_new}
 use Rattle.jr_model.proofs.Updates.{eq_true, eq_false, eq_other, eq_self, handle_true, kind_true}
@@ -141,12 +142,12 @@ module _ (c : Config) (last k : ℕ) where
       added_state =
           let l = f.locals in
           record {
-            refs = more_fit c last P w.refs (length w.objects) m.frames n.frames m.state.refs m.state.refs m.state.given
+            refs = more_fit c last P w.refs w.objects m.frames n.frames m.state.refs m.state.refs m.state.given
                 m.state.given f.refs (λ g. given_then (past_move last 0 g m.frames (adds the_ref a)) (λ is. is))
                 the_new h another
                 (by_place own_new (past_here last m.frames n.frames the_ref l.sound a)) stays
-                (subst (RefFits P.object (length w.objects) h.kind the_new) (sym found_there)
-                (sym local, o, refl, named.0, named.1));
+                (subst (RefFits P.object w.objects h.kind the_new) (sym found_there)
+                (sym local, o, refl, named.0, named.1)) (λ x there. inr there);
             locals = record {
               framed = subst (λ gs. AreFrames (ref_named c last P w.refs h) (length with_ref.refs) with_ref.frames gs)
                   (sym (ap (λ (x : Frames). x.frames) a.new_is)) (frames_put (length w.refs) the_ref
@@ -162,6 +163,7 @@ module _ (c : Config) (last k : ℕ) where
             objects = f.objects;
             used = f.used;
             space = f.space;
+            agree = added_at last 0 m.frames n.frames the_ref a l.sound (m.state.locals 0) f.agree;
           }
 
     pub added_means : Means c last k k NewFits P w (references.added c last 0 p) (meaning.added o)
@@ -176,7 +178,7 @@ module _ (c : Config) (last k : ℕ) where
               handles = λ i l. ref_before c last P w.refs h i l;
               objects = λ q l. refl;
               refs_grow = (let more = ref_longer in omega arith);
-              objects_grow = omega arith;
+              objects_stay = λ q there. there;
             };
             fits = subst (Fits c last k (ref_named c last P w.refs h) with_ref)
                 (sym (moment_is n.state (act_after m.state 0 (LocalPut h.index p)) n.frames n.frames state_is refl))
@@ -203,24 +205,24 @@ module _ (c : Config) (last k : ℕ) where
 
   -- so many elements that are all alike
   all_alike : (P : Pairing) (w : World) (kind : Kind) (n word v : ℕ)
-      → ElementFits P.object (length w.objects) (is_objects kind) v word
+      → ElementFits P.object w.objects (is_objects kind) v word
       → Alike P w kind (replicate n word) (replicate n v)
   all_alike P w kind n word v fits = record {
     kind = refl;
     long = length-replicate n word ∙ sym (length-replicate n v);
     words = λ i l.
         let small : i < n = (let long = length-replicate n v in omega arith) in
-        subst (λ z. ElementFits P.object (length w.objects) (is_objects kind) z (slice_index (replicate n word) i))
-        (sym (get_or-replicate n i v 0 small)) (subst (ElementFits P.object (length w.objects) (is_objects kind) v)
+        subst (λ z. ElementFits P.object w.objects (is_objects kind) z (slice_index (replicate n word) i))
+        (sym (get_or-replicate n i v 0 small)) (subst (ElementFits P.object w.objects (is_objects kind) v)
         (sym (get_or-replicate n i word 0 small)) fits);
   }
 
-  zeros : (P : Pairing) (w : World) (b : Bool) → ElementFits P.object (length w.objects) b 0 0
+  zeros : (P : Pairing) (w : World) (b : Bool) → ElementFits P.object w.objects b 0 0
   zeros P w true = refl
   zeros P w false = refl
 
   pub element_fits : (P : Pairing) (w : World) (x y : Option ℕ) → OptionFits P w x y
-      → ElementFits P.object (length w.objects) true (element_to y) (element_word x)
+      → ElementFits P.object w.objects true (element_to y) (element_word x)
   element_fits P w None None fits = refl
   element_fits P w (Some p) (Some o) fits = fits
   element_fits P w None (Some o) fits = absurd fits
@@ -293,15 +295,15 @@ module _ (c : Config) (last k : ℕ) where
   -- what stands at a handle that is handed in, and what is meant by it
   at_handle_fits : (P : Pairing) (w : World) (m : Moment) (h : Handle) (i : ℕ) → Fits c last k P w m
       → WordFits P w (Parts h) (suc i)
-      → RefFits P.object (length w.objects) h.kind (standing_at w.refs i) (found_of m.frames m.state.refs h)
-  at_handle_fits P w m h i f fits = subst (λ (g : Handle). RefFits P.object (length w.objects) g.kind
+      → RefFits P.object w.objects h.kind (standing_at w.refs i) (found_of m.frames m.state.refs h)
+  at_handle_fits P w m h i f fits = subst (λ (g : Handle). RefFits P.object w.objects g.kind
       (standing_at w.refs i) (found_of m.frames m.state.refs g)) (sym fits.1) (f.refs.stands i fits.0)
 
   -- WHAT IS READ AT A HANDLE means this, of a local one in the frames, and of any other by a look
   read_means : {A B : Type 0} {V : Fitting A B} (P : Pairing) (w : World) (h : Handle) (i : ℕ)
       (local : Frames → Result A Fault) (row : Found → Result A Fault) (meant : Option Ref → Result B Fault)
       → WordFits P w (Parts h) (suc i) → ((f : Frames) → h.kind ≡ Local → local f ≡ row (found_local (object_of f h)))
-      → ((l : Found) → RefFits P.object (length w.objects) h.kind (standing_at w.refs i) l
+      → ((l : Found) → RefFits P.object w.objects h.kind (standing_at w.refs i) l
       → SameAnswer (V P w) (row l) (meant (standing_at w.refs i)))
       → Means c last k k V P w (cond (is_local h) (λ old. decided (local old) old) (look h >>= (λ l. decided (row l))))
       (λ v. (meant (standing_at v.refs i), v))
@@ -325,7 +327,7 @@ module _ (c : Config) (last k : ℕ) where
             let y = looked_first c last 0 h (λ l. decided (row l)) m n x r in
             unmoved c last {V = V} m n x (row (m.state.refs h)) (meant (standing_at w.refs i)) f
             (still c last 0 {m = m} {n = n} y.acts (y.is).0 y.leads (y.is).2) (y.is).1
-            (so (m.state.refs h) (subst (RefFits P.object (length w.objects) h.kind (standing_at w.refs i))
+            (so (m.state.refs h) (subst (RefFits P.object w.objects h.kind (standing_at w.refs i))
             (found_row m.frames m.state.refs h other) (at_handle_fits P w m h i f fits)));
       }
 
@@ -340,7 +342,7 @@ module _ (c : Config) (last k : ℕ) where
   FoundFits w Q v x y = OptionFits Q v x y × (v ≡ w)
 
   found_fits : (P : Pairing) (w : World) (kind : RefKind) (r : Option Ref) (l : Found)
-      → RefFits P.object (length w.objects) kind r l → SameAnswer (FoundFits w P w) (found_answer l) (object_in r)
+      → RefFits P.object w.objects kind r l → SameAnswer (FoundFits w P w) (found_answer l) (object_in r)
   found_fits P w kind (Some r) (Object p) fits =
       subst (λ z. SameAnswer (FoundFits w P w) (Ok (Some p)) (Ok z)) (sym fits.2) ((fits.3, fits.4), refl)
   found_fits P w kind (Some r) Cleared fits =
@@ -443,7 +445,8 @@ module _ (c : Config) (last k : ℕ) where
 
   -- GETOBJECTREFTYPE
 
-  type_fits : (P : Pairing) (n : ℕ) (kind : RefKind) (r : Option Ref) (l : Found) → RefFits P.object n kind r l
+  type_fits : (P : Pairing) (n : List (Option Contents)) (kind : RefKind) (r : Option Ref) (l : Found)
+      → RefFits P.object n kind r l
       → type_found kind l ≡ type_in r
   type_fits P n kind (Some r) (Object p) fits = sym (ap (λ z. kind_number z) fits.0)
   type_fits P n kind (Some r) Cleared fits = sym (ap (λ z. kind_number z) fits.0)
@@ -465,7 +468,7 @@ module _ (c : Config) (last k : ℕ) where
       (rw (s.within, s.mine) refl) (read_means {V = IsSame {A = ℕ}} P w h i (λ f. Ok (type_local (object_of f h)))
       (λ l. Ok (type_found h.kind l)) (λ r. Ok (type_in r)) fits
       (λ f is. ap (λ z. Ok z) (type_is h.kind (object_of f h) is))
-      (λ l so. type_fits P (length w.objects) h.kind (standing_at w.refs i) l so))))
+      (λ l so. type_fits P w.objects h.kind (standing_at w.refs i) l so))))
   type_means P w Nothing (suc i) some fits = absurd fits
   type_means P w Malformed zero some fits = absurd fits
   type_means P w Malformed (suc i) some fits = absurd fits
@@ -492,7 +495,7 @@ module _ (c : Config) (last k : ℕ) where
       go false e true f rest = rw f refl
       go false e false f rest = rw f rest
 
-  module _ (P : Pairing) (w : World) (i : ℕ) (small : i < length w.refs) where
+  module _ (P : Pairing) (w : World) (i : ℕ) (small : i < length w.refs) (stands : IsSome (standing_at w.refs i)) where
     abbrev without_ref : World
     without_ref = record w {
       refs = slice_set w.refs i None;
@@ -502,13 +505,26 @@ module _ (c : Config) (last k : ℕ) where
     as_long : length without_ref.refs ≡ length w.refs
     as_long = length-set w.refs i None
 
+    -- what stands in the world stands in the frames
+    stood : (m : Moment) → Fits c last (suc k) P w m → (P.handle i).kind ≡ Local
+        → IsSome (object_of m.frames (P.handle i))
+    stood m f local = go (standing_at w.refs i) (object_of m.frames (P.handle i)) stands
+        (subst (RefFits P.object w.objects (P.handle i).kind (standing_at w.refs i))
+        (found_own m.frames m.state.refs (P.handle i) local) (f.refs.stands i small))
+      where
+        go : (r : Option Ref) (x : Option ℕ) → IsSome r
+            → RefFits P.object w.objects (P.handle i).kind r (found_local x) → IsSome x
+        go (Some r) (Some p) there fits = refl
+        go (Some r) None there fits = absurd fits
+        go None x there fits = absurd cc
+
     less_state : (m : Moment) → Fits c last (suc k) P w m → (P.handle i).kind ≡ Local → Fits c last k P without_ref
         (moment (act_after m.state 0 (LocalDrop (P.handle i).index)) (without_local m.frames (P.handle i)))
     less_state m f local = record {
-      refs = less_fit c last P w.refs (length w.objects) m.frames (without_local m.frames (P.handle i)) m.state.refs
+      refs = less_fit c last P w.refs w.objects m.frames (without_local m.frames (P.handle i)) m.state.refs
           m.state.refs m.state.given m.state.given f.refs (λ g. given_then (λ is. is) (λ is. is)) i small
           (found_own (without_local m.frames (P.handle i)) m.state.refs (P.handle i) local
-          ∙ ap found_local (taken_is_gone m.frames (P.handle i) f.locals.sound).0) stays;
+          ∙ ap found_local (taken_is_gone m.frames (P.handle i) f.locals.sound).0) stays (λ x there. there);
       locals = record {
         framed = frames_later (λ j below. refl) (let long = as_long in omega arith)
             (frames_less P f.refs.once i small f.locals.framed);
@@ -521,6 +537,7 @@ module _ (c : Config) (last k : ℕ) where
       objects = f.objects;
       used = f.used;
       space = f.space;
+      agree = deleted_at m.frames (P.handle i) f.locals.sound (stood m f local) (m.state.locals 0) f.agree;
     }
       where
         few : (p : ℕ) → slice_index m.frames.given p + k
@@ -532,7 +549,7 @@ module _ (c : Config) (last k : ℕ) where
             omega arith
 
         other_kind : (kind : RefKind) → same_kind kind Local ≡ false → is_ref_of kind (standing_at w.refs i) ≡ false
-        other_kind kind other = kind_of_ref P.object (length w.objects) (P.handle i).kind (standing_at w.refs i)
+        other_kind kind other = kind_of_ref P.object w.objects (P.handle i).kind (standing_at w.refs i)
             (found_of m.frames m.state.refs (P.handle i)) kind (f.refs.stands i small)
             (ap (λ z. same_kind kind z) local ∙ other)
 
@@ -561,7 +578,7 @@ module _ (c : Config) (last k : ℕ) where
               handles = λ j l. refl;
               objects = λ q l. refl;
               refs_grow = (let long = as_long in omega arith);
-              objects_grow = omega arith;
+              objects_stay = λ q there. there;
             };
             fits = subst (Fits c last k P without_ref) (sym (moment_is n.state (act_after m.state 0
                 (LocalDrop (P.handle i).index)) n.frames (without_local m.frames (P.handle i))
@@ -581,6 +598,10 @@ module _ (c : Config) (last k : ℕ) where
         (fits_less (omega arith) f) (still c last 0 {m = m} {n = n} r.acts (r.is).0 r.leads (r.is).2) (r.is).1 tt;
   }
 
+  was_found : (y : Option ℕ) (r : Option Ref) → object_in r ≡ Ok y → IsSome r
+  was_found y None is = absurd cc
+  was_found y (Some r) is = refl
+
   -- DELETELOCALREF
   pub delete_means : (P : Pairing) (w : World) (a : Word) (g : ℕ) → 1 ≤ c.threads → WordFits P w a g
       → is_of_kind Local a ≡ true
@@ -597,9 +618,11 @@ module _ (c : Config) (last k : ℕ) where
           → Means c last (suc k) k (IsDone {A = Unit {0}} {B = Unit {0}}) P w (delete_local_at a) (meaning.delete g)
       here Nothing zero fits local = spent_nothing
       here (Parts h) (suc i) fits local = bind_spends c last (suc k) (suc k) k (omega arith)
-          (looked_means c last (suc k) P w (Parts h) (suc i) fits) (λ Q v later x y same.
+          (answer_known c last (looked_means c last (suc k) P w (Parts h) (suc i) fits)) (λ Q v later x y same.
           let word = word_later later (Parts h) (suc i) fits in
-          drop_means Q v i word.0 h word.1 (sym (kind_true Local h.kind local)))
+          drop_means Q v i word.0 (subst (λ (t : World). IsSome (standing_at t.refs i)) (sym same.0.1)
+          (was_found y (standing_at w.refs i) (ap (λ (r : Result (Option ℕ) Fault × World). r.0) same.1))) h word.1
+          (sym (kind_true Local h.kind local)))
       here Nothing (suc i) fits local = absurd fits
       here Malformed zero fits local = absurd fits
       here Malformed (suc i) fits local = absurd fits

@@ -1,5 +1,6 @@
 -- What a lone thread's commands mean, each from a moment that is as the world.
-use Rattle.std.proofs.Common.{◌≡◌, ℕ, Result, IfErr, refl, sym, subst}
+use Rattle.std.proofs.Common.{◌≡◌, ℕ, Bool, true, List, [], ◌∷◌, ◌++◌, slice_index_or, Result, IfErr, refl, sym, ap}
+use Rattle.std.proofs.Common.{subst}
 use Rattle.jr_word.specs.declared.config.Config.{Config}
 use Rattle.jr_word.specs.declared.fault.Fault.{Fault}
 use Rattle.jr_model.specs.History.{state}
@@ -8,21 +9,26 @@ use Rattle.jr_syntax.specs.declared.command.Command.{Command}
 use Rattle.jr_syntax.specs.declared.command.Command.TheVariants as commands
 use Rattle.jr_syntax.specs.declared.verb.Make.TheVariants as make
 use Rattle.jr_scripts.specs.Commands.{deed}
-use Rattle.jr_scripts.specs.Meaning.{IsCovered, World, meaning_at}
+use Rattle.jr_scripts.specs.Meaning.{IsCovered, World, meaning_at, memory_after}
 use Rattle.jr_syntax.specs.declared.verb.MakeFrom.TheVariants as make_from
 use Rattle.jr_syntax.specs.declared.verb.MakeAt.TheVariants as make_at
 use Rattle.jr_syntax.specs.declared.verb.On.TheVariants as on
+use Rattle.jr_syntax.specs.declared.verb.OfRoom.TheVariants as of_room
 use Rattle.jr_syntax.specs.declared.verb.OnAt.TheVariants as on_at
 use Rattle.jr_syntax.specs.declared.verb.OnBoth.TheVariants as on_both
 use Rattle.jr_syntax.specs.declared.verb.OnName.TheVariants as on_name
+use Rattle.jr_syntax.specs.declared.verb.OnNameAt.TheVariants as on_name_at
+use Rattle.jr_syntax.specs.declared.verb.PutAt.TheVariants as put_at
+use Rattle.jr_syntax.specs.declared.verb.Release.TheVariants as release
 use Rattle.jr_syntax.specs.declared.verb.SetAt.TheVariants as set_at
 use Rattle.jr_syntax.specs.declared.verb.StoreAt.TheVariants as store_at
 use Rattle.jr_syntax.specs.declared.verb.WithCount.TheVariants as with_count
+use Rattle.jr_syntax.specs.declared.verb.WithTries.TheVariants as with_tries
 use Rattle.jr_scripts.specs.declared.reply.Reply.{Reply}
 use Rattle.jr_scripts.specs.Names.{referent}
 use Rattle.jr_scripts.specs.RegionCommands.{deed_at, deed_within}
 use Rattle.jr_scripts.specs.Places.{Place, by_region}
-use Rattle.jr_scripts.specs.Posting.{Words, said_alone}
+use Rattle.jr_scripts.specs.Posting.{ThreadWords, said_alone}
 use Rattle.jr_scripts.specs.AloneAnswers.{IsAloneFault, IsFaultOutside, IsFaultWithin}
 use Rattle.jr_scripts.specs.Meaning as meaning
 use Rattle.jr_scripts.proofs.LoneRun.MeaningFrames.{Pairing}
@@ -34,10 +40,38 @@ use Rattle.jr_scripts.proofs.LoneRun.ReferenceCommands.{weak_step}
 use Rattle.jr_scripts.proofs.LoneRun.ElementCommands.{get_step, len_step, load_step, set_step, store_step}
 use Rattle.jr_scripts.proofs.LoneRun.ElementCommands.{text_length_step}
 use Rattle.jr_scripts.proofs.LoneRun.FrameCommands.{ensure_step, push_step, pop_step}
+use Rattle.jr_scripts.proofs.LoneRun.MeaningCopies.{found_by}
+use Rattle.jr_scripts.proofs.LoneRun.CopyCommands.{chars_step, elems_step}
+use Rattle.jr_scripts.proofs.LoneRun.BufferCommands.{eget_step, eput_step, release_step}
 use Rattle.jr_scripts.proofs.LoneRun.NoteCommands.{post_step, wait_step}
+use Rattle.jr_scripts.proofs.LoneRun.CollectionCommands.{announced_step, collect_step}
+
+-- what a command shows of memory: whether its copy found some
+abbrev pub memory_shown : Command → Result Reply Fault → List Bool
+memory_shown (commands.MakeFrom make_from.Elements n r) answer = found_by answer ∷ []
+memory_shown (commands.On on.Chars r) answer = found_by answer ∷ []
+memory_shown _ answer = []
+
+-- .. and what is left for those to come
+pub memory_left : (x : Command) (answer : Result Reply Fault) (rest : List Bool)
+    → memory_after x (memory_shown x answer ++ rest) ≡ rest
+memory_left (commands.MakeFrom make_from.Elements n r) answer rest = refl
+memory_left (commands.On on.Chars r) answer rest = refl
+memory_left (commands.MakeFrom _ n r) answer rest = refl
+memory_left (commands.On _ r) answer rest = refl
+memory_left _ answer rest = refl
+
+abbrev next_found : List Bool → Bool
+next_found memory = slice_index_or memory 0 true
+
+-- a command that is covered, and makes no copy
+abbrev IsCoveredAlone : Command → Type 0
+IsCoveredAlone (commands.MakeFrom make_from.Elements n r) = ⊥
+IsCoveredAlone (commands.On on.Chars r) = ⊥
+IsCoveredAlone x = IsCovered x
 
 module _ {c : Config} {last turns j k : ℕ} {P : Pairing} {w : World} {old new : ThreadState} {p q : Place}
-    {had told : Words} (s : Turn c last turns j k P w old new p q had told) where
+    {had told : ThreadWords} (s : Turn c last turns j k P w old new p q had told) where
   fault_outside : (x : Command) (answer : Result Reply Fault)
       → IfErr answer (IsAloneFault turns p x new.pass new.frames)
       → IfErr answer (IsFaultOutside turns p.names x new.pass new.frames)
@@ -50,7 +84,7 @@ module _ {c : Config} {last turns j k : ℕ} {P : Pairing} {w : World} {old new 
   deed_outside x answer d =
       subst (λ os. by_region os (deed turns p.names x) (deed_within p x) old answer new) s.stands.outside d
 
-  one_step : (x : Command) → j ≡ left_before x k → (answer : Result Reply Fault) → IsCovered x
+  one_step : (x : Command) → j ≡ left_before x k → (answer : Result Reply Fault) → IsCoveredAlone x
       → deed turns p.names x old answer new → said_alone p.names had x old.pass.seen answer new.pass.seen
       → IfErr answer (IsFaultOutside turns p.names x new.pass new.frames)
       → Steps s x answer (meaning.outside c q.names told x w)
@@ -78,7 +112,24 @@ module _ {c : Config} {last turns j k : ℕ} {P : Pairing} {w : World} {old new 
   one_step (commands.StoreAt store_at.Store r i z) one answer covered d said fault =
       store_step s one r i z answer fault d
   one_step (commands.SetAt set_at.Set r i t) one answer covered d said fault = set_step s one r i t answer fault d
+  one_step (commands.OfRoom of_room.Collect) one answer covered d said fault = collect_step s one answer d
+  one_step (commands.WithTries with_tries.CollectAnnounced tries) one answer covered d said fault =
+      announced_step s one tries answer d
+  one_step (commands.OnNameAt on_name_at.Get n i) one answer covered d said fault = eget_step s one n i answer d
+  one_step (commands.PutAt put_at.Put n i z) one answer covered d said fault = eput_step s one n i z answer d
+  one_step (commands.Release release.Elements n r mode) one answer covered d said fault =
+      release_step s one n r answer mode fault d
   one_step x one answer covered d said fault = absurd covered
+
+  copy_step : (x : Command) → j ≡ left_before x k → (answer : Result Reply Fault) → IsCovered x
+      → deed turns p.names x old answer new → said_alone p.names had x old.pass.seen answer new.pass.seen
+      → IfErr answer (IsFaultOutside turns p.names x new.pass new.frames) → (rest : List Bool)
+      → w.memory ≡ memory_shown x answer ++ rest → Steps s x answer (meaning.outside c q.names told x w)
+  copy_step (commands.MakeFrom make_from.Elements n r) one answer covered d said fault rest memory =
+      elems_step s one n r answer fault (ap next_found memory) d
+  copy_step (commands.On on.Chars r) one answer covered d said fault rest memory =
+      chars_step s one r answer fault (ap next_found memory) d
+  copy_step x one answer covered d said fault rest memory = one_step x one answer covered d said fault
 
   at_place : (x : Command) (answer : Result Reply Fault) → Steps s x answer (meaning.outside c q.names told x w)
       → Steps s x answer (meaning_at c q told q.objects x w)
@@ -87,11 +138,12 @@ module _ {c : Config} {last turns j k : ℕ} {P : Pairing} {w : World} {old new 
 
 -- ONE COMMAND, as it means
 pub step : {c : Config} {last turns k : ℕ} {P : Pairing} {w : World} {old new : ThreadState} {p q : Place}
-    {had told : Words} (x : Command) (s : Turn c last turns (left_before x k) k P w old new p q had told)
+    {had told : ThreadWords} (x : Command) (s : Turn c last turns (left_before x k) k P w old new p q had told)
     (answer : Result Reply Fault) → IsCovered x → deed_at turns p x old answer new
     → said_alone p.names had x old.pass.seen answer new.pass.seen
-    → IfErr answer (IsAloneFault turns p x new.pass new.frames)
+    → IfErr answer (IsAloneFault turns p x new.pass new.frames) → (rest : List Bool)
+    → w.memory ≡ memory_shown x answer ++ rest
     → Stepped c last k x new p q had told answer (meaning_at c q told q.objects x w)
-step x s answer covered d said fault =
-    at_place s x answer (one_step s x refl answer covered (deed_outside s x answer d) said
-    (fault_outside s x answer fault))
+step x s answer covered d said fault rest memory =
+    at_place s x answer (copy_step s x refl answer covered (deed_outside s x answer d) said
+    (fault_outside s x answer fault) rest memory)

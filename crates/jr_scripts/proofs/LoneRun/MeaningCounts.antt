@@ -1,6 +1,6 @@
 -- What is counted in a room and in the world of what a script means.
 use Rattle.std.proofs.Common.{◌≡◌, ◌≢◌, ℕ, zero, suc, ◌<◌, ◌≤◌, ◌+◌, ◌==◌, ◌&&◌, Bool, true, false, cond, not, nat_eq}
-use Rattle.std.proofs.Common.{nat_le, Option, Some, None, IsSome, is_some, List, [], ◌∷◌, ◌++◌, length, slice_index}
+use Rattle.std.proofs.Common.{nat_le, Option, Some, None, is_some, List, [], ◌∷◌, ◌++◌, length, slice_index}
 use Rattle.std.proofs.Common.{slice_set, refl, sym, ap, subst, ◌∙◌, arith, get_or-set_other, get_or-set_same}
 use Rattle.std.specs.List.{filter}
 use Rattle.std.proofs.lemmas.List.{length-set}
@@ -10,12 +10,11 @@ use Rattle.jr_model.specs.Maps.{update, sum_below, count_below}
 use Rattle.jr_model.specs.State.{Handle, Contents, same_handle}
 use Rattle.jr_model.specs.Frames.{Frames, AreSound, IsAdded, all_refs, is_free, is_held, object_of, object_where}
 use Rattle.jr_model.proofs.Counts.{bit, sum_at}
-use Rattle.jr_model.proofs.Lengths.{sum_same}
 use Rattle.jr_model.proofs.Updates.{at_number, at_number_self, eq_false, eq_other, eq_self, eq_true, handle_self}
 use Rattle.jr_model.proofs.Updates.{handle_true, and_right}
 use Rattle.jr_model.proofs.Agreement.{joined_last, object_last, standing_held}
 use Rattle.jr_model.proofs.Locals.{IsPast}
-use Rattle.jr_scripts.specs.Meaning.{how_many, standing, standing_at}
+use Rattle.jr_scripts.specs.Meaning.{how_many, standing_at}
 
 -- NUMBERS OF OBJECTS
 
@@ -61,13 +60,6 @@ count_more n objects o x small none =
     let is : bit (is_some (update nat_eq objects o (Some x) o)) ≡ 1 = ap (λ y. bit (is_some y))
     (at_number_self objects o (Some x)) in
     omega arith
-
--- all that is meant stands
-pub all_stand : {A : Type 0} (xs : List (Option A)) → ((o : ℕ) → o < length xs → IsSome (standing_at xs o))
-    → standing xs ≡ length xs
-all_stand [] all = refl
-all_stand (Some x ∷ xs) all = let rest = all_stand xs (λ o l. all (suc o) (omega arith)) in omega arith
-all_stand (None ∷ xs) all = absurd (let bad = all 0 (omega arith) in cc)
 
 -- what is so of each number below and of the next one
 pub below_next : (Q : ℕ → Type 0) (n : ℕ) → ((i : ℕ) → i < n → Q i) → Q n → (i : ℕ) → i < n + 1 → Q i
@@ -136,14 +128,6 @@ less_of p none xs i small other =
     let less = how_many_less p none xs i small in
     let bit_is : bit (p (standing_at xs i)) ≡ 0 = ap bit other in
     omega (arith, less, bit_is)
-
--- an object that is there gets other contents: as many are there
-pub count_put : (n : ℕ) (objects : ℕ → Option Contents) (o : ℕ) (x : Contents) → IsSome (objects o)
-    → count_below n (λ p. is_some (update nat_eq objects o (Some x) p)) ≡ count_below n (λ p. is_some (objects p))
-count_put n objects o x some = sum_same n (λ p. bit (is_some (objects p)))
-    (λ p. bit (is_some (update nat_eq objects o (Some x) p)))
-    (λ p l. at_number (λ y. bit (is_some y) ≡ bit (is_some (objects p))) objects o p (Some x)
-    (λ e. sym (ap bit (subst (λ z. is_some (objects z) ≡ true) e some))) (λ ne. refl))
 
 -- PLACES
 

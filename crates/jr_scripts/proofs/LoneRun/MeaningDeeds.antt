@@ -32,7 +32,7 @@ use Rattle.jr_env.specs.Deeds.{Deed, decided, done, ◌>>=◌}
 use Rattle.jr_scripts.specs.declared.binding.Binding.{Binding}
 use Rattle.jr_scripts.specs.declared.binding.Binding.TheVariants as bound
 use Rattle.jr_scripts.specs.Names.{Names, binding, name_order, or_nothing, with_name, word_of_reference}
-use Rattle.jr_scripts.specs.Posting.{Words, word_under, words_with}
+use Rattle.jr_scripts.specs.Posting.{ThreadWords, word_under, words_with}
 use Rattle.jr_scripts.specs.Tries.{Tried, answered, again, gave_up}
 use Rattle.jr_scripts.specs.Runs.{IsUnbarred}
 use Rattle.jr_scripts.proofs.AloneHistories.{all_back, own_acts}
@@ -42,7 +42,7 @@ use Rattle.jr_scripts.proofs.Uncontended.{Asked}
 use Rattle.jr_scripts.specs.Meaning.{World}
 use Rattle.jr_scripts.proofs.LoneRun.MadeCalls.{Moment, Made, AreUnopposed, IsSo, is_opposed, moment}
 use Rattle.jr_scripts.proofs.LoneRun.MeaningFrames.{Pairing}
-use Rattle.jr_scripts.proofs.LoneRun.MeaningFits.{Later, IsGiven, by_place, by_row}
+use Rattle.jr_scripts.proofs.LoneRun.MeaningFits.{Later, HandlesStay, IsGiven, by_place, by_row, handles_stay}
 use Rattle.jr_scripts.proofs.LoneRun.MeaningCalls.{WordFits}
 
 -- ANSWERS IN ANOTHER FORM
@@ -103,7 +103,7 @@ unopposed_one e u = go e.act refl
     go (ReserveLost n l f) is = absurd (u.reserves n l f is)
     go _ is = refl
 
-all_unopposed : (es : History) → AllByRecursion IsUnbarred es → AllByRecursion (λ e. is_opposed e.act ≡ false) es
+pub all_unopposed : (es : History) → AllByRecursion IsUnbarred es → AllByRecursion (λ e. is_opposed e.act ≡ false) es
 all_unopposed [] all = tt
 all_unopposed (e ∷ es) all = (unopposed_one e all.0, all_unopposed es all.1)
 
@@ -161,12 +161,13 @@ HandleFits P w word (suc i) = (i < length w.refs) × (word ≡ handle_word (P.ha
 abbrev pub BindingFits : Pairing → World → Binding → Binding → Type 0
 BindingFits P w bound.Nothing bound.Nothing = Unit {0}
 BindingFits P w (bound.Reference h) (bound.Reference g) = HandleFits P w h.0 g.0
+BindingFits P w (bound.Buffer b) (bound.Buffer d) = b ≡ d
 BindingFits P w _ _ = ⊥
 
 abbrev pub NamesFit : Pairing → World → Names → Names → Type 0
 NamesFit P w names names' = (n : List ℕ) → BindingFits P w (binding names n) (binding names' n)
 
-pub binding_later : {P Q : Pairing} {w v : World} → Later P w Q v → (s t : Binding) → BindingFits P w s t
+pub binding_later : {P Q : Pairing} {w v : World} → HandlesStay P w Q v → (s t : Binding) → BindingFits P w s t
     → BindingFits Q v s t
 binding_later l bound.Nothing bound.Nothing fits = tt
 binding_later {P} {Q} {w} {v} l (bound.Reference h) (bound.Reference g) fits = go g.0 fits
@@ -182,11 +183,17 @@ binding_later l bound.Nothing (bound.Reference g) fits = absurd fits
 binding_later l bound.Nothing (bound.Buffer b) fits = absurd fits
 binding_later l (bound.Reference h) bound.Nothing fits = absurd fits
 binding_later l (bound.Reference h) (bound.Buffer b) fits = absurd fits
-binding_later l (bound.Buffer b) t fits = absurd fits
+binding_later l (bound.Buffer b) (bound.Buffer d) fits = fits
+binding_later l (bound.Buffer b) bound.Nothing fits = absurd fits
+binding_later l (bound.Buffer b) (bound.Reference g) fits = absurd fits
+
+pub names_stay : {P Q : Pairing} {w v : World} → HandlesStay P w Q v → (names names' : Names)
+    → NamesFit P w names names' → NamesFit Q v names names'
+names_stay l names names' fit n = binding_later l (binding names n) (binding names' n) (fit n)
 
 pub names_later : {P Q : Pairing} {w v : World} → Later P w Q v → (names names' : Names) → NamesFit P w names names'
     → NamesFit Q v names names'
-names_later l names names' fit n = binding_later l (binding names n) (binding names' n) (fit n)
+names_later l names names' fit = names_stay (handles_stay l) names names' fit
 
 -- what a name stands for once one is set
 set_binding : (names : Names) (n m : List ℕ) (s : Binding)
@@ -211,23 +218,31 @@ names_set_fit P w names names' n s t fit fits m =
 -- WORDS that were posted or heard
 
 -- under the same names stand words of handles that are meant
-abbrev pub WordsFit : Pairing → World → Words → Words → Type 0
+abbrev pub WordsFit : Pairing → World → ThreadWords → ThreadWords → Type 0
 WordsFit P w [] [] = Unit {0}
 WordsFit P w (x ∷ xs) (y ∷ ys) = (x.0 ≡ y.0) × HandleFits P w x.1 y.1 × WordsFit P w xs ys
 WordsFit P w _ _ = ⊥
 
-pub handle_later : {P Q : Pairing} {w v : World} → Later P w Q v → (word k : ℕ) → HandleFits P w word k
+handle_stays : {P Q : Pairing} {w v : World} → HandlesStay P w Q v → (word k : ℕ) → HandleFits P w word k
     → HandleFits Q v word k
-handle_later l word zero is = is
-handle_later l word (suc i) is =
+handle_stays l word zero is = is
+handle_stays l word (suc i) is =
     ((let small = is.0 in let grow = l.refs_grow in omega arith), is.1 ∙ ap handle_word (sym (l.handles i is.0)))
 
-pub words_later : {P Q : Pairing} {w v : World} → Later P w Q v → (xs ys : Words) → WordsFit P w xs ys
+pub handle_later : {P Q : Pairing} {w v : World} → Later P w Q v → (word k : ℕ) → HandleFits P w word k
+    → HandleFits Q v word k
+handle_later l word k is = handle_stays (handles_stay l) word k is
+
+pub words_stay : {P Q : Pairing} {w v : World} → HandlesStay P w Q v → (xs ys : ThreadWords) → WordsFit P w xs ys
     → WordsFit Q v xs ys
-words_later l [] [] fits = tt
-words_later l (x ∷ xs) (y ∷ ys) fits = (fits.0, handle_later l x.1 y.1 fits.1, words_later l xs ys fits.2)
-words_later l [] (y ∷ ys) fits = absurd fits
-words_later l (x ∷ xs) [] fits = absurd fits
+words_stay l [] [] fits = tt
+words_stay l (x ∷ xs) (y ∷ ys) fits = (fits.0, handle_stays l x.1 y.1 fits.1, words_stay l xs ys fits.2)
+words_stay l [] (y ∷ ys) fits = absurd fits
+words_stay l (x ∷ xs) [] fits = absurd fits
+
+pub words_later : {P Q : Pairing} {w v : World} → Later P w Q v → (xs ys : ThreadWords) → WordsFit P w xs ys
+    → WordsFit Q v xs ys
+words_later l xs ys fits = words_stay (handles_stay l) xs ys fits
 
 -- the word under a name is meant, or there is none in both
 abbrev pub MaybeWord : Pairing → World → Option ℕ → Option ℕ → Type 0
@@ -235,7 +250,7 @@ MaybeWord P w None None = Unit {0}
 MaybeWord P w (Some a) (Some b) = HandleFits P w a b
 MaybeWord P w _ _ = ⊥
 
-pub word_under_fits : (P : Pairing) (w : World) (xs ys : Words) (n : List ℕ) → WordsFit P w xs ys
+pub word_under_fits : (P : Pairing) (w : World) (xs ys : ThreadWords) (n : List ℕ) → WordsFit P w xs ys
     → MaybeWord P w (word_under xs n) (word_under ys n)
 word_under_fits P w [] [] n fits = tt
 word_under_fits P w (x ∷ xs) (y ∷ ys) n fits =
@@ -249,7 +264,7 @@ word_under_fits P w (x ∷ xs) (y ∷ ys) n fits =
 word_under_fits P w [] (y ∷ ys) n fits = absurd fits
 word_under_fits P w (x ∷ xs) [] n fits = absurd fits
 
-words_put : (P : Pairing) (w : World) (xs ys : Words) (n : List ℕ) (a b : ℕ) → WordsFit P w xs ys
+words_put : (P : Pairing) (w : World) (xs ys : ThreadWords) (n : List ℕ) (a b : ℕ) → WordsFit P w xs ys
     → HandleFits P w a b → WordsFit P w (xs ++ (n, a) ∷ []) (ys ++ (n, b) ∷ [])
 words_put P w [] [] n a b fits one = (refl, one, tt)
 words_put P w (x ∷ xs) (y ∷ ys) n a b fits one = (fits.0, fits.1, words_put P w xs ys n a b fits.2 one)
@@ -257,7 +272,7 @@ words_put P w [] (y ∷ ys) n a b fits one = absurd fits
 words_put P w (x ∷ xs) [] n a b fits one = absurd fits
 
 -- one more word, where none stands under the name
-pub words_with_fit : (P : Pairing) (w : World) (xs ys : Words) (n : List ℕ) (a b : ℕ) → WordsFit P w xs ys
+pub words_with_fit : (P : Pairing) (w : World) (xs ys : ThreadWords) (n : List ℕ) (a b : ℕ) → WordsFit P w xs ys
     → HandleFits P w a b → WordsFit P w (words_with xs n a) (words_with ys n b)
 words_with_fit P w xs ys n a b fits one = go (word_under xs n) (word_under ys n) (word_under_fits P w xs ys n fits)
   where
@@ -277,7 +292,9 @@ posted_fits P w bound.Nothing (bound.Reference g) fits = absurd fits
 posted_fits P w bound.Nothing (bound.Buffer b) fits = absurd fits
 posted_fits P w (bound.Reference h) bound.Nothing fits = absurd fits
 posted_fits P w (bound.Reference h) (bound.Buffer b) fits = absurd fits
-posted_fits P w (bound.Buffer b) t fits = absurd fits
+posted_fits P w (bound.Buffer b) (bound.Buffer d) fits = refl
+posted_fits P w (bound.Buffer b) bound.Nothing fits = absurd fits
+posted_fits P w (bound.Buffer b) (bound.Reference g) fits = absurd fits
 
 -- the word of a handle is not NULL
 not_null : (h : HandleParts) → IsHandle h → handle_word h ≢ 0

@@ -2,6 +2,7 @@
 use Rattle.std.proofs.Common.{◌≡◌, ◌≢◌, inl, inr, ℕ, zero, suc, ◌<◌, ◌≤◌, ◌+◌, Bool, true, false, cond, Option}
 use Rattle.std.proofs.Common.{Some, None, is_some, List, length, slice_index, Result, Ok, Err, IsSome, refl, sym, ap}
 use Rattle.std.proofs.Common.{subst, ◌∙◌, arith}
+use Rattle.std.specs.List.{sum_by}
 use Rattle.jr_word.specs.declared.config.Config.{Config}
 use Rattle.jr_word.specs.declared.fault.Fault.{Fault}
 use Rattle.jr_word.specs.declared.handle.RefKind.{RefKind}
@@ -11,43 +12,50 @@ use Rattle.jr_model.specs.declared.event.Found.TheVariants.{Object, Cleared, Sta
 use Rattle.jr_model.specs.declared.event.GateAct.{GateAct}
 use Rattle.jr_model.specs.declared.event.GateAct.TheVariants.{Enter, Leave}
 use Rattle.jr_model.specs.declared.frames.LocalRef.{LocalRef}
-use Rattle.jr_model.specs.Maps.{count_below}
+use Rattle.jr_model.specs.Maps.{count_below, sum_below}
 use Rattle.jr_model.specs.State.{Handle, Contents, is_there, same_kind}
 use Rattle.jr_model.specs.Steps.{IsInRow}
 use Rattle.jr_model.specs.Checks.{is_local, is_objects}
-use Rattle.jr_model.specs.Frames.{Frames, AreSound, all_refs, free_places, is_held, object_of}
+use Rattle.jr_model.specs.Frames.{Agree, Frames, AreSound, all_refs, free_places, is_held, object_of}
 use Rattle.jr_model.specs.Calls.{Call, ◌>>=◌, ◌>>◌, decided, done, entered, refuse, refuse_if}
 use Rattle.jr_model.proofs.Counts.{bit}
 use Rattle.jr_model.proofs.Locals.{IsPast}
 use Rattle.jr_scripts.specs.Meaning.{World, Ref, Meaning, goes_on, is_ref_of, refs_of, refused_if, standing}
 use Rattle.jr_scripts.specs.Meaning.{standing_at}
 use Rattle.jr_scripts.proofs.LoneRun.MadeCalls.{Moment, Made, WasMadeOf, split, still, gone, stayed}
-use Rattle.jr_scripts.proofs.LoneRun.MeaningCounts.{all_stand}
 use Rattle.jr_scripts.proofs.LoneRun.MeaningFrames.{Pairing, AreFrames, all_places, frames_all}
+use Rattle.jr_scripts.proofs.LoneRun.MeaningMatches.{IsStanding, sum_matched, sum_passing}
 use Rattle.jr_scripts.proofs.LoneRun.MeaningSlots.{in_row, taken_at}
 
 -- a later pairing means the same by the numbers that were there, of which none goes
 pub record Later (P : Pairing) (w : World) (Q : Pairing) (v : World) : Type 0 where
   pub handles : (i : ℕ) → i < length w.refs → Q.handle i ≡ P.handle i
-  pub objects : (o : ℕ) → o < length w.objects → Q.object o ≡ P.object o
+  pub objects : (o : ℕ) → IsStanding w.objects o → Q.object o ≡ P.object o
   pub refs_grow : length w.refs ≤ length v.refs
-  pub objects_grow : length w.objects ≤ length v.objects
+  pub objects_stay : (o : ℕ) → IsStanding w.objects o → IsStanding v.objects o
+
+-- its handles alone
+pub record HandlesStay (P : Pairing) (w : World) (Q : Pairing) (v : World) : Type 0 where
+  pub handles : (i : ℕ) → i < length w.refs → Q.handle i ≡ P.handle i
+  pub refs_grow : length w.refs ≤ length v.refs
+
+pub handles_stay : {P Q : Pairing} {w v : World} → Later P w Q v → HandlesStay P w Q v
+handles_stay l = record { handles = l.handles; refs_grow = l.refs_grow }
 
 pub later_self : (P : Pairing) (w : World) → Later P w P w
 later_self P w = record {
   handles = λ i l. refl;
   objects = λ o l. refl;
   refs_grow = omega arith;
-  objects_grow = omega
-      arith;
+  objects_stay = λ o there. there;
 }
 
 pub later_then : {P Q R : Pairing} {w v u : World} → Later P w Q v → Later Q v R u → Later P w R u
 later_then {w = w} {v = v} {u = u} a b = record {
   handles = λ i l. b.handles i (let g = a.refs_grow in omega arith) ∙ a.handles i l;
-  objects = λ o l. b.objects o (let g = a.objects_grow in omega arith) ∙ a.objects o l;
+  objects = λ o l. b.objects o (a.objects_stay o l) ∙ a.objects o l;
   refs_grow = (let x = a.refs_grow in let y = b.refs_grow in omega arith);
-  objects_grow = (let x = a.objects_grow in let y = b.objects_grow in omega arith);
+  objects_stay = λ o l. b.objects_stay o (a.objects_stay o l);
 }
 
 -- what stands at a handle: of a local one in the frames, of any other in the row
@@ -59,11 +67,12 @@ abbrev pub found_of : Frames → (Handle → Found) → Handle → Found
 found_of f row h = cond (is_local h) (found_local (object_of f h)) (row h)
 
 -- what stands there is what is meant, of the handle's kind, or nothing stands there and what was meant is gone
-abbrev pub RefFits : (ℕ → ℕ) → ℕ → RefKind → Option Ref → Found → Type 0
-RefFits means n k (Some r) (Object p) = (r.kind ≡ k) × (o : ℕ) × (r.object ≡ Some o) × (o < n) × (means o ≡ p)
-RefFits means n k (Some r) Cleared = (r.kind ≡ k) × (r.object ≡ None)
-RefFits means n k None Stale = Unit {0}
-RefFits means n k _ _ = ⊥
+abbrev pub RefFits : (ℕ → ℕ) → List (Option Contents) → RefKind → Option Ref → Found → Type 0
+RefFits means objects k (Some r) (Object p) =
+    (r.kind ≡ k) × (o : ℕ) × (r.object ≡ Some o) × IsStanding objects o × (means o ≡ p)
+RefFits means objects k (Some r) Cleared = (r.kind ≡ k) × (r.object ≡ None)
+RefFits means objects k None Stale = Unit {0}
+RefFits means objects k _ _ = ⊥
 
 -- the handle of a local reference of the one thread
 pub record IsOwn (c : Config) (last : ℕ) (h : Handle) : Type 0 where
@@ -104,23 +113,26 @@ pub own_of : {c : Config} {last : ℕ} {f : Frames} {given : Handle → Bool} {h
 own_of (by_place own past) local = own
 own_of (by_row row is) local = absurd (row.0 local)
 
--- THE REFERENCES ARE THOSE THAT STAND, to objects of which there are n. No handle is given twice
-pub record RefsFit (c : Config) (last : ℕ) (P : Pairing) (n : ℕ) (refs : List (Option Ref)) (f : Frames)
-    (row : Handle → Found) (was_given : Handle → Bool) : Type 0 where
+-- THE REFERENCES ARE THOSE THAT STAND, to objects that stand, and all that stand in the row. No handle is given twice
+pub record RefsFit (c : Config) (last : ℕ) (P : Pairing) (objects : List (Option Contents)) (refs : List (Option Ref))
+    (f : Frames) (row : Handle → Found) (was_given : Handle → Bool) : Type 0 where
   pub given : (i : ℕ) → i < length refs → IsGiven c last f was_given (P.handle i)
   pub once : (i j : ℕ) → i < length refs → j < length refs → P.handle i ≡ P.handle j → i ≡ j
   pub stands : (i : ℕ) → i < length refs
-      → RefFits P.object n (P.handle i).kind (standing_at refs i) (found_of f row (P.handle i))
+      → RefFits P.object objects (P.handle i).kind (standing_at refs i) (found_of f row (P.handle i))
+  pub all : (h : Handle) → row h ≢ Stale → (i : ℕ) × (i < length refs) × (P.handle i ≡ h)
 
 -- a reference is of its handle's kind alone
-pub kind_of_ref : (means : ℕ → ℕ) (n : ℕ) (kind : RefKind) (r : Option Ref) (l : Found) (other : RefKind)
+pub kind_of_ref : (means : ℕ → ℕ) (n : List (Option Contents)) (kind : RefKind) (r : Option Ref) (l : Found)
+    (other : RefKind)
     → RefFits means n kind r l → same_kind other kind ≡ false → is_ref_of other r ≡ false
 kind_of_ref means n kind None l other fits is = refl
 kind_of_ref means n kind (Some r) (Object p) other fits is = ap (λ z. same_kind other z) fits.0 ∙ is
 kind_of_ref means n kind (Some r) Cleared other fits is = ap (λ z. same_kind other z) fits.0 ∙ is
 kind_of_ref means n kind (Some r) Stale other fits is = absurd fits
 
-pub ref_there : (means : ℕ → ℕ) (n : ℕ) (kind : RefKind) (r : Option Ref) (l : Found) (other : RefKind)
+pub ref_there : (means : ℕ → ℕ) (n : List (Option Contents)) (kind : RefKind) (r : Option Ref) (l : Found)
+    (other : RefKind)
     → RefFits means n kind r l → l ≢ Stale → is_ref_of other r ≡ same_kind other kind
 ref_there means n kind (Some r) (Object p) other fits there = ap (λ z. same_kind other z) fits.0
 ref_there means n kind (Some r) Cleared other fits there = ap (λ z. same_kind other z) fits.0
@@ -151,72 +163,98 @@ pub record SlotsFit (c : Config) (last k globals weaks : ℕ) (row : Handle → 
   pub few : (i : ℕ) → taken_at last given i + k ≤ last + taken_at last (λ h. is_there (row h)) i
 
 -- an element: the same word, but in an array of objects the number of an object that is meant, or none in both
-abbrev pub ElementFits : (ℕ → ℕ) → ℕ → Bool → ℕ → ℕ → Type 0
-ElementFits object n true zero word = word ≡ 0
-ElementFits object n true (suc o) word = (o < n) × (object o ≡ word)
-ElementFits object n false v word = v ≡ word
+abbrev pub ElementFits : (ℕ → ℕ) → List (Option Contents) → Bool → ℕ → ℕ → Type 0
+ElementFits object objects true zero word = word ≡ 0
+ElementFits object objects true (suc o) word = IsStanding objects o × (object o ≡ word)
+ElementFits object objects false v word = v ≡ word
 
 -- what is meant by an object's contents, and what they are
-pub record AreAlike (object : ℕ → ℕ) (n : ℕ) (x y : Contents) : Type 0 where
+pub record AreAlike (object : ℕ → ℕ) (objects : List (Option Contents)) (x y : Contents) : Type 0 where
   pub kind : y.kind ≡ x.kind
   pub long : length y.words ≡ length x.words
   pub words : (i : ℕ) → i < length x.words
-      → ElementFits object n (is_objects x.kind) (slice_index x.words i) (slice_index y.words i)
+      → ElementFits object objects (is_objects x.kind) (slice_index x.words i) (slice_index y.words i)
 
-abbrev pub ContentsFit : (ℕ → ℕ) → ℕ → Option Contents → Option Contents → Type 0
-ContentsFit object n (Some x) (Some y) = AreAlike object n x y
-ContentsFit object n _ _ = ⊥
+abbrev pub ContentsFit : (ℕ → ℕ) → List (Option Contents) → Option Contents → Option Contents → Type 0
+ContentsFit object objects (Some x) (Some y) = AreAlike object objects x y
+ContentsFit object objects _ _ = ⊥
 
 -- THE OBJECTS ARE THOSE THAT ARE THERE, one for each number
 pub record ObjectsFit (c : Config) (object : ℕ → ℕ) (objects : List (Option Contents))
     (there : ℕ → Option Contents) : Type 0 where
-  pub count : count_below (c.objects + 1) (λ o. is_some (there o)) ≡ length objects
-  pub no_zero : there 0 ≡ None
-  pub alike : (o : ℕ) → o < length objects
-      → ContentsFit object (length objects) (standing_at objects o) (there (object o))
-  pub apart : (o p : ℕ) → o < length objects → p < length objects → object o ≡ object p → o ≡ p
+  pub within : (p : ℕ) → IsSome (there p) → (1 ≤ p) × (p ≤ c.objects)
+  pub all : (p : ℕ) → IsSome (there p) → (o : ℕ) × IsStanding objects o × (object o ≡ p)
+  pub alike : (o : ℕ) → IsStanding objects o
+      → ContentsFit object objects (standing_at objects o) (there (object o))
+  pub apart : (o p : ℕ) → IsStanding objects o → IsStanding objects p → object o ≡ object p → o ≡ p
 
 -- what is meant stands, and is there
-pub both_there : (object : ℕ → ℕ) (n : ℕ) (x y : Option Contents) → ContentsFit object n x y → IsSome x × IsSome y
+pub both_there : (object : ℕ → ℕ) (n : List (Option Contents)) (x y : Option Contents) → ContentsFit object n x y
+    → IsSome x × IsSome y
 both_there object n (Some x) (Some y) fits = (refl, refl)
 both_there object n None y fits = absurd fits
 both_there object n (Some x) None fits = absurd fits
 
 -- what is meant stays so
-pub element_later : {object object' : ℕ → ℕ} {n k : ℕ} → n ≤ k → ((o : ℕ) → o < n → object' o ≡ object o) → (b : Bool)
+pub element_later : {object object' : ℕ → ℕ} (n k : List (Option Contents))
+    → ((o : ℕ) → IsStanding n o → IsStanding k o) → ((o : ℕ) → IsStanding n o → object' o ≡ object o) → (b : Bool)
     (v word : ℕ) → ElementFits object n b v word → ElementFits object' k b v word
-element_later le same true zero word fits = fits
-element_later le same true (suc o) word fits = ((let small = fits.0 in omega arith), same o fits.0 ∙ fits.1)
-element_later le same false v word fits = fits
+element_later n k stay same true zero word fits = fits
+element_later n k stay same true (suc o) word fits = (stay o fits.0, same o fits.0 ∙ fits.1)
+element_later n k stay same false v word fits = fits
 
-pub contents_later : {object object' : ℕ → ℕ} {n k : ℕ} {x y : Contents} → n ≤ k
-    → ((o : ℕ) → o < n → object' o ≡ object o) → AreAlike object n x y → AreAlike object' k x y
-contents_later {x = x} {y = y} le same a = record {
+pub contents_later : {object object' : ℕ → ℕ} (n k : List (Option Contents)) {x y : Contents}
+    → ((o : ℕ) → IsStanding n o → IsStanding k o) → ((o : ℕ) → IsStanding n o → object' o ≡ object o)
+    → AreAlike object n x y → AreAlike object' k x y
+contents_later n k {x = x} {y = y} stay same a = record {
   kind = a.kind;
   long = a.long;
-  words = λ i l. element_later le same (is_objects x.kind) (slice_index x.words i) (slice_index y.words i)
+  words = λ i l. element_later n k stay same (is_objects x.kind) (slice_index x.words i) (slice_index y.words i)
       (a.words i l);
 }
 
-pub each_later : {object object' : ℕ → ℕ} {n k : ℕ} → n ≤ k → ((o : ℕ) → o < n → object' o ≡ object o)
+pub each_later : {object object' : ℕ → ℕ} (n k : List (Option Contents))
+    → ((o : ℕ) → IsStanding n o → IsStanding k o) → ((o : ℕ) → IsStanding n o → object' o ≡ object o)
     → (x y : Option Contents) → ContentsFit object n x y → ContentsFit object' k x y
-each_later le same (Some x) (Some y) fits = contents_later le same fits
-each_later le same None y fits = absurd fits
-each_later le same (Some x) None fits = absurd fits
+each_later n k stay same (Some x) (Some y) fits = contents_later n k stay same fits
+each_later n k stay same None y fits = absurd fits
+each_later n k stay same (Some x) None fits = absurd fits
 
-pub every_stands : {c : Config} {object : ℕ → ℕ} {objects : List (Option Contents)} {there : ℕ → Option Contents}
-    → ObjectsFit c object objects there → standing objects ≡ length objects
-every_stands {object = object} {objects = objects} {there = there} f = all_stand objects
-    (λ o l. (both_there object (length objects) (standing_at objects o) (there (object o)) (f.alike o l)).0)
+-- as many are there as stand, and what is counted of each comes to the same
+pub all_counted : {c : Config} {object : ℕ → ℕ} {objects : List (Option Contents)} {there : ℕ → Option Contents}
+    (g : Option Contents → ℕ) → g None ≡ 0
+    → ((x y : Option Contents) → ContentsFit object objects x y → g y ≡ g x) → ObjectsFit c object objects there
+    → sum_below (c.objects + 1) (λ p. g (there p)) ≡ sum_by g objects
+all_counted {c = c} {object = object} {objects = objects} {there = there} g none same f =
+    sum_matched g none objects (c.objects + 1) object there (record {
+      below = λ o stands.
+          let y = (both_there object objects (standing_at objects o) (there (object o)) (f.alike o stands)).1 in
+          let most = (f.within (object o) y).1 in
+          omega arith;
+      same = λ o stands. same (standing_at objects o) (there (object o)) (f.alike o stands);
+      apart = f.apart;
+      all = f.all;
+    })
+
+pub counted : {c : Config} {object : ℕ → ℕ} {objects : List (Option Contents)} {there : ℕ → Option Contents}
+    → ObjectsFit c object objects there → count_below (c.objects + 1) (λ o. is_some (there o)) ≡ standing objects
+counted {object = object} {objects = objects} f =
+    all_counted (λ x. bit (is_some x)) refl same f ∙ sum_passing is_some objects
+  where
+    same : (x y : Option Contents) → ContentsFit object objects x y → bit (is_some y) ≡ bit (is_some x)
+    same (Some x) (Some y) fits = refl
+    same None y fits = absurd fits
+    same (Some x) None fits = absurd fits
 
 -- THE MOMENT IS AS THE WORLD
 pub record Fits (c : Config) (last k : ℕ) (P : Pairing) (w : World) (m : Moment) : Type 0 where
-  pub refs : RefsFit c last P (length w.objects) w.refs m.frames m.state.refs m.state.given
+  pub refs : RefsFit c last P w.objects w.refs m.frames m.state.refs m.state.given
   pub locals : LocalsFit c last k P (length w.refs) w.frames m.frames
   pub slots : SlotsFit c last k (refs_of Global w) (refs_of Weak w) m.state.refs m.state.given
   pub objects : ObjectsFit c P.object w.objects m.state.objects
   pub used : m.state.used ≡ w.used
   pub space : w.used ≤ c.words
+  pub agree : Agree 0 m.frames m.state
 
 pub gone_fits : {c : Config} {last k : ℕ} {P : Pairing} {w : World} (m : Moment) (t : ℕ) (a : GateAct)
     → Fits c last k P w m → Fits c last k P w (gone c last t m a)
@@ -227,6 +265,7 @@ gone_fits m t a f = record {
   objects = f.objects;
   used = f.used;
   space = f.space;
+  agree = f.agree;
 }
 
 -- fewer are given up
@@ -267,6 +306,7 @@ fits_less le f = record {
   objects = f.objects;
   used = f.used;
   space = f.space;
+  agree = f.agree;
 }
 
 -- the place of a reference in a frame is one of the thread's

@@ -1,6 +1,7 @@
 -- What a lone thread's calls at objects mean: their lengths and their elements.
 use Rattle.std.proofs.Common.{◌≡◌, ◌≢◌, ℕ, zero, suc, ◌<◌, ◌≤◌, ◌+◌, Bool, true, false, not, nat_lt, nat_le, Option}
-use Rattle.std.proofs.Common.{Some, None, List, [], ◌∷◌, length, map, slice_get, slice_index, Result, Ok, Err, refl}
+use Rattle.std.proofs.Common.{IsSome, is_some, Some, None, List, [], ◌∷◌, length, map, slice_get, slice_index, Result}
+use Rattle.std.proofs.Common.{Ok, Err, refl}
 use Rattle.std.proofs.Common.{sym, ap, subst, ◌∙◌, arith}
 use Rattle.std.specs.List.{AllByRecursion}
 use Rattle.std.proofs.lemmas.Bool.Decides.{nat_tests}
@@ -33,12 +34,13 @@ use Rattle.jr_scripts.specs.Meaning.{World, Meaning, contents_in, goes_on, named
 use Rattle.jr_scripts.specs.Meaning.{wanted_as, wanted_element, wanted_object}
 use Rattle.jr_scripts.specs.Meaning as meaning
 use Rattle.jr_scripts.proofs.UncontendedObjects.{so}
-use Rattle.jr_scripts.proofs.LoneRun.MadeCalls.{Moment, Made, moment_is, stayed, stepped}
+use Rattle.jr_scripts.proofs.LoneRun.MadeCalls.{Moment, Made, made_as, moment_is, stayed, stepped}
 use Rattle.jr_scripts.proofs.LoneRun.MeaningFrames.{Pairing}
 use Rattle.jr_scripts.proofs.LoneRun.MeaningFits.{AreAlike, ContentsFit, ElementFits, Fits, Fitting, IsSame, Later}
 use Rattle.jr_scripts.proofs.LoneRun.MeaningFits.{Means, answer_known, bind_means, decided_means, done_means}
 use Rattle.jr_scripts.proofs.LoneRun.MeaningFits.{entered_means, given_means, known_means, means_as, pass_means}
 use Rattle.jr_scripts.proofs.LoneRun.MeaningFits.{refused_means, unmoved}
+use Rattle.jr_scripts.proofs.LoneRun.MeaningMatches.{IsStanding}
 use Rattle.jr_scripts.proofs.LoneRun.MeaningParts.{ObjectFits, OptionFits, object_later}
 use Rattle.jr_scripts.proofs.LoneRun.MeaningCalls.{FoundFits, MaybeFits, WordFits, new_local_means, resolved_means}
 use Rattle.jr_scripts.proofs.LoneRun.MeaningScopes.{guard_means}
@@ -75,21 +77,22 @@ abbrev pub meant_in : World → ℕ → Contents
 meant_in w o = contents_in (standing_at w.objects o)
 
 -- what stands there, and is alike
-pub record IsThere (object : ℕ → ℕ) (n : ℕ) (x y : Option Contents) : Type 0 where
+pub record IsThere (object : ℕ → ℕ) (n : List (Option Contents)) (x y : Option Contents) : Type 0 where
   pub contents : Contents
   pub is : y ≡ Some contents
   pub alike : AreAlike object n (contents_in x) contents
 
-is_there : (object : ℕ → ℕ) (n : ℕ) (x y : Option Contents) → ContentsFit object n x y → IsThere object n x y
+is_there : (object : ℕ → ℕ) (n : List (Option Contents)) (x y : Option Contents) → ContentsFit object n x y
+    → IsThere object n x y
 is_there object n (Some x) (Some y) fits = record { contents = y; is = refl; alike = fits }
 is_there object n None y fits = absurd fits
 is_there object n (Some x) None fits = absurd fits
 
 pub there : {c : Config} {last k : ℕ} {P : Pairing} {w : World} {m : Moment} (o : ℕ) → Fits c last k P w m
-    → o < length w.objects
-    → IsThere P.object (length w.objects) (standing_at w.objects o) (m.state.objects (P.object o))
+    → IsStanding w.objects o
+    → IsThere P.object w.objects (standing_at w.objects o) (m.state.objects (P.object o))
 there {P = P} {w = w} {m = m} o f small =
-    is_there P.object (length w.objects) (standing_at w.objects o) (m.state.objects (P.object o))
+    is_there P.object w.objects (standing_at w.objects o) (m.state.objects (P.object o))
     (f.objects.alike o small)
 
 -- in the state that a call names the object has its kind and its length
@@ -101,7 +104,7 @@ pub record HasHeader (x : Contents) (y : Option Contents) : Type 0 where
 
 -- and so has each object
 abbrev pub HeadersFit : Pairing → World → State → Type 0
-HeadersFit P w z = (o : ℕ) → o < length w.objects → HasHeader (meant_in w o) (z.objects (P.object o))
+HeadersFit P w z = (o : ℕ) → IsStanding w.objects o → HasHeader (meant_in w o) (z.objects (P.object o))
 
 pub headers_fit : {c : Config} {last k : ℕ} {P : Pairing} {w : World} {m : Moment} {z : State} → Fits c last k P w m
     → IsStill m.state z → HeadersFit P w z
@@ -252,21 +255,33 @@ module _ (c : Config) (last k : ℕ) where
       in_turn (Err e, z) is = ap (λ r. goes_on then (goes_on (λ y z. goes_on (λ o v. goes_on (λ t u. (Ok (o, t), u))
           (meaning.contents o v)) (meaning.not_null y, z)) r)) is
 
+  -- what follows for the object, where it is known
+  pub object_known_means : {A B : Type 0} {V : Fitting A B} {next : ℕ → Call A} (then : ℕ × Contents → Meaning B)
+      (P : Pairing) (w : World) (a : Word) (g o : ℕ) → 1 ≤ c.threads → WordFits P w a g
+      → wanted_object g w ≡ (Ok (o, meant_in w o), w)
+      → ((Q : Pairing) → Later P w Q w → (p : ℕ) → ObjectFits Q w p o
+      → Means c last k k V Q w (next p) (then (o, meant_in w o)))
+      → Means c last k k V P w (references.resolved c last 0 a >>= (λ x. not_null x >>= next)) (then (o, meant_in w o))
+  object_known_means {A} {B} {V} {next} then P w a g o some fits known means =
+      means_as c last (ap (goes_on then) known) (wanted_means {V = V} {next = next} then P w a g some fits
+      (λ Q later p q x. found Q later p q x (ap number (sym x.wanted ∙ known))))
+    where
+      number : Result (ℕ × Contents) Fault × World → ℕ
+      number (Ok b, v) = b.0
+      number (Err e, v) = 0
+
+      found : (Q : Pairing) → Later P w Q w → (p q : ℕ) → Wanted Q w g p q → q ≡ o
+          → Means c last k k V Q w (next p) (then (q, meant_in w q))
+      found Q later p q x same = subst (λ n. Means c last k k V Q w (next p) (then (n, meant_in w n))) (sym same)
+          (means Q later p (subst (ObjectFits Q w p) same x.named))
+
   -- what follows for its kind and its length
   pub header_means : {A B : Type 0} {V : Fitting A B} {P : Pairing} {w : World} {q : Meaning B} (z : State)
       (next : Kind → ℕ → Call A) (p o : ℕ) → ObjectFits P w p o → HeadersFit P w z
       → Means c last k k V P w (next (meant_in w o).kind (length (meant_in w o).words)) q
       → Means c last k k V P w (for_object z p next) q
   header_means {A} {B} {V} {P} {w} {q} z next p o named headers means = record {
-    outcome = λ m n x f r. means.outcome m n x f (record {
-      led = r.led;
-      acts = r.acts;
-      is = here m n x r.acts r.is;
-      legal = r.legal;
-      leads = r.leads;
-      unopposed = r.unopposed;
-      so = r.so;
-    });
+    outcome = λ m n x f r. means.outcome m n x f (made_as c last 0 (here m n x) r);
   }
     where
       here : (m n : Moment) (x : Result A Fault) (acts : List Act) → for_object z p next m.frames acts x n.frames
@@ -322,11 +337,11 @@ module _ (c : Config) (last k : ℕ) where
     read_fits : (m : Moment) (start : ℕ) (vs : List ℕ) → Fits c last k P w m
         → IsLegalFrom c last m.state (map (by 0) (read_acts p start vs)) → (j : ℕ) → j < length vs
         → start + j < length (meant_in w o).words
-        → ElementFits P.object (length w.objects) (is_objects (meant_in w o).kind)
+        → ElementFits P.object w.objects (is_objects (meant_in w o).kind)
         (slice_index (meant_in w o).words (start + j)) (slice_index vs j)
     read_fits m start vs f legal j small within =
         let here = there o f named.0 in
-        subst (ElementFits P.object (length w.objects) (is_objects (meant_in w o).kind)
+        subst (ElementFits P.object w.objects (is_objects (meant_in w o).kind)
         (slice_index (meant_in w o).words (start + j)))
         (sym (reads_found m.state p start vs here.contents (ap m.state.objects (sym named.1) ∙ here.is) legal j small))
         (here.alike.words (start + j) within)
@@ -334,18 +349,18 @@ module _ (c : Config) (last k : ℕ) where
     -- one element, which is an answer of its own
     pub read_means : (i : ℕ) → i < length (meant_in w o).words
         → Means c last k k
-        (λ Q v word e. ElementFits Q.object (length v.objects) (is_objects (meant_in w o).kind) e word) P w
+        (λ Q v word e. ElementFits Q.object v.objects (is_objects (meant_in w o).kind) e word) P w
         (some_act (Read p i)) (λ v. (Ok (slice_index (meant_in w o).words i), v))
     read_means i within = record {
       outcome = λ m n x f r.
           let word = (r.is).0 in
           let fits = read_fits m i (word ∷ []) f (subst (λ acts. IsLegalFrom c last m.state (map (by 0) acts)) (r.is).1
           r.legal) 0 (omega arith) (omega arith) in
-          unmoved c last {V = λ Q v word e. ElementFits Q.object (length v.objects) (is_objects (meant_in w o).kind) e
+          unmoved c last {V = λ Q v word e. ElementFits Q.object v.objects (is_objects (meant_in w o).kind) e
           word} m n x (Ok word) (Ok (slice_index (meant_in w o).words i)) f
           (moment_is n.state m.state n.frames m.frames (stepped c last 0 m n r.acts (Read p i word) (r.is).1 r.leads)
           (r.is).3) (r.is).2
-          (subst (λ h. ElementFits P.object (length w.objects) (is_objects (meant_in w o).kind)
+          (subst (λ h. ElementFits P.object w.objects (is_objects (meant_in w o).kind)
           (slice_index (meant_in w o).words h) word) (omega arith) fits);
     }
 
@@ -367,7 +382,7 @@ module _ (c : Config) (last k : ℕ) where
         same : (m : Moment) (vs : List ℕ) → Fits c last k P w m → length vs ≡ n
             → IsLegalFrom c last m.state (map (by 0) (read_acts p start vs)) → vs ≡ ws
         same m vs f many legal = ext_get_or 0 vs ws (many ∙ sym long) (λ j small.
-            sym (each j (omega arith) ∙ subst (λ b. ElementFits P.object (length w.objects) b
+            sym (each j (omega arith) ∙ subst (λ b. ElementFits P.object w.objects b
             (slice_index (meant_in w o).words (start + j)) (slice_index vs j)) plain
             (read_fits m start vs f legal j small (omega arith))))
 
@@ -383,12 +398,13 @@ module _ (c : Config) (last k : ℕ) where
 
   -- the object that an element names
   named_fits : (P : Pairing) (w : World) (m : Moment) → Fits c last k P w m → (b : Bool) → b ≡ true → (e word : ℕ)
-      → ElementFits P.object (length w.objects) b e word → OptionFits P w (object_of_word word) (named_by e)
+      → ElementFits P.object w.objects b e word → OptionFits P w (object_of_word word) (named_by e)
   named_fits P w m f true is zero word fits = subst (λ z. OptionFits P w (object_of_word z) None) (sym fits) tt
   named_fits P w m f true is (suc o) (suc word) fits = fits
   named_fits P w m f true is (suc o) zero fits = absurd
       (let here = there o f fits.0 in
-      let none = sym (ap m.state.objects fits.1 ∙ f.objects.no_zero) ∙ here.is in cc)
+      let low = (f.objects.within 0 (subst (λ p. IsSome (m.state.objects p)) fits.1
+      (ap is_some here.is))).0 in omega arith)
   named_fits P w m f false is e word fits = absurd cc
 
   -- GETOBJECTARRAYELEMENT
@@ -413,7 +429,7 @@ module _ (c : Config) (last k : ℕ) where
       read : (Q : Pairing) (p o : ℕ) → ObjectFits Q w p o → is_objects (meant_in w o).kind ≡ true
           → i < length (meant_in w o).words → Means c last k k MaybeFits Q w (rest p) (referred (o, meant_in w o))
       read Q p o named holds within = bind_means c last
-          {V = λ R v word e. ElementFits R.object (length v.objects) (is_objects (meant_in w o).kind) e word}
+          {V = λ R v word e. ElementFits R.object v.objects (is_objects (meant_in w o).kind) e word}
           {next' = λ e. meaning.new_local c (named_by e)} (read_means Q w p o named i within)
           (λ R v l word e same. known_means c last (λ m f. new_local_means c last k R v (object_of_word word)
           (named_by e) (named_fits R v m f (is_objects (meant_in w o).kind) holds e word same)))
@@ -435,33 +451,18 @@ module _ (c : Config) (last k : ℕ) where
     pub part_means : (t : Kind) → t ≡ (meant_in w o).kind → is_primitive t ≡ true
         → Means c last k k (PartFits w o i) P w (objects.part_of c last 0 z t i 1 a)
         (λ v. (refused_if (nat_le (length (meant_in w o).words) i) Range, v))
-    part_means t kind numbers = means_as c last (ap (goes_on ranged) known)
-        (wanted_means {V = PartFits w o i} {next = λ p. for_object z p (part_tests t i p)} ranged P w a g some fits
-        (λ Q later p q x. found Q later p q x (ap number (sym x.wanted ∙ known))))
+    part_means t kind numbers = object_known_means {V = PartFits w o i} (λ b v. (
+      refused_if (nat_le (length b.1.words)
+          i) Range,
+      v,
+    )) P w a g o some fits known (λ Q later p named. header_means z (part_tests t i p) p o named
+        (headers_later z later headers) (pass_means c last (not (is_array (meant_in w o).kind)) NotArray
+        (ap not (ap is_array (sym kind) ∙ so_far.0)) (pass_means c last (not (same_element t (meant_in w o).kind))
+        WrongElement (ap not (ap (same_element t) (sym kind) ∙ so_far.2))
+        (part_checks Q w p o i (nat_lt (length (meant_in w o).words) (i + 1)) (grind (arith, nat_tests)) named))))
       where
-        number : Result (ℕ × Contents) Fault × World → ℕ
-        number (Ok b, v) = b.0
-        number (Err e, v) = 0
-
-        ranged : ℕ × Contents → Meaning (Unit {0})
-        ranged b v = (refused_if (nat_le (length b.1.words) i) Range, v)
-
-        found : (Q : Pairing) → Later P w Q w → (p q : ℕ) → Wanted Q w g p q → q ≡ o
-            → Means c last k k (PartFits w o i) Q w (for_object z p (part_tests t i p)) (ranged (q, meant_in w q))
-        found Q later p q x same =
-            subst (λ n. Means c last k k (PartFits w o i) Q w (for_object z p (part_tests t i p))
-            (ranged (n, meant_in w n)))
-            (sym same) (header_means z (part_tests t i p) p o named (headers_later z later headers)
-            (pass_means c last (not (is_array (meant_in w o).kind)) NotArray
-            (ap not (ap is_array (sym kind) ∙ so_far.0)) (pass_means c last (not (same_element t (meant_in w o).kind))
-            WrongElement (ap not (ap (same_element t) (sym kind) ∙ so_far.2))
-            (part_checks Q w p o i (nat_lt (length (meant_in w o).words) (i + 1)) (grind (arith, nat_tests)) named))))
-          where
-            so_far : (is_array t ≡ true) × (is_objects t ≡ false) × (same_element t t ≡ true)
-            so_far = primitive_so t numbers
-
-            named : ObjectFits Q w p o
-            named = subst (ObjectFits Q w p) same x.named
+        so_far : (is_array t ≡ true) × (is_objects t ≡ false) × (same_element t t ≡ true)
+        so_far = primitive_so t numbers
 
     -- GETBOOLEANARRAYREGION and its like, of one element
     pub region_means : (t : Kind) → t ≡ (meant_in w o).kind → is_primitive t ≡ true

@@ -2,7 +2,7 @@
 use Rattle.std.proofs.Common.{◌≡◌, ◌≢◌, inl, inr, ℕ, zero, suc, ◌<◌, ◌≤◌, ◌+◌, ◌==◌, Bool, true, false}
 use Rattle.std.proofs.Common.{nat_eq, nat_lt, Option, Some, None, IsSome, is_some, List, [], ◌∷◌, ◌++◌, length, map}
 use Rattle.std.proofs.Common.{Result, Ok, Err, refl, sym, ap, subst, ◌∙◌, arith}
-use Rattle.std.proofs.lemmas.List.{length-append, get_or_append_left, get_or_push}
+use Rattle.std.proofs.lemmas.List.{get_or_append_left, get_or_push}
 use Rattle.std.proofs.lemmas.Bool.Decides.{nat_tests}
 use Rattle.jr_word.specs.declared.config.Config.{Config}
 use Rattle.jr_word.specs.declared.fault.Fault.{Fault}
@@ -25,15 +25,16 @@ use Rattle.jr_model.proofs.Updates.{at_number, at_number_self, eq_self}
 use Rattle.jr_scripts.specs.Meaning.{World, Ref, Meaning, goes_on, standing, standing_at, refused_if, held}
 use Rattle.jr_scripts.specs.Meaning as meaning
 use Rattle.jr_scripts.proofs.LoneRun.MadeCalls.{Moment, AreUnopposed, Made, moment, moment_is, stepped, still}
-use Rattle.jr_scripts.proofs.LoneRun.MeaningCounts.{below_next, count_most, count_full, count_more}
+use Rattle.jr_scripts.proofs.LoneRun.MeaningCounts.{count_most, count_full, count_more}
 use Rattle.jr_scripts.proofs.LoneRun.MeaningFrames.{Pairing, frames_held, frames_later}
 use Rattle.jr_scripts.proofs.LoneRun.MeaningFits.{AreAlike, ContentsFit, both_there, contents_later, each_later}
-use Rattle.jr_scripts.proofs.LoneRun.MeaningFits.{every_stands, Later, RefFits, Fits, Fitting, SameAnswer, IsDone}
+use Rattle.jr_scripts.proofs.LoneRun.MeaningFits.{counted, Later, RefFits, Fits, Fitting, SameAnswer, IsDone}
 use Rattle.jr_scripts.proofs.LoneRun.MeaningFits.{Outcome, Means, found_of, free_and_held, unmoved, test_means}
+use Rattle.jr_scripts.proofs.LoneRun.MeaningMatches.{IsStanding, standing_below, standing_next}
 
 -- an object
 abbrev pub ObjectFits : Fitting ℕ ℕ
-ObjectFits P w p o = (o < length w.objects) × (P.object o ≡ p)
+ObjectFits P w p o = (IsStanding w.objects o) × (P.object o ≡ p)
 
 -- an object, or none for both
 abbrev pub OptionFits : Fitting (Option ℕ) (Option ℕ)
@@ -43,16 +44,16 @@ OptionFits P w _ _ = ⊥
 
 pub object_later : {P Q : Pairing} {w v : World} {p o : ℕ} → Later P w Q v → ObjectFits P w p o → ObjectFits Q v p o
 object_later {o = o} l fits =
-    ((let small = fits.0 in let grow = l.objects_grow in omega arith), l.objects o fits.0 ∙ fits.1)
+    (l.objects_stay o fits.0, l.objects o fits.0 ∙ fits.1)
 
 -- contents of a kind with these words, where those are meant
 abbrev pub Alike : Pairing → World → Kind → List ℕ → List ℕ → Type 0
 Alike P w kind ws ws' =
-    AreAlike P.object (length w.objects) (record { kind = kind; words = ws' }) (record { kind = kind; words = ws })
+    AreAlike P.object w.objects (record { kind = kind; words = ws' }) (record { kind = kind; words = ws })
 
 pub alike_later : {P Q : Pairing} {w v : World} {x y : Contents} → Later P w Q v
-    → AreAlike P.object (length w.objects) x y → AreAlike Q.object (length v.objects) x y
-alike_later l a = contents_later l.objects_grow l.objects a
+    → AreAlike P.object w.objects x y → AreAlike Q.object v.objects x y
+alike_later {w = w} {v = v} l a = contents_later w.objects v.objects l.objects_stay l.objects a
 
 pub option_later : {P Q : Pairing} {w v : World} → Later P w Q v → (x y : Option ℕ) → OptionFits P w x y
     → OptionFits Q v x y
@@ -62,15 +63,16 @@ option_later l None (Some o) fits = absurd fits
 option_later l (Some p) None fits = absurd fits
 
 -- what a reference is to stays so
-pub ref_later : (means means' : ℕ → ℕ) (n k : ℕ) (kind : RefKind) (r : Option Ref) (l : Found) → n ≤ k
-    → ((o : ℕ) → o < n → means' o ≡ means o) → RefFits means n kind r l → RefFits means' k kind r l
-ref_later means means' n k kind None Stale le same fits = tt
-ref_later means means' n k kind (Some r) (Object p) le same fits =
-    (fits.0, fits.1, fits.2, (let small = fits.3 in omega arith), same fits.1 fits.3 ∙ fits.4)
-ref_later means means' n k kind (Some r) Cleared le same fits = fits
-ref_later means means' n k kind None (Object p) le same fits = absurd fits
-ref_later means means' n k kind None Cleared le same fits = absurd fits
-ref_later means means' n k kind (Some r) Stale le same fits = absurd fits
+pub ref_later : (means means' : ℕ → ℕ) (n k : List (Option Contents)) (kind : RefKind) (r : Option Ref) (l : Found)
+    → ((o : ℕ) → IsStanding n o → IsStanding k o) → ((o : ℕ) → IsStanding n o → means' o ≡ means o)
+    → RefFits means n kind r l → RefFits means' k kind r l
+ref_later means means' n k kind None Stale stay same fits = tt
+ref_later means means' n k kind (Some r) (Object p) stay same fits =
+    (fits.0, fits.1, fits.2, stay fits.1 fits.3, same fits.1 fits.3 ∙ fits.4)
+ref_later means means' n k kind (Some r) Cleared stay same fits = fits
+ref_later means means' n k kind None (Object p) stay same fits = absurd fits
+ref_later means means' n k kind None Cleared stay same fits = absurd fits
+ref_later means means' n k kind (Some r) Stale stay same fits = absurd fits
 
 module _ (c : Config) (last k : ℕ) where
   -- ROOM FOR LOCAL REFERENCES
@@ -119,33 +121,39 @@ module _ (c : Config) (last k : ℕ) where
     abbrev object_named : ℕ → Pairing
     object_named o = record P { object = update nat_eq P.object (length w.objects) o }
 
-    object_before : (o p : ℕ) → p < length w.objects → (object_named o).object p ≡ P.object p
-    object_before o p small = at_number (λ z. z ≡ P.object p) P.object (length w.objects) p o
-        (λ e. absurd (omega arith)) (λ ne. refl)
+    object_before : (o p : ℕ) → IsStanding w.objects p → (object_named o).object p ≡ P.object p
+    object_before o p stands = at_number (λ z. z ≡ P.object p) P.object (length w.objects) p o
+        (λ e. absurd (let few = standing_below w.objects p stands in omega arith)) (λ ne. refl)
 
     object_here : (o : ℕ) → (object_named o).object (length w.objects) ≡ o
     object_here o = at_number_self P.object (length w.objects) o
 
-    one_longer : (ws : List ℕ) → length (with_object ws).objects ≡ length w.objects + 1
-    one_longer ws = length-append w.objects (Some (record { kind = kind; words = ws }) ∷ [])
+    -- what stood stands, and so does the new one, and no other
+    before_stands : (ws : List ℕ) (p : ℕ) → IsStanding w.objects p → IsStanding (with_object ws).objects p
+    before_stands ws p stands = subst IsSome
+        (sym (get_or_append_left w.objects (Some (record { kind = kind; words = ws }) ∷ []) None p
+        (standing_below w.objects p stands))) stands
+
+    new_stands : (ws : List ℕ) → IsStanding (with_object ws).objects (length w.objects)
+    new_stands ws = subst IsSome
+        (sym (get_or_push w.objects (Some (record { kind = kind; words = ws })) None (length w.objects) refl)) refl
 
     module _ (ws ws' : List ℕ) (alike : Alike P w kind ws ws') (o : ℕ) (m : Moment) (f : Fits c last k P w m)
         (least : 1 ≤ o) (most : o ≤ c.objects) (none : m.state.objects o ≡ None) where
       -- no number that was there means the new object
-      another : (p : ℕ) → p < length w.objects → P.object p ≢ o
-      another p small is =
-          absurd (let there = (both_there P.object (length w.objects) (standing_at w.objects p)
-          (m.state.objects (P.object p)) (f.objects.alike p small)).1 in
+      another : (p : ℕ) → IsStanding w.objects p → P.object p ≢ o
+      another p stands is =
+          absurd (let there = (both_there P.object w.objects (standing_at w.objects p)
+          (m.state.objects (P.object p)) (f.objects.alike p stands)).1 in
           let here : IsSome (m.state.objects o) = subst (λ z. IsSome (m.state.objects z)) is there in
           let bad = subst (λ z. IsSome z) none here in cc)
 
       -- what is so of each number that was there and of the new one is so of all
-      by_age : (Q : ℕ → Type 0) → ((p : ℕ) → p < length w.objects → Q p) → Q (length w.objects) → (p : ℕ)
-          → p < length (with_object ws').objects → Q p
-      by_age Q old new p small = below_next Q (length w.objects) old new p
-          (let long : length (with_object ws').objects ≡ length w.objects + 1 = one_longer ws' in omega arith)
+      by_age : (Q : ℕ → Type 0) → ((p : ℕ) → IsStanding w.objects p → Q p) → Q (length w.objects) → (p : ℕ)
+          → IsStanding (with_object ws').objects p → Q p
+      by_age Q old new p = standing_next w.objects (Some (record { kind = kind; words = ws' })) Q old new p
 
-      apart_then : (p q : ℕ) → p < length (with_object ws').objects → q < length (with_object ws').objects
+      apart_then : (p q : ℕ) → IsStanding (with_object ws').objects p → IsStanding (with_object ws').objects q
           → (object_named o).object p ≡ (object_named o).object q → p ≡ q
       apart_then p q small small' = by_age (λ p. (object_named o).object p ≡ (object_named o).object q → p ≡ q)
           (λ p old. by_age (λ q. (object_named o).object p ≡ (object_named o).object q → p ≡ q)
@@ -159,32 +167,30 @@ module _ (c : Config) (last k : ℕ) where
       there_then = update nat_eq m.state.objects o (Some (record { kind = kind; words = ws }))
 
       abbrev AlikeThen : ℕ → Type 0
-      AlikeThen p = ContentsFit (object_named o).object (length (with_object ws').objects)
+      AlikeThen p = ContentsFit (object_named o).object (with_object ws').objects
           (standing_at (with_object ws').objects p) (there_then ((object_named o).object p))
 
-      alike_then : (p : ℕ) → p < length (with_object ws').objects → AlikeThen p
+      alike_then : (p : ℕ) → IsStanding (with_object ws').objects p → AlikeThen p
       alike_then = by_age AlikeThen before new
         where
-          more : length w.objects ≤ length (with_object ws').objects
-          more = let long = one_longer ws' in omega arith
-
-          before : (p : ℕ) → p < length w.objects → AlikeThen p
-          before p small =
-              let n = length (with_object ws').objects in
+          before : (p : ℕ) → IsStanding w.objects p → AlikeThen p
+          before p stands =
+              let n = (with_object ws').objects in
               let here : standing_at (with_object ws').objects p ≡ standing_at w.objects p =
-              get_or_append_left w.objects (Some (record { kind = kind; words = ws' }) ∷ []) None p small in
+              get_or_append_left w.objects (Some (record { kind = kind; words = ws' }) ∷ []) None p
+              (standing_below w.objects p stands) in
               let there : there_then ((object_named o).object p) ≡ m.state.objects (P.object p) =
-              ap there_then (object_before o p small) ∙ at_number (λ z. z ≡ m.state.objects (P.object p))
+              ap there_then (object_before o p stands) ∙ at_number (λ z. z ≡ m.state.objects (P.object p))
               m.state.objects o (P.object p) (Some (record { kind = kind; words = ws }))
-              (λ e. absurd (another p small (sym e))) (λ ne. refl) in
+              (λ e. absurd (another p stands (sym e))) (λ ne. refl) in
               subst (λ z. ContentsFit (object_named o).object n z (there_then ((object_named o).object p))) (sym here)
               (subst (ContentsFit (object_named o).object n (standing_at w.objects p)) (sym there)
-              (each_later more (object_before o) (standing_at w.objects p) (m.state.objects (P.object p))
-              (f.objects.alike p small)))
+              (each_later w.objects n (before_stands ws') (object_before o) (standing_at w.objects p)
+              (m.state.objects (P.object p)) (f.objects.alike p stands)))
 
           new : AlikeThen (length w.objects)
           new =
-              let n = length (with_object ws').objects in
+              let n = (with_object ws').objects in
               let here : standing_at (with_object ws').objects (length w.objects)
               ≡ Some (record { kind = kind; words = ws' }) =
               get_or_push w.objects (Some (record { kind = kind; words = ws' })) None (length w.objects) refl in
@@ -195,7 +201,10 @@ module _ (c : Config) (last k : ℕ) where
               subst (λ z. ContentsFit (object_named o).object n z
               (there_then ((object_named o).object (length w.objects)))) (sym here)
               (subst (ContentsFit (object_named o).object n (Some (record { kind = kind; words = ws' }))) (sym there)
-              (contents_later more (object_before o) alike))
+              (contents_later w.objects n (before_stands ws') (object_before o) alike))
+
+      abbrev IsMeantThen : ℕ → Type 0
+      IsMeantThen p = (q : ℕ) × IsStanding (with_object ws').objects q × ((object_named o).object q ≡ p)
 
       object_fits : Fits c last k (object_named o) (with_object ws')
           (moment (act_after m.state 0 (New o kind ws)) m.frames)
@@ -206,10 +215,10 @@ module _ (c : Config) (last k : ℕ) where
             refs = record {
               given = f.refs.given;
               once = f.refs.once;
-              stands = λ i small. ref_later P.object (object_named o).object (length w.objects)
-                  (length (with_object ws').objects) (P.handle i).kind (standing_at w.refs i)
-                  (found_of m.frames m.state.refs (P.handle i)) (let long = one_longer ws' in omega arith)
-                  (object_before o) (f.refs.stands i small);
+              stands = λ i small. ref_later P.object (object_named o).object w.objects (with_object ws').objects
+                  (P.handle i).kind (standing_at w.refs i) (found_of m.frames m.state.refs (P.handle i))
+                  (before_stands ws') (object_before o) (f.refs.stands i small);
+              all = f.refs.all;
             };
             locals = record {
               framed = frames_later (λ i small. refl) (omega arith) l.framed;
@@ -219,23 +228,35 @@ module _ (c : Config) (last k : ℕ) where
             };
             slots = f.slots;
             objects = record {
-              count = count_more (c.objects + 1) m.state.objects o (record { kind = kind; words = ws }) (omega arith)
-                  none ∙ (ap (λ n. n + 1) old.count ∙ sym (one_longer ws'));
-              no_zero = at_number (λ y. y ≡ None) m.state.objects o 0 (Some (record { kind = kind; words = ws }))
-                  (λ e. absurd (omega arith)) (λ ne. old.no_zero);
+              within = λ p. at_number (λ y. IsSome y → (1 ≤ p) × (p ≤ c.objects)) m.state.objects o p
+                  (Some (record { kind = kind; words = ws })) (λ e some. (omega arith, omega arith))
+                  (λ ne some. old.within p some);
+              all = λ p. at_number (λ y. IsSome y → IsMeantThen p) m.state.objects o p
+                  (Some (record { kind = kind; words = ws }))
+                  (λ e some. (length w.objects, new_stands ws', object_here o ∙ e))
+                  (λ ne some. let q = old.all p some in
+                  (q.0, before_stands ws' q.0 q.1, object_before o q.0 q.1 ∙ q.2));
               alike = alike_then;
               apart = apart_then;
             };
             used = f.used;
             space = f.space;
+            agree = f.agree;
           }
+
+    none_at_zero : (m : Moment) → Fits c last k P w m → is_some (m.state.objects 0) ≡ false
+    none_at_zero m f = go (m.state.objects 0) refl
+      where
+        go : (y : Option Contents) → m.state.objects 0 ≡ y → is_some (m.state.objects 0) ≡ false
+        go None e = ap is_some e
+        go (Some x) e = absurd (let low = (f.objects.within 0 (ap is_some e)).0 in omega arith)
 
     -- the room has as many objects as it may, and so has the world
     full_then : (m : Moment) → Fits c last k P w m → EachPresent c m.state → (standing w.objects == c.objects) ≡ true
     full_then m f all =
         let old = f.objects in
-        let n = count_full c.objects (λ o. is_some (m.state.objects o)) (ap (λ y. is_some y) old.no_zero) all in
-        let e = old.count in let s = every_stands old in
+        let n = count_full c.objects (λ o. is_some (m.state.objects o)) (none_at_zero m f) all in
+        let e = counted old in
         let is : standing w.objects ≡ c.objects = omega arith in
         ap (λ x. x == c.objects) is ∙ eq_self c.objects
 
@@ -246,10 +267,10 @@ module _ (c : Config) (last k : ℕ) where
         let x : Contents = record { kind = kind; words = ws } in
         let more = count_more (c.objects + 1) m.state.objects o x (omega arith) none in
         let zero_still : is_some (update nat_eq m.state.objects o (Some x) 0) ≡ false =
-        ap (λ y. is_some y) (at_number (λ y. y ≡ None) m.state.objects o 0 (Some x) (λ e. absurd (omega arith))
-        (λ ne. old.no_zero)) in
+        at_number (λ y. is_some y ≡ false) m.state.objects o 0 (Some x) (λ e. absurd (omega arith))
+        (λ ne. none_at_zero m f) in
         let top = count_most c.objects (λ p. is_some (update nat_eq m.state.objects o (Some x) p)) zero_still in
-        let e = old.count in let s = every_stands old in
+        let e = counted old in
         let less : standing w.objects < c.objects = omega arith in
         grind (arith, nat_tests)
 
@@ -283,22 +304,20 @@ module _ (c : Config) (last k : ℕ) where
         go m n x f r (inl d) false e =
             let o = d.0 in
             let i = made m n x f r o d.1 d.2 d.3 in
-            let long = one_longer ws' in
             record {
               pairing = object_named o;
               later = record {
                 handles = λ j l. refl;
                 objects = object_before o;
                 refs_grow = omega arith;
-                objects_grow
-                    = omega arith;
+                objects_stay = before_stands ws';
               };
               fits = subst (Fits c last k (object_named o) (with_object ws'))
                   (sym (moment_is n.state (act_after m.state 0 (New o kind ws)) n.frames m.frames
                   (stepped c last 0 m n r.acts (New o kind ws) d.1 r.leads) d.3))
                   (object_fits ws ws' alike o m f i.0 i.1 i.2);
               answers = subst (λ z. SameAnswer (ObjectFits (object_named o) (with_object ws')) z (Ok
-                  (length w.objects))) (sym d.2) ((omega arith), object_here o);
+                  (length w.objects))) (sym d.2) (new_stands ws', object_here o);
             }
         go m n x f r (inr d) true e =
             unmoved c last {V = ObjectFits} m n x (Err ObjectsFull) (Err ObjectsFull) f
@@ -329,7 +348,7 @@ module _ (c : Config) (last k : ℕ) where
         handles = λ i l. refl;
         objects = λ o l. refl;
         refs_grow = omega arith;
-        objects_grow = omega arith;
+        objects_stay = λ q there. there;
       };
       fits = subst (Fits c last k P (with_words n)) (sym (moment_is m'.state
           (record m.state { used = m.state.used + n }) m'.frames m.frames state_is frames_are)) (record {
@@ -339,6 +358,7 @@ module _ (c : Config) (last k : ℕ) where
             slots = f.slots;
             used = ap (λ u. u + n) f.used;
             space = within;
+            agree = f.agree;
           });
       answers = subst (λ z. SameAnswer (IsDone {A = Unit {0}} {B = Unit {0}} P (with_words n)) z (Ok tt)) (sym is) tt;
     }

@@ -1,12 +1,13 @@
 -- One reference more, and one less, beside those of the world of what a script means.
-use Rattle.std.proofs.Common.{◌≡◌, ◌≢◌, ℕ, ◌<◌, ◌+◌, Bool, nat_eq, Option, None, List, [], ◌∷◌, ◌++◌, length, slice_set}
+use Rattle.std.proofs.Common.{◌≡◌, ◌≢◌, ◌⊎◌, inl, inr, ℕ, ◌<◌, ◌+◌, Bool, nat_eq, Option, None, List, [], ◌∷◌, ◌++◌}
+use Rattle.std.proofs.Common.{length, slice_set}
 use Rattle.std.proofs.Common.{refl, sym, subst, ◌∙◌, arith}
 use Rattle.std.proofs.lemmas.List.{length-append, length-set, get_or_append_left, get_or_push}
 use Rattle.jr_word.specs.declared.config.Config.{Config}
 use Rattle.jr_model.specs.declared.event.Found.{Found}
 use Rattle.jr_model.specs.declared.event.Found.TheVariants.{Stale}
 use Rattle.jr_model.specs.Maps.{update}
-use Rattle.jr_model.specs.State.{Handle}
+use Rattle.jr_model.specs.State.{Contents, Handle}
 use Rattle.jr_model.specs.Frames.{Frames}
 use Rattle.jr_model.proofs.Updates.{at_number, at_number_self}
 use Rattle.jr_scripts.specs.Meaning.{Ref, standing_at}
@@ -27,14 +28,15 @@ module _ (c : Config) (last : ℕ) (P : Pairing) (refs : List (Option Ref)) wher
   ref_here h = at_number_self P.handle (length refs) h
 
   -- from some frames and a row to others
-  module _ (n : ℕ) (f g : Frames) (row row' : Handle → Found) (given given' : Handle → Bool)
-      (fits : RefsFit c last P n refs f row given)
+  module _ (objects : List (Option Contents)) (f g : Frames) (row row' : Handle → Found) (given given' : Handle → Bool)
+      (fits : RefsFit c last P objects refs f row given)
       (kept : (h : Handle) → IsGiven c last f given h → IsGiven c last g given' h) where
     -- ONE MORE
     module _ (r : Option Ref) (h : Handle) (another : (i : ℕ) → i < length refs → h ≢ P.handle i)
         (new : IsGiven c last g given' h)
         (stays : (i : ℕ) → i < length refs → found_of g row' (P.handle i) ≡ found_of f row (P.handle i))
-        (here : RefFits P.object n h.kind r (found_of g row' h)) where
+        (here : RefFits P.object objects h.kind r (found_of g row' h))
+        (rows : (x : Handle) → row' x ≢ Stale → (h ≡ x) ⊎ (row x ≢ Stale)) where
       -- what is so of each number that was there and of the new one is so of all
       by_age : (Q : ℕ → Type 0) → ((i : ℕ) → i < length refs → Q i) → Q (length refs) → (i : ℕ)
           → i < length (refs ++ r ∷ []) → Q i
@@ -57,41 +59,66 @@ module _ (c : Config) (last : ℕ) (P : Pairing) (refs : List (Option Ref)) wher
           (λ j old' is. absurd (another j old' (sym (ref_here h) ∙ (is ∙ ref_before h j old'))))
           (λ is. refl) j small') i small
 
-      stands_more : (i : ℕ) → i < length (refs ++ r ∷ []) → RefFits P.object n ((ref_named h).handle i).kind
+      stands_more : (i : ℕ) → i < length (refs ++ r ∷ []) → RefFits P.object objects ((ref_named h).handle i).kind
           (standing_at (refs ++ r ∷ []) i) (found_of g row' ((ref_named h).handle i))
-      stands_more = by_age (λ i. RefFits P.object n ((ref_named h).handle i).kind (standing_at (refs ++ r ∷ []) i)
+      stands_more = by_age (λ i. RefFits P.object objects ((ref_named h).handle i).kind (standing_at (refs ++ r ∷ []) i)
           (found_of g row' ((ref_named h).handle i)))
-          (λ i small. subst (λ (x : Handle). RefFits P.object n x.kind (standing_at (refs ++ r ∷ []) i)
+          (λ i small. subst (λ (x : Handle). RefFits P.object objects x.kind (standing_at (refs ++ r ∷ []) i)
           (found_of g row' x)) (sym (ref_before h i small))
-          (subst (λ z. RefFits P.object n (P.handle i).kind z (found_of g row' (P.handle i)))
+          (subst (λ z. RefFits P.object objects (P.handle i).kind z (found_of g row' (P.handle i)))
           (sym (get_or_append_left refs (r ∷ []) None i small))
-          (subst (RefFits P.object n (P.handle i).kind (standing_at refs i)) (sym (stays i small))
+          (subst (RefFits P.object objects (P.handle i).kind (standing_at refs i)) (sym (stays i small))
           (fits.stands i small))))
-          (subst (λ (x : Handle). RefFits P.object n x.kind (standing_at (refs ++ r ∷ []) (length refs))
+          (subst (λ (x : Handle). RefFits P.object objects x.kind (standing_at (refs ++ r ∷ []) (length refs))
           (found_of g row' x)) (sym (ref_here h))
-          (subst (λ z. RefFits P.object n h.kind z (found_of g row' h))
+          (subst (λ z. RefFits P.object objects h.kind z (found_of g row' h))
           (sym (get_or_push refs r None (length refs) refl)) here))
 
-      pub more_fit : RefsFit c last (ref_named h) n (refs ++ r ∷ []) g row' given'
-      more_fit = record { given = given_more; once = once_more; stands = stands_more }
+      all_more : (x : Handle) → (h ≡ x) ⊎ (row x ≢ Stale)
+          → (i : ℕ) × (i < length (refs ++ r ∷ [])) × ((ref_named h).handle i ≡ x)
+      all_more x (inl is) = (
+        length refs,
+        (let long : length (refs ++ r ∷ []) ≡ length refs + 1 = length-append refs (r ∷ []) in omega arith),
+        ref_here h ∙ is,
+      )
+      all_more x (inr there) =
+          let i = fits.all x there in
+          let small : i.0 < length refs = i.1 in (
+            i.0,
+            (let long : length (refs ++ r ∷ []) ≡ length refs + 1 = length-append refs (r ∷ []) in omega arith),
+            ref_before h i.0 i.1 ∙ i.2,
+          )
+
+      pub more_fit : RefsFit c last (ref_named h) objects (refs ++ r ∷ []) g row' given'
+      more_fit = record {
+        given = given_more;
+        once = once_more;
+        stands = stands_more;
+        all = λ x there. all_more x (rows x there);
+      }
 
     -- ONE LESS
     module _ (i : ℕ) (small : i < length refs) (gone : found_of g row' (P.handle i) ≡ Stale)
         (stays : (j : ℕ) → j < length refs → P.handle i ≢ P.handle j
-        → found_of g row' (P.handle j) ≡ found_of f row (P.handle j)) where
-      stands_less : (j : ℕ) → j < length refs → RefFits P.object n (P.handle j).kind
+        → found_of g row' (P.handle j) ≡ found_of f row (P.handle j))
+        (rows : (x : Handle) → row' x ≢ Stale → row x ≢ Stale) where
+      stands_less : (j : ℕ) → j < length refs → RefFits P.object objects (P.handle j).kind
           (standing_at (slice_set refs i None) j) (found_of g row' (P.handle j))
       stands_less j below = at_set refs i j None
-          (λ z. RefFits P.object n (P.handle j).kind z (found_of g row' (P.handle j)))
-          (λ same. subst (λ m. RefFits P.object n (P.handle m).kind None (found_of g row' (P.handle m))) same
-          (subst (RefFits P.object n (P.handle i).kind None) (sym gone) tt))
-          (λ other. subst (RefFits P.object n (P.handle j).kind (standing_at refs j))
+          (λ z. RefFits P.object objects (P.handle j).kind z (found_of g row' (P.handle j)))
+          (λ same. subst (λ m. RefFits P.object objects (P.handle m).kind None (found_of g row' (P.handle m))) same
+          (subst (RefFits P.object objects (P.handle i).kind None) (sym gone) tt))
+          (λ other. subst (RefFits P.object objects (P.handle j).kind (standing_at refs j))
           (sym (stays j below (λ z. other (fits.once i j small below z)))) (fits.stands j below)) small
 
-      pub less_fit : RefsFit c last P n (slice_set refs i None) g row' given'
+      pub less_fit : RefsFit c last P objects (slice_set refs i None) g row' given'
       less_fit = record {
         given = λ j below. kept (P.handle j) (fits.given j (let long = length-set refs i None in omega arith));
         once = λ j m below below'. fits.once j m (let long = length-set refs i None in omega arith)
             (let long = length-set refs i None in omega arith);
         stands = λ j below. stands_less j (let long = length-set refs i None in omega arith);
+        all = λ x there.
+            let j = fits.all x (rows x there) in
+            let small : j.0 < length refs = j.1 in
+            (j.0, (let long = length-set refs i None in omega arith), j.2);
       }

@@ -242,7 +242,7 @@ module _ (c : Config) (last k : ℕ) where
       created_state : Fits c last k (ref_named c last P w.refs h) with_ref
           (moment (act_after m.state 0 (Create h p)) m.frames)
       created_state = record {
-        refs = more_fit c last P w.refs (length w.objects) m.frames m.frames m.state.refs
+        refs = more_fit c last P w.refs w.objects m.frames m.frames m.state.refs
             (update same_handle m.state.refs h (Object p)) m.state.given (update same_handle m.state.given h true)
             f.refs
             (λ g. given_then (λ past. past) (λ was. at_handle (λ z. z ≡ true) m.state.given h g true (λ e. refl)
@@ -250,10 +250,12 @@ module _ (c : Config) (last k : ℕ) where
             (λ i small. at_handle (λ z. cond (is_local (P.handle i)) (found_local (object_of m.frames (P.handle i))) z
             ≡ found_of m.frames m.state.refs (P.handle i)) m.state.refs h (P.handle i) (Object p)
             (λ e. absurd (another i small e)) (λ ne. refl))
-            (subst (RefFits P.object (length w.objects) h.kind the_new)
+            (subst (RefFits P.object w.objects h.kind the_new)
             (sym (found_row m.frames (update same_handle m.state.refs h (Object p)) h (needs.2).0
             ∙ at_handle_self m.state.refs h (Object p)))
-            (sym is, o, refl, named.0, named.1));
+            (sym is, o, refl, named.0, named.1))
+            (λ x. at_handle (λ z. z ≢ Stale → (h ≡ x) ⊎ (m.state.refs x ≢ Stale)) m.state.refs h x (Object p)
+            (λ e there. inl e) (λ ne there. inr there));
         locals = record {
           framed = frames_later (λ i small. ref_before c last P w.refs h i small)
               (let long = longer in omega arith) f.locals.framed;
@@ -270,6 +272,7 @@ module _ (c : Config) (last k : ℕ) where
         objects = f.objects;
         used = f.used;
         space = f.space;
+        agree = f.agree;
       }
 
     create_means : kind ≢ Local
@@ -316,7 +319,7 @@ module _ (c : Config) (last k : ℕ) where
                 handles = λ i small. ref_before c last P w.refs h i small;
                 objects = λ q small. refl;
                 refs_grow = (let long = longer in omega arith);
-                objects_grow = omega arith;
+                objects_stay = λ q there. there;
               };
               fits = subst (Fits c last k (ref_named c last P w.refs h) with_ref)
                   (sym (moment_is n.state (act_after m.state 0 (Create h p)) n.frames m.frames
@@ -384,20 +387,22 @@ module _ (c : Config) (last k : ℕ) where
       counted_ref : (kind : RefKind)
           → refs_of kind without_ref + bit (same_kind kind (P.handle i).kind) ≡ refs_of kind w
       counted_ref kind = subst (λ b. refs_of kind without_ref + bit b ≡ refs_of kind w)
-          (ref_there P.object (length w.objects) (P.handle i).kind (standing_at w.refs i) (m.state.refs (P.handle i))
-          kind (subst (RefFits P.object (length w.objects) (P.handle i).kind (standing_at w.refs i))
+          (ref_there P.object w.objects (P.handle i).kind (standing_at w.refs i) (m.state.refs (P.handle i))
+          kind (subst (RefFits P.object w.objects (P.handle i).kind (standing_at w.refs i))
           (found_row m.frames m.state.refs (P.handle i) other) (f.refs.stands i small)) there)
           (how_many_less (is_ref_of kind) refl w.refs i small)
 
       deleted_state : Fits c last k P without_ref (moment (act_after m.state 0 (Delete (P.handle i))) m.frames)
       deleted_state = record {
-        refs = less_fit c last P w.refs (length w.objects) m.frames m.frames m.state.refs
+        refs = less_fit c last P w.refs w.objects m.frames m.frames m.state.refs
             (update same_handle m.state.refs (P.handle i) Stale) m.state.given m.state.given f.refs (λ g is. is) i small
             (found_row m.frames (update same_handle m.state.refs (P.handle i) Stale) (P.handle i) other
             ∙ at_handle_self m.state.refs (P.handle i) Stale)
             (λ j below apart. at_handle (λ z. cond (is_local (P.handle j)) (found_local
             (object_of m.frames (P.handle j))) z ≡ found_of m.frames m.state.refs (P.handle j)) m.state.refs
-            (P.handle i) (P.handle j) Stale (λ e. absurd (apart e)) (λ ne. refl));
+            (P.handle i) (P.handle j) Stale (λ e. absurd (apart e)) (λ ne. refl))
+            (λ x. at_handle (λ z. z ≢ Stale → m.state.refs x ≢ Stale) m.state.refs (P.handle i) x Stale
+            (λ e there. absurd (there refl)) (λ ne there. there));
         locals = record {
           framed = subst (λ fs. AreFrames P (length without_ref.refs) fs m.frames.frames)
               (sym (frames_apart P i other f.locals.framed))
@@ -413,6 +418,7 @@ module _ (c : Config) (last k : ℕ) where
         objects = f.objects;
         used = f.used;
         space = f.space;
+        agree = f.agree;
       }
 
     abbrev gone_from : Unit {0} → Meaning (Unit {0})
@@ -434,7 +440,7 @@ module _ (c : Config) (last k : ℕ) where
             handles = λ j below. refl;
             objects = λ q below. refl;
             refs_grow = (let long = as_long in omega arith);
-            objects_grow = omega arith;
+            objects_stay = λ q there. there;
           };
           fits = subst (Fits c last k P without_ref) (sym (moment_is n.state (act_after m.state 0
               (Delete (P.handle i))) n.frames m.frames (state_is ∙ ap (λ g. act_after m.state 0 (Delete g)) is) d.2))
@@ -455,15 +461,15 @@ module _ (c : Config) (last k : ℕ) where
       outcome = λ m n x f r.
           let y = looked_first c last 0 h (delete_found h) m n x r in
           go m n x f y (standing_at w.refs i) (m.state.refs h) refl
-          (subst (λ (g : Handle). RefFits P.object (length w.objects) g.kind (standing_at w.refs i) (m.state.refs g))
-          (sym is) (subst (RefFits P.object (length w.objects) (P.handle i).kind (standing_at w.refs i))
+          (subst (λ (g : Handle). RefFits P.object w.objects g.kind (standing_at w.refs i) (m.state.refs g))
+          (sym is) (subst (RefFits P.object w.objects (P.handle i).kind (standing_at w.refs i))
           (found_row m.frames m.state.refs (P.handle i) (λ e. other (ap (λ (g : Handle). g.kind) is ∙ e)))
           (f.refs.stands i small))) y.is;
     }
       where
         go : (m n : Moment) (x : Result (Unit {0}) Fault) → Fits c last (suc k) P w m
             → (r : Made c last 0 (delete_found h (m.state.refs h)) m x n) (s : Option Ref) (l : Found)
-            → m.state.refs h ≡ l → RefFits P.object (length w.objects) h.kind s l
+            → m.state.refs h ≡ l → RefFits P.object w.objects h.kind s l
             → delete_found h l m.frames r.acts x n.frames
             → Outcome c last k (IsDone {A = Unit {0}} {B = Unit {0}}) P w x
             (goes_on (λ o. gone_from tt) (object_in s, w)) n

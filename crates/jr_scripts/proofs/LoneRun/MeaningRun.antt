@@ -1,7 +1,7 @@
 -- The text of a run is what its script means.
 use Rattle.std.proofs.Common.{◌≡◌, ◌≢◌, ℕ, zero, suc, ◌<◌, ◌≤◌, ◌+◌, ◌^◌, Bool, true, false, cond, Option, is_some}
 use Rattle.std.proofs.Common.{List, [], ◌∷◌, ◌++◌, map, length, replicate, get_or, Result, Ok, IfErr, refl, sym, ap}
-use Rattle.std.proofs.Common.{subst, ◌∙◌, arith}
+use Rattle.std.proofs.Common.{subst, ◌∙◌, arith, append_assoc}
 use Rattle.std.proofs.lemmas.List.{length-replicate}
 use Rattle.std.specs.FinMap.{get-empty}
 use Rattle.std.specs.List.{AllByRecursion, filter}
@@ -30,7 +30,7 @@ use Rattle.jr_scripts.specs.declared.reply.Reply.{Reply}
 use Rattle.jr_scripts.specs.Names.{name_order, or_nothing}
 use Rattle.jr_scripts.specs.declared.binding.Binding.{Binding}
 use Rattle.jr_scripts.specs.Places.{Place, place_after}
-use Rattle.jr_scripts.specs.Posting.{Words, said_alone, words_after}
+use Rattle.jr_scripts.specs.Posting.{ThreadWords, said_alone, words_after}
 use Rattle.jr_scripts.specs.Explains.{Explains, nothing, then}
 use Rattle.jr_scripts.specs.RegionCommands.{giving_up_all}
 use Rattle.jr_scripts.specs.Text.{heading, ending, printed}
@@ -44,22 +44,24 @@ use Rattle.jr_scripts.proofs.AloneWithin.{led_alone}
 use Rattle.jr_scripts.proofs.FreedAlone.{free_alone, plainly}
 use Rattle.jr_scripts.specs.Meaning.{IsCovered, MeansText, World, Told, gives_up, how_many, first_told, meaning_at}
 use Rattle.jr_scripts.specs.Meaning.{refs_of, standing, summary_of, tells, told_after, told_from, text_of_part}
-use Rattle.jr_scripts.specs.Meaning.{first_world}
+use Rattle.jr_scripts.specs.Meaning.{first_world, memory_after}
 use Rattle.jr_scripts.proofs.LoneRun.MadeCalls.{Moment, IsSo, stayed}
 use Rattle.jr_scripts.proofs.LoneRun.MeaningFrames.{Pairing, no_frame, no_local, one_frame}
 use Rattle.jr_scripts.proofs.LoneRun.MeaningSlots.{at_index, in_row, taken_at}
-use Rattle.jr_scripts.proofs.LoneRun.MeaningFits.{Fits, every_stands}
+use Rattle.jr_scripts.proofs.LoneRun.MeaningFits.{Fits, counted}
 use Rattle.jr_scripts.proofs.LoneRun.MeaningScopes.{SameTables, drops_keep}
 use Rattle.jr_scripts.proofs.LoneRun.MeaningDeeds.{BindingFits, IsPass, call_made, made_once, now}
-use Rattle.jr_scripts.proofs.LoneRun.MeaningCommands.{step}
+use Rattle.jr_scripts.proofs.LoneRun.MeaningCommands.{memory_left, memory_shown, step}
 use Rattle.jr_scripts.proofs.LoneRun.MeaningStands.{Stands, Stepped, left_before, left_then}
 
 -- ONE COMMAND MORE
 told_snoc : (c : Config) (line : ℕ) (before : List Command) (x : Command) (t : Told)
     → told_from c line (before ++ x ∷ []) t ≡ told_after c (line + length before) x (told_from c line before t)
-told_snoc c line [] x t = ap (λ k. told_after c k x t) (omega arith)
-told_snoc c line (y ∷ ys) x t = told_snoc c (line + 1) ys x (told_after c line y t)
-    ∙ ap (λ k. told_after c k x (told_from c (line + 1) ys (told_after c line y t))) (omega arith)
+told_snoc c line [] x t = let same : line ≡ line + 0 = omega arith in ap (λ k. told_after c k x t) same
+told_snoc c line (y ∷ ys) x t =
+    let more : line + 1 + length ys ≡ line + length (y ∷ ys) = omega arith in
+    told_snoc c (line + 1) ys x (told_after c line y t)
+    ∙ ap (λ k. told_after c k x (told_from c (line + 1) ys (told_after c line y t))) more
 
 -- COUNTS
 
@@ -90,20 +92,21 @@ same_summary : (g w l u g' w' l' u' : ℕ) → g ≡ g' → w ≡ w' → l ≡ l
 same_summary g w l u g' w' l' u' a b x y = cc
 
 module _ (c : Config) (last turns : ℕ) (one : c.threads ≡ 1) (some_turns : turns ≢ 0) (small : c.locals ≤ 4096)
-    (rows : c.slots ≤ 65536) (few : last < 2 ^ 32) (memory : List Bool) where
+    (rows : c.slots ≤ 65536) (few : last < 2 ^ 32) where
   some_threads : 1 ≤ c.threads
   some_threads = omega arith
 
   first_pairing : Pairing
   first_pairing = record { handle = λ i. record { kind = Local; serial = 0; index = 0; owner = 0 }; object = λ o. o }
 
-  opening_fits : (k : ℕ) → k ≤ last
+  opening_fits : (memory : List Bool) (k : ℕ) → k ≤ last
       → Fits c last k first_pairing (first_world memory) (now (opening_moment c last))
-  opening_fits k le = record {
+  opening_fits memory k le = record {
     refs = record {
       given = λ i l. absurd (omega arith);
       once = λ i j l m. absurd (omega arith);
       stands = λ i l. absurd (omega arith);
+      all = λ h there. absurd (there refl);
     };
     locals = record {
       framed = one_frame no_local no_frame;
@@ -112,10 +115,10 @@ module _ (c : Config) (last turns : ℕ) (one : c.threads ≡ 1) (some_turns : t
       given = length-replicate c.locals 0;
     };
     objects = record {
-      count = sum_zero (c.objects + 1) (λ o. 0) (λ o. refl);
-      no_zero = refl;
-      alike = λ o l. absurd (omega arith);
-      apart = λ o p l m. absurd (omega arith);
+      within = λ p some. absurd cc;
+      all = λ p some. absurd cc;
+      alike = λ o stands. absurd cc;
+      apart = λ o p stands stands' is. absurd cc;
     };
     slots = record {
       globals_are = sum_zero c.slots (at_index last (λ h. false) Global) (λ i. none_passes Global i);
@@ -125,6 +128,7 @@ module _ (c : Config) (last turns : ℕ) (one : c.threads ≡ 1) (some_turns : t
     };
     used = refl;
     space = omega arith;
+    agree = λ p. refl;
   }
     where
       none_passes : (kind : RefKind) (i : ℕ) → at_index last (λ h. false) kind i ≡ 0
@@ -133,22 +137,53 @@ module _ (c : Config) (last turns : ℕ) (one : c.threads ≡ 1) (some_turns : t
       none_taken : (i : ℕ) → taken_at last (λ h. false) i ≡ 0
       none_taken i = let a = none_passes Global i in let b = none_passes Weak i in omega (arith, a, b)
 
-  -- what is told of commands is what was printed
-  record IsTold (k : ℕ) (commands : List Command) (text : List ℕ) (new : ThreadState) (place : Place)
-      (words : Words) : Type 0 where
+  -- whether the copies of commands found memory
+  abbrev memory_of : {commands : List Command} {text : List ℕ} {new : ThreadState} {place : Place} {words : ThreadWords}
+      → Explains said_alone turns 3 (opening_moment c last) commands text new place words → List Bool
+  memory_of nothing = []
+  memory_of (then x answer done did said) = memory_of done ++ memory_shown x answer
+
+  -- what is told of commands is what was printed, and this of memory is left
+  record IsTold (memory rest : List Bool) (k : ℕ) (commands : List Command) (text : List ℕ) (new : ThreadState)
+      (place : Place) (words : ThreadWords) : Type 0 where
     pub pairing : Pairing
     pub stands : Stands c last k pairing (told_from c 3 commands (first_told memory)).world new place
         (told_from c 3 commands (first_told memory)).place words (told_from c 3 commands (first_told memory)).words
     pub text_is : text ≡ (told_from c 3 commands (first_told memory)).text
+    pub left : (told_from c 3 commands (first_told memory)).world.memory ≡ rest
 
   -- what is so of it
-  record TellsSo (k : ℕ) (t : Told) (text : List ℕ) (new : ThreadState) (place : Place) (words : Words) : Type 0 where
+  record TellsSo (k : ℕ) (t : Told) (text : List ℕ) (new : ThreadState) (place : Place)
+      (words : ThreadWords) : Type 0 where
     pub pairing : Pairing
     pub stands : Stands c last k pairing t.world new place t.place words t.words
     pub text_is : text ≡ t.text
 
+  -- what is to come of memory is nothing of how a thread stands
+  remembers : {k : ℕ} {P : Pairing} {w : World} {m : ThreadState} {p q : Place} {had told : ThreadWords}
+      (memory : List Bool) → Stands c last k P w m p q had told
+      → Stands c last k P (record w { memory = memory }) m p q had told
+  remembers memory s =
+      let f = s.fits in
+      record {
+        pass = s.pass;
+        fits = record {
+          refs = f.refs;
+          locals = f.locals;
+          slots = f.slots;
+          objects = f.objects;
+          used = f.used;
+          space = f.space;
+          agree = f.agree;
+        };
+        names = s.names;
+        outside = s.outside;
+        outside_then = s.outside_then;
+        words = s.words;
+      }
+
   tells_so : (k : ℕ) (t : Told) (line : ℕ) (x : Command) (answer : Result Reply Fault) (text : List ℕ)
-      (new : ThreadState) (place : Place) (words : Words) → text ≡ t.text
+      (new : ThreadState) (place : Place) (words : ThreadWords) → text ≡ t.text
       → Stepped c last k x new place t.place words t.words answer
       (meaning_at c t.place t.words t.place.objects x t.world)
       → TellsSo k (told_after c line x t) (text ++ printed line x answer) new (place_after x answer place)
@@ -161,21 +196,25 @@ module _ (c : Config) (last turns : ℕ) (one : c.threads ≡ 1) (some_turns : t
           (words_after place.names x answer words)
       go (b, v) s = record {
         pairing = s.pairing;
-        stands = s.stands;
+        stands = remembers (memory_after x t.world.memory) s.stands;
         text_is = ap (λ z. z ++ printed line x answer) is ∙ ap (λ z. t.text ++ z) (s.text line);
       }
 
+  tells_left : (line : ℕ) (x : Command) (t : Told) (r : Result Reply Fault × World)
+      → (tells line x t r).world.memory ≡ memory_after x t.world.memory
+  tells_left line x t (answer, v) = refl
+
   all_told : (k : ℕ) (commands : List Command) → how_many gives_up commands + k ≤ last
       → (text : List ℕ) (new : ThreadState) (place : Place)
-      (words : Words) (e : Explains said_alone turns 3 (opening_moment c last) commands text new place words)
+      (words : ThreadWords) (e : Explains said_alone turns 3 (opening_moment c last) commands text new place words)
       → AnswersAlone e → AllByRecursion IsCovered commands → IsAlone new.pass → AllByRecursion IsUnbarred new.pass.seen
-      → IsTold k commands text new place words
-  all_told k commands le text new place words nothing answers firsts alone all = record {
+      → (rest : List Bool) → IsTold (memory_of e ++ rest) rest k commands text new place words
+  all_told k commands le text new place words nothing answers firsts alone all rest = record {
     pairing = first_pairing;
     stands = record {
       pass = record { config = refl; last_is = refl; thread = refl };
-      fits = opening_fits k (omega arith);
-      names = λ n. subst (λ (o : Option Binding). BindingFits first_pairing (first_world memory) (or_nothing o)
+      fits = opening_fits rest k (omega arith);
+      names = λ n. subst (λ (o : Option Binding). BindingFits first_pairing (first_world rest) (or_nothing o)
           (or_nothing o))
           (sym (get-empty name_order n)) tt;
       outside = refl;
@@ -183,17 +222,20 @@ module _ (c : Config) (last turns : ℕ) (one : c.threads ≡ 1) (some_turns : t
       words = tt;
     };
     text_is = refl;
+    left = refl;
   }
   all_told k commands le text new place words
       (then {before = before} {text = lines} {mid = mid} {place = stood} {words = had} x answer done did said) answers
       firsts
-      alone all =
+      alone all rest =
       let first = (all_back IsCovered before (x ∷ []) firsts).0 in
       let y = place_alone turns stood x mid new answer alone did in
       let i = all_told (left_before x k) before (let less : how_many gives_up (before ++ x ∷ []) + k
       ≡ how_many gives_up before + left_before x k = given_up_before x k before in omega arith) lines mid stood had done
       answers.0 (all_front IsCovered before (x ∷ []) firsts)
-      (led_alone y alone) (all_prefix IsUnbarred mid.pass.seen new.pass.seen y.begins all) in
+      (led_alone y alone) (all_prefix IsUnbarred mid.pass.seen new.pass.seen y.begins all)
+      (memory_shown x answer ++ rest) in
+      let memory : List Bool = memory_of done ++ (memory_shown x answer ++ rest) in
       let t = told_from c 3 before (first_told memory) in
       let stepped = step {k = k} x (record {
         some_turns = some_turns;
@@ -204,15 +246,20 @@ module _ (c : Config) (last turns : ℕ) (one : c.threads ≡ 1) (some_turns : t
         stands = i.stands;
         alone = alone;
         all = all;
-      }) answer first did said answers.1 in
+      }) answer first did said answers.1 rest i.left in
       let so = tells_so k t (3 + length before) x answer lines new stood had i.text_is stepped in
       let whole = told_snoc c 3 before x (first_told memory) in
-      record {
+      subst (λ l. IsTold l rest k (before ++ x ∷ []) (lines ++ printed (3 + length before) x answer) new
+      (place_after x answer stood) (words_after stood.names x answer had))
+      (sym (append_assoc (memory_of done) (memory_shown x answer) rest)) (record {
         pairing = so.pairing;
         stands = subst (λ (z : Told). Stands c last k so.pairing z.world new (place_after x answer stood) z.place
             (words_after stood.names x answer had) z.words) (sym whole) so.stands;
         text_is = so.text_is ∙ ap (λ (z : Told). z.text) (sym whole);
-      }
+        left = ap (λ (z : Told). z.world.memory) whole ∙ (tells_left (3 + length before) x t
+            (meaning_at c t.place t.words t.place.objects x t.world) ∙ (ap (memory_after x) i.left
+            ∙ memory_left x answer rest));
+      })
 
   -- THE END
 
@@ -246,14 +293,13 @@ module _ (c : Config) (last turns : ℕ) (one : c.threads ≡ 1) (some_turns : t
       (standing w.objects) w.used
       (ap (λ z. in_row c.slots last (λ h. is_there (z h)) Global) same.refs ∙ f.slots.globals_are)
       (ap (λ z. in_row c.slots last (λ h. is_there (z h)) Weak) same.refs ∙ f.slots.weaks_are)
-      (ap (λ t. count_below (c.objects + 1) (λ o. is_some (t o))) same.objects
-      ∙ (f.objects.count ∙ sym (every_stands f.objects)))
+      (ap (λ t. count_below (c.objects + 1) (λ o. is_some (t o))) same.objects ∙ counted f.objects)
       (same.used ∙ f.used)
 
   pub run_means : (part : ThreadPart) (text : List ℕ) → how_many gives_up part.commands ≤ last
       → AllByRecursion IsCovered part.commands
       → IsRun turns last c part text
-      → text ≡ text_of_part memory c part
+      → (memory : List Bool) × (text ≡ text_of_part memory c part)
   run_means part text within firsts r =
       let x = r.explained in
       let all : AllByRecursion IsUnbarred r.left.pass.seen = subst (λ (p : PassView). AllByRecursion IsUnbarred
@@ -270,7 +316,8 @@ module _ (c : Config) (last turns : ℕ) (one : c.threads ≡ 1) (some_turns : t
       let g = given_up_alone x.place.objects x.done r.told (Ok tt) told_alone x.ended in
       let i = all_told 0 part.commands (omega arith) r.lines x.done x.place x.words x.explains r.answers firsts
       (led_alone g told_alone)
-      (all_prefix IsUnbarred x.done.pass.seen r.told.pass.seen g.begins told_all) in
+      (all_prefix IsUnbarred x.done.pass.seen r.told.pass.seen g.begins told_all) [] in
+      let memory : List Bool = memory_of x.explains ++ [] in
       let t = told_from c 3 part.commands (first_told memory) in
       let still : r.told ≡ x.done =
       (subst (λ os. giving_up_all os x.done (Ok tt) r.told) i.stands.outside x.ended).1 in
@@ -278,9 +325,11 @@ module _ (c : Config) (last turns : ℕ) (one : c.threads ≡ 1) (some_turns : t
       (subst (λ (m : ThreadState). IsPass c last m.pass) (sym still) i.stands.pass) alone all in
       let end = ends_so 0 i.pairing t.world (now x.done) (state r.left.pass.seen) i.stands.fits
       (subst (λ (m : ThreadState). SameTables (state m.pass.seen) (state r.left.pass.seen)) still same) in
-      let seen_is : state r.seen ≡ state r.left.pass.seen = ap (λ (p : PassView). state p.seen) (sym r.saw) in
-      r.text_is ∙ (ap (λ l. heading part.name ++ l ++ ending (summary c last (state r.seen))) i.text_is
-      ∙ ap (λ z. heading part.name ++ t.text ++ ending z) (ap (summary c last) seen_is ∙ end))
+      let seen_is : state r.seen ≡ state r.left.pass.seen = ap (λ (p : PassView). state p.seen) (sym r.saw) in (
+        memory,
+        r.text_is ∙ (ap (λ l. heading part.name ++ l ++ ending (summary c last (state r.seen))) i.text_is
+            ∙ ap (λ z. heading part.name ++ t.text ++ ending z) (ap (summary c last) seen_is ∙ end)),
+      )
 
 -- so is the text of any run
 pub meant : (turns last : ℕ) (c : Config) (part : ThreadPart) (text : List ℕ) → c.threads ≡ 1 → in_limits c ≡ true
@@ -288,4 +337,4 @@ pub meant : (turns last : ℕ) (c : Config) (part : ThreadPart) (text : List ℕ
 meant turns last c part text one limits r some few within covered =
     let most : c.locals ≤ 4096 = (limited c limits).locals.1 in
     let rows : c.slots ≤ 65536 = (limited c limits).slots.1 in
-    ([], run_means c last turns one some most rows few [] part text within covered r)
+    run_means c last turns one some most rows few part text within covered r

@@ -15,14 +15,15 @@ use Rattle.jr_model.specs.declared.frames.LocalRef.{LocalRef}
 use Rattle.jr_model.specs.declared.frames.TheConstants.{FRAMES}
 use Rattle.jr_model.specs.State.{Handle, State, same_handle, same_kind}
 use Rattle.jr_model.specs.Steps.{act_after}
-use Rattle.jr_model.specs.Frames.{Frames, all_refs, drop_all, frames_before, free_places, is_held, joined, last_frame}
+use Rattle.jr_model.specs.Frames.{Agree, Frames, all_refs, drop_all, frames_before, free_places, is_held, joined}
+use Rattle.jr_model.specs.Frames.{last_frame}
 use Rattle.jr_model.specs.Frames.{object_of, object_where, popped, pushed}
 use Rattle.jr_model.specs.History.{by, state_from}
 use Rattle.jr_model.specs.Calls.{Call, ◌>>◌, refuse_if}
 use Rattle.jr_model.specs.Checks.{Word, is_local}
 use Rattle.jr_model.specs.Parts.{new_frame, take_frame}
 use Rattle.jr_model.specs.References as references
-use Rattle.jr_model.proofs.Agreement.{joined_before, joined_push, popped_sound, pushed_sound}
+use Rattle.jr_model.proofs.Agreement.{joined_before, joined_push, places_from, popped_at, popped_sound, pushed_sound}
 use Rattle.jr_model.proofs.Counts.{bit}
 use Rattle.jr_model.proofs.Gone.{taken_is_gone}
 use Rattle.jr_model.proofs.Updates.{eq_true, eq_false, eq_other, eq_self}
@@ -54,6 +55,12 @@ drops_keep s [] = record { objects = refl; refs = refl; given = refl; used = ref
 drops_keep s (r ∷ rs) =
     let rest = drops_keep (act_after s 0 (LocalDrop r.handle.index)) rs in
     record { objects = rest.objects; refs = rest.refs; given = rest.given; used = rest.used }
+
+-- and leave the places that are theirs
+places_then : (s : State) (rs : List LocalRef)
+    → (state_from s (map (by 0) (drop_all rs))).locals 0 ≡ places_from (s.locals 0) (drop_all rs)
+places_then s [] = refl
+places_then s (r ∷ rs) = places_then (act_after s 0 (LocalDrop r.handle.index)) rs
 
 -- FRAMES
 
@@ -108,7 +115,7 @@ module _ (c : Config) (last k : ℕ) where
         handles = λ j l. refl;
         objects = λ q l. refl;
         refs_grow = omega arith;
-        objects_grow = omega arith;
+        objects_stay = λ q there. there;
       };
       fits = subst (Fits c last k P (record w { frames = w.frames ++ [] ∷ [] })) (sym (moment_is n.state m.state
           n.frames (pushed m.frames) (r.leads ∙ ap (λ l. state_from m.state (map (by 0) l)) (r.is).0) (r.is).2))
@@ -128,10 +135,11 @@ module _ (c : Config) (last k : ℕ) where
             refs = record {
               given = λ i small. given_then (λ is. is) (λ is. is) (f.refs.given i small);
               once = f.refs.once;
-              stands = λ i small. subst (λ z. RefFits P.object (length w.objects) (P.handle i).kind
+              stands = λ i small. subst (λ z. RefFits P.object w.objects (P.handle i).kind
                   (standing_at w.refs i) (cond (is_local (P.handle i)) (found_local z) (m.state.refs (P.handle i))))
                   (sym (ap (object_where (λ r. same_handle r.handle (P.handle i))) (joined_push m.frames.frames)))
                   (f.refs.stands i small);
+              all = f.refs.all;
             };
             locals = record {
               framed = frames_pushed l.framed;
@@ -144,6 +152,7 @@ module _ (c : Config) (last k : ℕ) where
             slots = f.slots;
             used = f.used;
             space = f.space;
+            agree = λ p. f.agree p ∙ ap (object_where (λ r. r.handle.index == p)) (sym (joined_push m.frames.frames));
           }
 
   -- PUSHLOCALFRAME
@@ -283,26 +292,30 @@ module _ (c : Config) (last k : ℕ) where
     }
 
     popped_refs : (m : Moment) → Fits c last (suc k) P w m
-        → RefsFit c last P (length w.objects) (taken w).refs (popped m.frames) m.state.refs m.state.given
+        → RefsFit c last P w.objects (taken w).refs (popped m.frames) m.state.refs m.state.given
     popped_refs m f = record {
       given = λ j below. given_then (λ is. is) (λ is. is) (f.refs.given j (let long = as_many in omega arith));
       once = λ j n below below'. f.refs.once j n (let long = as_many in omega arith)
           (let long = as_many in omega arith);
       stands = λ j below. stands j (let long = as_many in omega arith);
+      all = λ h there.
+          let j = f.refs.all h there in
+          let small : j.0 < length w.refs = j.1 in
+          (j.0, (let long = as_many in omega arith), j.2);
     }
       where
-        stands : (j : ℕ) → j < length w.refs → RefFits P.object (length w.objects) (P.handle j).kind
+        stands : (j : ℕ) → j < length w.refs → RefFits P.object w.objects (P.handle j).kind
             (standing_at (without (newest_frame w.frames) w.refs) j)
             (found_of (popped m.frames) m.state.refs (P.handle j))
         stands j below = go (left_of P (length w.refs) f.refs.once j below (newest_fits f.locals.framed) w.refs refl)
           where
             go : IsLeft P j (newest_frame w.frames) (last_frame m.frames.frames) w.refs
-                → RefFits P.object (length w.objects) (P.handle j).kind
+                → RefFits P.object w.objects (P.handle j).kind
                 (standing_at (without (newest_frame w.frames) w.refs) j)
                 (found_of (popped m.frames) m.state.refs (P.handle j))
-            go (inl x) = subst (λ z. RefFits P.object (length w.objects) (P.handle j).kind z
+            go (inl x) = subst (λ z. RefFits P.object w.objects (P.handle j).kind z
                 (found_of (popped m.frames) m.state.refs (P.handle j))) (sym x.0)
-                (subst (RefFits P.object (length w.objects) (P.handle j).kind None)
+                (subst (RefFits P.object w.objects (P.handle j).kind None)
                 (sym (found_own (popped m.frames) m.state.refs (P.handle j) x.1
                 ∙ ap found_local ((taken_is_gone m.frames (P.handle j) f.locals.sound).1 x.2))) tt)
             go (inr x) =
@@ -310,18 +323,26 @@ module _ (c : Config) (last k : ℕ) where
                 ap (object_where (λ r. same_handle r.handle (P.handle j))) (joined_before m.frames.frames)
                 ∙ where_front (λ r. same_handle r.handle (P.handle j)) (joined (frames_before m.frames.frames))
                 (last_frame m.frames.frames) x.1 in
-                subst (λ z. RefFits P.object (length w.objects) (P.handle j).kind z
+                subst (λ z. RefFits P.object w.objects (P.handle j).kind z
                 (found_of (popped m.frames) m.state.refs (P.handle j))) (sym x.0)
-                (subst (λ z. RefFits P.object (length w.objects) (P.handle j).kind (standing_at w.refs j)
+                (subst (λ z. RefFits P.object w.objects (P.handle j).kind (standing_at w.refs j)
                 (cond (is_local (P.handle j)) (found_local z) (m.state.refs (P.handle j)))) same
                 (f.refs.stands j below))
 
     popped_count : (m : Moment) (f : Fits c last (suc k) P w m) (kind : RefKind) → same_kind kind Local ≡ false
         → refs_of kind (taken w) ≡ refs_of kind w
     popped_count m f kind other = without_count P (length w.refs) (is_ref_of kind) refl (newest_fits f.locals.framed)
-        w.refs refl (λ j small local. kind_of_ref P.object (length w.objects) (P.handle j).kind (standing_at w.refs j)
+        w.refs refl (λ j small local. kind_of_ref P.object w.objects (P.handle j).kind (standing_at w.refs j)
         (found_of m.frames m.state.refs (P.handle j)) kind (f.refs.stands j small)
         (ap (λ z. same_kind kind z) local ∙ other))
+
+    agreed : (m n : Moment) → Fits c last (suc k) P w m
+        → n.state ≡ state_from m.state (map (by 0) (drop_all (last_frame m.frames.frames)))
+        → n.frames ≡ popped m.frames → Agree 0 n.frames n.state
+    agreed m n f state_is frames_are = subst (λ g. Agree 0 g n.state) (sym frames_are)
+        (subst (Agree 0 (popped m.frames)) (sym state_is) (λ p. ap (λ (l : ℕ → Option ℕ). l p)
+        (places_then m.state (last_frame m.frames.frames))
+        ∙ popped_at m.frames f.locals.sound (m.state.locals 0) f.agree p))
 
     take_means : Means c last (suc k) k (IsDone {A = Unit {0}} {B = Unit {0}}) P w take_frame (λ v. (Ok tt, taken v))
     take_means = record {
@@ -335,12 +356,12 @@ module _ (c : Config) (last k : ℕ) where
               handles = λ j l. refl;
               objects = λ q l. refl;
               refs_grow = (let long = as_many in omega arith);
-              objects_grow = omega arith;
+              objects_stay = λ q there. there;
             };
             fits = record {
-              refs = subst (λ z. RefsFit c last P (length w.objects) (taken w).refs n.frames z n.state.given)
-                  (sym tables.refs) (subst (RefsFit c last P (length w.objects) (taken w).refs n.frames m.state.refs)
-                  (sym tables.given) (subst (λ z. RefsFit c last P (length w.objects) (taken w).refs z m.state.refs
+              refs = subst (λ z. RefsFit c last P w.objects (taken w).refs n.frames z n.state.given)
+                  (sym tables.refs) (subst (RefsFit c last P w.objects (taken w).refs n.frames m.state.refs)
+                  (sym tables.given) (subst (λ z. RefsFit c last P w.objects (taken w).refs z m.state.refs
                   m.state.given) (sym (r.is).2) (popped_refs m f)));
               locals = subst (LocalsFit c last k P (length (taken w).refs) (taken w).frames)
                   (sym (r.is).2) (popped_locals m f);
@@ -351,6 +372,7 @@ module _ (c : Config) (last k : ℕ) where
               objects = subst (ObjectsFit c P.object w.objects) (sym tables.objects) f.objects;
               used = tables.used ∙ f.used;
               space = f.space;
+              agree = agreed m n f (r.leads ∙ ap (λ l. state_from m.state (map (by 0) l)) (r.is).0) (r.is).2;
             };
             answers = subst (λ z. SameAnswer (IsDone {A = Unit {0}} {B = Unit {0}} P (taken w)) z (Ok tt))
                 (sym (r.is).1) tt;

@@ -14,7 +14,7 @@ use Rattle.jr_scripts.specs.declared.reply.Reply.TheVariants as replies
 use Rattle.jr_scripts.specs.declared.binding.Binding.TheVariants as bound
 use Rattle.jr_scripts.specs.Names.{Names, with_name}
 use Rattle.jr_scripts.specs.Places.{Place, objects_after, place_after}
-use Rattle.jr_scripts.specs.Posting.{Words, words_after}
+use Rattle.jr_scripts.specs.Posting.{ThreadWords, words_after}
 use Rattle.jr_scripts.specs.Text.{names_after, printed, reference_made, says}
 use Rattle.jr_scripts.specs.AloneAnswers.{IsCommandFault}
 use Rattle.jr_scripts.specs.Meaning.{World, gives_up}
@@ -48,12 +48,12 @@ err_formed F form (Err e) h = h
 
 -- a command with this answer sets no name, changes no level, and says and hears nothing
 abbrev pub Keeps : Command → Result Reply Fault → Type 0
-Keeps x a = (names : Names) (objects : List ℕ) (words : Words)
+Keeps x a = (names : Names) (objects : List ℕ) (words : ThreadWords)
     → (names_after x a names ≡ names) × (objects_after x a objects ≡ objects) × (words_after names x a words ≡ words)
 
 -- one that makes something sets this name alone
 abbrev pub Sets : Command → List ℕ → Type 0
-Sets x n = (h : Option HandleWord) (names : Names) (objects : List ℕ) (words : Words)
+Sets x n = (h : Option HandleWord) (names : Names) (objects : List ℕ) (words : ThreadWords)
     → (names_after x (Ok (replies.Made h)) names ≡ with_name names n (bound.Reference (reference_made h)))
     × (objects_after x (Ok (replies.Made h)) objects ≡ objects)
     × (words_after names x (Ok (replies.Made h)) words ≡ words)
@@ -72,7 +72,8 @@ left_before x k = left_then (gives_up x) k
 
 module _ (c : Config) (last : ℕ) where
   -- THE THREAD STANDS as in the world, with names for the same and the same words, and outside a region
-  pub record Stands (k : ℕ) (P : Pairing) (w : World) (m : ThreadState) (p q : Place) (had told : Words) : Type 0 where
+  pub record Stands (k : ℕ) (P : Pairing) (w : World) (m : ThreadState) (p q : Place)
+      (had told : ThreadWords) : Type 0 where
     pub pass : IsPass c last m.pass
     pub fits : Fits c last k P w (now m)
     pub names : NamesFit P w p.names q.names
@@ -81,7 +82,7 @@ module _ (c : Config) (last : ℕ) where
     pub words : WordsFit P w had told
 
   -- THE COMMAND WAS DONE as it means: it printed the same, and the thread stands as in the world then
-  pub record Stepped (k : ℕ) (x : Command) (new : ThreadState) (p q : Place) (had told : Words)
+  pub record Stepped (k : ℕ) (x : Command) (new : ThreadState) (p q : Place) (had told : ThreadWords)
       (answer : Result Reply Fault) (r : Result Reply Fault × World) : Type 0 where
     pub pairing : Pairing
     pub stands : Stands k pairing r.1 new (place_after x answer p) (place_after x r.0 q)

@@ -1,5 +1,5 @@
 -- What a lone thread's calls mean that write elements.
-use Rattle.std.proofs.Common.{◌≡◌, ◌≢◌, ℕ, ◌<◌, ◌≤◌, ◌+◌, ◌==◌, Bool, true, false, nat_eq, nat_le, Option, Some, None}
+use Rattle.std.proofs.Common.{◌≡◌, ◌≢◌, ℕ, ◌<◌, ◌≤◌, ◌==◌, Bool, true, false, nat_eq, nat_le, Option, Some}
 use Rattle.std.proofs.Common.{IsSome, [], ◌∷◌, length, slice_index, slice_set, Ok, refl, sym, ap, subst, ◌∙◌, arith}
 use Rattle.std.proofs.Common.{get_or-set_other, get_or-set_same}
 use Rattle.std.proofs.lemmas.List.{length-set}
@@ -19,78 +19,95 @@ use Rattle.jr_scripts.specs.Meaning.{World, Meaning, element_to, goes_on, refuse
 use Rattle.jr_scripts.specs.Meaning.{wanted_object}
 use Rattle.jr_scripts.specs.Meaning as meaning
 use Rattle.jr_scripts.proofs.LoneRun.MadeCalls.{Moment, moment, moment_is, stepped}
-use Rattle.jr_scripts.proofs.LoneRun.MeaningCounts.{at_set, count_put}
+use Rattle.jr_scripts.proofs.LoneRun.MeaningCounts.{at_set}
 use Rattle.jr_scripts.proofs.LoneRun.MeaningFrames.{Pairing}
-use Rattle.jr_scripts.proofs.LoneRun.MeaningFits.{AreAlike, ContentsFit, ElementFits, Fits, IsDone, Later, RefsFit}
-use Rattle.jr_scripts.proofs.LoneRun.MeaningFits.{Means, SameAnswer, bind_means, both_there, entered_means, means_as}
-use Rattle.jr_scripts.proofs.LoneRun.MeaningParts.{OptionFits, object_later, option_later}
+use Rattle.jr_scripts.proofs.LoneRun.MeaningFits.{AreAlike, ContentsFit, ElementFits, Fits, IsDone, Later}
+use Rattle.jr_scripts.proofs.LoneRun.MeaningFits.{Means, SameAnswer, bind_means, both_there, each_later, entered_means}
+use Rattle.jr_scripts.proofs.LoneRun.MeaningFits.{found_of, means_as}
+use Rattle.jr_scripts.proofs.LoneRun.MeaningParts.{OptionFits, object_later, option_later, ref_later}
+use Rattle.jr_scripts.proofs.LoneRun.MeaningMatches.{IsStanding, standing_below}
 use Rattle.jr_scripts.proofs.LoneRun.MeaningCalls.{BothFits, WordFits, both_in_turn, both_means, element_fits}
 use Rattle.jr_scripts.proofs.LoneRun.MeaningObjects.{ElementFound, HeadersFit, PartFits, Wanted, checks_mean}
 use Rattle.jr_scripts.proofs.LoneRun.MeaningObjects.{element_checks, element_shape, element_tests, found_means}
 use Rattle.jr_scripts.proofs.LoneRun.MeaningObjects.{headers_later, meant_in, part_means, primitive_so, there}
 
-module _ (c : Config) (last k : ℕ) (P : Pairing) (w : World) (o : ℕ) (small : o < length w.objects) where
+module _ (c : Config) (last k : ℕ) (P : Pairing) (w : World) (o : ℕ) (stood : IsStanding w.objects o) where
   -- OTHER CONTENTS of an object
   abbrev put : Contents → World
   put x = record w { objects = slice_set w.objects o (Some x) }
 
-  as_long : (x : Contents) → length (put x).objects ≡ length w.objects
-  as_long x = length-set w.objects o (Some x)
+  small : o < length w.objects
+  small = standing_below w.objects o stood
 
-  module _ (x y : Contents) (alike : AreAlike P.object (length w.objects) x y) (m : Moment) (f : Fits c last k P w m)
+  -- as many stand as stood
+  pub put_stands : (x : Contents) (q : ℕ) → IsStanding w.objects q → IsStanding (put x).objects q
+  put_stands x q stands = at_set w.objects o q (Some x) IsSome (λ e. refl) (λ ne. stands) small
+
+  was_standing : (x : Contents) (q : ℕ) → IsStanding (put x).objects q → IsStanding w.objects q
+  was_standing x q = at_set w.objects o q (Some x) (λ z. IsSome z → IsStanding w.objects q)
+      (λ e some. subst (IsStanding w.objects) e stood) (λ ne some. some) small
+
+  module _ (x y : Contents) (alike : AreAlike P.object w.objects x y) (m : Moment) (f : Fits c last k P w m)
     where
       abbrev there_then : ℕ → Option Contents
       there_then = update nat_eq m.state.objects (P.object o) (Some y)
 
-      was_there : (q : ℕ) → q < length w.objects → IsSome (m.state.objects (P.object q))
+      was_there : (q : ℕ) → IsStanding w.objects q → IsSome (m.state.objects (P.object q))
       was_there q below =
-          (both_there P.object (length w.objects) (standing_at w.objects q) (m.state.objects (P.object q))
+          (both_there P.object w.objects (standing_at w.objects q) (m.state.objects (P.object q))
           (f.objects.alike q below)).1
 
-      alike_then : (q : ℕ) → q < length w.objects
-          → ContentsFit P.object (length w.objects) (standing_at (put x).objects q) (there_then (P.object q))
+      alike_then : (q : ℕ) → IsStanding w.objects q
+          → ContentsFit P.object w.objects (standing_at (put x).objects q) (there_then (P.object q))
       alike_then q below = at_set w.objects o q (Some x)
-          (λ z. ContentsFit P.object (length w.objects) z (there_then (P.object q))) here stays small
+          (λ z. ContentsFit P.object w.objects z (there_then (P.object q))) here stays small
         where
-          here : o ≡ q → ContentsFit P.object (length w.objects) (Some x) (there_then (P.object q))
-          here same = subst (ContentsFit P.object (length w.objects) (Some x))
+          here : o ≡ q → ContentsFit P.object w.objects (Some x) (there_then (P.object q))
+          here same = subst (ContentsFit P.object w.objects (Some x))
               (sym (ap (λ z. there_then (P.object z)) (sym same)
               ∙ at_number_self m.state.objects (P.object o) (Some y))) alike
 
           stays : o ≢ q
-              → ContentsFit P.object (length w.objects) (standing_at w.objects q) (there_then (P.object q))
-          stays other = at_number (λ z. ContentsFit P.object (length w.objects) (standing_at w.objects q) z)
+              → ContentsFit P.object w.objects (standing_at w.objects q) (there_then (P.object q))
+          stays other = at_number (λ z. ContentsFit P.object w.objects (standing_at w.objects q) z)
               m.state.objects (P.object o) (P.object q) (Some y)
-              (λ e. absurd (other (f.objects.apart o q small below e))) (λ ne. f.objects.alike q below)
+              (λ e. absurd (other (f.objects.apart o q stood below e))) (λ ne. f.objects.alike q below)
 
-      put_fits : Fits c last k P (put x) (moment (record m.state { objects = there_then }) m.frames)
+      pub put_fits : Fits c last k P (put x) (moment (record m.state { objects = there_then }) m.frames)
       put_fits = record {
-        refs = subst (λ n. RefsFit c last P n w.refs m.frames m.state.refs m.state.given) (sym (as_long x)) f.refs;
+        refs = record {
+          given = f.refs.given;
+          once = f.refs.once;
+          stands = λ i less. ref_later P.object P.object w.objects (put x).objects (P.handle i).kind
+              (standing_at w.refs i) (found_of m.frames m.state.refs (P.handle i)) (put_stands x) (λ q there. refl)
+              (f.refs.stands i less);
+          all = f.refs.all;
+        };
         locals = f.locals;
         objects = record {
-          count = count_put (c.objects + 1) m.state.objects (P.object o) y (was_there o small)
-              ∙ (f.objects.count ∙ sym (as_long x));
-          no_zero = at_number (λ z. z ≡ None) m.state.objects (P.object o) 0 (Some y)
-              (λ e. absurd (let some = was_there o small in let none = f.objects.no_zero in
-              let bad = subst (λ z. IsSome z) (ap m.state.objects e ∙ none) some in cc)) (λ ne. f.objects.no_zero);
-          alike = λ q below. subst
-              (λ n. ContentsFit P.object n (standing_at (put x).objects q) (there_then (P.object q))) (sym (as_long x))
-              (alike_then q (let long = as_long x in omega arith));
-          apart = λ q r below below'. f.objects.apart q r (let long = as_long x in omega arith)
-              (let long = as_long x in omega arith);
+          within = λ p. at_number (λ z. IsSome z → (1 ≤ p) × (p ≤ c.objects)) m.state.objects (P.object o) p (Some y)
+              (λ e some. f.objects.within p (subst (λ z. IsSome (m.state.objects z)) e (was_there o stood)))
+              (λ ne some. f.objects.within p some);
+          all = λ p. at_number (λ z. IsSome z → (q : ℕ) × IsStanding (put x).objects q × (P.object q ≡ p))
+              m.state.objects (P.object o) p (Some y) (λ e some. (o, put_stands x o stood, e))
+              (λ ne some. let q = f.objects.all p some in (q.0, put_stands x q.0 q.1, q.2));
+          alike = λ q there. each_later w.objects (put x).objects (put_stands x) (λ r stands. refl)
+              (standing_at (put x).objects q) (there_then (P.object q)) (alike_then q (was_standing x q there));
+          apart = λ q r there there'. f.objects.apart q r (was_standing x q there) (was_standing x r there');
         };
         slots = f.slots;
         used = f.used;
         space = f.space;
+        agree = f.agree;
       }
 
   -- ONE ELEMENT IS WRITTEN
-  module _ (i e v : ℕ) (fits : ElementFits P.object (length w.objects) (is_objects (meant_in w o).kind) e v) where
+  module _ (i e v : ℕ) (fits : ElementFits P.object w.objects (is_objects (meant_in w o).kind) e v) where
     abbrev written_words : Contents
     written_words = record { kind = (meant_in w o).kind; words = slice_set (meant_in w o).words i e }
 
-    written_alike : (y : Contents) → AreAlike P.object (length w.objects) (meant_in w o) y
-        → AreAlike P.object (length w.objects) written_words (record { kind = y.kind; words = slice_set y.words i v })
+    written_alike : (y : Contents) → AreAlike P.object w.objects (meant_in w o) y
+        → AreAlike P.object w.objects written_words (record { kind = y.kind; words = slice_set y.words i v })
     written_alike y a = record {
       kind = a.kind;
       long = length-set y.words i v ∙ (a.long ∙ sym (length-set (meant_in w o).words i e));
@@ -98,23 +115,23 @@ module _ (c : Config) (last k : ℕ) (P : Pairing) (w : World) (o : ℕ) (small 
     }
       where
         Alike : ℕ → Type 0
-        Alike j = ElementFits P.object (length w.objects) (is_objects (meant_in w o).kind)
+        Alike j = ElementFits P.object w.objects (is_objects (meant_in w o).kind)
             (slice_index (slice_set (meant_in w o).words i e) j) (slice_index (slice_set y.words i v) j)
 
         go : (j : ℕ) → j < length (meant_in w o).words → (b : Bool) → (i == j) ≡ b → Alike j
         go j below true is =
             let same : i ≡ j = eq_true i j is in
             let long : length y.words ≡ length (meant_in w o).words = a.long in
-            subst Alike same (subst (λ z. ElementFits P.object (length w.objects) (is_objects (meant_in w o).kind) z
+            subst Alike same (subst (λ z. ElementFits P.object w.objects (is_objects (meant_in w o).kind) z
             (slice_index (slice_set y.words i v) i))
             (sym (get_or-set_same (meant_in w o).words i e 0 (omega arith)))
-            (subst (ElementFits P.object (length w.objects) (is_objects (meant_in w o).kind) e)
+            (subst (ElementFits P.object w.objects (is_objects (meant_in w o).kind) e)
             (sym (get_or-set_same y.words i v 0 (omega arith))) fits))
         go j below false is =
             let other : j ≢ i = λ z. eq_false i j is (sym z) in
-            subst (λ z. ElementFits P.object (length w.objects) (is_objects (meant_in w o).kind) z
+            subst (λ z. ElementFits P.object w.objects (is_objects (meant_in w o).kind) z
             (slice_index (slice_set y.words i v) j)) (sym (get_or-set_other (meant_in w o).words i j e 0 other))
-            (subst (ElementFits P.object (length w.objects) (is_objects (meant_in w o).kind)
+            (subst (ElementFits P.object w.objects (is_objects (meant_in w o).kind)
             (slice_index (meant_in w o).words j)) (sym (get_or-set_other y.words i j v 0 other)) (a.words j below))
 
     pub written_means : (p : ℕ) → P.object o ≡ p
@@ -122,7 +139,7 @@ module _ (c : Config) (last k : ℕ) (P : Pairing) (w : World) (o : ℕ) (small 
         (meaning.rewrites o (meant_in w o) (slice_set (meant_in w o).words i e))
     written_means p named = record {
       outcome = λ m n x f r.
-          let here = there o f small in
+          let here = there o f stood in
           let y : Contents = record { kind = (here.contents).kind; words = slice_set (here.contents).words i v } in
           let put_there : written (m.state.objects p) i v ≡ Some y =
           ap (λ z. written z i v) (ap m.state.objects (sym named) ∙ here.is) in
@@ -136,7 +153,7 @@ module _ (c : Config) (last k : ℕ) (P : Pairing) (w : World) (o : ℕ) (small 
               handles = λ j l. refl;
               objects = λ q l. refl;
               refs_grow = omega arith;
-              objects_grow = (let long = as_long written_words in omega arith);
+              objects_stay = put_stands written_words;
             };
             fits = subst (Fits c last k P (put written_words)) (sym (moment_is n.state
                 (record m.state { objects = update nat_eq m.state.objects (P.object o) (Some y) }) n.frames m.frames
@@ -165,8 +182,8 @@ module _ (c : Config) (last k : ℕ) where
       (written_means c last k Q w o (x.1).0 i word word (plain Q) p (x.1).1)))
     where
       plain : (Q : Pairing)
-          → ElementFits Q.object (length w.objects) (is_objects (meant_in w o).kind) word word
-      plain Q = subst (λ b. ElementFits Q.object (length w.objects) b word word)
+          → ElementFits Q.object w.objects (is_objects (meant_in w o).kind) word word
+      plain Q = subst (λ b. ElementFits Q.object w.objects b word word)
           (sym (ap is_objects (sym kind) ∙ (primitive_so t numbers).1)) refl
 
   -- SETOBJECTARRAYELEMENT
@@ -213,5 +230,5 @@ module _ (c : Config) (last k : ℕ) where
           written R l holds =
               let here = object_later l named.named in
               written_means c last k R w o here.0 i (element_to y) (element_word x)
-              (subst (λ b. ElementFits R.object (length w.objects) b (element_to y) (element_word x)) (sym holds)
+              (subst (λ b. ElementFits R.object w.objects b (element_to y) (element_word x)) (sym holds)
               (element_fits c last k R w x y (option_later l x y same))) p here.1

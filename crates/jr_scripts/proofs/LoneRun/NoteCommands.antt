@@ -7,10 +7,10 @@ use Rattle.jr_word.specs.declared.fault.Fault.{Fault}
 use Rattle.jr_word.specs.declared.fault.Fault.TheVariants.{Turns}
 use Rattle.jr_model.specs.History.{state}
 use Rattle.jr_model.proofs.Stays.{sees_its_own_acts}
-use Rattle.jr_gate.specs.Performing.{ThreadState}
+use Rattle.jr_gate.specs.Performing.{HasLearned, ThreadState}
 use Rattle.jr_syntax.specs.declared.command.Command.TheVariants as commands
 use Rattle.jr_syntax.specs.declared.verb.Make.TheVariants as make
-use Rattle.jr_scripts.specs.Commands.{HasLearned, awaited, deed}
+use Rattle.jr_scripts.specs.Commands.{awaited, deed}
 use Rattle.jr_scripts.specs.Meaning.{World}
 use Rattle.jr_syntax.specs.declared.verb.OnName.TheVariants as on_name
 use Rattle.jr_scripts.specs.declared.reply.Reply.{Reply}
@@ -18,7 +18,7 @@ use Rattle.jr_scripts.specs.declared.reply.Reply.TheVariants as replies
 use Rattle.jr_scripts.specs.declared.binding.Binding.TheVariants as bound
 use Rattle.jr_scripts.specs.Names.{binding, word_posted}
 use Rattle.jr_scripts.specs.Places.{Place}
-use Rattle.jr_scripts.specs.Posting.{IsAnswered, Words, reply_to_wait, said_alone, word_under}
+use Rattle.jr_scripts.specs.Posting.{IsAnswered, ThreadWords, reply_to_wait, said_alone, word_under}
 use Rattle.jr_scripts.proofs.LoneRun.MadeCalls.{moment_is}
 use Rattle.jr_scripts.proofs.LoneRun.MeaningFrames.{Pairing}
 use Rattle.jr_scripts.proofs.LoneRun.MeaningFits.{Fits, fits_less, later_self}
@@ -28,7 +28,7 @@ use Rattle.jr_scripts.proofs.LoneRun.MeaningStands.{Stepped, pass_later}
 use Rattle.jr_scripts.proofs.LoneRun.CommandSteps.{Turn, Steps, IsThen, kept_step, nothing_then, at_most}
 
 module _ {c : Config} {last turns j k : ℕ} {P : Pairing} {w : World} {old new : ThreadState} {p q : Place}
-    {had told : Words} (s : Turn c last turns j k P w old new p q had told) where
+    {had told : ThreadWords} (s : Turn c last turns j k P w old new p q had told) where
   -- POST
 
   pub post_step : j ≡ k → (n : List ℕ) (answer : Result Reply Fault)

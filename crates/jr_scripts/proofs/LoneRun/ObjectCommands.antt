@@ -26,7 +26,7 @@ use Rattle.jr_scripts.specs.declared.reply.Reply.{Reply}
 use Rattle.jr_scripts.specs.declared.reply.Reply.TheVariants as replies
 use Rattle.jr_scripts.specs.Names.{referent, wanted}
 use Rattle.jr_scripts.specs.Places.{Place}
-use Rattle.jr_scripts.specs.Posting.{Words}
+use Rattle.jr_scripts.specs.Posting.{ThreadWords}
 use Rattle.jr_scripts.specs.AloneAnswers.{IsCommandFault}
 use Rattle.jr_scripts.proofs.AloneCalls.{LeadsAlone}
 use Rattle.jr_scripts.specs.Meaning as meaning
@@ -39,7 +39,7 @@ use Rattle.jr_scripts.proofs.LoneRun.CommandSteps.{Turn, Steps, CallMeant, made_
 use Rattle.jr_scripts.proofs.LoneRun.CommandSteps.{even, at_most}
 
 module _ {c : Config} {last turns j k : ℕ} {P : Pairing} {w : World} {old new : ThreadState} {p q : Place}
-    {had told : Words} (s : Turn c last turns j k P w old new p q had told) where
+    {had told : ThreadWords} (s : Turn c last turns j k P w old new p q had told) where
   -- PLAIN
 
   some_once : (once : Result Handle Fault) (r : Result ℕ Fault × World)

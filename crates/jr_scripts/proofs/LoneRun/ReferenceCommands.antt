@@ -1,10 +1,12 @@
 -- What a lone thread's commands of references mean.
-use Rattle.std.proofs.Common.{◌≡◌, ℕ, zero, suc, Bool, true, None, List, Result, Ok, IfErr, refl, sym, ap, subst, ◌∙◌}
+use Rattle.std.proofs.Common.{◌≡◌, ℕ, zero, suc, Bool, true, None, List, Result, Ok, Err, IfErr, refl, sym, ap, subst}
+use Rattle.std.proofs.Common.{◌∙◌}
 use Rattle.std.proofs.Common.{arith}
 use Rattle.jr_word.specs.declared.config.Config.{Config}
 use Rattle.jr_word.specs.declared.fault.Fault.{Fault}
 use Rattle.jr_word.specs.declared.handle.Handle.{Handle as HandleWord}
 use Rattle.jr_word.specs.declared.handle.RefKind.{RefKind}
+use Rattle.jr_word.specs.declared.fault.Fault.TheVariants.{WrongKind}
 use Rattle.jr_word.specs.declared.handle.RefKind.TheVariants.{Local, Global, Weak}
 use Rattle.jr_model.specs.State.{Handle, same_kind}
 use Rattle.jr_model.specs.Calls.{Call}
@@ -30,7 +32,7 @@ use Rattle.jr_scripts.specs.declared.binding.Binding.{Binding}
 use Rattle.jr_scripts.specs.declared.binding.Binding.TheVariants as bound
 use Rattle.jr_scripts.specs.Names.{reference_in, referent, wanted}
 use Rattle.jr_scripts.specs.Places.{Place}
-use Rattle.jr_scripts.specs.Posting.{Words}
+use Rattle.jr_scripts.specs.Posting.{ThreadWords}
 use Rattle.jr_scripts.specs.AloneAnswers.{IsCommandFault}
 use Rattle.jr_scripts.proofs.Uncontended.{Asked}
 use Rattle.jr_scripts.specs.Meaning as meaning
@@ -43,7 +45,7 @@ use Rattle.jr_scripts.proofs.LoneRun.CommandSteps.{Turn, Steps, kept_step, nothi
 use Rattle.jr_scripts.proofs.LoneRun.CommandSteps.{same_after, wanted_step, handles, even, at_most, made_of_step}
 
 module _ {c : Config} {last turns j k : ℕ} {P : Pairing} {w : World} {old new : ThreadState} {p q : Place}
-    {had told : Words} (s : Turn c last turns j k P w old new p q had told) where
+    {had told : ThreadWords} (s : Turn c last turns j k P w old new p q had told) where
   -- GLOBAL, WEAK and LOCAL
 
   pub global_step : j ≡ k → (n : List ℕ) (r : Reference) (answer : Result Reply Fault)
@@ -238,8 +240,15 @@ module _ {c : Config} {last turns j k : ℕ} {P : Pairing} {w : World} {old new 
       same_after s x answer {V = IsSame {A = ℕ}} (λ z. replies.Type z) (λ z. replies.Type z) (λ Q z y y' e. ap
       (λ z. replies.Type z) e) (λ y names os ws. (refl, refl, refl)) (λ y names os ws. (refl, refl, refl))
       (λ e names os ws. (refl, refl, refl)) f.once (meaning.type_meant g.0 w) i f.is
+  type_step one r answer fault (bound.Buffer b) (bound.Buffer e) fits d =
+      let x = commands.On on.Type r in
+      let d' = after_decided (λ h. type_of turns h >>= (λ z. done (replies.Type z))) old new answer
+      (reference_in (bound.Buffer b)) d in
+      kept_step s x answer P w (Err WrongKind) (Err WrongKind) (nothing_then s d'.1 (at_most one)) d'.0
+      (λ names os ws. (refl, refl, refl)) (λ names os ws. (refl, refl, refl)) (λ line. refl)
   type_step one r answer fault bound.Nothing (bound.Reference g) fits d = absurd fits
   type_step one r answer fault bound.Nothing (bound.Buffer b) fits d = absurd fits
   type_step one r answer fault (bound.Reference h) bound.Nothing fits d = absurd fits
   type_step one r answer fault (bound.Reference h) (bound.Buffer b) fits d = absurd fits
-  type_step one r answer fault (bound.Buffer b) b' fits d = absurd fits
+  type_step one r answer fault (bound.Buffer b) bound.Nothing fits d = absurd fits
+  type_step one r answer fault (bound.Buffer b) (bound.Reference g) fits d = absurd fits

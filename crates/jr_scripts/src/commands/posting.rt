@@ -2,7 +2,7 @@
 
 ghost use Rattle.std.specs.Prelude.{◌≡◌, ℕ, Option, IfNone, Ok};
 ghost use Rattle.jr_scripts.specs.declared.reply.Reply.TheVariants.{Done};
-ghost use Rattle.jr_scripts.specs.Posting.{reply_to_wait, word_under as word_of_name, words_found, words_with, Follows, HasLookedFor, HasPosted, HasWaited, Keeps, WasInVain, Words};
+ghost use Rattle.jr_scripts.specs.Posting.{reply_to_wait, word_under as word_of_name, words_found, words_with, Follows, HasLookedFor, HasPosted, HasWaited, Keeps, WasInVain, ThreadWords};
 
 use crate::board::Board;
 use crate::reply::Reply;
@@ -79,9 +79,9 @@ pub(crate) fn post<S: Steps, B: Board<S>>(
     word: u64,
 ) -> Result<Reply, Fault>
     requires there { (B.tells board.old).serves (S.facts env.old.held.steps).stands.room }
-    requires follows { (words : Words) × B.follows board.old words }
+    requires follows { (words : ThreadWords) × B.follows board.old words }
     ensures done { result ≡ Ok Done }
-    ensures posted { (words : Words) → B.follows board.old words → HasPosted S.facts env.old.held.steps env.new.held.steps (B.tells board.new) words name.now word }
+    ensures posted { (words : ThreadWords) → B.follows board.old words → HasPosted S.facts env.old.held.steps env.new.held.steps (B.tells board.new) words name.now word }
     ensures frames { env.new.held.frames ≡ env.old.held.frames }
     ensures follows { Follows B.follows board.old board.new (λ words. words_with words name.now word) }
     ensures kept { Keeps B.layout B.tells board.old board.new }

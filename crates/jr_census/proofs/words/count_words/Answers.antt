@@ -1,5 +1,5 @@
 use Rattle.std.proofs.Common.{◌-◌, arith}
-use Rattle.jr_census.specs.declared.words.Words.{Words}
+use Rattle.jr_census.specs.declared.words.WordCounts.{WordCounts}
 use Rattle.jr_census.specs.Counts.{HaveWords}
 use Rattle.jr_census.proofs.WordsCounted.{used_most, words_told}
 use Rattle.jr_census.proofs.words.count_words.Goals as goal
@@ -25,7 +25,7 @@ returns g c =
     used_most g.met.S.Steps.fits present unreached used c.requires.role c.requires.few c.scan_top-used.ensures in
     let fit = most.0 in
     let room = most.1 in
-    let words : Words = record {
+    let words : WordCounts = record {
       used = used;
       lost = used - present;
       reached = present - unreached;

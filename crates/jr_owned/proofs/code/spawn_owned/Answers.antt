@@ -1,4 +1,4 @@
-use Rattle.std.proofs.Common.{◌≡◌, IfOk, ap, length, subst, sym}
+use Rattle.std.proofs.Common.{◌≡◌, IfOk, length, subst}
 use Rattle.jr_owned.proofs.Owners.{passes_long}
 use Rattle.jr_owned.proofs.code.spawn_owned.Goals as goal
 

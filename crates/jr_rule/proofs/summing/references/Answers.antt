@@ -9,23 +9,23 @@ loop-index-init g c = record { few = omega arith; is = λ last log h. sym (sum_n
 
 pub word-word-requires : goal.word-word-requires
 word-word-requires g c =
-    subst (λ j. j < length (g.W.Words.words c.args.row.now)) (sym c.slot_at.ensures)
-    (slot_in c.args.config.now (g.W.Words.words c.args.row.now) c.requires.limited c.requires.history c.loop-index.index
-    (omega arith))
+    subst (λ j. j < length (g.W.RowWords.words c.args.row.now)) (sym c.slot_at.ensures)
+    (slot_in c.args.config.now (g.W.RowWords.words c.args.row.now) c.requires.limited c.requires.history
+    c.loop-index.index (omega arith))
 
 pub unwrap-requires : goal.unwrap-requires
 unwrap-requires g c =
-    slot_some c.args.config.now (g.W.Words.words c.args.row.now) c.requires.limited c.requires.history
+    slot_some c.args.config.now (g.W.RowWords.words c.args.row.now) c.requires.limited c.requires.history
     c.loop-index.index c.parts.result (omega arith)
     (λ p fits is. c.parts.ensures.complete p fits (c.word-word.ensures
-    ∙ (ap (λ j. get_or (g.W.Words.words c.args.row.now) j 0) c.slot_at.ensures ∙ is)))
+    ∙ (ap (λ j. get_or (g.W.RowWords.words c.args.row.now) j 0) c.slot_at.ensures ∙ is)))
 
 pub loop-index-preserved : goal.loop-index-preserved
 loop-index-preserved g c =
-    let one = one_more_slot c.args.config.now (g.W.Words.words c.args.row.now) c.requires.limited c.args.kind
+    let one = one_more_slot c.args.config.now (g.W.RowWords.words c.args.row.now) c.requires.limited c.args.kind
     c.loop-index.index c.loop-index.count c.if-is_reference.count c.unwrap.result c.loop-index.invariant (omega arith)
     (λ p fits is. sym c.unwrap.ensures ∙ c.parts.ensures.complete p fits (c.word-word.ensures
-    ∙ (ap (λ j. get_or (g.W.Words.words c.args.row.now) j 0) c.slot_at.ensures ∙ is))) in
+    ∙ (ap (λ j. get_or (g.W.RowWords.words c.args.row.now) j 0) c.slot_at.ensures ∙ is))) in
     elim c.if-is_reference.branch [
       | then-is_reference w ↦ one true (sym w.if-is_reference.true ∙ c.is_reference.ensures) w.count-is
       | else-is_reference w ↦ one false (sym w.if-is_reference.false ∙ c.is_reference.ensures) (let is = w.count-is in

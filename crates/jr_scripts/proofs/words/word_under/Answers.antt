@@ -2,12 +2,12 @@ use Rattle.std.proofs.Common.{◌≡◌, ◌≤◌, length, refl, rules, true, f
 use Rattle.std.proofs.Common.{cond, List, [], ◌∷◌, Some, None, take, drop, get_or, sym, ap}
 use Rattle.std.specs.Str.{bytes_eq}
 use Rattle.std.proofs.lemmas.List.{take-append-drop, take_all, take_more}
-use Rattle.jr_scripts.specs.Posting.{Words, word_under}
+use Rattle.jr_scripts.specs.Posting.{ThreadWords, word_under}
 use Rattle.jr_scripts.proofs.JobLists.{one_left}
 use Rattle.jr_scripts.proofs.words.word_under.Goals as goal
 
 -- behind words of other names
-past : (xs ys : Words) (n : List ℕ) → word_under xs n ≡ None → word_under (xs ++ ys) n ≡ word_under ys n
+past : (xs ys : ThreadWords) (n : List ℕ) → word_under xs n ≡ None → word_under (xs ++ ys) n ≡ word_under ys n
 past [] ys n none = refl
 past (x ∷ xs) ys n none = go (bytes_eq n x.0) refl (past xs ys n)
   where
@@ -17,7 +17,7 @@ past (x ∷ xs) ys n none = go (bytes_eq n x.0) refl (past xs ys n)
     go false is again = ap (λ b. cond b (Some x.1) (word_under (xs ++ ys) n)) is
         ∙ again (sym (ap (λ b. cond b (Some x.1) (word_under xs n)) is) ∙ none)
 
-module _ (words : Words) (i : ℕ) (x : List ℕ × ℕ) (n : List ℕ) where
+module _ (words : ThreadWords) (i : ℕ) (x : List ℕ × ℕ) (n : List ℕ) where
   found_there : i < length words → x ≡ get_or words i x → word_under (take i words) n ≡ None → bytes_eq n x.0 ≡ true
       → Some x.1 ≡ word_under words n
   found_there some is none same =
@@ -32,7 +32,7 @@ module _ (words : Words) (i : ℕ) (x : List ℕ × ℕ) (n : List ℕ) where
       ap (λ l. word_under l n) (take_more words i x some ∙ ap (λ y. take i words ++ y ∷ []) (sym is))
       ∙ (past (take i words) (x ∷ []) n none ∙ ap (λ b. cond b (Some x.1) None) other)
 
-none_there : (words : Words) (i : ℕ) (n : List ℕ) → length words ≤ i → word_under (take i words) n ≡ None
+none_there : (words : ThreadWords) (i : ℕ) (n : List ℕ) → length words ≤ i → word_under (take i words) n ≡ None
     → None ≡ word_under words n
 none_there words i n all none = sym (sym (ap (λ l. word_under l n) (take_all i words all)) ∙ none)
 

@@ -1,4 +1,3 @@
-use Rattle.std.proofs.Common.{Err}
 use Rattle.jr_frames.specs.Reading.{word_of}
 use Rattle.jr_frames.proofs.StillReady.{ready_entered}
 use Rattle.jr_env.proofs.EndedStays.{can_call}

@@ -7,4 +7,5 @@ returns-in-Ok g c = unrefused _ _ c.in-Ok.ensures refl refl
 
 pub returns-in-Err : goal.returns-in-Err
 returns-in-Err g c =
-    refused _ _ c.in-Err.ensures refl refl c.tell.ensures.same_reference c.handed-handed.ensures c.tell.ensures.told
+    refused _ _ c.in-Err.ensures refl refl c.tell.ensures.same_reference c.name-name.ensures c.handed-handed.ensures
+    c.tell.ensures.told

@@ -11,7 +11,8 @@ returns-in_err-patience-clause-does g c = did_tries c.args.verb c.args.handle g.
 
 pub returns-clause-does : goal.returns-clause-does
 returns-clause-does g c = did_tries c.args.verb c.args.handle g.met.S.Steps.fits c.args.env.now
-    c.retry_open.new.env c.requires (tried_in_turns c.in_ok-patience.patience c.retry_open.result c.map_err.result c.in_ok-patience.ensures
+    c.retry_open.new.env c.requires
+    (tried_in_turns c.in_ok-patience.patience c.retry_open.result c.map_err.result c.in_ok-patience.ensures
     (subst (λ f. TriesAgainToOpen c.in_ok-patience.patience f c.args.env.now c.retry_open.result
     c.retry_open.new.env) c.first_of.ensures c.retry_open.ensures.tried) c.map_err.ensures.cases)
 

@@ -1,0 +1,74 @@
+//! What gives a full room back: a collection in turn, a call that is made again behind one, and cleared weak references that are deleted, over plain words.
+
+use crate::plain::{Case, try_plain};
+use jr_env::calls::NewArray;
+use jr_env::{Env, NativeInterface, Patience};
+use jr_fixtures::is_refused;
+use jr_steps::Steps;
+use jr_word::{Config, Fault, Handle};
+use std::alloc::Global;
+use std::process::Abort;
+use std::test::Fail;
+
+/// A room of one slot, one object and four words.
+const ONE: Config = Config {
+    words: 4,
+    ..Config::LEAST
+};
+
+/// How often what is refused is made again.
+const FEW: Patience = Patience {
+    more: 3,
+    ..Patience::LONG
+};
+
+/// The one slot is held by a weak reference, which is deleted once a collection has cleared it, and not before.
+fn gives_the_slot_back<S: Steps>(
+    rt: &impl Abort,
+    alloc: Global,
+    env: &mut Env<S>,
+) -> Result<(), Fail> {
+    let mut marker = env.marker(alloc)?;
+    let object = env.new_plain()?;
+    let weak = Handle::or_null(env.new_weak_global_ref(object)?);
+    assert!(rt; is_refused(env.new_global_ref(object), Some(Fault::RowFull)));
+    assert_eq!(rt; env.delete_cleared(weak, FEW)?, false);
+    env.delete_local_ref(object)?;
+    let collected = env.collect_in_turn(&mut marker, 1, FEW)?;
+    assert_eq!(rt; collected.cleared, 1);
+    assert_eq!(rt; env.delete_cleared(weak, FEW)?, true);
+    assert!(rt; is_refused(env.delete_cleared(weak, FEW), Some(Fault::Stale)));
+    Ok(())
+}
+
+/// An array of all words is made behind a collection of the one before, and another one not while it stands.
+fn gives_the_words_back<S: Steps>(
+    rt: &impl Abort,
+    alloc: Global,
+    env: &mut Env<S>,
+) -> Result<(), Fail> {
+    let mut marker = env.marker(alloc)?;
+    let all = NewArray::<i32>::of(4);
+    let first = env.retry_collecting_in_turn(&mut marker, 1, &all, FEW)?;
+    let full = env.retry_collecting_in_turn(&mut marker, 1, &all, FEW);
+    assert!(rt; is_refused(full, Some(Fault::SpaceFull(4))));
+    env.delete_local_ref(first)?;
+    let second = env.retry_collecting_in_turn(&mut marker, 1, &all, FEW)?;
+    assert_eq!(rt; env.get_array_length(second)?, 4);
+    Ok(())
+}
+
+/// Each remedy gives back what it is for.
+pub(crate) fn give_back<S: Steps>(
+    rt: &impl Abort,
+    alloc: Global,
+    env: &mut Env<S>,
+) -> Result<(), Fail> {
+    gives_the_slot_back(rt, alloc, env)?;
+    gives_the_words_back(rt, alloc, env)
+}
+
+#[test]
+fn remedies_give_a_full_room_back(rt: HostRuntime) -> Result<(), Fail> {
+    try_plain(&rt, rt.alloc(), ONE, Case::Remedies)
+}

@@ -1,0 +1,287 @@
+-- What a lone thread's commands of collections mean.
+use Rattle.std.proofs.Common.{◌≡◌, ◌≢◌, inl, inr, ℕ, ◌<◌, ◌+◌, false, List, [], ◌∷◌, ◌++◌, map, length, Result}
+use Rattle.std.proofs.Common.{Ok, Err, refl, sym, ap, subst, ◌∙◌, append_assoc, arith}
+use Rattle.std.specs.List.{AllByRecursion}
+use Rattle.std.proofs.lemmas.List.{append-nil}
+use Rattle.jr_word.specs.declared.config.Config.{Config}
+use Rattle.jr_word.specs.declared.fault.Fault.{Fault}
+use Rattle.jr_word.specs.declared.fault.Fault.TheVariants.{Busy}
+use Rattle.jr_model.specs.declared.event.Act.{Act}
+use Rattle.jr_model.specs.declared.event.Act.TheVariants.{Clear, Drop, Gate, Meet, Settle, ShutBusy}
+use Rattle.jr_model.specs.declared.event.Event.{Event}
+use Rattle.jr_model.specs.declared.event.GateAct.TheVariants.{Announce, Cancel, Reopen, Shut}
+use Rattle.jr_model.specs.State.{Handle}
+use Rattle.jr_model.specs.Frames.{Frames}
+use Rattle.jr_model.specs.History.{History, PassView, by, state, IsLegal}
+use Rattle.jr_model.specs.Calls.{Call, ◌>>=◌, ◌>>◌, act, one_of, refuse, some_act}
+use Rattle.jr_model.specs.CollectionCalls.{Collects, IsWhole, announcing_acts, collection_acts, sweeping_acts}
+use Rattle.jr_model.specs.Parts as parts
+use Rattle.jr_model.proofs.Exactly.{append_all}
+use Rattle.jr_model.proofs.Histories.{state_append}
+use Rattle.jr_model.proofs.Stays.{append_cancel, mine_did, sees_its_own_acts}
+use Rattle.jr_gate.specs.Performing.{ThreadState}
+use Rattle.jr_weak.specs.declared.collecting.Collected.{Collected}
+use Rattle.jr_env.specs.Collections.{announced_collection}
+use Rattle.jr_syntax.specs.declared.command.Command.{Command}
+use Rattle.jr_syntax.specs.declared.command.Command.TheVariants as commands
+use Rattle.jr_syntax.specs.declared.verb.OfRoom.TheVariants as of_room
+use Rattle.jr_syntax.specs.declared.verb.WithTries.TheVariants as with_tries
+use Rattle.jr_scripts.specs.declared.reply.Reply.{Reply}
+use Rattle.jr_scripts.specs.declared.reply.Reply.TheVariants as replies
+use Rattle.jr_scripts.specs.Commands.{collecting, collecting_announced, told as told_by}
+use Rattle.jr_scripts.specs.Places.{Place}
+use Rattle.jr_scripts.specs.Posting.{ThreadWords}
+use Rattle.jr_scripts.specs.Runs.{IsUnbarred}
+use Rattle.jr_scripts.specs.Text.{printed}
+use Rattle.jr_scripts.specs.Meaning.{World, collects, is_found_reached, swept, told_of}
+use Rattle.jr_scripts.proofs.AloneAnnouncing.{never_refused, once_led}
+use Rattle.jr_scripts.proofs.AloneHistories.{all_back, all_prefix, own_acts}
+use Rattle.jr_scripts.proofs.LoneRun.MadeCalls.{Made, AreUnopposed, is_opposed, moment, moment_is}
+use Rattle.jr_scripts.proofs.LoneRun.MeaningFrames.{Pairing}
+use Rattle.jr_scripts.proofs.LoneRun.MeaningFits.{Fits, HandlesStay, fits_less, gone_fits}
+use Rattle.jr_scripts.proofs.LoneRun.MeaningCollections.{at_reopen, fits_then, long, reopen_is, told_then}
+use Rattle.jr_scripts.proofs.LoneRun.MeaningDeeds.{IsPass, all_unopposed, call_made, made_once, names_stay, now}
+use Rattle.jr_scripts.proofs.LoneRun.MeaningDeeds.{words_stay}
+use Rattle.jr_scripts.proofs.LoneRun.MeaningStands.{Keeps, pass_later}
+use Rattle.jr_scripts.proofs.LoneRun.CommandSteps.{Turn, Steps, at_most, kept_as}
+
+-- A CALL THAT KEEPS THE FRAMES
+abbrev KeepsFrames : {A : Type 0} → Call A → Type 0
+KeepsFrames {A} call = (f g : Frames) (acts : List Act) (answer : Result A Fault) → call f acts answer g → g ≡ f
+
+keep_both : {A B : Type 0} (first : Call A) (next : A → Call B) → KeepsFrames first → ((x : A) → KeepsFrames (next x))
+    → KeepsFrames (first >>= next)
+keep_both first next a b f g acts answer (inl d) = b d.0 d.1 g d.3 answer d.6 ∙ a f d.1 d.2 (Ok d.0) d.5
+keep_both first next a b f g acts answer (inr d) = a f g acts (Err d.0) d.2
+
+keep_either : {A : Type 0} (p q : Call A) → KeepsFrames p → KeepsFrames q → KeepsFrames (one_of p q)
+keep_either p q a b f g acts answer (inl d) = a f g acts answer d
+keep_either p q a b f g acts answer (inr d) = b f g acts answer d
+
+act_keeps : (a : Act) → KeepsFrames (act a)
+act_keeps a f g acts answer d = d.2
+
+refuse_keeps : {A : Type 0} (e : Fault) → KeepsFrames (refuse {A = A} e)
+refuse_keeps e f g acts answer d = d.2
+
+busy_keeps : KeepsFrames (some_act ShutBusy)
+busy_keeps f g acts answer d = d.3
+
+closed_keeps : {A : Type 0} → KeepsFrames (parts.found_closed {A = A})
+closed_keeps {A} = keep_both (some_act ShutBusy) (λ n. refuse {A = A} (Busy n)) busy_keeps
+    (λ n. refuse_keeps {A = A} (Busy n))
+
+collected_keeps : KeepsFrames parts.collected
+collected_keeps f g acts answer d = d.5
+
+collect_keeps : KeepsFrames parts.collect
+collect_keeps = keep_either parts.collected parts.found_closed collected_keeps closed_keeps
+
+moved_keeps : KeepsFrames parts.found_moved
+moved_keeps f g acts answer d = d.2.2
+
+shuts_keep : (many : ℕ → Type 0) → KeepsFrames (parts.refused_shuts many)
+shuts_keep many f g acts answer d = d.4
+
+abbrev announcing : Call (Unit {0})
+announcing = one_of (act (Gate Announce)) (one_of parts.found_closed (act Meet >> parts.found_moved))
+
+announce_keeps : KeepsFrames parts.announce
+announce_keeps = keep_either parts.found_closed (act Meet >> announcing) closed_keeps
+    (keep_both (act Meet) (λ u. announcing) (act_keeps Meet)
+    (λ u. keep_either (act (Gate Announce)) (one_of parts.found_closed (act Meet >> parts.found_moved))
+    (act_keeps (Gate Announce)) (keep_either parts.found_closed (act Meet >> parts.found_moved) closed_keeps
+    (keep_both (act Meet) (λ v. parts.found_moved) (act_keeps Meet) (λ v. moved_keeps)))))
+
+announced_keeps : (tries : ℕ) → KeepsFrames (parts.collect_announced tries)
+announced_keeps tries = keep_both parts.announce (λ u. one_of begun kept_out) announce_keeps
+    (λ u. keep_either begun kept_out
+    (keep_both (parts.refused_shuts (λ n. n < tries)) (λ v. parts.collected) (shuts_keep (λ n. n < tries))
+    (λ v. collected_keeps))
+    (keep_both (parts.refused_shuts (λ n. n + 1 ≡ tries)) (λ v. taken_back) (shuts_keep (λ n. n + 1 ≡ tries))
+    (λ v. keep_both (some_act ShutBusy) cancelled busy_keeps
+    (λ n. keep_both (act (Gate Cancel)) (λ t. refuse (Busy n)) (act_keeps (Gate Cancel))
+    (λ t. refuse_keeps (Busy n))))))
+  where
+    cancelled : ℕ → Call (ℕ × ℕ × ℕ)
+    cancelled n = act (Gate Cancel) >> refuse (Busy n)
+
+    taken_back : Call (ℕ × ℕ × ℕ)
+    taken_back = some_act ShutBusy >>= cancelled
+
+    begun : Call (ℕ × ℕ × ℕ)
+    begun = parts.refused_shuts (λ n. n < tries) >> parts.collected
+
+    kept_out : Call (ℕ × ℕ × ℕ)
+    kept_out = parts.refused_shuts (λ n. n + 1 ≡ tries) >> taken_back
+
+-- one collection is another with the same numbers
+same_collected : (a b : Collected) → a.cleared ≡ b.cleared → a.dropped ≡ b.dropped → a.used ≡ b.used → a ≡ b
+same_collected a b x y z = λ i. record { cleared = x i; dropped = y i; used = z i }
+
+-- NO SHUT comes within a collection
+abbrev NoShut : List Act → Type 0
+NoShut acts = AllByRecursion (λ a. a ≢ Gate Shut) acts
+
+none_of : {A : Type 0} (act : A → Act) → ((x : A) → act x ≢ Gate Shut) → (xs : List A) → NoShut (map act xs)
+none_of act other [] = tt
+none_of act other (x ∷ xs) = (other x, none_of act other xs)
+
+by_same : (acts : List Act) → NoShut acts → AllByRecursion (λ (e : Event). e.act ≢ Gate Shut) (map (by 0) acts)
+by_same [] none = tt
+by_same (a ∷ acts) none = (none.0, by_same acts none.1)
+
+no_shut : (cleared : List Handle) (dropped : List ℕ) (used : ℕ)
+    → NoShut (sweeping_acts cleared dropped used ++ Gate Reopen ∷ [])
+no_shut cleared dropped used = append_all (λ a. a ≢ Gate Shut) (sweeping_acts cleared dropped used) (Gate Reopen ∷ [])
+    (append_all (λ a. a ≢ Gate Shut) (map Clear cleared ++ map Drop dropped)
+    (Settle used ∷ [])
+    (append_all (λ a. a ≢ Gate Shut) (map Clear cleared) (map Drop dropped) (none_of Clear (λ h e. cc) cleared)
+    (none_of Drop (λ o e. cc) dropped)) ((λ e. cc), tt)) ((λ e. cc), tt)
+
+-- so nothing lies before its shut
+module _ {old new : PassView} {cleared : List Handle} {dropped : List ℕ} {used : ℕ}
+    (d : Collects old new cleared dropped used) (thread : old.thread ≡ 0)
+    (seen : new.seen ≡ old.seen ++ map (by 0) (collection_acts cleared dropped used)) where
+  rest : History
+  rest = d.place.from.0
+
+  same_rest : (ys : History) → ys ++ (by old.thread (Gate Shut) ∷ (d.place.inside ++ by old.thread (Gate Reopen)
+      ∷ d.place.rest)) ≡ map (by 0) (collection_acts cleared dropped used) → ys ≡ []
+  same_rest [] is = refl
+  same_rest (y ∷ ys) is = absurd
+      (let none = by_same (sweeping_acts cleared dropped used ++ Gate Reopen ∷ []) (no_shut cleared dropped used) in
+      let tail : ys ++ (by old.thread (Gate Shut) ∷ (d.place.inside ++ by old.thread (Gate Reopen) ∷ d.place.rest))
+      ≡ map (by 0) (sweeping_acts cleared dropped used ++ Gate Reopen ∷ []) = (let both = is in cc) in
+      let all = subst (AllByRecursion (λ (e : Event). e.act ≢ Gate Shut)) (sym tail) none in
+      (all_back (λ (e : Event). e.act ≢ Gate Shut) ys (by old.thread (Gate Shut) ∷ (d.place.inside
+      ++ by old.thread (Gate Reopen) ∷ d.place.rest)) all).0 refl)
+
+  whole_then : IsWhole (state old.seen) cleared dropped
+  whole_then =
+      let from : old.seen ++ d.place.from.0 ≡ d.place.before = d.place.from.1 in
+      let shut = by old.thread (Gate Shut) ∷ d.place.inside in
+      let opens = by old.thread (Gate Reopen) ∷ d.place.rest in
+      let both : old.seen ++ (d.place.from.0 ++ (shut ++ opens))
+      ≡ old.seen ++ map (by 0) (collection_acts cleared dropped used) =
+      sym (append_assoc old.seen d.place.from.0 (shut ++ opens))
+      ∙ (ap (λ l. l ++ (shut ++ opens)) from ∙ (sym (append_assoc d.place.before shut opens)
+      ∙ (sym d.place.parts ∙ seen))) in
+      let none = same_rest d.place.from.0 (append_cancel old.seen (d.place.from.0 ++ (shut ++ opens))
+      (map (by 0) (collection_acts cleared dropped used)) both) in
+      let before : d.place.before ≡ old.seen = sym from ∙ (ap (λ l. old.seen ++ l) none
+      ∙ append-nil old.seen) in
+      subst (λ es. IsWhole (state es) cleared dropped) before d.whole
+
+module _ {c : Config} {last turns j k : ℕ} {P : Pairing} {w : World} {old new : ThreadState} {p q : Place}
+    {had told : ThreadWords} (s : Turn c last turns j k P w old new p q had told) where
+  -- A COLLECTION from a moment that is as the world
+  collected_step : (x : Command) (answer : Result Reply Fault) (a : Collected)
+      → ((b : Collected) → Keeps x (Ok (replies.Collected b)))
+      → answer ≡ Ok (replies.Collected a) → (from : PassView) → IsPass c last from
+      → Fits c last k P w (moment (state from.seen) old.frames) → (cleared : List Handle) (dropped : List ℕ)
+      → length cleared ≡ a.cleared → length dropped ≡ a.dropped → Collects from new.pass cleared dropped a.used
+      → new.frames ≡ old.frames → Steps s x answer (collects w)
+  collected_step x answer a keeps is from pass fits cleared dropped clears drops d frames =
+      let did = d.did in
+      let acts = collection_acts cleared dropped a.used in
+      let seen : new.pass.seen ≡ from.seen ++ map (by 0) acts = sees_its_own_acts from new.pass acts did s.alone.own
+      ∙ ap (λ t. from.seen ++ map (by t) acts) (did.thread ∙ pass.thread) in
+      let legal : IsLegal c last (from.seen ++ map (by 0) acts) = subst (IsLegal c last) seen
+      (subst (λ z. IsLegal z last new.pass.seen) pass.config
+      (subst (λ l. IsLegal from.config l new.pass.seen) pass.last_is did.legal)) in
+      let later = pass_later c last from new.pass acts did pass in
+      let one : c.threads ≡ 1 = ap (λ (z : Config). z.threads) (sym later.config) ∙ s.alone.one in
+      let m = moment (state from.seen) old.frames in
+      let whole = whole_then d pass.thread seen in
+      let now_is : now new ≡ moment
+      (at_reopen c last k P w m fits one from.seen refl cleared dropped a.used legal whole)
+      old.frames = moment_is (state new.pass.seen)
+      (at_reopen c last k P w m fits one from.seen refl cleared dropped a.used legal whole) new.frames old.frames
+      (ap state seen ∙ (state_append from.seen (map (by 0) acts)
+      ∙ reopen_is c last k P w m fits one from.seen refl cleared dropped a.used legal whole)) frames in
+      let then = swept (is_found_reached w) w in
+      let numbers = told_then c last k P w m fits one from.seen refl cleared dropped a.used legal whole in
+      let same : a ≡ told_of w then = same_collected a (told_of w then) (sym clears ∙ sym numbers.0)
+      (sym drops ∙ sym numbers.1) (sym numbers.2) in
+      let stay : HandlesStay P w P then = record {
+        handles = λ i small. refl;
+        refs_grow = (let same = long c last k P w m fits one from.seen refl cleared dropped a.used legal whole in
+            omega (arith, same));
+      } in
+      kept_as s x answer P then (Ok (replies.Collected a)) (Ok (replies.Collected (told_of w then))) later
+      (subst (Fits c last k P then) (sym now_is)
+      (fits_then c last k P w m fits one from.seen refl cleared dropped a.used legal whole))
+      (names_stay stay p.names q.names s.stands.names) (words_stay stay had told s.stands.words) is (keeps a)
+      (keeps (told_of w then)) (λ line. ap (λ z. printed line x (Ok (replies.Collected z))) same)
+
+  -- GC
+  pub collect_step : j ≡ k → (answer : Result Reply Fault) → collecting old answer new
+      → Steps s (commands.OfRoom of_room.Collect) answer (collects w)
+  collect_step one (Ok (replies.Collected a)) d =
+      collected_step (commands.OfRoom of_room.Collect) (Ok (replies.Collected a)) a
+      (λ b names os ws. (refl, refl, refl)) refl old.pass s.stands.pass (fits_less (at_most one) s.stands.fits)
+      d.cleared
+      d.dropped d.clears d.drops d.collects (collect_keeps old.frames new.frames d.ran.acts
+      (Ok (a.cleared, a.dropped, a.used)) d.ran.is)
+  collect_step one (Ok (replies.Busy n)) d = absurd (busy (call_made c last (λ l m t z. parts.collect) old new
+      (Err (Busy n)) s.stands.pass s.alone s.all tt 0 d.made))
+    where
+      busy : Made c last 0 parts.collect (now old) (Err (Busy n)) (now new) → ⊥
+      busy made = go made.is
+        where
+          go : parts.collect old.frames made.acts (Err (Busy n)) new.frames → ⊥
+          go (inl r) = absurd (let bad = r.4 in cc)
+          go (inr (inl r)) = absurd (let acts : made.acts ≡ ShutBusy r.5.0 ∷ r.3 = r.4 ∙ ap (λ l. l ++ r.3) r.5.1 in
+              let free = subst AreUnopposed acts made.unopposed in
+              let bad = free.0 in cc)
+          go (inr (inr r)) = absurd (let bad = r.2.2 in cc)
+  collect_step one _ d = absurd d
+
+  -- GCANN
+  announced_acts : (refused : List ℕ) → AreUnopposed (announcing_acts refused) → refused ≡ []
+  announced_acts [] free = refl
+  announced_acts (n ∷ ns) free = absurd (let bad = free.1.1.0 in cc)
+
+  pub announced_step : j ≡ k → (tries : ℕ) (answer : Result Reply Fault)
+      → collecting_announced turns tries old answer new
+      → Steps s (commands.WithTries with_tries.CollectAnnounced tries) answer (collects w)
+  announced_step one tries answer d =
+      let once = made_once (p.names, commands.WithTries with_tries.CollectAnnounced tries)
+      (once_led turns tries p.names)
+      turns old new d.0 s.alone s.some_turns d.2 in
+      go d.0 d.1 once
+    where
+      go : (once : Result Collected Fault) → answer ≡ told_by once → announced_collection tries old once new
+          → Steps s (commands.WithTries with_tries.CollectAnnounced tries) answer (collects w)
+      go (Err e) is r = absurd (never_refused tries old.pass new.pass old.frames new.frames s.alone e r.made.ran)
+      go (Ok a) is r =
+          let done = r.done in
+          let mid = done.collects.shutting in
+          let first = done.collects.announced in
+          let then = done.collects.done in
+          let seen_all = all_prefix IsUnbarred mid.seen new.pass.seen then.did.begins s.all in
+          let own = all_prefix (λ (e : Event). e.thread ≡ 0) mid.seen new.pass.seen then.did.begins
+          (subst (λ t. AllByRecursion (λ (e : Event). e.thread ≡ t) new.pass.seen) s.alone.first s.alone.own) in
+          let thread : mid.thread ≡ 0 = first.thread ∙ s.stands.pass.thread in
+          let free = subst AreUnopposed (mine_did (announcing_acts r.refused) first)
+          (own_acts (λ a. is_opposed a ≡ false) old.pass.thread first.begins.0
+          (all_back (λ (e : Event). is_opposed e.act ≡ false) old.pass.seen first.begins.0
+          (subst (AllByRecursion (λ (e : Event). is_opposed e.act ≡ false)) (sym first.begins.1)
+          (all_unopposed mid.seen seen_all)))) in
+          let acts : announcing_acts r.refused ≡ Meet ∷ Gate Announce ∷ [] =
+          ap announcing_acts (announced_acts r.refused free) in
+          let seen : mid.seen ≡ old.pass.seen ++ map (by 0) (Meet ∷ Gate Announce ∷ []) =
+          sees_its_own_acts old.pass mid (announcing_acts r.refused) first
+          (subst (λ t. AllByRecursion (λ (e : Event). e.thread ≡ t) mid.seen) (sym thread) own)
+          ∙ (ap (λ t. old.pass.seen ++ map (by t) (announcing_acts r.refused)) thread
+          ∙ ap (λ l. old.pass.seen ++ map (by 0) l) acts) in
+          let state_is = ap state seen ∙ state_append old.pass.seen (map (by 0) (Meet ∷ Gate Announce ∷ [])) in
+          collected_step (commands.WithTries with_tries.CollectAnnounced tries) answer a
+          (λ b names os ws. (refl, refl, refl)) is mid
+          (pass_later c last old.pass mid (announcing_acts r.refused) first s.stands.pass)
+          (subst (λ z. Fits c last k P w (moment z old.frames)) (sym state_is)
+          (gone_fits (now old) 0 Announce (fits_less (at_most one) s.stands.fits))) done.cleared done.dropped
+          done.clears
+          done.drops then (announced_keeps tries old.frames new.frames done.ran.acts (Ok (a.cleared, a.dropped, a.used))
+          done.ran.is)

@@ -1,5 +1,0 @@
-use Rattle.jr_scripts.specs.Noting.{IsBlank}
-use Rattle.jr_scripts.proofs.notes.blank.Given as goal
-
-abbrev pub invariant-loop : goal.invariant-loop
-invariant-loop g l = IsBlank l.notes.items

@@ -1,0 +1,65 @@
+//! Native code that makes wrong calls, and two watchers over them: one writes a line for each refusal, as CheckJNI does, and one counts them by call and refusal.
+#![tactic(auto)]
+
+mod counts;
+mod lines;
+mod native;
+
+use crate::counts::Counts;
+use crate::lines::Lines;
+use crate::native::native_code;
+use jr::{Checked, Config, Env, Fault, LAST_SERIAL, Patience, Room, RoomSteps, Steps};
+use std::io;
+use std::io::Write;
+use thiserror::Error;
+
+/// The sizes of the room.
+const SIZES: Config = Config {
+    threads: 1,
+    slots: 8,
+    objects: 8,
+    words: 64,
+    locals: 16,
+};
+
+/// Why the program fails.
+#[derive(Debug, Drop, Error)]
+pub enum Trouble {
+    /// A call was refused that is right.
+    #[error("refused: {0}")]
+    Refused(#[from] Fault),
+    /// What was told was not written.
+    #[error("not written: {0}")]
+    Output(#[from] io::Error),
+}
+
+fn main(rt: HostRuntime) -> Result<(), Trouble> {
+    let alloc = rt.alloc();
+    let (room, mut passes) = Room::<LAST_SERIAL>::open(alloc, SIZES)?;
+    let pass = passes.remove(0);
+    let mut env = Env::new(RoomSteps::new(&room, pass)).map_err(|refused| refused.1)?;
+    write_lines(&mut env, io::writer(&rt))?;
+    write_counts(&mut env, &mut io::writer(&rt))?;
+    Ok(())
+}
+
+/// Lets native code call an env, and writes each refusal at once.
+fn write_lines<S: Steps, W: Write + Drop>(env: &mut Env<S>, out: W) -> Result<(), Trouble> {
+    let mut checked = Checked::new(env, Lines::to(out));
+    native_code(&mut checked)?;
+    let (_env, lines) = checked.into_parts();
+    lines.end()?;
+    Ok(())
+}
+
+/// Lets native code make the same calls in one stay, and writes how often each was refused.
+fn write_counts<S: Steps, W: Write>(env: &mut Env<S>, out: &mut W) -> Result<(), Trouble> {
+    let mut stay = env.retry_stay(Patience::LONG)?;
+    let mut checked = Checked::new(&mut stay, Counts::none());
+    let called = native_code(&mut checked);
+    let (_stay, counts) = checked.into_parts();
+    stay.end();
+    called?;
+    counts.write(out)?;
+    Ok(())
+}
