@@ -33,9 +33,9 @@ formed_err form (Ok x) e is = absurd (let bad = is in cc)
 formed_err form (Err d) e is = let same = is in cc
 
 module _ {A B C : Type 0} (form : A → B) (after : B → C) (one : Deed A) (n : ℕ) (p q mid : ThreadState) where
-  pub formed_ok : (y : B) (r : Result A Fault) → Ok y ≡ answer_in form r → Tried one n p r mid →
-      {answer : Result C Fault}
-      → done (after y) mid answer q → answered_by (λ x. after (form x)) (Tried one n) p answer q
+  pub formed_ok : (y : B) (r : Result A Fault) → Ok y ≡ answer_in form r → Tried one n p r mid
+      → {answer : Result C Fault} → done (after y) mid answer q
+      → answered_by (λ x. after (form x)) (Tried one n) p answer q
   formed_ok y (Ok x) is t d = let same : y ≡ form x = (let e = is in cc) in
       inl (x, mid, t, (d.0 ∙ ap (λ z. Ok (after z)) same, d.1))
   formed_ok y (Err e) is t d = absurd (let bad = is in cc)
