@@ -27,6 +27,7 @@ mod plain;
 mod pools;
 #[cfg(test)]
 mod references;
+#[cfg(test)]
 mod remedies;
 #[cfg(test)]
 mod scopes;

@@ -4,42 +4,56 @@ use jr::{Refusal, Watcher};
 use std::io;
 use std::io::Write;
 
-/// How many kinds of refusals are told apart.
-const KINDS: usize = 16;
+/// The calls whose refusals are counted apart. Those of all others are counted in one row behind theirs.
+const CALLS: [&str; 7] = [
+    "DeleteGlobalRef",
+    "GetArrayLength",
+    "GetStringLength",
+    "SetLongArrayRegion",
+    "GetIntArrayRegion",
+    "IsSameObject",
+    "NewCharArray",
+];
 
-/// How often a call had a fault.
-#[derive(Clone, Copy)]
-struct Count {
-    call: &'static str,
-    fault: u8,
-    times: u32,
-}
+/// How many numbers of faults there are, from 0 on.
+const FAULTS: usize = 24;
 
-/// How often each call had each fault, and how many refusals came once all places were taken.
+/// How many counts there are: those of one call, by their fault, stand side by side.
+const COUNTS: usize = 8 * FAULTS;
+
+/// How often each call had each fault.
 #[derive(Drop)]
 pub(crate) struct Counts {
-    counts: [Option<Count>; KINDS],
-    more: u32,
+    times: [u32; COUNTS],
+}
+
+/// The row of a call.
+fn row_of(call: &str) -> usize {
+    for row in 0..CALLS.len() {
+        if CALLS[row] == call {
+            return row;
+        }
+    }
+    CALLS.len()
 }
 
 impl Counts {
     /// No refusal yet.
     pub(crate) fn none() -> Counts {
-        Counts {
-            counts: [None; KINDS],
-            more: 0,
-        }
+        Counts { times: [0; COUNTS] }
     }
 
     /// Writes a line for each call and fault.
     pub(crate) fn write<W: Write>(&self, out: &mut W) -> io::Result<()> {
-        for place in &self.counts {
-            if let Some(count) = place {
-                let (call, fault, times) = (count.call, count.fault, count.times);
+        for at in 0..COUNTS {
+            let times = self.times[at];
+            if times > 0 {
+                let call = CALLS.get(at / FAULTS).copied().unwrap_or("other calls");
+                let fault = at % FAULTS;
                 writeln!(out, "{call}, E{fault}: {times}")?;
             }
         }
-        writeln!(out, "other refusals: {}", self.more)
+        Ok(())
     }
 }
 
@@ -48,17 +62,12 @@ impl Watcher for Counts {
 
     /// Counts the refusal.
     fn refused(&mut self, refusal: Refusal) {
-        let (call, fault) = (refusal.call, refusal.fault.number());
-        for place in self.counts.iter_mut() {
-            let times = match *place {
-                None => 0,
-                Some(count) if count.call == call && count.fault == fault => count.times,
-                Some(_) => continue,
-            };
-            let times = times.wrapping_add(1);
-            *place = Some(Count { call, fault, times });
-            return;
+        let fault = usize::from(refusal.fault.number());
+        let at = row_of(refusal.call)
+            .wrapping_mul(FAULTS)
+            .wrapping_add(fault);
+        if at < COUNTS {
+            self.times[at] = self.times[at].wrapping_add(1);
         }
-        self.more = self.more.wrapping_add(1);
     }
 }
