@@ -235,10 +235,12 @@ module _ {S : Type 0} {facts : S → Facts} where
   searched_some {first = first} last' more p =
       searched_within first last' (omega arith) more (λ xs t. in_turn_won more t) p
 
-  pub searched_above : {a b : S} {kind : RefKind} {o hint slots : ℕ} {h : Handle}
-      → Searched facts a b kind o (InTurn hint slots) hint slots (Some h)
+  pub searched_above : {a b : S} {kind : RefKind} {o hint slots : ℕ} {made : Option Handle} {h : Handle} → made ≡ Some h
+      → Searched facts a b kind o (InTurn hint slots) hint slots made
       → Searched facts a b kind o (GoesRound hint slots) 0 slots (Some h)
-  searched_above {slots = slots} p = searched_within 0 slots (omega arith) (omega arith) (λ xs t. above t) p
+  searched_above {a} {b} {kind} {o} {hint} {slots} is p =
+      searched_within 0 slots (omega arith) (omega arith) (λ xs t. above t)
+      (subst (λ m. Searched facts a b kind o (InTurn hint slots) hint slots m) is p)
 
   -- two searches, of which the first won nothing, are one of all indices that either has
   searched_both : {a b c : S} {kind : RefKind} {o u v x y first last : ℕ}
@@ -288,12 +290,16 @@ module _ {S : Type 0} {facts : S → Facts} where
   searched_round {hint = hint} {slots = slots} p q =
       searched_both (λ m n few more. omega arith) (in_round 0 hint slots) (λ xs ys s t. below s t) p q
 
-  pub searched_at : {a b : S} {kind : RefKind} {o hint hint' slots slots' : ℕ} {made : Option Handle} → hint ≡ hint'
-      → slots ≡ slots' → Searched facts a b kind o (GoesRound hint slots) 0 slots made
-      → Searched facts a b kind o (GoesRound hint' slots') 0 slots' made
-  searched_at {a} {b} {kind} {o} {hint' = hint'} {slots = slots} {made = made} e f p =
-      subst (λ n. Searched facts a b kind o (GoesRound hint' n) 0 n made) f
-      (subst (λ n. Searched facts a b kind o (GoesRound n slots) 0 slots made) e p)
+  -- a search round the slots, with what was read of the pass before it, and with where it ended and what it made
+  pub searched_at : {a b b' : S} {kind : RefKind} {o hint hint' slots slots' : ℕ} {made made' : Option Handle}
+      → hint ≡ hint' → slots ≡ slots' → b' ≡ b → made' ≡ made
+      → Searched facts a b kind o (GoesRound hint slots) 0 slots made
+      → Searched facts a b' kind o (GoesRound hint' slots') 0 slots' made'
+  searched_at {a} {b} {b'} {kind} {o} {hint' = hint'} {slots = slots} {slots' = slots'} {made = made} e f at is p =
+      subst (λ m. Searched facts a b' kind o (GoesRound hint' slots') 0 slots' m) (sym is)
+      (subst (λ x. Searched facts a x kind o (GoesRound hint' slots') 0 slots' made) (sym at)
+      (subst (λ n. Searched facts a b kind o (GoesRound hint' n) 0 n made) f
+      (subst (λ n. Searched facts a b kind o (GoesRound n slots) 0 slots made) e p)))
 
   -- where the next search begins is not a matter of this one
   pub searched_hinted : {a b c : S} {kind : RefKind} {o first last index : ℕ}

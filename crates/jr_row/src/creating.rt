@@ -45,25 +45,6 @@ fn search<S: Steps>(
     None
 }
 
-/// Each slot is tried once, from the hint to the last slot and then from slot 0 to the hint, until one is won.
-#[inline(always)]
-fn search_round<S: Steps>(steps: &mut S, kind: RefKind, object: u16) -> Option<HandleParts>
-    requires role { (S.facts steps.old).stands.role ≡ Within }
-    requires kind { kind ≢ Local }
-    requires object { MayKnow S.facts steps.old (HasObject object) }
-    ensures searched { Searched S.facts steps.old steps.new kind object (GoesRound (S.facts steps.old).hint (S.facts steps.old).stands.config.slots) 0 (S.facts steps.old).stands.config.slots result }
-    ensures index { IfSome result (λ h. h.index < (S.facts steps.old).stands.config.slots) }
-    ensures hint { (S.facts steps.new).hint ≡ (S.facts steps.old).hint }
-{
-    let slots = steps.config().slots;
-    let hint = u32::from(steps.hint());
-    let above = search(steps, kind, object, hint, slots);
-    if let Some(handle) = above {
-        return Some(handle);
-    }
-    search(steps, kind, object, 0, hint)
-}
-
 /// The slot after this one, and slot 0 after the last.
 #[inline(always)]
 fn slot_after(index: u16, slots: u32) -> u16
@@ -101,7 +82,12 @@ pub fn create<S: Steps>(
     ensures stays { IfErr result (λ e. (S.facts steps.new).hint ≡ (S.facts steps.old).hint) }
 {
     let slots = steps.config().slots;
-    let Some(handle) = search_round(steps, kind, object) else {
+    let hint = u32::from(steps.hint());
+    let found = match search(steps, kind, object, hint, slots) {
+        None => search(steps, kind, object, 0, hint),
+        above => above,
+    };
+    let Some(handle) = found else {
         return Err(Fault::RowFull);
     };
     steps.keep_hint(slot_after(handle.index, slots));
