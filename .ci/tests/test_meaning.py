@@ -75,6 +75,7 @@ PLANTED = {
     "an array comes before what it is to name": (
         "scripts/arrays/both_references_of_a_set", "    o ← object n\n    a ← wanted_element m i\n    rewrites", "    a ← wanted_element m i\n    o ← object n\n    rewrites",
     ),
+    "a wait forgets what was posted": ("scripts/threads/an_element_is_handed_over", "(word_under words n)", "(word_under [] n)"),
     "an array's name comes before its buffer's": (
         "scripts/copies/names_of_a_release",
         "    b ← decided (buffer_in (binding names n))\n    m ← the names r\n",
@@ -139,3 +140,11 @@ class Scripts(unittest.TestCase):
         text = b"vm threads 1 slots 1 objects 1 words 1 locals 16\nthread a\nint a 1\nelems b a\nelems b a\neget b 0\nwait c\n"
         said = Meant().printed(text, (False,))
         self.assertEqual(said, b"[a]\n4 ! E16\neget b 0 0\n7 ! E20\n[end]\nglobals 0 weaks 0 live 1 used 1\n")
+
+    def test_threads_take_turns_over_one_world(self):
+        ended = b"vm threads 2 slots 1 objects 1 words 0 locals 16\nthread a\nplain x\npost x\nthread b\nwait x\ngc\n"
+        self.assertEqual(Meant().printed(ended), b"[a]\n[b]\ngc cleared 0 dropped 1 used 0\n[end]\nglobals 0 weaks 0 live 0 used 0\n")
+        a, b = b"int x 1\npost x\nwait y\ncrit v x\npost z\nwait u\n", b"wait x\ngc\ntype x\nlen x\npost y\nwait z\ngc\npost u\n"
+        standing = b"vm threads 2 slots 1 objects 1 words 1 locals 16\nthread a\n" + a + b"thread b\n" + b
+        said = b"[a]\n[b]\ngc cleared 0 dropped 0 used 1\ntype x 0\n13 ! E3\ngc busy 1\n[end]\nglobals 0 weaks 0 live 1 used 1\n"
+        self.assertEqual(Meant().printed(standing), said)
