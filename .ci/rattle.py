@@ -9,7 +9,7 @@ from dataclasses import dataclass, field
 
 BLANKED = re.compile(r"//[^\n]*|/\*.*?\*/|\"(?:\\.|[^\"\\])*\"|'(?:\\.|[^\\'\n])'", re.S)
 ATTRIBUTES = re.compile(r"\s*(#!?\[[^\]]*\]\s*)*")
-HEAD = re.compile(r"(?P<public>pub(?:\((?P<within>\w+)\))? )?(?:const (?=fn)|extern\s+(?=fn)|unsafe (?=impl))?(?P<kind>ghost use|ghost|fn|struct|enum|trait|impl|mod|const|use|type)\b\s*(?P<name>\w*)")
+HEAD = re.compile(r"(?P<public>pub(?:\((?P<within>\w+)\))? )?(?:const (?=fn)|extern\s+(?=fn)|unsafe (?=impl))?(?P<kind>ghost use|ghost|fn|struct|enum|trait|impl|mod|const|use|type|macro_rules(?=!))\b\s*(?P<name>\w*)")
 CLAUSE = re.compile(r"\b(requires|ensures)\*?(?:\s+(\w+))?\s*\Z")
 # Items whose braces are no body, and those whose bodies have items.
 WITHOUT_BODY, WITH_ITEMS = ("ghost use", "use", "const", "type"), ("impl", "trait", "mod")

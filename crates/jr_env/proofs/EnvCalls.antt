@@ -37,7 +37,8 @@ packed_if_is w None e = e
 packed_if_is (Some v) (Some h) e = ap (λ x. Some x) (packed_is v h e)
 packed_if_is None (Some h) e = absurd e
 
-outside_or : (r : Role) → (r ≡ Outside) ⊎ (r ≢ Outside)
+-- a thread stands outside, or it doesn't
+pub outside_or : (r : Role) → (r ≡ Outside) ⊎ (r ≢ Outside)
 outside_or Outside = inl refl
 outside_or _ = inr (λ e. cc)
 

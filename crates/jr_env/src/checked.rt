@@ -185,6 +185,7 @@ impl<N: Explains, W: Watcher> Checked<'_, N, W> {
 
     /// Tells the watcher of a refusal.
     #[cold]
+    #[inline(never)]
     fn tell(&mut self, call: &'static str, handed: Handed, fault: Fault)
         ensures same_reference { self.new.caller.ghost_name ≡ self.old.caller.ghost_name }
         ensures told { HasTold N.explained N.thread W.hears self.old self.new call.now (handed_words handed) fault }
@@ -209,13 +210,11 @@ impl<S: Steps, N: NativeCaller<S> + Explains, W: Watcher> NativeCaller<S> for Ch
     fn make<C: NativeCall<S> + Drop>(&mut self, call: C) -> Result<C::Answer, Fault> {
         let name = call.name();
         let handed = call.handed();
-        match self.caller.make(call) {
-            Ok(answer) => Ok(answer),
-            Err(fault) => {
-                self.tell(name, handed, fault);
-                Err(fault)
-            }
+        let answer = self.caller.make(call);
+        if let Err(fault) = &answer {
+            self.tell(name, handed, *fault);
         }
+        answer
     }
 
     #[inline(always)]
@@ -225,12 +224,10 @@ impl<S: Steps, N: NativeCaller<S> + Explains, W: Watcher> NativeCaller<S> for Ch
         start: u32,
         elements: &mut [E],
     ) -> Result<(), Fault> {
-        match self.caller.copy_part(array, start, elements) {
-            Ok(()) => Ok(()),
-            Err(fault) => {
-                self.tell(names::get_region(E::KIND), Handed::One(array), fault);
-                Err(fault)
-            }
+        let answer = self.caller.copy_part(array, start, elements);
+        if let Err(fault) = &answer {
+            self.tell(names::get_region(E::KIND), Handed::One(array), *fault);
         }
+        answer
     }
 }

@@ -1,4 +1,6 @@
 //! The calls of the Java Native Interface that enter the gate, by their names: of an env, and of a stay.
+ghost use Rattle.jr_env.specs.Requests.{for_is_same_object};
+
 use crate::calls::copies::{GetArrayElements, GetStringChars};
 use crate::calls::{
     DeleteGlobalRef, DeleteLocalRef, DeleteWeakGlobalRef, FreeLocals, GetArrayLength,
@@ -427,6 +429,18 @@ pub trait NativeInterface<S: Steps>: NativeCaller<S> {
     }
 }
 
+/// Compares any two handles. It is a function of its own, so that a comparison of two shared ones stays apart from it.
+#[inline(never)]
+fn compare_any<S: Steps, N: NativeCaller<S>>(
+    caller: &mut N,
+    left: Handle,
+    right: Handle,
+) -> Result<bool, Fault>
+    ensures { N.made caller.old caller.new (for_is_same_object left.0 right.0) result }
+{
+    caller.make(IsSameObject(left, right))
+}
+
 // (a body in the trait is not written into its callers, and these are to be)
 impl<S: Steps, N: NativeCaller<S>> NativeInterface<S> for N {
     #[inline(always)]
@@ -475,7 +489,7 @@ impl<S: Steps, N: NativeCaller<S>> NativeInterface<S> for N {
             // (the same, in a place of its own: there the compiler knows how most of the tests end)
             return self.make(IsSameObject(left, right));
         }
-        self.make(IsSameObject(left, right))
+        compare_any(self, left, right)
     }
 
     #[inline(always)]

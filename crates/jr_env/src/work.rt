@@ -7,7 +7,7 @@ ghost use Rattle.jr_gate.specs.Stays.{IsOwnStay};
 ghost use Rattle.jr_elements.specs.Copies.{answer_in};
 ghost use Rattle.jr_env.specs.Calling.{CanCall};
 ghost use Rattle.jr_env.specs.OpenStays.{BehindExit, EndsAsOneStay, Enters, EntersOver, LeavesOver, StaysOn, StaysSince};
-ghost use Rattle.jr_env.specs.Works.{EndsStayOver, ServesWhole, ServesWithin};
+ghost use Rattle.jr_env.specs.Works.{EndsStayOver, ServesWithin};
 
 use crate::native_call::NativeCall;
 use jr_frames::Held;

@@ -1,5 +1,5 @@
 -- Envs that are idle: those that were opened, and one whose local references were freed.
-use Rattle.std.proofs.Common.{◌≡◌, ◌≢◌, ◌⊎◌, ⊎_elim, inl, inr, ℕ, Bool, List, [], ◌∷◌, length, Result, Ok, Err}
+use Rattle.std.proofs.Common.{◌≡◌, ⊎_elim, ℕ, Bool, List, [], ◌∷◌, length, Result, Ok, Err}
 use Rattle.std.proofs.Common.{refl, sym, ap, ◌∙◌, arith, subst, Option, Some, None, IfOk, IfErr, IfSome}
 use Rattle.std.specs.Arc.{arc_value}
 use Rattle.std.specs.List.{All, AllZip}
@@ -11,8 +11,6 @@ use Rattle.jr_word.specs.declared.config.Config.{Config}
 use Rattle.jr_word.specs.declared.fault.Fault.{Fault}
 use Rattle.jr_word.specs.declared.fault.Fault.TheVariants.{Barred}
 use Rattle.jr_model.specs.declared.summary.Summary.{Summary}
-use Rattle.jr_model.specs.declared.event.Role.{Role}
-use Rattle.jr_model.specs.declared.event.Role.TheVariants.{Outside}
 use Rattle.jr_model.specs.declared.event.Act.{Act}
 use Rattle.jr_model.specs.Frames.{Frames}
 use Rattle.jr_model.specs.Calls.{entered}
@@ -29,14 +27,11 @@ use Rattle.jr_env.specs.declared.patience.Patience.{Patience}
 use Rattle.jr_env.specs.Deeds.{free_locals}
 use Rattle.jr_env.specs.Envs.{Does, IsOutside}
 use Rattle.jr_env.specs.Tries.{made_again}
+use Rattle.jr_env.proofs.EnvCalls.{outside_or}
 use Rattle.jr_env.proofs.MadeAgain.{tries_last}
 use Rattle.jr_owned.specs.Owners.{owner_of, AreEnvsOpened, IsEnvOver, IsLeftByOwner}
 use Rattle.jr_owned.specs.Pools.{FreesLocals, IsIdle}
 use Rattle.jr_owned.proofs.Owners.{numbers_long}
-
-outside_or : (r : Role) → (r ≡ Outside) ⊎ (r ≢ Outside)
-outside_or Outside = inl refl
-outside_or _ = inr (λ e. cc)
 
 freed_frames : (old new : Frames) (acts : List Act) → entered freeing old acts (Ok tt) new → new.frames ≡ [] ∷ []
 freed_frames old new acts d = ⊎_elim

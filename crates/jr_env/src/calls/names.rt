@@ -4,20 +4,29 @@ ghost use Rattle.jr_env.specs.Requests.{type_name};
 
 use jr_word::Kind;
 
+/// The name of a kind's type, between two parts of a call's name.
+macro_rules! with_type {
+    ($before:literal, $kind:expr, $behind:literal) => {
+        match $kind {
+            Kind::Boolean => concat!($before, "Boolean", $behind),
+            Kind::Byte => concat!($before, "Byte", $behind),
+            Kind::Char => concat!($before, "Char", $behind),
+            Kind::Short => concat!($before, "Short", $behind),
+            Kind::Int => concat!($before, "Int", $behind),
+            Kind::Long => concat!($before, "Long", $behind),
+            Kind::Plain | Kind::Objects | Kind::Text => {
+                concat!($before, "<PrimitiveType>", $behind)
+            }
+        }
+    };
+}
+
 /// The call that makes an array of the type.
 #[inline(always)]
 pub(crate) fn new_array(kind: Kind) -> &'static str
     ensures { result.now ≡ codes "New" ++ type_name kind ++ codes "Array" }
 {
-    match kind {
-        Kind::Boolean => "NewBooleanArray",
-        Kind::Byte => "NewByteArray",
-        Kind::Char => "NewCharArray",
-        Kind::Short => "NewShortArray",
-        Kind::Int => "NewIntArray",
-        Kind::Long => "NewLongArray",
-        Kind::Plain | Kind::Objects | Kind::Text => "New<PrimitiveType>Array",
-    }
+    with_type!("New", kind, "Array")
 }
 
 /// The call that copies a part of an array out.
@@ -25,15 +34,7 @@ pub(crate) fn new_array(kind: Kind) -> &'static str
 pub(crate) fn get_region(kind: Kind) -> &'static str
     ensures { result.now ≡ codes "Get" ++ type_name kind ++ codes "ArrayRegion" }
 {
-    match kind {
-        Kind::Boolean => "GetBooleanArrayRegion",
-        Kind::Byte => "GetByteArrayRegion",
-        Kind::Char => "GetCharArrayRegion",
-        Kind::Short => "GetShortArrayRegion",
-        Kind::Int => "GetIntArrayRegion",
-        Kind::Long => "GetLongArrayRegion",
-        Kind::Plain | Kind::Objects | Kind::Text => "Get<PrimitiveType>ArrayRegion",
-    }
+    with_type!("Get", kind, "ArrayRegion")
 }
 
 /// The call that writes a part of an array.
@@ -41,15 +42,7 @@ pub(crate) fn get_region(kind: Kind) -> &'static str
 pub(crate) fn set_region(kind: Kind) -> &'static str
     ensures { result.now ≡ codes "Set" ++ type_name kind ++ codes "ArrayRegion" }
 {
-    match kind {
-        Kind::Boolean => "SetBooleanArrayRegion",
-        Kind::Byte => "SetByteArrayRegion",
-        Kind::Char => "SetCharArrayRegion",
-        Kind::Short => "SetShortArrayRegion",
-        Kind::Int => "SetIntArrayRegion",
-        Kind::Long => "SetLongArrayRegion",
-        Kind::Plain | Kind::Objects | Kind::Text => "Set<PrimitiveType>ArrayRegion",
-    }
+    with_type!("Set", kind, "ArrayRegion")
 }
 
 /// The call that copies an array out.
@@ -57,15 +50,7 @@ pub(crate) fn set_region(kind: Kind) -> &'static str
 pub(crate) fn get_elements(kind: Kind) -> &'static str
     ensures { result.now ≡ codes "Get" ++ type_name kind ++ codes "ArrayElements" }
 {
-    match kind {
-        Kind::Boolean => "GetBooleanArrayElements",
-        Kind::Byte => "GetByteArrayElements",
-        Kind::Char => "GetCharArrayElements",
-        Kind::Short => "GetShortArrayElements",
-        Kind::Int => "GetIntArrayElements",
-        Kind::Long => "GetLongArrayElements",
-        Kind::Plain | Kind::Objects | Kind::Text => "Get<PrimitiveType>ArrayElements",
-    }
+    with_type!("Get", kind, "ArrayElements")
 }
 
 /// The call that writes a copy back.
@@ -73,13 +58,5 @@ pub(crate) fn get_elements(kind: Kind) -> &'static str
 pub(crate) fn release_elements(kind: Kind) -> &'static str
     ensures { result.now ≡ codes "Release" ++ type_name kind ++ codes "ArrayElements" }
 {
-    match kind {
-        Kind::Boolean => "ReleaseBooleanArrayElements",
-        Kind::Byte => "ReleaseByteArrayElements",
-        Kind::Char => "ReleaseCharArrayElements",
-        Kind::Short => "ReleaseShortArrayElements",
-        Kind::Int => "ReleaseIntArrayElements",
-        Kind::Long => "ReleaseLongArrayElements",
-        Kind::Plain | Kind::Objects | Kind::Text => "Release<PrimitiveType>ArrayElements",
-    }
+    with_type!("Release", kind, "ArrayElements")
 }

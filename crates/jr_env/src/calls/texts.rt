@@ -7,7 +7,6 @@ use jr_word::{Fault, Handle};
 use std::alloc::Global;
 
 impl<S: Steps> Env<S> {
-    ghost use Rattle.std.specs.String.{string_bytes};
     ghost use Rattle.jr_env.specs.Texts.{MakesText, ReadsText, text_in};
 
     /// Makes a string of a text, in UTF-16, and a local reference to it. (JNI Specification, chapter 4, "NewString")

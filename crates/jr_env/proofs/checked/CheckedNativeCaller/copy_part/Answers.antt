@@ -1,10 +1,14 @@
-use Rattle.std.proofs.Common.{refl, rules}
+use Rattle.std.proofs.Common.{ap, map, refl, rules}
+use Rattle.jr_env.specs.Deeds.{read_answer}
 use Rattle.jr_env.proofs.Watching.{refused, unrefused}
 use Rattle.jr_env.proofs.checked.CheckedNativeCaller.copy_part.Goals as goal
 
-pub returns-in-Ok-clause-call : goal.returns-in-Ok-clause-call
-returns-in-Ok-clause-call g c = unrefused _ _ c.in-Ok.ensures.call refl refl
+pub returns-in_default-clause-call : goal.returns-in_default-clause-call
+returns-in_default-clause-call g c = unrefused _ _
+    (ap (λ r. read_answer r (map g.E.Elem.word_of c.copy_part-answer.new.elements)) c.in_default.is)
+    c.copy_part-answer.ensures.call refl refl
 
 pub returns-in-Err-clause-call : goal.returns-in-Err-clause-call
 returns-in-Err-clause-call g c =
-    refused _ _ c.in-Err.ensures.call refl refl c.tell.ensures.same_reference (search rules) refl c.tell.ensures.told
+    refused _ _ (search rules) c.copy_part-answer.ensures.call refl refl c.tell.ensures.same_reference (search rules)
+    refl c.tell.ensures.told
