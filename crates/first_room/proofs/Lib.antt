@@ -1,7 +1,6 @@
 -- Lemmas of the program.
 pub mod Answered
 pub mod InHistory
-pub mod InTurn
 pub mod Ints
 pub mod Noted
 pub mod OneHistory

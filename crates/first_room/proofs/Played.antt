@@ -25,6 +25,8 @@ use Rattle.jr_env.specs.Collections.{collection}
 use Rattle.jr_env.specs.Deeds.{CarriedOut, Deed, DoesDeed, DoesOutside, after_exit, new_plain, new_array}
 use Rattle.jr_env.specs.Deeds.{new_object_array, new_reference, delete_reference, is_same_object}
 use Rattle.jr_env.specs.Deeds.{get_object_ref_type, push_local_frame, pop_local_frame, set_array_region, done, ◌>>=◌}
+use Rattle.jr_env.specs.Remedies.{collection_in_turn}
+use Rattle.first_room.specs.declared.TheConstants.{TRIES}
 use Rattle.first_room.specs.Calls.{Shared, Visited, clearing, collecting_in_turn, collecting_twice, is_handed}
 use Rattle.first_room.specs.Calls.{is_kept_out, preparing, reading_within, sharing, visiting, word_made}
 
@@ -52,14 +54,16 @@ module _ {S : Type 0} {facts : S → Facts} where
       (does_then _ d (does_then _ e (does_then _ f (did_reply (λ _. (word_made weak, word_made global)) popped g))))))
 
   -- its two collections
-  collected_twice : (s0 s1 s2 : S) (f0 f1 f2 : Frames) (inside : ℕ) (c : Collected) → (facts s0).stands.role ≡ Outside
-      → DoesOutside facts s0 s1 f0 f1 collection (Err (Busy inside))
-      → DoesOutside facts s1 s2 f1 f2 collecting_in_turn (Ok c)
+  collected_twice : (s0 s1 s2 : S) (f0 f1 f2 : Frames) (inside more : ℕ) (c : Collected)
+      → (facts s0).stands.role ≡ Outside → DoesOutside facts s0 s1 f0 f1 collection (Err (Busy inside))
+      → DoesOutside facts s1 s2 f1 f2 (collection_in_turn TRIES more) (Ok c)
       → DoesDeed facts s0 s2 f0 f2 collecting_twice (Ok inside)
-  collected_twice s0 s1 s2 f0 f1 f2 inside c out d1 d2 =
+  collected_twice s0 s1 s2 f0 f1 f2 inside more c out d1 d2 =
       let kept_out : DoesDeed facts s0 s1 f0 f1 is_kept_out (Ok inside) =
       did_more (λ p q d. (inside, refl, d)) (d1.does out) in
-      does_then _ kept_out (did_reply (λ _. inside) c (d2.does d1.outside))
+      let in_turn : DoesDeed facts s1 s2 f1 f2 collecting_in_turn (Ok c) =
+      did_more (λ p q d. (more, d)) (d2.does d1.outside) in
+      does_then _ kept_out (did_reply (λ _. inside) c in_turn)
 
   -- and those at its end
   cleared_then : (s0 s1 s2 s3 : S) (f0 f1 f2 f3 : Frames) (weak global : ℕ) (cleared : Bool) (kind : ℕ)
@@ -73,8 +77,8 @@ module _ {S : Type 0} {facts : S → Facts} where
 
   -- THE FIRST THREAD'S CALLS
   pub shared : (s0 s1 s2 s3 s4 s5 s6 s7 s8 s9 s10 s11 s12 : S) (f0 f1 f2 f3 f4 f5 f6 f7 f8 f9 f10 f11 f12 : Frames)
-      (lost array : Handle) (weak global popped : Option Handle) (inside : ℕ) (c : Collected) (cleared : Bool)
-      (kind : ℕ)
+      (lost array : Handle) (weak global popped : Option Handle) (inside more : ℕ) (c : Collected)
+      (cleared : Bool) (kind : ℕ)
       → (facts s0).stands.role ≡ Outside → DoesOutside facts s0 s1 f0 f1 (push_local_frame 4) (Ok tt)
       → DoesOutside facts s1 s2 f1 f2 (new_array Long 4) (Ok lost)
       → DoesOutside facts s2 s3 f2 f3 (new_reference Weak lost.0) (Ok weak)
@@ -83,18 +87,18 @@ module _ {S : Type 0} {facts : S → Facts} where
       → DoesOutside facts s5 s6 f5 f6 (new_reference Global array.0) (Ok global)
       → DoesOutside facts s6 s7 f6 f7 (pop_local_frame 0) (Ok popped)
       → DoesOutside facts s7 s8 f7 f8 collection (Err (Busy inside))
-      → DoesOutside facts s8 s9 f8 f9 collecting_in_turn (Ok c)
+      → DoesOutside facts s8 s9 f8 f9 (collection_in_turn TRIES more) (Ok c)
       → DoesOutside facts s9 s10 f9 f10 (is_same_object (word_made weak) 0) (Ok cleared)
       → DoesOutside facts s10 s11 f10 f11 (delete_reference Global (word_made global)) (Ok tt)
       → DoesOutside facts s11 s12 f11 f12 (get_object_ref_type (word_made global)) (Ok kind)
       → DoesDeed facts s0 s12 f0 f12 sharing (Ok (Shared inside cleared kind))
   shared s0 s1 s2 s3 s4 s5 s6 s7 s8 s9 s10 s11 s12 f0 f1 f2 f3 f4 f5 f6 f7 f8 f9 f10 f11 f12 lost array weak global
-      popped inside c cleared kind out d1 d2 d3 d4 d5 d6 d7 d8 d9 d10 d11 d12 =
+      popped inside more c cleared kind out d1 d2 d3 d4 d5 d6 d7 d8 d9 d10 d11 d12 =
       does_then {one = preparing}
       (λ words. collecting_twice >>= (λ n. clearing words.0 words.1 >>= (λ found. done (Shared n found.0 found.1))))
       (prepared s0 s1 s2 s3 s4 s5 s6 s7 f0 f1 f2 f3 f4 f5 f6 f7 lost array weak global popped out d1 d2 d3 d4 d5 d6 d7)
       (does_then {one = collecting_twice} (λ n. clearing (word_made weak) (word_made global)
-      >>= (λ found. done (Shared n found.0 found.1))) (collected_twice s7 s8 s9 f7 f8 f9 inside c d7.outside d8 d9)
+      >>= (λ found. done (Shared n found.0 found.1))) (collected_twice s7 s8 s9 f7 f8 f9 inside more c d7.outside d8 d9)
       (did_reply {one = clearing (word_made weak) (word_made global)} (λ found. Shared inside found.0 found.1)
       (cleared, kind) (cleared_then s9 s10 s11 s12 f9 f10 f11 f12 (word_made weak) (word_made global) cleared kind
       d9.outside d10 d11 d12)))

@@ -1,6 +1,6 @@
 -- The first thread's calls, by which of their acts make arrays of ints or write.
 use Rattle.std.proofs.Common.{◌≡◌, ◌∙◌, ℕ, Bool, Option, List, [], ◌∷◌, ◌++◌, replicate}
-use Rattle.std.proofs.Common.{Result, Ok, refl, sym, ap, subst, append_assoc}
+use Rattle.std.proofs.Common.{Result, Ok, Err, refl, sym, ap, subst, append_assoc}
 use Rattle.jr_word.specs.declared.fault.Fault.{Fault}
 use Rattle.jr_word.specs.declared.handle.Handle.{Handle as HandleWord}
 use Rattle.jr_word.specs.declared.handle.RefKind.TheVariants.{Global, Weak}
@@ -16,15 +16,17 @@ use Rattle.jr_model.specs.Parts as parts
 use Rattle.jr_model.specs.References as references
 use Rattle.jr_model.proofs.Stays.{did_then}
 use Rattle.jr_gate.specs.Performing.{ThreadState}
+use Rattle.jr_weak.specs.declared.collecting.Collected.{Collected}
 use Rattle.jr_env.specs.Collections.{announced_collection}
 use Rattle.jr_env.specs.Deeds.{Deed, delete_reference, done, get_object_ref_type, is_same_object, new_array}
 use Rattle.jr_env.specs.Deeds.{new_reference, pop_local_frame, push_local_frame, set_array_region}
 use Rattle.jr_env.specs.Requests.{packed}
 use Rattle.jr_env.specs.Deeds.{call_by, ◌>>=◌, ◌>>◌}
+use Rattle.jr_env.specs.Remedies.{collection_in_turn, refused_once, served_now, tried_last}
 use Rattle.jr_env.specs.Requests.{making_steps}
 use Rattle.first_room.specs.declared.TheConstants.{TRIES}
-use Rattle.first_room.specs.Calls.{Findings, GotNoTurn, Shared, again, clearing, collecting_in_turn, collecting_twice}
-use Rattle.first_room.specs.Calls.{getting_no_turn, is_kept_out, none, preparing, sharing, word_made}
+use Rattle.first_room.specs.Calls.{Findings, Shared, clearing, collecting_in_turn, collecting_twice}
+use Rattle.first_room.specs.Calls.{is_kept_out, preparing, sharing, word_made}
 use Rattle.first_room.proofs.Answered.{MakesOne, ints_written, made_one, one_between, stayed}
 use Rattle.first_room.proofs.Ints.{HasInts}
 use Rattle.first_room.proofs.Spared.{Spared, answered_spared, array_spared, both_done, deleted_spared, made_quiet}
@@ -147,26 +149,33 @@ traced old new x was =
 
 -- ITS OTHER CALLS
 
--- collections that get no turn
-no_turns_quiet : {a : PassView} {old new : ThreadState} → IsQuiet a old.pass → GotNoTurn old new → IsQuiet a new.pass
-no_turns_quiet p none = p
-no_turns_quiet p (again before turn) = quiet_then (no_turns_quiet p before)
-    (made_quiet (parts.collect_announced TRIES) (collect_announced_spares TRIES) turn.made)
-
 ran_quiet : {A : Type 0} {old new : PassView} {f g : Frames} {answer : Result A Fault} (call : Call A) → Spares call
     → Ran old new f g call answer → IsQuiet old new
 ran_quiet {f = f} {g = g} {answer = answer} call spares r =
     record { acts = r.acts; did = r.did; none = spares f g r.acts answer r.is }
+
+-- an announced collection, and announced ones until one gets its turn
+announced_quiet : (old new : ThreadState) (answer : Result Collected Fault) → announced_collection TRIES old answer new
+    → IsQuiet old.pass new.pass
+announced_quiet old new (Ok c) turn =
+    ran_quiet (parts.collect_announced TRIES) (collect_announced_spares TRIES) turn.done.ran
+announced_quiet old new (Err e) turn =
+    made_quiet (parts.collect_announced TRIES) (collect_announced_spares TRIES) turn.made
+
+in_turn_quiet : {more : ℕ} {old new : ThreadState} {answer : Result Collected Fault}
+    → collection_in_turn TRIES more old answer new → IsQuiet old.pass new.pass
+in_turn_quiet (served_now {old = old} {new = new} {x = x} turn) = announced_quiet old new (Ok x) turn
+in_turn_quiet (refused_once {old = old} {mid = mid} {e = e} turn rest) =
+    quiet_then (announced_quiet old mid (Err e) turn) (in_turn_quiet rest)
+in_turn_quiet (tried_last {old = old} {new = new} {answer = answer} turn) = announced_quiet old new answer turn
 
 collected_quiet : (old new : ThreadState) (inside : ℕ) → collecting_twice old (Ok inside) new
     → IsQuiet old.pass new.pass
 collected_quiet old new inside was =
     let s1 = both_done is_kept_out (λ n. collecting_in_turn >> done n) old new inside was in
     let s2 = both_done collecting_in_turn (λ _. done s1.x) s1.mid new inside s1.two in
-    let s3 = both_done getting_no_turn (λ _. announced_collection TRIES) s1.mid s2.mid s2.x s2.one in
     let kept_out = made_quiet parts.collect collect_spares s1.one.2.made in
-    let end = quiet_then (no_turns_quiet kept_out s3.one.1)
-    (ran_quiet (parts.collect_announced TRIES) (collect_announced_spares TRIES) s3.two.done.ran) in
+    let end = quiet_then kept_out (in_turn_quiet s2.one.1) in
     subst (λ (z : ThreadState). IsQuiet old.pass z.pass) (sym s2.two.1) end
 
 cleared_spared : (weak global : ℕ) → Spared (clearing weak global)

@@ -2,7 +2,6 @@
 use Rattle.std.specs.Prelude.{◌≡◌, ℕ, zero, suc, Bool, Option, Some, None, Ok, Err, [], ◌∷◌}
 use mathlib.Core.List.{IsPrefix}
 use Rattle.first_room.specs.declared.TheConstants.{LAST, SIZES, TRIES}
-use Rattle.jr_word.specs.declared.fault.Fault.{Fault}
 use Rattle.jr_word.specs.declared.fault.Fault.TheVariants.{Busy}
 use Rattle.jr_word.specs.declared.handle.Handle.{Handle}
 use Rattle.jr_word.specs.declared.handle.RefKind.TheVariants.{Global, Weak}
@@ -13,11 +12,12 @@ use Rattle.jr_model.specs.Objects.{get_array_critical, region_get, region_releas
 use Rattle.jr_frames.specs.Reading.{IsReadAs}
 use Rattle.jr_gate.specs.Performing.{HasLearned, ThreadState}
 use Rattle.jr_weak.specs.declared.collecting.Collected.{Collected}
-use Rattle.jr_env.specs.Collections.{announced_collection, collection}
+use Rattle.jr_env.specs.Collections.{collection}
 use Rattle.jr_env.specs.Deeds.{Deed, done, new_plain, new_array, new_object_array, new_reference}
 use Rattle.jr_env.specs.Deeds.{delete_reference, is_same_object, get_object_ref_type}
 use Rattle.jr_env.specs.Deeds.{push_local_frame, pop_local_frame, set_array_region, ◌>>=◌, ◌>>◌}
 use Rattle.jr_env.specs.Deeds.{within_by}
+use Rattle.jr_env.specs.Remedies.{collection_in_turn}
 use Rattle.jr_threads.specs.Parts.{ComesOfDeed}
 
 -- what a thread found: the first, how many threads were inside as a collection was refused, whether its weak
@@ -35,21 +35,9 @@ word_made (Some h) = h.0
 abbrev pub is_kept_out : Deed ℕ
 is_kept_out old answer new = (n : ℕ) × (answer ≡ Ok n) × collection old (Err (Busy n)) new
 
--- collections were announced, and got no turn, one after the other
-pub data GotNoTurn (old : ThreadState) : ThreadState → Type 0 where
-  none : GotNoTurn old old
-  again : {mid new : ThreadState} {e : Fault} → GotNoTurn old mid → announced_collection TRIES mid (Err e) new
-      → GotNoTurn old new
-
--- any number of them
-abbrev pub getting_no_turn : Deed (Unit {0})
-getting_no_turn old answer new = (answer ≡ Ok tt) × GotNoTurn old new
-
--- a collection is announced, and again as long as it gets no turn, and is made
+-- a collection is announced, and again as long as it gets no turn, up to some number of times
 abbrev pub collecting_in_turn : Deed Collected
-collecting_in_turn = do
-  getting_no_turn
-  announced_collection TRIES
+collecting_in_turn old answer new = (more : ℕ) × collection_in_turn TRIES more old answer new
 
 -- two arrays are made in a frame, and then a weak reference to the one and a global one to the other:
 -- the words of the two references

@@ -8,18 +8,17 @@ ghost use Rattle.std.specs.Int.{w32};
 ghost use Rattle.std.specs.Io.KnownBytes.{Appends};
 ghost use Rattle.jr_word.specs.Elem.{signed_word};
 ghost use Rattle.jr_rule.specs.Passes.{AreOpened};
-ghost use Rattle.jr_env.specs.Collections.{FitsRoom};
 ghost use Rattle.jr_env.specs.Envs.{Does, IsOutside};
-ghost use Rattle.first_room.specs.Calls.{Shared, Visited, collecting_in_turn, reading_within};
+ghost use Rattle.first_room.specs.Calls.{Shared, Visited, reading_within};
 ghost use Rattle.first_room.specs.Hour.{IsTrueReport, IsWritten, report_lines, report_text};
 ghost use Rattle.first_room.specs.Sites.{HasCome, IsPassOfThread, IsRoomOf};
 
 mod handing;
 
 use crate::handing::{First, Handed, Second, put, take, wait};
-use jr_env::{Env, NativeInterface};
+use jr_env::{Env, NativeInterface, Patience};
 use jr_rule::{Pass, Room, Site, SiteSteps, Steps, Summary};
-use jr_weak::{Collected, Marker};
+use jr_weak::Marker;
 use jr_word::{Config, Fault, Handle, LAST_SERIAL};
 use std::alloc::Global;
 use std::io::Write;
@@ -36,7 +35,7 @@ const LAST: u32 = LAST_SERIAL;
 /// How often an announced collection tries to shut the gate.
 const TRIES: u32 = 1_000;
 
-/// How often a thread looks for the other's word, and how often it announces a collection.
+/// How often a thread looks for the other's word.
 pub(crate) const TURNS: u32 = 1 << 26;
 
 /// The sizes of the room.
@@ -160,7 +159,7 @@ fn share<Q: Site + Send + Sync>(
         return Err(Fault::Turns);
     };
     baton.store(2, Ordering::SeqCst);
-    collect_in_turn(&mut env, &mut marker)?;
+    env.collect_in_turn(&mut marker, TRIES, Patience::LONG)?;
     let cleared = env.is_same_object(weak, Handle::NULL)?;
     env.delete_global_ref(global)?;
     let kind = env.get_object_ref_type(global)?;
@@ -202,19 +201,4 @@ fn read_within<S: Steps>(env: &mut Env<S>, array: Handle, baton: &AtomicU64) -> 
     region.release_all();
     refused?;
     read
-}
-
-/// Announces a collection, so that nobody goes in any more, and collects once nobody is inside. Where it got no turn (E14, E23) it lets the others run, and announces it anew: E20 where it gets none.
-fn collect_in_turn<S: Steps>(env: &mut Env<S>, marker: &mut Marker) -> Result<Collected, Fault>
-    requires outside { IsOutside env.old }
-    requires room { FitsRoom marker.old env.old }
-    ensures { IfOk result (λ c. Does env.old env.new collecting_in_turn (Ok c)) }
-{
-    for _ in 0..TURNS {
-        match env.collect_announced(marker, TRIES) {
-            Ok(collected) => return Ok(collected),
-            Err(_) => thread::yield_now(),
-        }
-    }
-    Err(Fault::Turns)
 }

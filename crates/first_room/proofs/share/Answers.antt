@@ -14,13 +14,6 @@ use Rattle.first_room.proofs.Played.{busy_some, deleted_on, prepared, refused_as
 use Rattle.first_room.proofs.Played.{word_or_null}
 use Rattle.first_room.proofs.share.Goals as goal
 
-pub collect_in_turn-requires-clause-room : goal.collect_in_turn-requires-clause-room
-collect_in_turn-requires-clause-room g c =
-    let first : room_of c.in_ok-marker.marker
-    ≡ (stepping_pass c.note-note.new.self.held.steps.cells.seat.me).config.objects = search rules in
-    let same = ((c.in-Err-Busy.ensures.call first).does (search rules)).stands_is.config in
-    c.collect.ensures.room ∙ (first ∙ sym (ap (λ (k : Config). k.objects) same))
-
 pub invariant_of-put : goal.invariant_of-put
 invariant_of-put g c =
     let d1 = c.in_ok-push_local_frame.ensures in
@@ -61,7 +54,10 @@ returns g c =
     let n = c.note-note.ensures in
     let d8 =
     behind_note _ _ _ _ _ _ n.same.0 (ap (λ (t : Table). t.frames) n.same.1) (c.in-Err-Busy.ensures.call fits) in
-    let d9 = c.in_ok-collect_in_turn.ensures in
+    let same = ((c.in-Err-Busy.ensures.call fits).does (search rules)).stands_is.config in
+    let d9 =
+    c.in_ok-collect_in_turn.ensures.call
+    (c.collect.ensures.room ∙ (fits ∙ sym (ap (λ (k : Config). k.objects) same))) in
     let d10 = c.in_ok-cleared.ensures in
     let d11 = c.in_ok-delete_global_ref.ensures in
     let d12 = c.in_ok-kind.ensures in
@@ -69,7 +65,7 @@ returns g c =
     let global = word_or_null c.in_ok-new_global_ref.field-0 c.unwrap_or-global.result c.unwrap_or-global.ensures in
     let calls = shared _ _ _ _ _ _ _ _ _ _ _ _ _ _ _ _ _ _ _ _ _ _ _ _ _ _ c.in_ok-lost.lost c.in_ok-array.array
     c.in_ok-new_weak_global_ref.field-0 c.in_ok-new_global_ref.field-0 c.in_ok-pop_local_frame.field-0
-    c.in-Err-Busy.inside c.in_ok-collect_in_turn.field-0 c.in_ok-cleared.cleared c.in_ok-kind.kind
+    c.in-Err-Busy.inside _ c.in_ok-collect_in_turn.field-0 c.in_ok-cleared.cleared c.in_ok-kind.kind
     c.in-Ok.ensures.outside d1 d2 d3 d4 d5 d6 d7 (refused_as c.in-Err-Busy.field-0-is d8) d9 (same_on _ _ 0 _ weak d10)
     (deleted_on _ _ _ global d11) (typed_on _ _ _ global d12) in
     let handed = c.into_pass-2.ensures.pass ∙ ap holder_over (c.into_pass.ensures.steps d12.outside) in (

@@ -1,4 +1,4 @@
-use Rattle.std.proofs.Common.{rules, of_calls, refl, sym, subst, length, Err}
+use Rattle.std.proofs.Common.{of_calls, refl, sym, subst, length, Err}
 use Rattle.std.specs.List.{refill}
 use Rattle.jr_env.specs.Turns.{WasReleased}
 use Rattle.jr_env.proofs.copying.with_array_elements.Goals as goal
