@@ -19,6 +19,7 @@ use Rattle.jr_model.specs.Objects.{nest_array, nest_string, region_get, region_s
 use Rattle.jr_model.specs.Windows.{Ends as Last}
 use Rattle.jr_model.specs.OpenStays.{HasStayed, IsOneStay, NoneLeaves}
 use Rattle.jr_model.proofs.OpenStays.{Stays, level_array_stays, level_string_stays, one_stay, one_stay_left, stays_more}
+use Rattle.jr_model.proofs.ShownRefusals.{words_alone}
 use Rattle.jr_model.proofs.EachCall.{get_work, nest_array_work, nest_string_work, set_work}
 use Rattle.jr_model.proofs.Lawful.{work_stays}
 use Rattle.jr_steps.specs.declared.known.Known.{Known}
@@ -155,7 +156,8 @@ module _ {S : Type 0} (facts : S → Facts) where
         let r = x.2.ran in
         let at = (facts a).stands in
         let none =
-        work_stays (nest_array_work {asked = 0} at.config at.last at.thread (state_of x.0) (objects_of v) e.0) f f
+        work_stays (nest_array_work {asked = words_alone 0}
+        at.config at.last at.thread (state_of x.0) (objects_of v) e.0) f f
         r.acts (level_nested answer u) r.is in
         (x.0, x.1, record { acts = r.acts; did = r.did; stays = none }, x.3)
 
@@ -166,7 +168,8 @@ module _ {S : Type 0} (facts : S → Facts) where
         let r = x.2.ran in
         let at = (facts a).stands in
         let none =
-        work_stays (nest_string_work {asked = 0} at.config at.last at.thread (state_of x.0) (objects_of v) e.0) f f
+        work_stays (nest_string_work {asked = words_alone 0}
+        at.config at.last at.thread (state_of x.0) (objects_of v) e.0) f f
         r.acts (level_nested answer u) r.is in
         (x.0, x.1, record { acts = r.acts; did = r.did; stays = none }, x.3)
 
@@ -178,7 +181,8 @@ module _ {S : Type 0} (facts : S → Facts) where
         let r = x.2.ran in
         let at = (facts a).stands in
         let none =
-        work_stays (get_work {asked = 0} at.config at.last at.thread (state_of x.0) kind (level_object v level) i) f f
+        work_stays (get_work {asked = words_alone 0}
+        at.config at.last at.thread (state_of x.0) kind (level_object v level) i) f f
         r.acts answer r.is in
         (x.0, x.1, record { acts = r.acts; did = r.did; stays = none }, x.3.1)
 
@@ -190,7 +194,8 @@ module _ {S : Type 0} (facts : S → Facts) where
         let r = x.2.ran in
         let at = (facts a).stands in
         let none =
-        work_stays (set_work {asked = 0} at.config at.last at.thread (state_of x.0) kind (level_object v level) i word)
+        work_stays (set_work {asked = words_alone 0}
+        at.config at.last at.thread (state_of x.0) kind (level_object v level) i word)
         f f r.acts answer r.is in
         (x.0, x.1, record { acts = r.acts; did = r.did; stays = none }, x.3.1)
 

@@ -1,6 +1,7 @@
 -- Each call, by the laws over all calls: it moves the frames, its refusals change nothing, and they are true.
-use Rattle.std.proofs.Common.{◌≡◌, ◌≢◌, ℕ, zero, suc, ◌<◌, ◌+◌, ◌==◌, ◌||◌, Bool, not, nat_le, Option, Some, None}
-use Rattle.std.proofs.Common.{List, [], ◌∷◌, ◌++◌, length, map, replicate, Result, refl, sym, ap, subst, ◌∙◌}
+use Rattle.std.proofs.Common.{◌≡◌, ◌≢◌, ℕ, zero, suc, ◌<◌, ◌+◌, ◌==◌, ◌||◌, Bool, true, false, not, nat_le, Option}
+use Rattle.std.proofs.Common.{Some, None, List, [], ◌∷◌, ◌++◌, length, map, replicate, Result, refl, sym, ap}
+use Rattle.std.proofs.Common.{subst, ◌∙◌}
 use Rattle.std.proofs.lemmas.List.{append-nil, length-replicate}
 use Rattle.std.specs.List.{AllByRecursion}
 use Rattle.jr_word.specs.declared.fault.Fault.{Fault}
@@ -40,7 +41,7 @@ use Rattle.jr_model.proofs.Exactly.{all_map, append_all}
 use Rattle.jr_model.proofs.Composed.{Gives, Refusing, act_gives, act_then, at_most_gives}
 use Rattle.jr_model.proofs.Composed.{bind_gives, cond_gives, done_gives, either_gives, object_gives}
 use Rattle.jr_model.proofs.Composed.{refuse_gives, some_act_gives, some_act_then, weaker_gives}
-use Rattle.jr_model.proofs.ShownRefusals.{LosesOnly, LoseOnly, refused_at}
+use Rattle.jr_model.proofs.ShownRefusals.{LosesOnly, LoseOnly, Purpose, is_unshown, words_alone}
 use Rattle.jr_model.proofs.Lawful.{IsInside, IsLawful, IsPrelude, IsWork, Moved, NoLeave, Precede, Refused, answered}
 use Rattle.jr_model.proofs.Lawful.{before, bind_prelude, in_memory, in_region, in_stay, leads_then, leaves_once, moved}
 use Rattle.jr_model.proofs.Lawful.{moves, one_act, outside, prelude, safe, same_leads, some_act_of, sure, surely}
@@ -52,36 +53,36 @@ use Rattle.jr_model.proofs.TrueRefusals.{truly}
 use Rattle.jr_model.proofs.Moves.{added_sure, drop_sure, freeing_sure, new_local_work}
 use Rattle.jr_model.proofs.Moves.{popping_work, pushing_work, resolved_popping}
 
-reads_inside : (asked : ℕ) → (o start : ℕ) (vs : List ℕ) → AllByRecursion (IsInside asked) (read_acts o start vs)
-reads_inside asked o start [] = tt
-reads_inside asked o start (v ∷ vs) = (tt, reads_inside asked o (start + 1) vs)
+reads_inside : (o start : ℕ) (vs : List ℕ) → AllByRecursion IsInside (read_acts o start vs)
+reads_inside o start [] = tt
+reads_inside o start (v ∷ vs) = (tt, reads_inside o (start + 1) vs)
 
-writes_inside : (asked : ℕ) → (o start : ℕ) (vs : List ℕ) → AllByRecursion (IsInside asked) (write_acts o start vs)
-writes_inside asked o start [] = tt
-writes_inside asked o start (v ∷ vs) = (tt, writes_inside asked o (start + 1) vs)
+writes_inside : (o start : ℕ) (vs : List ℕ) → AllByRecursion IsInside (write_acts o start vs)
+writes_inside o start [] = tt
+writes_inside o start (v ∷ vs) = (tt, writes_inside o (start + 1) vs)
 
-sweeps_inside : (asked : ℕ) → (cleared : List Handle) (dropped : List ℕ) (used : ℕ)
-    → AllByRecursion (IsInside asked) (collection_acts cleared dropped used)
-sweeps_inside asked cleared dropped used = (
+sweeps_inside : (cleared : List Handle) (dropped : List ℕ) (used : ℕ)
+    → AllByRecursion IsInside (collection_acts cleared dropped used)
+sweeps_inside cleared dropped used = (
   tt,
-  append_all (IsInside asked) (map Clear cleared ++ map Drop dropped ++ Settle used ∷ []) (Gate Reopen ∷ [])
-      (append_all (IsInside asked) (map Clear cleared ++ map Drop dropped) (Settle used ∷ [])
-      (append_all (IsInside asked) (map Clear cleared) (map Drop dropped) (all_map (IsInside asked) Clear cleared
-      (λ h. tt)) (all_map (IsInside asked) Drop dropped (λ o. tt))) (tt, tt)) (tt, tt),
+  append_all IsInside (map Clear cleared ++ map Drop dropped ++ Settle used ∷ []) (Gate Reopen ∷ [])
+      (append_all IsInside (map Clear cleared ++ map Drop dropped) (Settle used ∷ [])
+      (append_all IsInside (map Clear cleared) (map Drop dropped) (all_map IsInside Clear cleared
+      (λ h. tt)) (all_map IsInside Drop dropped (λ o. tt))) (tt, tt)) (tt, tt),
 )
 
-module _ {asked : ℕ} where
+module _ {asked : Purpose} where
   -- the last of the shuts is refused too
   cancelled_prelude : IsPrelude asked (some_act ShutBusy
       >>= (λ n. act (Gate Cancel) >> refuse {A = ℕ × ℕ × ℕ} (Busy n)))
   cancelled_prelude = some_act_then ShutBusy (λ n. act_then (Gate Cancel) (refuse_gives (Busy n) (λ f. record {
     same = refl;
     before = (refl, (refl, tt));
-    shown = (([], Gate Cancel ∷ [], refl), (tt, (tt, tt)));
+    shown = (([], Gate Cancel ∷ [], refl), (tt, (tt, tt)), tt);
     are = ((λ e. cc), ((λ e. cc), tt));
   })))
 
-module _ {asked last thread : ℕ} where
+module _ {asked : Purpose} {last thread : ℕ} where
   -- SLOTS AND OBJECTS
 
   create_work : (slots : ℕ) (k : RefKind) (o : ℕ) → IsWork asked last thread (create slots k o)
@@ -116,13 +117,13 @@ module _ {asked last thread : ℕ} where
 
   read_work : (o start n : ℕ) → IsWork asked last thread (read o start n)
   read_work o start n = record {
-    goes = λ old new acts x r. moved (reads_inside asked o start r.0) r.2 (same_leads r.4);
+    goes = λ old new acts x r. moved (reads_inside o start r.0) r.2 (same_leads r.4);
     fails = λ old new acts e r. absurd (let bad = r.3 in cc);
   }
 
   write_work : (o start : ℕ) (vs : List ℕ) → IsWork asked last thread (write o start vs)
   write_work o start vs = record {
-    goes = λ old new acts x r. moved (writes_inside asked o start vs) r.0 (same_leads r.2);
+    goes = λ old new acts x r. moved (writes_inside o start vs) r.0 (same_leads r.2);
     fails = λ old new acts e r. absurd (let bad = r.1 in cc);
   }
 
@@ -137,16 +138,17 @@ module _ {asked last thread : ℕ} where
 
   collected_work : IsWork asked last thread collected
   collected_work = record {
-    goes = λ old new acts x r. moved (sweeps_inside asked r.0 r.1 r.2) r.3 (same_leads r.5);
+    goes = λ old new acts x r. moved (sweeps_inside r.0 r.1 r.2) r.3 (same_leads r.5);
     fails = λ old new acts e r. absurd (let bad = r.4 in cc);
   }
 
-  pub collect_work : IsWork asked last thread collect
+  collect_work : IsWork asked last thread collect
   collect_work = either_gives collected_work (prelude closed_prelude)
 
-  pub collect_announced_work : (tries : ℕ) → IsWork asked last thread (collect_announced tries)
-  collect_announced_work tries =
-      before announce_prelude (λ x. either_gives (before (shuts_prelude (λ n. n < tries)) (λ y. collected_work))
+  collect_announced_work : asked.announces ≡ true → (tries : ℕ) → IsWork asked last thread (collect_announced tries)
+  collect_announced_work announces tries =
+      before (announce_prelude announces) (λ x.
+      either_gives (before (shuts_prelude (λ n. n < tries)) (λ y. collected_work))
       (before (shuts_prelude (λ n. n + 1 ≡ tries)) (λ y. prelude cancelled_prelude)))
 
   enter_work : IsWork asked last thread enter
@@ -154,7 +156,7 @@ module _ {asked last thread : ℕ} where
       (prelude (act_then (Gate Knock) (act_then (Gate Withdraw) (refuse_gives Barred (λ f. record {
         same = refl;
         before = (refl, (refl, tt));
-        shown = (([], Gate Withdraw ∷ [], refl), (tt, (tt, tt)));
+        shown = (([], Gate Withdraw ∷ [], refl), (tt, (tt, tt)), tt);
         are = ((λ e. cc), ((λ e. cc), tt));
       })))))
 
@@ -167,23 +169,23 @@ module _ {asked last thread : ℕ} where
   released_lawful (suc (suc n)) = outside (prelude (done_prelude tt))
 
 -- where space was reserved, and nothing else was done
-record Reserved (asked : ℕ) (old : Frames) (acts : List Act) (new : Frames) : Type 0 where
+record Reserved (old : Frames) (acts : List Act) (new : Frames) : Type 0 where
   same : new ≡ old
   before : Precede fault.ObjectsFull acts
-  lose : LoseOnly asked acts
+  lose : LoseOnly None acts
   stays : NoLeave acts
 
 -- space for n words, which the call asks for
-reserved : (n : ℕ) → Gives (Reserved n) (Refused NoLeave n) (reserve n)
+reserved : (n : ℕ) → Gives Reserved (Refused NoLeave (words_alone n)) (reserve n)
 reserved zero = done_gives tt (λ f. record { same = refl; before = tt; lose = tt; stays = tt })
 reserved (suc n) = either_gives (act_gives (Reserve (suc n))
     (λ f. record { same = refl; before = (refl, tt); lose = (tt, tt); stays = ((λ e. cc), tt) })) (either_gives
     (some_act_then (ReserveFull (suc n)) (λ u. refuse_gives (fault.SpaceFull u) (λ f.
-    record { same = refl; before = (refl, tt); shown = (([], [], refl), (tt, tt)); are = ((λ e. cc), tt) })))
+    record { same = refl; before = (refl, tt); shown = (([], [], refl), (tt, tt), tt); are = ((λ e. cc), tt) })))
     (some_act_then {X = ℕ × ℕ} (λ l. ReserveLost (suc n) l.0 l.1) (λ l. refuse_gives (fault.Raced l.0 l.1) (λ f.
-    record { same = refl; before = (refl, tt); shown = (tt, (refl, tt)); are = ((λ e. cc), tt) }))))
+    record { same = refl; before = (refl, tt); shown = (tt, (refl, tt), tt); are = ((λ e. cc), tt) }))))
 
-reserve_work : {last thread : ℕ} (n : ℕ) → IsWork n last thread (reserve n)
+reserve_work : {last thread : ℕ} (n : ℕ) → IsWork (words_alone n) last thread (reserve n)
 reserve_work n = weaker_gives (λ f g xs r. record { leads = same_leads r.same; lose = r.lose; are = r.stays })
     (λ f g xs e r. r) (reserved n)
 
@@ -191,51 +193,52 @@ reserve_work n = weaker_gives (λ f g xs r. record { leads = same_leads r.same; 
 abbrev Numberless : Refusing
 Numberless old acts e new = (acts ≡ []) × (e ≡ fault.ObjectsFull) × (new ≡ old)
 
-module _ {asked last thread : ℕ} where
-  publish_gives : (k : Kind) (ws : List ℕ) → Gives (Moved NoLeave asked last thread) Numberless (publish k ws)
+module _ {last thread : ℕ} where
+  publish_gives : (k : Kind) (ws : List ℕ) → Gives (Moved NoLeave last thread) Numberless (publish k ws)
   publish_gives k ws = either_gives (some_act_gives (λ o. New o k ws) (λ o f. moved (tt, tt) refl stays))
       (refuse_gives fault.ObjectsFull (λ f. (refl, refl, refl)))
 
+module _ {asked : Purpose} {last thread : ℕ} where
   publish_work : (k : Kind) (ws : List ℕ) → IsWork asked last thread (publish k ws)
   publish_work k ws = either_gives (some_act_of (λ o. New o k ws) (λ o. tt)) (prelude (refuse_prelude _ refl))
 
-module _ {asked : ℕ} (c : Config) (last thread : ℕ) where
+module _ {asked : Purpose} (c : Config) (last thread : ℕ) where
   delete_local_work : (a : Word) → IsWork asked last thread (delete_local c thread a)
   delete_local_work a = before (check _ _ refl) (λ x. before (check _ _ refl) (λ y. delete_local_at_work a))
 
 -- an object of these words, for which the call asks: where no number is left, the space stays reserved
 made_work : (c : Config) (last thread : ℕ) (k : Kind) (ws : List ℕ)
-    → IsWork (length ws) last thread (made c last thread k ws)
+    → IsWork (words_alone (length ws)) last thread (made c last thread k ws)
 made_work c last thread k ws =
     before (room_prelude c last thread 1) (λ x. bind_gives (record { joins = joins; behind = behind })
     (reserved (length ws)) (λ y. surely (publish_gives k ws) (λ o. added_sure c o)))
   where
-    asked : ℕ
-    asked = length ws
+    asked : Purpose
+    asked = words_alone (length ws)
 
-    joins : (f g h : Frames) (xs ys : List Act) → Reserved asked f xs g → Moved NoLeave asked last thread g ys h
-        → Moved NoLeave asked last thread f (xs ++ ys) h
+    joins : (f g h : Frames) (xs ys : List Act) → Reserved f xs g → Moved NoLeave last thread g ys h
+        → Moved NoLeave last thread f (xs ++ ys) h
     joins f g h xs ys p q = record {
       leads = leads_then (same_leads p.same) q.leads;
-      lose = append_all (LosesOnly asked) xs ys p.lose q.lose;
+      lose = append_all (LosesOnly None) xs ys p.lose q.lose;
       are = append_all (λ a. a ≢ Gate Leave) xs ys p.stays q.are;
     }
 
-    behind : (f g h : Frames) (xs ys : List Act) (e : Fault) → Reserved asked f xs g → Numberless g ys e h
+    behind : (f g h : Frames) (xs ys : List Act) (e : Fault) → Reserved f xs g → Numberless g ys e h
         → Refused NoLeave asked f (xs ++ ys) e h
     behind f g h xs ys e p q =
         subst (λ l. Refused NoLeave asked f l e h) (sym (ap (λ l. xs ++ l) q.0 ∙ append-nil xs))
         (subst (λ z. Refused NoLeave asked f xs z h) (sym q.1)
-        (record { same = q.2 ∙ p.same; before = p.before; shown = (tt, p.lose); are = p.stays }))
+        (record { same = q.2 ∙ p.same; before = p.before; shown = (tt, p.lose, tt); are = p.stays }))
 
 -- n equal elements
 pub alike_work : (c : Config) (last thread : ℕ) (k : Kind) (n v : ℕ)
-    → IsWork n last thread (made c last thread k (replicate n v))
-alike_work c last thread k n v = subst (λ m. IsWork m last thread (made c last thread k (replicate n v)))
+    → IsWork (words_alone n) last thread (made c last thread k (replicate n v))
+alike_work c last thread k n v = subst (λ m. IsWork (words_alone m) last thread (made c last thread k (replicate n v)))
     (length-replicate n v) (made_work c last thread k (replicate n v))
 
-module _ {asked : ℕ} (c : Config) (last thread : ℕ) (s : State) where
-  length_work : (p : Kind → Bool) (e : Fault) → refused_at asked e ≡ None → (a : Word)
+module _ {asked : Purpose} (c : Config) (last thread : ℕ) (s : State) where
+  length_work : (p : Kind → Bool) (e : Fault) → is_unshown e ≡ true → (a : Word)
       → IsWork asked last thread (length_reading c last thread s p e a)
   length_work p e none a =
       before (resolved_prelude c last thread a) (λ x. before (not_null_prelude x) (λ o.
@@ -273,9 +276,16 @@ module _ {asked : ℕ} (c : Config) (last thread : ℕ) (s : State) where
       before (check (is_text l) NotArray refl) (λ y. before (check (not (is_read_as k l)) WrongElement refl) (λ z.
       before (check (nat_le n i) Range refl) (λ u. one_act (Write o i v) tt))))
 
+-- whether a call announces a collection
+abbrev announces : {a : AnswerKind} → PartOf a → Bool
+announces PartOf.announce = true
+announces (PartOf.collect_announced tries) = true
+announces _ = false
+
 module _ (c : Config) (last thread : ℕ) (s : State) where
   -- EACH CALL OF AN ENV
-  lawful : {a : AnswerKind} (x : CallOf a) → IsLawful (words_asked x) last thread (means c last thread s x)
+  pub lawful : {a : AnswerKind} (x : CallOf a)
+      → IsLawful (words_alone (words_asked x)) last thread (means c last thread s x)
   lawful (CallOf.new_reference k a) = in_stay (before (resolved_prelude c last thread a) (created_work c.slots k))
   lawful (CallOf.new_local_ref a) = in_stay (before (resolved_prelude c last thread a) (new_local_work c last thread))
   lawful (CallOf.delete_reference k a) = in_stay
@@ -321,8 +331,9 @@ module _ (c : Config) (last thread : ℕ) (s : State) where
   lawful (CallOf.nest_string levels a) = outside (nest_string_work c last thread s levels a)
 
   -- EACH OTHER CALL
-  part_lawful : {a : AnswerKind} (x : PartOf a)
-      → IsLawful (words_asked_by_part x) last thread (part_means c last thread s x)
+  pub part_lawful : {a : AnswerKind} (x : PartOf a)
+      → IsLawful (record { words = words_asked_by_part x; announces = announces x }) last thread
+      (part_means c last thread s x)
   part_lawful PartOf.enter = outside (enter_work)
   part_lawful PartOf.leave = leave_lawful
   part_lawful PartOf.shut = outside (either_gives (one_act _ tt) (prelude closed_prelude))
@@ -354,8 +365,8 @@ module _ (c : Config) (last thread : ℕ) (s : State) where
       outside (before (check (nat_le (length buffer) i) Range refl) (λ x. prelude (done_prelude _)))
   part_lawful (PartOf.elements_length buffer) = outside (prelude (done_prelude _))
   part_lawful PartOf.collect = outside collect_work
-  part_lawful PartOf.announce = outside (prelude announce_prelude)
-  part_lawful (PartOf.collect_announced tries) = outside (collect_announced_work tries)
+  part_lawful PartOf.announce = outside (prelude (announce_prelude refl))
+  part_lawful (PartOf.collect_announced tries) = outside (collect_announced_work refl tries)
   part_lawful PartOf.meet = outside (one_act _ tt)
 
   -- THE LAWS

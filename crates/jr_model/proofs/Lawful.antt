@@ -1,6 +1,6 @@
 -- What the laws over all calls ask of each: it moves the frames, changes nothing where it
 -- is refused, shows why, and leaves once; and how that is put together from its parts.
-use Rattle.std.proofs.Common.{◌≡◌, ◌≢◌, ℕ, true, List, [], ◌∷◌, ◌++◌, Result, Ok, Err, refl, sym, ap, subst, ◌∙◌}
+use Rattle.std.proofs.Common.{◌≡◌, ◌≢◌, ℕ, true, List, [], ◌∷◌, ◌++◌, None, Result, Ok, Err, refl, sym, ap, subst, ◌∙◌}
 use Rattle.std.proofs.lemmas.List.{append-nil}
 use Rattle.std.specs.List.{AllByRecursion}
 use Rattle.jr_word.specs.declared.fault.Fault.{Fault}
@@ -15,7 +15,7 @@ use Rattle.jr_model.specs.RefusedCalls.{is_harmless, may_precede, ChangesNothing
 use Rattle.jr_model.proofs.Exactly.{append_all}
 use Rattle.jr_model.proofs.Composed.{Going, Gives, Never, act_gives, bind_gives, done_gives, entered_gives}
 use Rattle.jr_model.proofs.Composed.{memory_gives, opened_gives, some_act_gives, weaker_gives}
-use Rattle.jr_model.proofs.ShownRefusals.{LosesOnly, LoseOnly, IsShown, shown_before, shown_behind}
+use Rattle.jr_model.proofs.ShownRefusals.{LosesOnly, LoseOnly, IsShown, Purpose, shown_before, shown_behind}
 
 -- FRAMES
 
@@ -54,23 +54,22 @@ NoLeave acts = AllByRecursion (λ a. a ≢ Gate Leave) acts
 abbrev pub LeaveOnce : List Act → Type 0
 LeaveOnce acts = (inside : List Act) → acts ≡ Gate Enter ∷ inside ++ Gate Leave ∷ [] → NoLeave inside
 
--- an act within a stay of a call that asks for so many words: no exit, and no other reservation that was lost
-abbrev pub IsInside : ℕ → Act → Type 0
-IsInside asked (ReserveLost n l f) = n ≡ asked
-IsInside asked (Gate Leave) = ⊥
-IsInside asked _ = Unit {0}
+-- an act within a stay: no exit, and no reservation that was lost
+abbrev pub IsInside : Act → Type 0
+IsInside (ReserveLost n l f) = ⊥
+IsInside (Gate Leave) = ⊥
+IsInside _ = Unit {0}
 
-inside_parts : (asked : ℕ) (a : Act) → IsInside asked a → LosesOnly asked a × (a ≢ Gate Leave)
-inside_parts asked (ReserveLost n l f) is = (is, λ e. cc)
-inside_parts asked (Gate Leave) is = absurd is
-inside_parts asked _ is = (tt, λ e. cc)
+inside_parts : (a : Act) → IsInside a → LosesOnly None a × (a ≢ Gate Leave)
+inside_parts (ReserveLost n l f) is = absurd is
+inside_parts (Gate Leave) is = absurd is
+inside_parts _ is = (tt, λ e. cc)
 
 -- what holds of a call's acts by that
-pub inside_all : (asked : ℕ) (acts : List Act) → AllByRecursion (IsInside asked) acts
-    → LoseOnly asked acts × NoLeave acts
-inside_all asked [] inside = (tt, tt)
-inside_all asked (a ∷ acts) inside = let one = inside_parts asked a inside.0 in
-    let rest = inside_all asked acts inside.1 in ((one.0, rest.0), (one.1, rest.1))
+pub inside_all : (acts : List Act) → AllByRecursion IsInside acts → LoseOnly None acts × NoLeave acts
+inside_all [] inside = (tt, tt)
+inside_all (a ∷ acts) inside =
+    let one = inside_parts a inside.0 in let rest = inside_all acts inside.1 in ((one.0, rest.0), (one.1, rest.1))
 
 leave_among : (acts : List Act) → NoLeave (acts ++ Gate Leave ∷ []) → ⊥
 leave_among [] none = none.0 refl
@@ -93,21 +92,21 @@ stay_once acts none inside is = subst NoLeave (snoc_cancel acts inside (Gate Lea
 -- WHAT A PART OR A CALL GIVES
 
 -- where a call goes on that changes nothing
-pub record Quiet (asked : ℕ) (old : Frames) (acts : List Act) (new : Frames) : Type 0 where
+pub record Quiet (old : Frames) (acts : List Act) (new : Frames) : Type 0 where
   pub same : new ≡ old
   pub harmless : AreHarmless acts
-  pub lose : LoseOnly asked acts
+  pub lose : LoseOnly None acts
   pub stays : NoLeave acts
 
 -- where a call goes on that moves the frames
-pub record Moved (Are : List Act → Type 0) (asked last thread : ℕ) (old : Frames) (acts : List Act)
+pub record Moved (Are : List Act → Type 0) (last thread : ℕ) (old : Frames) (acts : List Act)
     (new : Frames) : Type 0 where
   pub leads : LeadsTo last thread old new
-  pub lose : LoseOnly asked acts
+  pub lose : LoseOnly None acts
   pub are : Are acts
 
 -- where a call is refused: it changed nothing, and shows why
-pub record Refused (Are : List Act → Type 0) (asked : ℕ) (old : Frames) (acts : List Act) (e : Fault)
+pub record Refused (Are : List Act → Type 0) (asked : Purpose) (old : Frames) (acts : List Act) (e : Fault)
     (new : Frames) : Type 0 where
   pub same : new ≡ old
   pub before : Precede e acts
@@ -115,58 +114,85 @@ pub record Refused (Are : List Act → Type 0) (asked : ℕ) (old : Frames) (act
   pub are : Are acts
 
 -- what comes before anything is changed
-abbrev pub IsPrelude : {A : Type 0} → ℕ → Call A → Type 0
-IsPrelude asked call = Gives (Quiet asked) (Refused NoLeave asked) call
+abbrev pub IsPrelude : {A : Type 0} → Purpose → Call A → Type 0
+IsPrelude asked call = Gives Quiet (Refused NoLeave asked) call
 
 -- what a call does within its stay
-abbrev pub IsWork : {A : Type 0} → ℕ → ℕ → ℕ → Call A → Type 0
-IsWork asked last thread call = Gives (Moved NoLeave asked last thread) (Refused NoLeave asked) call
+abbrev pub IsWork : {A : Type 0} → Purpose → ℕ → ℕ → Call A → Type 0
+IsWork asked last thread call = Gives (Moved NoLeave last thread) (Refused NoLeave asked) call
 
 -- work that is not refused
-abbrev pub IsSure : {A : Type 0} → ℕ → ℕ → ℕ → Call A → Type 0
-IsSure asked last thread call = Gives (Moved NoLeave asked last thread) Never call
+abbrev pub IsSure : {A : Type 0} → ℕ → ℕ → Call A → Type 0
+IsSure last thread call = Gives (Moved NoLeave last thread) Never call
 
 -- A CALL BY THE LAWS
-abbrev pub IsLawful : {A : Type 0} → ℕ → ℕ → ℕ → Call A → Type 0
-IsLawful asked last thread call = Gives (Moved LeaveOnce asked last thread) (Refused LeaveOnce asked) call
+abbrev pub IsLawful : {A : Type 0} → Purpose → ℕ → ℕ → Call A → Type 0
+IsLawful asked last thread call = Gives (Moved LeaveOnce last thread) (Refused LeaveOnce asked) call
 
 -- no act, and the frames as they were
 abbrev pub Still : Going
 Still old acts new = (acts ≡ []) × (new ≡ old)
 
-module _ {asked : ℕ} where
-  both_quiet : (f g h : Frames) (xs ys : List Act) → Quiet asked f xs g → Quiet asked g ys h
-      → Quiet asked f (xs ++ ys) h
-  both_quiet f g h xs ys p q = record {
-    same = q.same ∙ p.same;
-    harmless = append_all (λ a. is_harmless a ≡ true) xs ys p.harmless q.harmless;
-    lose = append_all (LosesOnly asked) xs ys p.lose q.lose;
-    stays = append_all (λ a. a ≢ Gate Leave) xs ys p.stays q.stays;
+both_quiet : (f g h : Frames) (xs ys : List Act) → Quiet f xs g → Quiet g ys h
+    → Quiet f (xs ++ ys) h
+both_quiet f g h xs ys p q = record {
+  same = q.same ∙ p.same;
+  harmless = append_all (λ a. is_harmless a ≡ true) xs ys p.harmless q.harmless;
+  lose = append_all (LosesOnly None) xs ys p.lose q.lose;
+  stays = append_all (λ a. a ≢ Gate Leave) xs ys p.stays q.stays;
+}
+
+module _ {last thread : ℕ} where
+  pub quiet_moved : (f g h : Frames) (xs ys : List Act) → Quiet f xs g
+      → Moved NoLeave last thread g ys h → Moved NoLeave last thread f (xs ++ ys) h
+  quiet_moved f g h xs ys p q = record {
+    leads = leads_then (same_leads p.same) q.leads;
+    lose = append_all (LosesOnly None) xs ys p.lose q.lose;
+    are = append_all (λ a. a ≢ Gate Leave) xs ys p.stays q.are;
   }
 
-  pub quiet_refused : (f g h : Frames) (xs ys : List Act) (e : Fault) → Quiet asked f xs g
+  pub both_moved : (f g h : Frames) (xs ys : List Act) → Moved NoLeave last thread f xs g
+      → Moved NoLeave last thread g ys h → Moved NoLeave last thread f (xs ++ ys) h
+  both_moved f g h xs ys p q = record {
+    leads = leads_then p.leads q.leads;
+    lose = append_all (LosesOnly None) xs ys p.lose q.lose;
+    are = append_all (λ a. a ≢ Gate Leave) xs ys p.are q.are;
+  }
+
+  -- work, and then what is not refused
+  pub surely : {A B : Type 0} {Bad : Frames → List Act → Fault → Frames → Type 0} {first : Call A} {next : A → Call B}
+      → Gives (Moved NoLeave last thread) Bad first → ((x : A) → IsSure last thread (next x))
+      → Gives (Moved NoLeave last thread) Bad (first >>= next)
+  surely p q = bind_gives (record { joins = both_moved; behind = λ f g h xs ys e moved never. absurd never }) p q
+
+  -- a call, and then an answer
+  pub answered : {A B : Type 0} {Are : List Act → Type 0} {Bad : Frames → List Act → Fault → Frames → Type 0}
+      {first : Call A} → Gives (Moved Are last thread) Bad first → (f : A → B)
+      → Gives (Moved Are last thread) Bad (first >>= (λ x. done (f x)))
+  answered {Are = Are} {Bad = Bad} p form = bind_gives {Second = Still} {Worse = Never}
+      (record { joins = joins; behind = λ f g h xs ys e moved never. absurd never }) p (λ x.
+      done_gives (form x) (λ f. (refl, refl)))
+    where
+      joins : (f g h : Frames) (xs ys : List Act) → Moved Are last thread f xs g → Still g ys h
+          → Moved Are last thread f (xs ++ ys) h
+      joins f g h xs ys moved still =
+          subst (λ l. Moved Are last thread f l h) (sym (ap (λ l. xs ++ l) still.0 ∙ append-nil xs))
+          (subst (Moved Are last thread f xs) (sym still.1) moved)
+
+  -- the frames are led on by such acts
+  pub moved : {old new : Frames} {acts xs : List Act} → AllByRecursion IsInside xs → acts ≡ xs
+      → LeadsTo last thread old new → Moved NoLeave last thread old acts new
+  moved {xs = xs} inside is leads = let all = inside_all xs inside in
+      record { leads = leads; lose = subst (LoseOnly None) (sym is) all.0; are = subst NoLeave (sym is) all.1 }
+
+module _ {asked : Purpose} where
+  pub quiet_refused : (f g h : Frames) (xs ys : List Act) (e : Fault) → Quiet f xs g
       → Refused NoLeave asked g ys e h → Refused NoLeave asked f (xs ++ ys) e h
   quiet_refused f g h xs ys e p q = record {
     same = q.same ∙ p.same;
     before = append_all (λ a. may_precede e a ≡ true) xs ys (all_precede e xs p.harmless) q.before;
     shown = shown_behind asked e xs ys p.lose q.shown;
     are = append_all (λ a. a ≢ Gate Leave) xs ys p.stays q.are;
-  }
-
-  pub quiet_moved : {last thread : ℕ} (f g h : Frames) (xs ys : List Act) → Quiet asked f xs g
-      → Moved NoLeave asked last thread g ys h → Moved NoLeave asked last thread f (xs ++ ys) h
-  quiet_moved f g h xs ys p q = record {
-    leads = leads_then (same_leads p.same) q.leads;
-    lose = append_all (LosesOnly asked) xs ys p.lose q.lose;
-    are = append_all (λ a. a ≢ Gate Leave) xs ys p.stays q.are;
-  }
-
-  pub both_moved : {last thread : ℕ} (f g h : Frames) (xs ys : List Act) → Moved NoLeave asked last thread f xs g
-      → Moved NoLeave asked last thread g ys h → Moved NoLeave asked last thread f (xs ++ ys) h
-  both_moved f g h xs ys p q = record {
-    leads = leads_then p.leads q.leads;
-    lose = append_all (LosesOnly asked) xs ys p.lose q.lose;
-    are = append_all (λ a. a ≢ Gate Leave) xs ys p.are q.are;
   }
 
   -- one prelude and then another
@@ -190,16 +216,16 @@ module _ {asked : ℕ} where
   barred f = record {
     same = refl;
     before = (refl, (refl, tt));
-    shown = (([], Gate Withdraw ∷ [], refl), (tt, (tt, tt)));
+    shown = (([], Gate Withdraw ∷ [], refl), (tt, (tt, tt)), tt);
     are = none_once (Gate Knock ∷ Gate Withdraw ∷ []) ((λ e. cc), ((λ e. cc), tt));
   }
 
-module _ {asked last thread : ℕ} where
+module _ {asked : Purpose} {last thread : ℕ} where
   pub prelude : {A : Type 0} {call : Call A} → IsPrelude asked call → IsWork asked last thread call
   prelude p =
       weaker_gives (λ f g xs q. record { leads = same_leads q.same; lose = q.lose; are = q.stays }) (λ f g xs e q. q) p
 
-  pub sure : {A : Type 0} {call : Call A} → IsSure asked last thread call → IsWork asked last thread call
+  pub sure : {A : Type 0} {call : Call A} → IsSure last thread call → IsWork asked last thread call
   sure p = weaker_gives (λ f g xs q. q) (λ f g xs e never. absurd never) p
 
   -- a prelude, and then work
@@ -207,43 +233,17 @@ module _ {asked last thread : ℕ} where
       → ((x : A) → IsWork asked last thread (next x)) → IsWork asked last thread (first >>= next)
   before p q = bind_gives (record { joins = quiet_moved; behind = quiet_refused }) p q
 
-  -- work, and then what is not refused
-  pub surely : {A B : Type 0} {Bad : Frames → List Act → Fault → Frames → Type 0} {first : Call A} {next : A → Call B}
-      → Gives (Moved NoLeave asked last thread) Bad first → ((x : A) → IsSure asked last thread (next x))
-      → Gives (Moved NoLeave asked last thread) Bad (first >>= next)
-  surely p q = bind_gives (record { joins = both_moved; behind = λ f g h xs ys e moved never. absurd never }) p q
-
-  -- a call, and then an answer
-  pub answered : {A B : Type 0} {Are : List Act → Type 0} {Bad : Frames → List Act → Fault → Frames → Type 0}
-      {first : Call A} → Gives (Moved Are asked last thread) Bad first → (f : A → B)
-      → Gives (Moved Are asked last thread) Bad (first >>= (λ x. done (f x)))
-  answered {Are = Are} {Bad = Bad} p form = bind_gives {Second = Still} {Worse = Never}
-      (record { joins = joins; behind = λ f g h xs ys e moved never. absurd never }) p (λ x.
-      done_gives (form x) (λ f. (refl, refl)))
-    where
-      joins : (f g h : Frames) (xs ys : List Act) → Moved Are asked last thread f xs g → Still g ys h
-          → Moved Are asked last thread f (xs ++ ys) h
-      joins f g h xs ys moved still =
-          subst (λ l. Moved Are asked last thread f l h) (sym (ap (λ l. xs ++ l) still.0 ∙ append-nil xs))
-          (subst (Moved Are asked last thread f xs) (sym still.1) moved)
-
-  -- the frames are led on by such acts
-  pub moved : {old new : Frames} {acts xs : List Act} → AllByRecursion (IsInside asked) xs → acts ≡ xs
-      → LeadsTo last thread old new → Moved NoLeave asked last thread old acts new
-  moved {xs = xs} inside is leads = let all = inside_all asked xs inside in
-      record { leads = leads; lose = subst (LoseOnly asked) (sym is) all.0; are = subst NoLeave (sym is) all.1 }
-
   -- an act that is not refused
-  pub one_act : (a : Act) → IsInside asked a → IsWork asked last thread (act a)
+  pub one_act : (a : Act) → IsInside a → IsWork asked last thread (act a)
   one_act a inside = act_gives a (λ f. moved (inside, tt) refl stays)
 
-  pub some_act_of : {X : Type 0} (a : X → Act) → ((x : X) → IsInside asked (a x))
+  pub some_act_of : {X : Type 0} (a : X → Act) → ((x : X) → IsInside (a x))
       → IsWork asked last thread (some_act a)
   some_act_of a inside = some_act_gives a (λ x f. moved (inside x, tt) refl stays)
 
   pub in_memory : {A : Type 0} {work : Call A} (n : ℕ) → IsWork asked last thread work
       → IsWork asked last thread (unless_memory_for n work)
-  in_memory n p = memory_gives n (λ f. record { same = refl; before = tt; shown = (tt, tt); are = tt }) p
+  in_memory n p = memory_gives n (λ f. record { same = refl; before = tt; shown = (tt, tt, tt); are = tt }) p
 
   -- WHOLE CALLS
 
@@ -256,7 +256,7 @@ module _ {asked last thread : ℕ} where
   in_stay p = entered_gives
       (λ f g xs q. record {
         leads = q.leads;
-        lose = append_all (LosesOnly asked) (Gate Enter ∷ xs) (Gate Leave ∷ []) (tt, q.lose) (tt, tt);
+        lose = append_all (LosesOnly None) (Gate Enter ∷ xs) (Gate Leave ∷ []) (tt, q.lose) (tt, tt);
         are = stay_once xs q.are;
       }) refused_in_stay barred p
 
@@ -291,10 +291,3 @@ module _ {asked last thread : ℕ} where
       → (old new : Frames) (acts : List Act) (answer : Result A Fault) → call old acts answer new → NoLeave acts
   work_stays p old new acts (Ok x) r = (p.goes old new acts x r).are
   work_stays p old new acts (Err e) r = (p.fails old new acts e r).are
-
-  -- it loses no reservation but such
-  pub loses : {A : Type 0} {Are : List Act → Type 0} {call : Call A}
-      → Gives (Moved Are asked last thread) (Refused Are asked) call
-      → (old new : Frames) (acts : List Act) (answer : Result A Fault) → call old acts answer new → LoseOnly asked acts
-  loses p old new acts (Ok x) r = (p.goes old new acts x r).lose
-  loses p old new acts (Err e) r = (p.fails old new acts e r).shown.1

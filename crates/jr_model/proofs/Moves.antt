@@ -21,7 +21,7 @@ use Rattle.jr_model.proofs.Agreement.{other_than}
 use Rattle.jr_model.proofs.Exactly.{all_map}
 use Rattle.jr_model.proofs.Gone.{has}
 use Rattle.jr_model.proofs.Composed.{Gives, Never, bind_gives, framed_gives, weaker_gives}
-use Rattle.jr_model.proofs.ShownRefusals.{refused_at}
+use Rattle.jr_model.proofs.ShownRefusals.{Purpose, is_unshown, words_alone}
 use Rattle.jr_model.proofs.Lawful.{IsInside, IsPrelude, IsSure, IsWork, Moved, NoLeave, Quiet, Refused, answered}
 use Rattle.jr_model.proofs.Lawful.{before, both_moved, moved, prelude, quiet_moved, quiet_refused, same_leads, sure}
 use Rattle.jr_model.proofs.Preludes.{check, done_prelude, resolved_prelude, room_prelude}
@@ -58,27 +58,27 @@ taken_out : {last thread : ℕ} (h : Handle) (old : Frames) (o : Option ℕ) →
 taken_out h old (Some o) is = goes_on stays (deletes h (subst (λ x. IsSome x) (sym is) refl))
 taken_out h old None is = same_leads (ap (λ l. record old { frames = l }) (absent_all h old.frames is))
 
-drops_inside : (asked : ℕ) (rs : List LocalRef) → AllByRecursion (IsInside asked) (drop_all rs)
-drops_inside asked rs = all_map (IsInside asked) (λ (r : LocalRef). LocalDrop r.handle.index) rs (λ r. tt)
+drops_inside : (rs : List LocalRef) → AllByRecursion IsInside (drop_all rs)
+drops_inside rs = all_map IsInside (λ (r : LocalRef). LocalDrop r.handle.index) rs (λ r. tt)
 
-module _ {asked last thread : ℕ} where
-  pub added_sure : (c : Config) (o : ℕ) → IsSure asked last thread (added c last thread o)
+module _ {last thread : ℕ} where
+  pub added_sure : (c : Config) (o : ℕ) → IsSure last thread (added c last thread o)
   added_sure c o = record {
     goes = λ old new acts x r. moved (tt, tt) r.1 (goes_on stays (adds (record { handle = r.0; object = o }) r.3));
     fails = λ old new acts e r. absurd (let bad = r.2 in cc);
   }
 
-  pub drop_sure : (h : Handle) → IsSure asked last thread (drop_local h)
+  pub drop_sure : (h : Handle) → IsSure last thread (drop_local h)
   drop_sure h = record {
     goes = λ old new acts x r.
         moved (tt, tt) r.0 (subst (LeadsTo last thread old) (sym r.2) (taken_out h old (object_of old h) refl));
     fails = λ old new acts e r. absurd (let bad = r.1 in cc);
   }
 
-  pub freeing_sure : IsSure asked last thread freeing
+  pub freeing_sure : IsSure last thread freeing
   freeing_sure = record {
     goes = λ old new acts x r.
-        moved (drops_inside asked (all_refs old)) r.0 (subst (LeadsTo last thread old) (sym r.2) (goes_on stays frees));
+        moved (drops_inside (all_refs old)) r.0 (subst (LeadsTo last thread old) (sym r.2) (goes_on stays frees));
     fails = λ old new acts e r. absurd (let bad = r.1 in cc);
   }
 
@@ -96,23 +96,23 @@ few n m e = grind (arith, nat_tests)
 many : (n m : ℕ) → nat_lt n m ≡ false → m ≤ n
 many n m e = grind (arith, nat_tests)
 
-module _ {asked : ℕ} {P : Frames → Type 0} where
+module _ {asked : Purpose} {P : Frames → Type 0} where
   -- a test of the frames, which tells this of them where it lets pass
-  tested : (b : Frames → Bool) (e : Fault) → refused_at asked e ≡ None → ((f : Frames) → b f ≡ false → P f)
-      → Gives (λ f xs g. Quiet asked f xs g × P g) (Refused NoLeave asked) (λ old. refuse_if (b old) e old)
+  tested : (b : Frames → Bool) (e : Fault) → is_unshown e ≡ true → ((f : Frames) → b f ≡ false → P f)
+      → Gives (λ f xs g. Quiet f xs g × P g) (Refused NoLeave asked) (λ old. refuse_if (b old) e old)
   tested b e none so = record {
     goes = λ old new acts x r. (
-      (check (b old) e none).goes old new acts x r,
+      (check {asked = asked} (b old) e none).goes old new acts x r,
       let p = passed (b old) e old new acts x r in subst P (sym p.1) (so old p.0),
     );
     fails = λ old new acts x r. (check (b old) e none).fails old new acts x r;
   }
 
-module _ {asked last thread : ℕ} {P : Frames → Type 0} where
+module _ {asked : Purpose} {last thread : ℕ} {P : Frames → Type 0} where
   -- a prelude, and then work that goes by such frames
   framed : {A B : Type 0} {first : Call A} {next : A → Call B} → IsPrelude asked first
-      → ((x : A) → Gives (λ f xs g. P f → Moved NoLeave asked last thread f xs g) (Refused NoLeave asked) (next x))
-      → Gives (λ f xs g. P f → Moved NoLeave asked last thread f xs g) (Refused NoLeave asked) (first >>= next)
+      → ((x : A) → Gives (λ f xs g. P f → Moved NoLeave last thread f xs g) (Refused NoLeave asked) (next x))
+      → Gives (λ f xs g. P f → Moved NoLeave last thread f xs g) (Refused NoLeave asked) (first >>= next)
   framed p q = bind_gives (record {
     joins = λ f g h xs ys quiet work so. quiet_moved f g h xs ys quiet (work (subst P (sym quiet.same) so));
     behind = quiet_refused;
@@ -120,8 +120,8 @@ module _ {asked last thread : ℕ} {P : Frames → Type 0} where
 
   -- a test that tells it, and then that work
   behind_test : {A B : Type 0} {first : Call A} {next : A → Call B}
-      → Gives (λ f xs g. Quiet asked f xs g × P g) (Refused NoLeave asked) first
-      → ((x : A) → Gives (λ f xs g. P f → Moved NoLeave asked last thread f xs g) (Refused NoLeave asked) (next x))
+      → Gives (λ f xs g. Quiet f xs g × P g) (Refused NoLeave asked) first
+      → ((x : A) → Gives (λ f xs g. P f → Moved NoLeave last thread f xs g) (Refused NoLeave asked) (next x))
       → IsWork asked last thread (first >>= next)
   behind_test p q = bind_gives (record {
     joins = λ f g h xs ys quiet work. quiet_moved f g h xs ys quiet.0 (work quiet.1);
@@ -145,7 +145,7 @@ room_refused : (b : Bool) (e : Fault) (old new : Frames) (acts : List Act) (x : 
 room_refused true e old new acts x is r = cc
 room_refused false e old new acts x is r = let bad = r.1 in cc
 
-module _ {asked : ℕ} (c : Config) (last thread : ℕ) where
+module _ {asked : Purpose} (c : Config) (last thread : ℕ) where
   pub new_local_work : (o : Option ℕ) → IsWork asked last thread (new_local c last thread o)
   new_local_work None = prelude (done_prelude None)
   new_local_work (Some o) = before (room_prelude c last thread 1) (λ x. answered (sure (added_sure c o)) Some)
@@ -159,47 +159,52 @@ module _ {asked : ℕ} (c : Config) (last thread : ℕ) where
         fails = λ old new acts e r. absurd (let bad = r.1 in cc);
       }))
 
+module _ (c : Config) (last thread : ℕ) where
   -- where it is, the result is not refused
   result_work : (o : Option ℕ)
-      → Gives (Moved NoLeave asked last thread) (λ f xs e g. HasRoom last o f → ⊥) (new_local c last thread o)
+      → Gives (Moved NoLeave last thread) (λ f xs e g. HasRoom last o f → ⊥) (new_local c last thread o)
   result_work None =
-      record { goes = (new_local_work None).goes; fails = λ old new acts e r. absurd (let bad = r.1 in cc) }
-  result_work (Some o) = bind_gives {First = Quiet asked} {Worse = Never} {first = room_for c last thread 1}
+      record {
+        goes = (new_local_work {asked = words_alone 0} c last thread None).goes;
+        fails = λ old new acts e r. absurd (let bad = r.1 in cc);
+      }
+  result_work (Some o) = bind_gives {First = Quiet} {Worse = Never} {first = room_for c last thread 1}
       (record { joins = quiet_moved; behind = λ f g h xs ys e quiet never. absurd never })
       (record {
-        goes = (room_prelude c last thread 1).goes;
+        goes = (room_prelude {asked = words_alone 0} c last thread 1).goes;
         fails = λ old new acts e r room. room_refused (nat_lt (free_places last old) 1) LocalsFull old new acts e
             (some_room (free_places last old) room) r;
       })
       (λ x. answered (added_sure c o) Some)
 
-  pub taking_work : (o : Option ℕ) → Gives (λ f xs g. HasTwo f → Moved NoLeave asked last thread f xs g)
+  pub taking_work : (o : Option ℕ) → Gives (λ f xs g. HasTwo f → Moved NoLeave last thread f xs g)
       (λ f xs e g. HasRoom last o (popped f) → ⊥) (take_frame >> new_local c last thread o)
   taking_work o =
       bind_gives {First = λ f xs g. (xs ≡ drop_all (last_frame f.frames)) × (g ≡ popped f)} {first = take_frame}
       (record {
-        joins = λ f g h xs ys taken work two. both_moved f g h xs ys (moved (drops_inside asked (last_frame f.frames))
+        joins = λ f g h xs ys taken work two. both_moved f g h xs ys (moved (drops_inside (last_frame f.frames))
             taken.0 (subst (LeadsTo last thread f) (sym taken.1) (goes_on stays (pops two)))) work;
         behind = λ f g h xs ys e taken full room. full (subst (HasRoom last o) (sym taken.1) room);
       })
       (record { goes = λ old new acts x r. (r.0, r.2); fails = λ old new acts e r. absurd (let bad = r.1 in cc) })
       (λ x. result_work o)
 
-  pub after_room : (o : Option ℕ) → Gives (λ f xs g. Quiet asked f xs g × HasRoom last o (popped g))
+module _ {asked : Purpose} (c : Config) (last thread : ℕ) where
+  pub after_room : (o : Option ℕ) → Gives (λ f xs g. Quiet f xs g × HasRoom last o (popped g))
       (Refused NoLeave asked) (room_after c last thread o)
   after_room None = framed_gives (λ old. done tt) (λ f.
       weaker_gives (λ f g xs quiet. (quiet, tt)) (λ f g xs e refused. refused) (done_prelude tt))
   after_room (Some o) = tested {P = λ f. HasRoom last (Some o) (popped f)} (λ f. free_places last (popped f) == 0)
       LocalsFull refl (λ f is. is)
 
-  popping_where : (o : Option ℕ) → Gives (λ f xs g. HasTwo f → Moved NoLeave asked last thread f xs g)
+  popping_where : (o : Option ℕ) → Gives (λ f xs g. HasTwo f → Moved NoLeave last thread f xs g)
       (Refused NoLeave asked) (popping c last thread o)
   popping_where o = bind_gives (record {
     joins = λ f g h xs ys quiet work two. quiet_moved f g h xs ys quiet.0 (work (subst HasTwo (sym quiet.0.same) two));
     behind = λ f g h xs ys e quiet full. absurd (full quiet.1);
-  }) (after_room o) (λ x. taking_work o)
+  }) (after_room o) (λ x. taking_work c last thread o)
 
-  two_left : Gives (λ f xs g. Quiet asked f xs g × HasTwo g) (Refused NoLeave asked) frame_to_pop
+  two_left : Gives (λ f xs g. Quiet f xs g × HasTwo g) (Refused NoLeave asked) frame_to_pop
   two_left = tested {P = HasTwo} (λ f. nat_lt (length f.frames) 2) NoFrame refl (λ f is. many (length f.frames) 2 is)
 
   pub popping_work : (o : Option ℕ) → IsWork asked last thread (frame_to_pop >> popping c last thread o)

@@ -17,6 +17,7 @@ use Rattle.jr_model.specs.Checks.{Word}
 use Rattle.jr_model.specs.Objects.{level_array, level_string}
 use Rattle.jr_model.specs.OpenStays.{GoesOnWithItsActs, HasStayed, IsOneStay, NoneLeaves}
 use Rattle.jr_model.specs.OpenStays.{NoCollectionInOpenStay, NoCollectionUpToExit}
+use Rattle.jr_model.proofs.ShownRefusals.{words_alone}
 use Rattle.jr_model.proofs.Lawful.{NoLeave, prelude, work_stays}
 use Rattle.jr_model.proofs.Preludes.{level_array_prelude, level_string_prelude}
 use Rattle.jr_model.proofs.Exactly.{append_all}
@@ -35,11 +36,13 @@ Stays {A} call = (f g : Frames) (acts : List Act) (answer : Result A Fault) → 
 module _ (c : Config) (last thread : ℕ) (s : State) where
   pub level_array_stays : (levels : ℕ) (a : Word) → Stays (level_array c last thread s levels a)
   level_array_stays levels a =
-      work_stays (prelude {asked = 0} {last = last} {thread = thread} (level_array_prelude c last thread s levels a))
+      work_stays (prelude {asked = words_alone 0} {last = last} {thread = thread}
+      (level_array_prelude c last thread s levels a))
 
   pub level_string_stays : (levels : ℕ) (a : Word) → Stays (level_string c last thread s levels a)
   level_string_stays levels a =
-      work_stays (prelude {asked = 0} {last = last} {thread = thread} (level_string_prelude c last thread s levels a))
+      work_stays (prelude {asked = words_alone 0} {last = last} {thread = thread}
+      (level_string_prelude c last thread s levels a))
 
 -- WHAT A STAY DID
 

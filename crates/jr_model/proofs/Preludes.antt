@@ -1,8 +1,8 @@
 -- The parts of calls that come before anything is changed.
 use Rattle.std.proofs.Common.{◌≡◌, ℕ, ◌+◌, ◌==◌, Bool, true, not, nat_lt, nat_le, Option}
-use Rattle.std.proofs.Common.{Some, None, List, [], ◌∷◌, map, length, refl, sym, subst}
+use Rattle.std.proofs.Common.{Some, None, List, [], ◌∷◌, map, refl, sym, subst}
 use Rattle.jr_word.specs.declared.fault.Fault.{Fault}
-use Rattle.jr_word.specs.declared.fault.Fault.TheVariants.{Busy, Moved, LocalsFull, NoFrame, NotArray}
+use Rattle.jr_word.specs.declared.fault.Fault.TheVariants.{Busy, Moved, LocalsFull, NotArray}
 use Rattle.jr_word.specs.declared.fault.Fault.TheVariants.{WrongElement, WrongKind, Range, Size}
 use Rattle.jr_word.specs.declared.config.Config.{Config}
 use Rattle.jr_word.specs.declared.kind.Kind.{Kind}
@@ -11,13 +11,13 @@ use Rattle.jr_model.specs.declared.event.Act.TheVariants.{Gate, ShutBusy, Meet, 
 use Rattle.jr_model.specs.declared.event.GateAct.TheVariants.{Announce}
 use Rattle.jr_model.specs.declared.event.Found.{Found}
 use Rattle.jr_model.specs.declared.event.Found.TheVariants.{Object, Cleared, Stale}
-use Rattle.jr_model.specs.declared.frames.TheConstants.{FRAMES, LEVELS}
+use Rattle.jr_model.specs.declared.frames.TheConstants.{LEVELS}
 use Rattle.jr_model.specs.State.{Handle, State}
 use Rattle.jr_model.specs.Frames.{Frames, free_places, object_of, popped}
 use Rattle.jr_model.specs.Calls.{◌>>◌, act, done, refuse, refuse_if, some_act, for_object}
 use Rattle.jr_model.specs.Checks.{Word, Nothing, Malformed, Parts, is_array, is_local}
 use Rattle.jr_model.specs.Checks.{is_objects, is_primitive, is_text, same_element, type_local}
-use Rattle.jr_model.specs.Parts.{announce, found_closed, found_moved, found_object, frame_left, frame_to_pop}
+use Rattle.jr_model.specs.Parts.{announce, found_closed, found_moved, found_object}
 use Rattle.jr_model.specs.Parts.{local_object, look, looked, looked_at, not_null, probes, refused_shuts, type_at}
 use Rattle.jr_model.specs.References.{resolved, resolved_both, room_for, room_after}
 use Rattle.jr_model.specs.Objects.{part_of, level_array, level_string}
@@ -25,7 +25,7 @@ use Rattle.jr_model.specs.RefusedCalls.{is_harmless}
 use Rattle.jr_model.proofs.Exactly.{all_map}
 use Rattle.jr_model.proofs.Composed.{act_gives, cond_gives, done_gives, either_gives, framed_gives}
 use Rattle.jr_model.proofs.Composed.{object_gives, refuse_gives, refuse_if_gives, some_act_gives, some_act_then}
-use Rattle.jr_model.proofs.ShownRefusals.{refused_at, HasAct, LoseOnly}
+use Rattle.jr_model.proofs.ShownRefusals.{LoseOnly, Purpose, is_unshown, unshown_is}
 use Rattle.jr_model.proofs.Lawful.{AreHarmless, IsInside, IsPrelude, NoLeave, Quiet, Refused, bind_prelude, inside_all}
 
 all_probes : (looks : List (ℕ × Bool)) → AreHarmless (map (λ l. Probe l.0 l.1) looks)
@@ -36,32 +36,43 @@ all_busy : (counts : List ℕ) → AreHarmless (map ShutBusy counts)
 all_busy [] = tt
 all_busy (n ∷ counts) = (refl, all_busy counts)
 
-module _ {asked : ℕ} where
-  at_rest : (f : Frames) → Quiet asked f [] f
-  at_rest f = record { same = refl; harmless = tt; lose = tt; stays = tt }
+at_rest : (f : Frames) → Quiet f [] f
+at_rest f = record { same = refl; harmless = tt; lose = tt; stays = tt }
 
-  unshown : (e : Fault) → refused_at asked e ≡ None → (f : Frames) → Refused NoLeave asked f [] e f
-  unshown e none f = record { same = refl; before = tt; shown = (subst (λ a. HasAct a []) (sym none) tt, tt); are = tt }
+acted : (a : Act) → is_harmless a ≡ true → IsInside a → (f : Frames) → Quiet f (a ∷ []) f
+acted a h inside f = let all = inside_all (a ∷ []) (inside, tt) in
+    record { same = refl; harmless = (h, tt); lose = all.0; stays = all.1 }
 
-  acted : (a : Act) → is_harmless a ≡ true → IsInside asked a → (f : Frames) → Quiet asked f (a ∷ []) f
-  acted a h inside f = let all = inside_all asked (a ∷ []) (inside, tt) in
-      record { same = refl; harmless = (h, tt); lose = all.0; stays = all.1 }
+-- any number of acts of one sort
+acts_prelude : {X : Type 0} (f : X → Act) (xs : List X) → AreHarmless (map f xs) → ((x : X) → IsInside (f x))
+    → {old new : Frames} {acts : List Act} → acts ≡ map f xs → new ≡ old → Quiet old acts new
+acts_prelude f xs harmless inside is same =
+    let all = inside_all (map f xs) (all_map IsInside f xs inside) in record {
+      same = same;
+      harmless = subst AreHarmless (sym is) harmless;
+      lose = subst (LoseOnly None) (sym is) all.0;
+      stays = subst NoLeave (sym is) all.1;
+    }
+
+module _ {asked : Purpose} where
+  unshown : (e : Fault) → is_unshown e ≡ true → (f : Frames) → Refused NoLeave asked f [] e f
+  unshown e any f = record { same = refl; before = tt; shown = unshown_is asked e any; are = tt }
 
   pub done_prelude : {A : Type 0} (x : A) → IsPrelude asked (done x)
   done_prelude x = done_gives x at_rest
 
   -- a refusal that no act shows
-  pub refuse_prelude : {A : Type 0} (e : Fault) → refused_at asked e ≡ None → IsPrelude asked (refuse {A = A} e)
-  refuse_prelude e none = refuse_gives e (unshown e none)
+  pub refuse_prelude : {A : Type 0} (e : Fault) → is_unshown e ≡ true → IsPrelude asked (refuse {A = A} e)
+  refuse_prelude e any = refuse_gives e (unshown e any)
 
-  pub check : (b : Bool) (e : Fault) → refused_at asked e ≡ None → IsPrelude asked (refuse_if b e)
-  check b e none = refuse_if_gives b e at_rest (λ is. unshown e none)
+  pub check : (b : Bool) (e : Fault) → is_unshown e ≡ true → IsPrelude asked (refuse_if b e)
+  check b e any = refuse_if_gives b e at_rest (λ is. unshown e any)
 
-  pub act_prelude : (a : Act) → is_harmless a ≡ true → IsInside asked a → IsPrelude asked (act a)
+  pub act_prelude : (a : Act) → is_harmless a ≡ true → IsInside a → IsPrelude asked (act a)
   act_prelude a h inside = act_gives a (acted a h inside)
 
   pub some_act_prelude : {X : Type 0} (a : X → Act) → ((x : X) → is_harmless (a x) ≡ true)
-      → ((x : X) → IsInside asked (a x)) → IsPrelude asked (some_act a)
+      → ((x : X) → IsInside (a x)) → IsPrelude asked (some_act a)
   some_act_prelude a h inside = some_act_gives a (λ x. acted (a x) (h x) (inside x))
 
   -- REFERENCES
@@ -97,17 +108,6 @@ module _ {asked : ℕ} where
   type_prelude (Parts h) = cond_gives (is_local h) (framed_gives (λ old. done (type_local (object_of old h)))
       (λ f. done_prelude (type_local (object_of f h)))) (bind_prelude (look_prelude h) (λ r. done_prelude _))
 
-  -- any number of acts of one sort
-  acts_prelude : {X : Type 0} (f : X → Act) (xs : List X) → AreHarmless (map f xs) → ((x : X) → IsInside asked (f x))
-      → {old new : Frames} {acts : List Act} → acts ≡ map f xs → new ≡ old → Quiet asked old acts new
-  acts_prelude f xs harmless inside is same =
-      let all = inside_all asked (map f xs) (all_map (IsInside asked) f xs inside) in record {
-        same = same;
-        harmless = subst AreHarmless (sym is) harmless;
-        lose = subst (LoseOnly asked) (sym is) all.0;
-        stays = subst NoLeave (sym is) all.1;
-      }
-
   pub probes_prelude : IsPrelude asked probes
   probes_prelude = record {
     goes = λ old new acts x r. acts_prelude (λ (l : ℕ × Bool). Probe l.0 l.1) r.0 (all_probes r.0) (λ l. tt) r.1 r.3;
@@ -119,21 +119,23 @@ module _ {asked : ℕ} where
   -- found closed, by another thread
   pub closed_prelude : {A : Type 0} → IsPrelude asked (found_closed {A = A})
   closed_prelude = some_act_then ShutBusy (λ n. refuse_gives (Busy n) (λ f.
-      record { same = refl; before = (refl, tt); shown = (([], [], refl), (tt, tt)); are = ((λ e. cc), tt) }))
+      record { same = refl; before = (refl, tt); shown = (([], [], refl), (tt, tt), tt); are = ((λ e. cc), tt) }))
 
-  moved_prelude : IsPrelude asked found_moved
-  moved_prelude = record {
+  moved_prelude : asked.announces ≡ true → IsPrelude asked found_moved
+  moved_prelude announces = record {
     goes = λ old new acts x r. absurd (let bad = r.2.1 in cc);
-    fails = λ old new acts e r. (refuse_prelude {A = Unit {0}} (Moved r.0 r.1) refl).fails old new acts e r.2;
+    fails = λ old new acts e r. (refuse_gives {Good = Quiet} {Bad = Refused NoLeave asked} {A = Unit {0}}
+        (Moved r.0 r.1) (λ f. record { same = refl; before = tt; shown = (tt, tt, announces); are = tt })).fails old new
+        acts e r.2;
   }
 
   meet_prelude : IsPrelude asked (act Meet)
   meet_prelude = act_prelude Meet refl tt
 
-  pub announce_prelude : IsPrelude asked announce
-  announce_prelude =
+  pub announce_prelude : asked.announces ≡ true → IsPrelude asked announce
+  announce_prelude announces =
       either_gives closed_prelude (bind_prelude meet_prelude (λ x. either_gives (act_prelude (Gate Announce) refl tt)
-      (either_gives closed_prelude (bind_prelude meet_prelude (λ y. moved_prelude)))))
+      (either_gives closed_prelude (bind_prelude meet_prelude (λ y. moved_prelude announces)))))
 
   pub shuts_prelude : (many : ℕ → Type 0) → IsPrelude asked (refused_shuts many)
   shuts_prelude many = record {

@@ -1,5 +1,5 @@
 -- What the refusals of calls say of the shared room was so.
-use Rattle.std.proofs.Common.{◌≡◌, if◌then◌else◌, ℕ, List, [], ◌∷◌, ◌++◌, refl, ap, subst, arith}
+use Rattle.std.proofs.Common.{◌≡◌, if◌then◌else◌, ℕ, Option, Some, List, [], ◌∷◌, ◌++◌, refl, ap, subst, arith}
 use mathlib.Core.List.{IsPrefix}
 use Rattle.jr_word.specs.declared.fault.Fault.{Fault}
 use Rattle.jr_word.specs.declared.fault.Fault.TheVariants.{SpaceFull, Raced, Barred, Busy}
@@ -15,7 +15,7 @@ use Rattle.jr_model.specs.Calls.{Call}
 use Rattle.jr_model.specs.TrueRefusals.{TookWhere, WasSo, RefusesTruly}
 use Rattle.jr_model.proofs.Moments.{OneAct, prefix_trans}
 use Rattle.jr_model.proofs.OwnActs.{act_among, seen_among}
-use Rattle.jr_model.proofs.ShownRefusals.{LosesOnly, LoseOnly, IsShown}
+use Rattle.jr_model.proofs.ShownRefusals.{LosesOnly, LoseOnly, IsShown, Purpose}
 use Rattle.jr_model.proofs.Lawful.{IsLawful}
 
 -- WHAT A CALL SHOWS WAS SO
@@ -30,17 +30,17 @@ all_others c s t n others out =
     let none : ◌≡◌ {A = ℕ} (if is_outside (s.role t) then 0 else 1) 0 = ap (λ r. if is_outside r then 0 else 1) out in
     omega (arith, others, none)
 
-lose_among : (asked : ℕ) (a : Act) (acts front rest : List Act) → acts ≡ front ++ a ∷ rest → LoseOnly asked acts
-    → LosesOnly asked a
-lose_among asked a acts [] rest is l = (subst (LoseOnly asked) is l).0
-lose_among asked a acts (b ∷ front) rest is l =
-    lose_among asked a (front ++ a ∷ rest) front rest refl (subst (LoseOnly asked) is l).1
+lose_among : (lost : Option ℕ) (a : Act) (acts front rest : List Act) → acts ≡ front ++ a ∷ rest → LoseOnly lost acts
+    → LosesOnly lost a
+lose_among lost a acts [] rest is l = (subst (LoseOnly lost) is l).0
+lose_among lost a acts (b ∷ front) rest is l =
+    lose_among lost a (front ++ a ∷ rest) front rest refl (subst (LoseOnly lost) is l).1
 
-module _ (asked : ℕ) (old new : PassView) (begun : History) (acts : List Act) (d : Did old new acts)
+module _ (asked : Purpose) (old new : PassView) (begun : History) (acts : List Act) (d : Did old new acts)
     (from : IsPrefix old.seen begun) where
   -- the reservation that was lost is the one that was asked for
-  lost_so : (looked found : ℕ) → ((n : ℕ) × LostSpace n begun new looked found) → LoseOnly asked acts
-      → LostSpace asked begun new looked found
+  lost_so : (looked found : ℕ) → ((n : ℕ) × LostSpace n begun new looked found) → LoseOnly (Some asked.words) acts
+      → LostSpace asked.words begun new looked found
   lost_so looked found w only =
       let l = w.1 in
       let m = l.looked_at in
@@ -48,11 +48,12 @@ module _ (asked : ℕ) (old new : PassView) (begun : History) (acts : List Act) 
       prefix_trans old.seen begun l.before from (prefix_trans begun m.moment l.before m.from m.to) in
       let seen = subst (λ t. new.seen ≡ l.before ++ by t (ReserveLost w.0 looked found) ∷ l.since) d.thread l.lost in
       let among = seen_among (ReserveLost w.0 looked found) l.before l.since to seen acts d in
-      subst (λ n. LostSpace n begun new looked found)
-      (lose_among asked (ReserveLost w.0 looked found) acts among.0 among.1 among.2 only) l
+      let it : Some asked.words ≡ Some w.0 =
+      lose_among (Some asked.words) (ReserveLost w.0 looked found) acts among.0 among.1 among.2 only in
+      subst (λ n. LostSpace n begun new looked found) (let same : w.0 ≡ asked.words = cc in same) l
 
-  was_so : (e : Fault) → Grounds begun new e → IsShown asked e acts → WasSo asked begun old new e
-  was_so (SpaceFull used) g s = let o = act_among (ReserveFull asked used) acts s.0 d in
+  was_so : (e : Fault) → Grounds begun new e → IsShown asked e acts → WasSo asked.words begun old new e
+  was_so (SpaceFull used) g s = let o = act_among (ReserveFull asked.words used) acts s.0 d in
       taken o (o.needs.1.1, o.needs.1.2)
   was_so (Raced looked found) g s = lost_so looked found g s.1
   was_so Barred g s = let o = act_among (Gate Knock) acts s.0 d in taken o o.needs.1.1
@@ -61,7 +62,7 @@ module _ (asked : ℕ) (old new : PassView) (begun : History) (acts : List Act) 
   was_so _ g s = g
 
 -- a lawful call refuses truly
-pub truly : {asked last thread : ℕ} {A : Type 0} {call : Call A} → IsLawful asked last thread call
-    → RefusesTruly asked call
+pub truly : {asked : Purpose} {last thread : ℕ} {A : Type 0} {call : Call A} → IsLawful asked last thread call
+    → RefusesTruly asked.words call
 truly {asked} p old new f g e r =
     was_so asked old new r.begun r.acts r.did r.window.from e r.grounds (p.fails f g r.acts e r.is).shown

@@ -1,41 +1,35 @@
 -- An announced collection of a thread that is alone.
-use Rattle.std.proofs.Common.{◌≡◌, ◌≢◌, inl, inr, ℕ, zero, suc, true, List, [], ◌∷◌}
-use Rattle.std.proofs.Common.{◌++◌, Result, Ok, Err, IfErr, refl, sym, subst, ◌∙◌, ap}
+use Rattle.std.proofs.Common.{◌≡◌, ◌≢◌, inl, inr, ℕ, List, [], ◌∷◌, ◌++◌, Result, Ok, Err, IfErr}
+use Rattle.std.proofs.Common.{refl, sym, subst, ◌∙◌, ap}
 use Rattle.std.specs.List.{AllByRecursion}
 use mathlib.Core.List.{IsPrefix}
 use Rattle.jr_word.specs.declared.config.Config.{Config}
 use Rattle.jr_word.specs.declared.fault.Fault.{Fault}
-use Rattle.jr_word.specs.declared.fault.Fault.TheVariants.{Busy, Moved, Turns}
+use Rattle.jr_word.specs.declared.fault.Fault.TheVariants.{Busy, Moved}
 use Rattle.jr_model.specs.declared.event.Event.{Event}
 use Rattle.jr_model.specs.declared.event.Act.{Act}
 use Rattle.jr_model.specs.declared.event.Act.TheVariants.{Gate, ShutBusy, Meet}
 use Rattle.jr_model.specs.declared.event.GateAct.TheVariants.{Cancel}
 use Rattle.jr_model.specs.State.{State}
 use Rattle.jr_model.specs.Steps.{act_after, after}
-use Rattle.jr_model.specs.History.{History, PassView, IsLegal}
+use Rattle.jr_model.specs.History.{History, PassView, state}
 use Rattle.jr_model.specs.Frames.{Frames}
 use Rattle.jr_model.specs.Calls.{Call, Ran, ◌>>=◌, ◌>>◌, act, refuse, some_act}
 use Rattle.jr_model.specs.Parts.{announce, collect_announced}
 use Rattle.jr_model.specs.Refusals.{IsOpenWith, Sometime, GateHasMoved, Grounds}
-use Rattle.jr_model.proofs.Exactly.{append_all}
-use Rattle.jr_model.proofs.EachCall.{collect_announced_work}
+use Rattle.jr_model.specs.AllCalls.{PartOf}
+use Rattle.jr_model.proofs.Composed.{same_fault}
+use Rattle.jr_model.proofs.EachCall.{part_lawful}
 use Rattle.jr_model.proofs.Moments.{prefix_self, prefix_trans, sometime_wider}
 use Rattle.jr_model.proofs.Stays.{mine_did}
-use Rattle.jr_syntax.specs.declared.command.Command.TheVariants as commands
-use Rattle.jr_syntax.specs.declared.verb.WithTries.TheVariants as with_tries
 use Rattle.jr_gate.specs.Performing.{ThreadState}
 use Rattle.jr_weak.specs.declared.collecting.Collected.{Collected}
 use Rattle.jr_env.specs.Collections.{announced_collection}
-use Rattle.jr_scripts.specs.declared.reply.Reply.{Reply}
-use Rattle.jr_scripts.specs.Tries.{Tried, answered, again, gave_up}
-use Rattle.jr_scripts.specs.Names.{Names}
 use Rattle.jr_scripts.specs.Commands.{collecting_announced, told}
-use Rattle.jr_scripts.specs.AloneAnswers.{IsCommandFault}
-use Rattle.jr_scripts.proofs.Alone.{IsUndisturbed, undisturbed}
-use Rattle.jr_scripts.proofs.AloneCalls.{AllUncontended, IsAlone, LedAlone, LeadsAlone, since}
-use Rattle.jr_scripts.proofs.AloneHistories.{all_back, own_acts, still_so}
-use Rattle.jr_scripts.proofs.AloneParts.{tried_alone, tries_alone, was_alone}
-use Rattle.jr_scripts.proofs.Uncontended.{Asked, is_uncontended_act, loses_none, same_fault}
+use Rattle.jr_scripts.specs.AloneAnswers.{IsAloneFault}
+use Rattle.jr_scripts.proofs.AloneCalls.{IsAlone, LedAlone, LeadsAlone, all_undisturbed, answered_so, since}
+use Rattle.jr_scripts.proofs.AloneHistories.{all_back, all_map, own_acts, still_so}
+use Rattle.jr_scripts.proofs.AloneParts.{tried_alone}
 
 -- ITS REFUSALS, where no shut was refused: two looks found the gate open, with other counts
 abbrev NoneBusy : List Act → Type 0
@@ -61,7 +55,7 @@ announce_moved f g acts e
     (inr (inl (x, mid, front, rest, is, first, inr (inr (inl (y, mid', front', rest', is', first', moved)))))) q = (
       moved.0,
       moved.1,
-      same_fault e (Moved moved.0 moved.1) moved.2.1,
+      sym (same_fault e (Moved moved.0 moved.1) moved.2.1),
       is ∙ (ap (λ l. l ++ rest) first.0
           ∙ ap (λ l. Meet ∷ l) (is' ∙ (ap (λ l. l ++ rest') first'.0 ∙ ap (λ l. Meet ∷ l) moved.2.0))),
     )
@@ -83,7 +77,7 @@ refused_moved tries f g acts e
 refused_moved tries f g acts e (inl (x, mid, front, rest, is, first, inr (inr next))) q = let bad = next.2.3 in
     absurd cc
 refused_moved tries f g acts e (inr r) q =
-    subst (IsMoved acts) (sym (same_fault e r.0 r.1)) (announce_moved f g acts r.0 r.2 q)
+    subst (IsMoved acts) (same_fault e r.0 r.1) (announce_moved f g acts r.0 r.2 q)
 
 -- a look changes nothing
 open_still : (c : Config) (n : ℕ) (s : State) (e : Event) → e.act ≡ Meet → IsOpenWith c n s → IsOpenWith c n (after s e)
@@ -102,43 +96,24 @@ never_moved old new begun begins p looked found is all from m =
     begins all since (subst (λ h. Sometime (IsOpenWith p.config found) m.before h) is m.later) in
     m.other (sym first.1 ∙ last.1)
 
-all_shuts : (es : History) → AllByRecursion IsUndisturbed es → AllByRecursion (λ e. (n : ℕ) → e.act ≢ ShutBusy n) es
-all_shuts [] h = tt
-all_shuts (e ∷ es) h = ((h.0).shuts, all_shuts es h.1)
-
 module _ (tries : ℕ) (old new : PassView) (f g : Frames) (alone : IsAlone new) where
   -- no shut of it was refused
   none_busy : (answer : Result (ℕ × ℕ × ℕ) Fault) (r : Ran old new f g (collect_announced tries) answer)
       → NoneBusy r.acts
   none_busy answer r =
-      let all = undisturbed new.config new.last alone.one new.seen (subst (λ (z : Config × ℕ). IsLegal z.0 z.1 new.seen)
-      (λ i. (sym r.did.config i, sym r.did.last i)) r.did.legal) in
-      let shuts = all_back (λ e. (n : ℕ) → e.act ≢ ShutBusy n) old.seen r.did.begins.0
-      (subst (AllByRecursion (λ e. (n : ℕ) → e.act ≢ ShutBusy n)) (sym r.did.begins.1) (all_shuts new.seen all)) in
+      let all = all_map (λ e u. u.shuts) new.seen (all_undisturbed old new r.acts r.did alone) in
+      let shuts = all_back (λ (e : Event). (n : ℕ) → e.act ≢ ShutBusy n) old.seen r.did.begins.0
+      (subst (AllByRecursion (λ (e : Event). (n : ℕ) → e.act ≢ ShutBusy n)) (sym r.did.begins.1) all) in
       subst NoneBusy (mine_did r.acts r.did) (own_acts (λ a. (n : ℕ) → a ≢ ShutBusy n) old.thread r.did.begins.0 shuts)
 
   -- IT IS NEVER REFUSED
   pub never_refused : (e : Fault) → Ran old new f g (collect_announced tries) (Err e) → ⊥
   never_refused e r =
       let moved = refused_moved tries f g r.acts e r.is (none_busy (Err e) r) in
-      let all = since old new f g (collect_announced tries) alone (λ a. a ≡ Meet) (Err e) r
+      let all = since old new r.acts r.did alone (λ a. a ≡ Meet)
       (subst (AllByRecursion (λ a. a ≡ Meet)) (sym moved.3) (refl, (refl, tt))) in
       never_moved old.seen new.seen r.begun r.did.begins new moved.0 moved.1 refl all r.window.from
       (subst (λ z. Grounds r.begun new z) moved.2 r.grounds)
-
-  leaves_alone : (turns : ℕ) (command : Asked) {A : Type 0} (answer : Result A Fault) (found : Result (ℕ × ℕ × ℕ) Fault)
-      → IfErr answer (IsCommandFault turns command.0 command.1 new g) → Ran old new f g (collect_announced tries) found
-      → LedAlone turns command old new g answer
-  leaves_alone turns command answer found fault r = record {
-    config = r.did.config;
-    thread = r.did.thread;
-    begins = r.did.begins;
-    uncontended = λ before. subst AllUncontended r.did.begins.1
-        (append_all (λ e. is_uncontended_act e.act ≡ true) old.seen r.did.begins.0 before
-        (since old new f g (collect_announced tries) alone (λ a. is_uncontended_act a ≡ true) found r
-        (loses_none {last = 0} {thread = 0} (λ asked. collect_announced_work tries) f g r.acts found r.is)));
-    fault = fault;
-  }
 
 -- what is told of a refusal is a lone thread's, where the refusal is
 told_alone : (P : Fault → Type 0) (once : Result Collected Fault) → IfErr once P → IfErr (told once) P
@@ -146,50 +121,26 @@ told_alone P (Ok c) h = tt
 told_alone P (Err (Busy n)) h = tt
 told_alone P (Err _) h = h
 
-module _ (turns tries : ℕ) (names : Names) where
-  pub once_led : (n : ℕ)
-      → LeadsAlone n (names, commands.WithTries with_tries.CollectAnnounced tries) (announced_collection tries)
-  once_led n = record { led = led }
-    where
-      led : (old new : ThreadState) (answer : Result Collected Fault) → IsAlone new.pass
-          → announced_collection tries old answer new
-          → LedAlone n (names, commands.WithTries with_tries.CollectAnnounced tries) old.pass new.pass new.frames answer
-      led old new (Ok c) alone d = leaves_alone tries old.pass new.pass old.frames new.frames alone
-          n (names, commands.WithTries with_tries.CollectAnnounced tries) (Ok c) (Ok (c.cleared, c.dropped, c.used)) tt
-          d.done.ran
-      led old new (Err e) alone d =
-          absurd (never_refused tries old.pass new.pass old.frames new.frames alone e d.made.ran)
+pub once_led : (tries : ℕ) → LeadsAlone (announced_collection tries)
+once_led tries = record { led = led }
+  where
+    led : (old new : ThreadState) (answer : Result Collected Fault) → IsAlone new.pass
+        → announced_collection tries old answer new → LedAlone old.pass new.pass answer
+    led old new (Ok c) alone d = answered_so (part_lawful old.pass.config old.pass.last old.pass.thread
+        (state new.pass.seen) (PartOf.collect_announced tries)) old.pass new.pass old.frames new.frames alone
+        (Ok (c.cleared, c.dropped, c.used)) (Ok c) d.done.ran tt tt
+    led old new (Err e) alone d =
+        absurd (never_refused tries old.pass new.pass old.frames new.frames alone e d.made.ran)
 
-  pub announcing_alone : LeadsAlone turns (names, commands.WithTries with_tries.CollectAnnounced tries)
-      (collecting_announced turns tries)
-  announcing_alone = record {
-    led = λ old new answer alone d.
-        let x = (tried_alone turns (names, commands.WithTries with_tries.CollectAnnounced tries) once_led).led old new
-        d.0 alone d.2 in
-        record {
-          config = x.config;
-          thread = x.thread;
-          begins = x.begins;
-          uncontended = x.uncontended;
-          fault = subst (λ a. IfErr a (IsCommandFault turns names (commands.WithTries with_tries.CollectAnnounced tries)
-              new.pass new.frames)) (sym d.1) (told_alone _ d.0 x.fault);
-        };
-  }
-
-  only_turns_once : (n : ℕ) (old new : ThreadState) (once : Result Collected Fault) → IsAlone new.pass
-      → Tried (announced_collection tries) n old once new → IfErr once (λ e. (e ≡ Turns) × (n ≡ 0))
-  only_turns_once (suc n) old new (Ok c) alone (answered d final) = tt
-  only_turns_once (suc n) old new (Err e) alone (answered d final) =
-      absurd (never_refused tries old.pass new.pass old.frames new.frames alone e d.made.ran)
-  only_turns_once (suc n) old new once alone (again {mid = mid} {once = Ok c} d more rest) = absurd cc
-  only_turns_once (suc n) old new once alone (again {mid = mid} {once = Err e} d more rest) =
-      absurd (never_refused tries old.pass mid.pass old.frames mid.frames (was_alone
-      (tries_alone (names, commands.WithTries with_tries.CollectAnnounced tries) once_led n mid new once alone rest)
-      alone) e d.made.ran)
-  only_turns_once zero old new once alone gave_up = (refl, refl)
-
-  -- A LONE THREAD is refused only where no turns were given
-  pub only_turns : (old new : ThreadState) (answer : Result Reply Fault) → IsAlone new.pass
-      → collecting_announced turns tries old answer new → IfErr answer (λ e. (e ≡ Turns) × (turns ≡ 0))
-  only_turns old new answer alone d = subst (λ a. IfErr a (λ e. (e ≡ Turns) × (turns ≡ 0))) (sym d.1)
-      (told_alone (λ e. (e ≡ Turns) × (turns ≡ 0)) d.0 (only_turns_once turns old new d.0 alone d.2))
+pub announcing_alone : (turns tries : ℕ) → LeadsAlone (collecting_announced turns tries)
+announcing_alone turns tries = record {
+  led = λ old new answer alone d.
+      let x = (tried_alone (once_led tries)).led old new d.0 alone d.2 in
+      record {
+        config = x.config;
+        thread = x.thread;
+        begins = x.begins;
+        none_lost = x.none_lost;
+        fault = subst (λ a. IfErr a (IsAloneFault new.pass)) (sym d.1) (told_alone _ d.0 x.fault);
+      };
+}

@@ -1,248 +1,204 @@
--- What the calls of a thread that is alone leave, and how they are refused.
-use Rattle.std.proofs.Common.{◌≡◌, ◌≢◌, inl, inr, ℕ, ◌<◌, ◌≤◌, true, List, [], ◌∷◌}
-use Rattle.std.proofs.Common.{◌++◌, Result, Ok, Err, IfErr, refl, sym, subst, ◌∙◌, ap}
+-- What a call of a thread that is alone leads to, whatever call it is.
+use Rattle.std.proofs.Common.{◌≡◌, ℕ, true, false, Option, None, List, [], ◌∷◌, ◌++◌, map, Result, Ok, Err, IfErr}
+use Rattle.std.proofs.Common.{refl, sym, subst, ◌∙◌, ap, append_assoc}
 use Rattle.std.specs.List.{AllByRecursion}
 use mathlib.Core.List.{IsPrefix}
 use Rattle.jr_word.specs.declared.config.Config.{Config}
 use Rattle.jr_word.specs.declared.fault.Fault.{Fault}
-use Rattle.jr_word.specs.declared.fault.Fault.TheVariants.{Null, Stale, WrongKind, NotArray, WrongElement}
-use Rattle.jr_word.specs.declared.fault.Fault.TheVariants.{Range, RowFull, LocalsFull, SpaceFull}
-use Rattle.jr_word.specs.declared.fault.Fault.TheVariants.{ObjectsFull, Raced, Barred, NoFrame, Memory}
+use Rattle.jr_word.specs.declared.fault.Fault.TheVariants.{RowFull, ObjectsFull, Raced, Barred, Busy, Moved}
 use Rattle.jr_model.specs.declared.event.Event.{Event}
 use Rattle.jr_model.specs.declared.event.Act.{Act}
-use Rattle.jr_model.specs.declared.event.Act.TheVariants.{Gate}
-use Rattle.jr_model.specs.declared.event.GateAct.TheVariants.{Enter, Knock, Leave, Withdraw}
-use Rattle.jr_model.specs.State.{State, IsPresent, IsOccupied}
-use Rattle.jr_model.specs.History.{History, state, PassView}
+use Rattle.jr_model.specs.declared.event.Act.TheVariants.{Gate, ReserveLost, ShutBusy}
+use Rattle.jr_model.specs.declared.event.GateAct.TheVariants.{Knock}
+use Rattle.jr_model.specs.State.{State, EachPresent, IsOccupied}
+use Rattle.jr_model.specs.Steps.{after}
+use Rattle.jr_model.specs.History.{History, by, state, Did, PassView}
 use Rattle.jr_model.specs.Frames.{Frames}
-use Rattle.jr_model.specs.Calls.{Call, Ran, entered, opened}
-use Rattle.jr_model.specs.Refusals.{RowWasFull, ObjectsWereFull}
-use Rattle.jr_model.specs.RefusedCalls.{is_harmless, may_precede, ChangesNothing}
-use Rattle.jr_model.proofs.Composed.{Gives, entered_gives, opened_gives}
+use Rattle.jr_model.specs.Calls.{Call, Ran}
+use Rattle.jr_model.specs.Refusals.{LostSpace, ObjectsWereFull, RowWasFull}
+use Rattle.jr_model.specs.RefusedCalls.{is_harmless, may_precede}
 use Rattle.jr_model.proofs.Exactly.{append_all}
+use Rattle.jr_model.proofs.Lawful.{IsLawful}
 use Rattle.jr_model.proofs.Moments.{prefix_trans}
-use Rattle.jr_model.proofs.Stays.{mine_did}
+use Rattle.jr_model.proofs.RefusedCalls.{harmless_changes_nothing}
+use Rattle.jr_model.proofs.ShownRefusals.{LoseOnly, LosesOnly, Purpose, lost_at}
+use Rattle.jr_model.proofs.Stays.{append_cancel, mine_did, sees_its_own_acts}
+use Rattle.jr_model.proofs.TrueRefusals.{truly}
 use Rattle.jr_gate.specs.Performing.{HasLearned, ThreadState}
-use Rattle.jr_env.specs.Deeds.{Deed, call_by}
-use Rattle.jr_scripts.specs.AloneAnswers.{IsCommandFault, IsShort, LacksSpace}
-use Rattle.jr_scripts.proofs.AloneHistories.{all_back, own_acts, own_events, still_so, stays_occupied, stays_present}
-use Rattle.jr_scripts.proofs.SpaceAlone.{found_short, never_lost}
-use Rattle.jr_scripts.proofs.Uncontended.{Asked, FoundFull, FoundShort, IsUncontendedFault}
-use Rattle.jr_scripts.proofs.Uncontended.{is_uncontended_act, AreUncontended, IsUncontended, IsUnraced}
-use Rattle.jr_scripts.proofs.Uncontended.{NoneLost, RefusedAlone, found_earlier, more_fault}
+use Rattle.jr_env.specs.Deeds.{Deed, within_by}
+use Rattle.jr_scripts.specs.AloneAnswers.{IsAloneFault, IsRowFull}
+use Rattle.jr_scripts.proofs.Alone.{IsUndisturbed, undisturbed}
+use Rattle.jr_scripts.proofs.AloneHistories.{all_back, all_front, all_map, own_events, still_so, stays_occupied}
+use Rattle.jr_scripts.proofs.AloneHistories.{stays_present}
 
--- the room has one thread; all events that its pass has seen are its own, and none is a knock
+-- the room has one thread, and the pass is that thread's
 pub record IsAlone (p : PassView) : Type 0 where
   pub one : p.config.threads ≡ 1
   pub first : p.thread ≡ 0
-  pub own : AllByRecursion (λ e. e.thread ≡ p.thread) p.seen
-  pub enters : AllByRecursion (λ e. e.act ≢ Gate Knock) p.seen
 
 -- no event is a reservation that was lost
-abbrev pub AllUncontended : History → Type 0
-AllUncontended es = AllByRecursion (λ e. is_uncontended_act e.act ≡ true) es
+abbrev pub NoneLost : History → Type 0
+NoneLost es = AllByRecursion (λ e. LosesOnly None e.act) es
 
 -- from one moment of a lone pass to another:
 -- what was seen begins what is seen, no reservation was lost in between, and a refusal is a lone thread's
-pub record LedAlone (turns : ℕ) (command : Asked) {A : Type 0} (old new : PassView) (g : Frames)
-    (answer : Result A Fault) : Type 0 where
+pub record LedAlone {A : Type 0} (old new : PassView) (answer : Result A Fault) : Type 0 where
   pub config : new.config ≡ old.config
   pub thread : new.thread ≡ old.thread
   pub begins : IsPrefix old.seen new.seen
-  pub uncontended : AllUncontended old.seen → AllUncontended new.seen
-  pub fault : IfErr answer (IsCommandFault turns command.0 command.1 new g)
+  pub none_lost : NoneLost old.seen → NoneLost new.seen
+  pub fault : IfErr answer (IsAloneFault new)
 
--- what the deed leads to, where all that happened is the thread's own
-pub record LeadsAlone (turns : ℕ) (command : Asked) {A : Type 0} (deed : Deed A) : Type 0 where
+-- what the deed leads to, of a thread that is alone
+pub record LeadsAlone {A : Type 0} (deed : Deed A) : Type 0 where
   pub led : (old new : ThreadState) (answer : Result A Fault) → IsAlone new.pass → deed old answer new
-      → LedAlone turns command old.pass new.pass new.frames answer
+      → LedAlone old.pass new.pass answer
 
--- the events that are seen were the call's
-pub ran_of : {A : Type 0} (silent : Config → ℕ) (asked : Config → ℕ → ℕ → State → Call A) (old new : ThreadState)
-    (answer : Result A Fault) → call_by silent asked old answer new
-    → Ran old.pass new.pass old.frames new.frames
-    (asked old.pass.config old.pass.last old.pass.thread (state new.pass.seen)) answer
-ran_of silent asked old new answer r = r.0.ran
+-- who is alone now was before
+pub alone_before : {old new : PassView} {acts : List Act} → Did old new acts → IsAlone new → IsAlone old
+alone_before d a =
+    record { one = ap (λ (c : Config). c.threads) (sym d.config) ∙ a.one; first = sym d.thread ∙ a.first }
 
-module _ {A : Type 0} (old new : PassView) (f g : Frames) (work : Call A) (alone : IsAlone new) where
-  since_own : (answer : Result A Fault) (r : Ran old new f g work answer)
-      → AllByRecursion (λ e. e.thread ≡ old.thread) r.did.begins.0
-  since_own answer r = subst (λ t. AllByRecursion (λ e. e.thread ≡ t) r.did.begins.0) r.did.thread
-      (all_back (λ e. e.thread ≡ new.thread) old.seen r.did.begins.0
-      (subst (AllByRecursion (λ e. e.thread ≡ new.thread)) (sym r.did.begins.1) alone.own))
+-- WHAT IT DID
 
-  -- the acts of the call are those of the events since
-  pub since : (P : Act → Type 0) (answer : Result A Fault) (r : Ran old new f g work answer) → AllByRecursion P r.acts
-      → AllByRecursion (λ e. P e.act) r.did.begins.0
-  since P answer r all = own_events P old.thread r.did.begins.0 (since_own answer r)
-      (subst (AllByRecursion P) (sym (mine_did r.acts r.did)) all)
+module _ (old new : PassView) (acts : List Act) (d : Did old new acts) (alone : IsAlone new) where
+  pub all_undisturbed : AllByRecursion IsUndisturbed new.seen
+  all_undisturbed =
+      undisturbed old.config old.last (ap (λ (c : Config). c.threads) (sym d.config) ∙ alone.one) new.seen d.legal
 
-  module _ (e : Fault) (changes : ChangesNothing work) (r : Ran old new f g work (Err e)) where
+  -- all that it has seen is its own
+  own_seen : AllByRecursion (λ e. e.thread ≡ new.thread) new.seen
+  own_seen = all_map (λ e u. u.own ∙ sym alone.first) new.seen all_undisturbed
+
+  pub sees_alone : new.seen ≡ old.seen ++ map (by new.thread) acts
+  sees_alone = sees_its_own_acts old new acts d own_seen
+
+  -- its acts are those of the events since
+  pub since : (P : Act → Type 0) → AllByRecursion P acts → AllByRecursion (λ e. P e.act) d.begins.0
+  since P all =
+      let own = all_back (λ e. e.thread ≡ new.thread) old.seen d.begins.0
+      (subst (AllByRecursion (λ e. e.thread ≡ new.thread)) (sym d.begins.1) own_seen) in
+      own_events P old.thread d.begins.0 (subst (λ t. AllByRecursion (λ e. e.thread ≡ t) d.begins.0) d.thread own)
+      (subst (AllByRecursion P) (sym (mine_did acts d)) all)
+
+  pub led_by : {A : Type 0} (answer : Result A Fault) → LoseOnly None acts → IfErr answer (IsAloneFault new)
+      → LedAlone old new answer
+  led_by answer none fault = record {
+    config = d.config;
+    thread = d.thread;
+    begins = d.begins;
+    none_lost = λ before. subst NoneLost d.begins.1
+        (append_all (λ e. LosesOnly None e.act) old.seen d.begins.0 before (since (LosesOnly None) none));
+    fault = fault;
+  }
+
+-- a lone thread learns of nothing that others did
+pub learned_alone : {A : Type 0} (old new : ThreadState) (x : A) → IsAlone new.pass → HasLearned old new
+    → LedAlone old.pass new.pass (Ok x)
+learned_alone old new x alone l = led_by old.pass new.pass [] l.did alone (Ok x) tt tt
+
+-- WHAT IT IS REFUSED FOR
+
+used_stays : (s : State) (e : Event) → is_harmless e.act ≡ true → (after s e).used ≡ s.used
+used_stays s e h = (harmless_changes_nothing s e.thread e.act h).used
+
+-- where nothing else happened between look and exchange, no reservation is lost
+never_lost : (old begun : History) (new : PassView) (looked found : ℕ) (begins : IsPrefix old new.seen)
+    → AllByRecursion (λ e. is_harmless e.act ≡ true) begins.0 → IsPrefix old begun
+    → ((n : ℕ) × LostSpace n begun new looked found) → ⊥
+never_lost old begun new looked found begins all from w =
+    let l = w.1 in
+    let m = l.looked_at in
+    let e : Event = by new.thread (ReserveLost w.0 looked found) in
+    let front : IsPrefix old l.before =
+    prefix_trans old begun l.before from (prefix_trans begun m.moment l.before m.from m.to) in
+    let cut : old ++ (front.0 ++ e ∷ l.since) ≡ old ++ begins.0 = sym (append_assoc old front.0 (e ∷ l.since))
+    ∙ (ap (λ es. es ++ e ∷ l.since) front.1 ∙ (sym l.lost ∙ sym begins.1)) in
+    let same : begins.0 ≡ front.0 ++ e ∷ l.since = sym (append_cancel old (front.0 ++ e ∷ l.since) begins.0 cut) in
+    let before = all_front (λ (x : Event). is_harmless x.act ≡ true) front.0 (e ∷ l.since)
+    (subst (AllByRecursion (λ (x : Event). is_harmless x.act ≡ true)) same all) in
+    let used = still_so (λ x. is_harmless x.act ≡ true) (λ s. s.used ≡ looked) (λ s x h is. used_stays s x h ∙ is) old
+    begun l.before front before from m in
+    l.found_then.1 (l.found_then.0 ∙ used)
+
+there : (P : Event → Type 0) (front rest es : History) (e : Event) → es ≡ front ++ e ∷ rest → AllByRecursion P es
+    → P e
+there P front rest es e is all = (all_back P front (e ∷ rest) (subst (AllByRecursion P) is all)).0
+
+-- a lone thread's refusal that is not that a reservation was lost
+lost_no : (asked : Purpose) (p : PassView) (e : Fault) → IsAloneFault p e → ◌≡◌ {A = Option ℕ} (lost_at asked e) None
+lost_no asked p (Raced looked found) fault = absurd fault
+lost_no asked p _ fault = refl
+
+-- THE LAW, of whatever call is by the laws and announces nothing
+module _ {A : Type 0} {asked : Purpose} {last thread : ℕ} {call : Call A} (lawful : IsLawful asked last thread call)
+    (old new : PassView) (f g : Frames) (alone : IsAlone new) where
+  module _ (e : Fault) (r : Ran old new f g call (Err e)) where
     refused_since : AllByRecursion (λ x. may_precede e x.act ≡ true) r.did.begins.0
-    refused_since = since (λ a. may_precede e a ≡ true) (Err e) r (changes.acts f g r.acts e r.is)
+    refused_since = since old new r.acts r.did alone (λ a. may_precede e a ≡ true)
+        (lawful.fails f g r.acts e r.is).before
 
-  row_is_full : ChangesNothing work → Ran old new f g work (Err RowFull) → (i : ℕ) → i < new.config.slots
-      → IsOccupied new.last (state new.seen) i
-  row_is_full changes r i small =
+    event_is : (front rest : History) (x : Event) → new.seen ≡ front ++ x ∷ rest → IsUndisturbed x
+    event_is front rest x is =
+        there IsUndisturbed front rest new.seen x is (all_undisturbed old new r.acts r.did alone)
+
+  row_is_full : Ran old new f g call (Err RowFull) → IsRowFull new.config new.last (state new.seen)
+  row_is_full r i small =
       let grounds : RowWasFull r.begun new = r.grounds in
       let w = grounds i small in
       still_so (λ e. is_harmless e.act ≡ true) (λ s. IsOccupied new.last s i) (λ s e. stays_occupied new.last i s e)
-      old.seen _ new.seen r.did.begins
-      (refused_since RowFull changes r)
+      old.seen _ new.seen r.did.begins (refused_since RowFull r)
       (prefix_trans old.seen w.before _ (prefix_trans old.seen r.begun w.before r.window.from w.own) (_, refl))
       w.occupied
 
-  objects_are_full : ChangesNothing work → Ran old new f g work (Err ObjectsFull) → (o : ℕ) → 1 ≤ o
-      → o ≤ new.config.objects → IsPresent (state new.seen) o
-  objects_are_full changes r =
+  objects_are_full : Ran old new f g call (Err ObjectsFull) → EachPresent new.config (state new.seen)
+  objects_are_full r =
       let grounds : ObjectsWereFull r.begun new = r.grounds in
-      still_so (λ e. may_precede ObjectsFull e.act ≡ true) (λ s. (o : ℕ) → 1 ≤ o → o ≤ new.config.objects
-      → IsPresent s o) (λ s e h all o least most. stays_present ObjectsFull o s e h (all o least most)) old.seen r.begun
-      new.seen r.did.begins
-      (refused_since ObjectsFull changes r) r.window.from grounds
+      still_so (λ e. may_precede ObjectsFull e.act ≡ true) (EachPresent new.config)
+      (λ s e h all o least most. stays_present ObjectsFull o s e h (all o least most)) old.seen r.begun new.seen
+      r.did.begins (refused_since ObjectsFull r) r.window.from grounds
 
-  space_is_short : (command : Asked) (used : ℕ) → ChangesNothing work
-      → (r : Ran old new f g work (Err (SpaceFull used))) → FoundShort command used r.acts
-      → LacksSpace new.config (state new.seen) used command.1
-  space_is_short command used changes r short =
-      let found = subst (FoundFull short.words used) (sym (mine_did r.acts r.did)) short.found in
-      let is = found_short old.config old.last short.words used old.thread old.seen new.seen r.did.begins r.did.legal
-      (refused_since (SpaceFull used) changes r) found in
-      short.lacks new.config (state new.seen)
-      (subst (λ c. IsShort c (state new.seen) used short.words) (sym r.did.config) is)
+  pub fault_alone : asked.announces ≡ false → (e : Fault) → Ran old new f g call (Err e) → IsAloneFault new e
+  fault_alone silent RowFull r = row_is_full r
+  fault_alone silent ObjectsFull r = objects_are_full r
+  fault_alone silent (Raced looked found) r = never_lost old.seen r.begun new looked found r.did.begins
+      (refused_since (Raced looked found) r) r.window.from r.grounds
+  fault_alone silent Barred r =
+      let w = truly lawful old new f g Barred r in
+      (event_is Barred r w.before w.since (by old.thread (Gate Knock)) w.took).enters refl
+  fault_alone silent (Busy n) r =
+      let w = truly lawful old new f g (Busy n) r in
+      (event_is (Busy n) r w.before w.since (by old.thread (ShutBusy n)) w.took).shuts n refl
+  fault_alone silent (Moved looked found) r =
+      let announces = (lawful.fails f g r.acts (Moved looked found) r.is).shown.2 in
+      let bad = sym silent ∙ announces in absurd cc
+  fault_alone silent _ r = tt
 
-  never_raced : (looked found : ℕ) → ChangesNothing work → Ran old new f g work (Err (Raced looked found)) → ⊥
-  never_raced looked found changes r = never_lost old.seen r.begun new looked found r.did.begins
-      (refused_since (Raced looked found) changes r) r.window.from r.grounds
+  none_lost_by : (answer : Result A Fault) (r : Ran old new f g call answer) → IfErr answer (IsAloneFault new)
+      → LoseOnly None r.acts
+  none_lost_by (Ok x) r fault = (lawful.goes f g r.acts x r.is).lose
+  none_lost_by (Err e) r fault = subst (λ l. LoseOnly l r.acts) (lost_no asked new e fault)
+      (lawful.fails f g r.acts e r.is).shown.1
 
-  -- a refusal of a call that no other thread causes
-  fault_alone : (turns : ℕ) (command : Asked) (e : Fault) → ChangesNothing work → (r : Ran old new f g work (Err e))
-      → IsUncontendedFault (state new.seen) new.last command r.acts g e
-      → IsCommandFault turns command.0 command.1 new g e
-  fault_alone turns command Null changes r uncontended = uncontended
-  fault_alone turns command Stale changes r uncontended = tt
-  fault_alone turns command WrongKind changes r uncontended = inl uncontended
-  fault_alone turns command NotArray changes r uncontended = uncontended
-  fault_alone turns command WrongElement changes r uncontended = uncontended
-  fault_alone turns command Range changes r uncontended = uncontended
-  fault_alone turns command LocalsFull changes r uncontended = uncontended
-  fault_alone turns command NoFrame changes r uncontended = uncontended
-  fault_alone turns command Memory changes r uncontended = uncontended
-  fault_alone turns command RowFull changes r uncontended = row_is_full changes r
-  fault_alone turns command (SpaceFull used) changes r uncontended = space_is_short command used changes r uncontended
-  fault_alone turns command (Raced looked found) changes r uncontended = absurd (never_raced looked found changes r)
-  fault_alone turns command ObjectsFull changes r uncontended = objects_are_full changes r
-  fault_alone turns command _ changes r uncontended = absurd uncontended
+  -- what was so answered, where the refusal is known to be a lone thread's
+  pub answered_so : {B : Type 0} (answer : Result A Fault) (other : Result B Fault) → Ran old new f g call answer
+      → IfErr answer (IsAloneFault new) → IfErr other (IsAloneFault new) → LedAlone old new other
+  answered_so answer other r fault told =
+      led_by old new r.acts r.did alone other (none_lost_by answer r fault) told
 
--- a whole call that was not barred is refused for what its work is
-record RefusedWhole (s : State) (last : ℕ) (command : Asked) (old : Frames) (had : List Act) (e : Fault)
-    (new : Frames) : Type 0 where
-  acts : IsUnraced {A = Unit {0}} (Err e) → AreUncontended had
-  fault : AllByRecursion (λ a. a ≢ Gate Knock) had → IsUncontendedFault s last command had new e
+  pub ran_alone : asked.announces ≡ false → (answer : Result A Fault) → Ran old new f g call answer
+      → LedAlone old new answer
+  ran_alone silent answer r = answered_so answer answer r (fault_of answer r) (fault_of answer r)
+    where
+      fault_of : (answer : Result A Fault) → Ran old new f g call answer → IfErr answer (IsAloneFault new)
+      fault_of (Ok x) r = tt
+      fault_of (Err e) r = fault_alone silent e r
 
-unraced : (turns : ℕ) (command : Asked) (p : PassView) (f : Frames) (e : Fault)
-    → IsCommandFault turns command.0 command.1 p f e → IsUnraced {A = Unit {0}} (Err e)
-unraced turns command p f (Raced looked found) h = h
-unraced turns command p f _ h = tt
-
--- between an entry and an exit
-stayed_acts : (xs : List Act) → AreUncontended xs → AreUncontended (Gate Enter ∷ xs ++ Gate Leave ∷ [])
-stayed_acts xs all = (refl, append_all (λ a. is_uncontended_act a ≡ true) xs (Gate Leave ∷ []) all (refl, tt))
-
-module _ {s : State} {last : ℕ} {command : Asked} where
-  refused_stay : (f g : Frames) (xs : List Act) (e : Fault) → RefusedAlone s last command f xs e g
-      → RefusedWhole s last command f (Gate Enter ∷ xs ++ Gate Leave ∷ []) e g
-  refused_stay f g xs e q = record {
-    acts = λ u. stayed_acts xs (q.acts u);
-    fault = λ enters. more_fault s last command xs (Gate Enter ∷ xs ++ Gate Leave ∷ [])
-        (λ n used h. inr (found_earlier n used xs (Gate Leave ∷ []) h)) g e q.fault;
-  }
-
-  refused_entry : (f : Frames) → RefusedWhole s last command f (Gate Knock ∷ Gate Withdraw ∷ []) Barred f
-  refused_entry f = record { acts = λ u. (refl, (refl, tt)); fault = λ enters. absurd (enters.0 refl) }
-
-  entered_whole : {A : Type 0} {work : Call A} → IsUncontended s last command work
-      → Gives NoneLost (RefusedWhole s last command) (entered work)
-  entered_whole p = entered_gives (λ f g xs all. stayed_acts xs all) refused_stay refused_entry p
-
-  opened_whole : {A : Type 0} {work : Call A} → IsUncontended s last command work
-      → Gives NoneLost (RefusedWhole s last command) (opened work)
-  opened_whole p = opened_gives (λ f g xs all. (refl, all)) refused_stay refused_entry p
-
-module _ {A : Type 0} (s : State) (command : Asked) (last : ℕ) (call : Call A)
-    (whole : Gives NoneLost (RefusedWhole s last command) call) (turns : ℕ) (changes : ChangesNothing call)
-    (old new : PassView) (f g : Frames) (same : old.last ≡ last) (now : s ≡ state new.seen) (alone : IsAlone new) where
-  whole_refused : (e : Fault) → Ran old new f g call (Err e) → IsCommandFault turns command.0 command.1 new g e
-  whole_refused e r =
-      let enters = all_back (λ (x : Event). x.act ≢ Gate Knock) old.seen r.did.begins.0
-      (subst (AllByRecursion (λ (x : Event). x.act ≢ Gate Knock)) (sym r.did.begins.1) alone.enters) in
-      let acts : AllByRecursion (λ a. a ≢ Gate Knock) r.acts = subst (AllByRecursion (λ a. a ≢ Gate Knock))
-      (mine_did r.acts r.did) (own_acts (λ a. a ≢ Gate Knock) old.thread r.did.begins.0 enters) in
-      fault_alone old new f g call alone turns command e changes r
-      (subst (λ n. IsUncontendedFault (state new.seen) n command r.acts g e) (sym (r.did.last ∙ same))
-      (subst (λ x. IsUncontendedFault x last command r.acts g e) now ((whole.fails f g r.acts e r.is).fault acts)))
-
-  whole_fault : (answer : Result A Fault) → Ran old new f g call answer
-      → IfErr answer (IsCommandFault turns command.0 command.1 new g)
-  whole_fault (Ok x) r = tt
-  whole_fault (Err e) r = whole_refused e r
-
-  whole_acts : (answer : Result A Fault) (r : Ran old new f g call answer) → AreUncontended r.acts
-  whole_acts (Ok x) r = whole.goes f g r.acts x r.is
-  whole_acts (Err e) r = (whole.fails f g r.acts e r.is).acts (unraced turns command new g e (whole_refused e r))
-
-  whole_alone : (answer : Result A Fault) → Ran old new f g call answer → LedAlone turns command old new g answer
-  whole_alone answer r = record {
-    config = r.did.config;
-    thread = r.did.thread;
-    begins = r.did.begins;
-    uncontended = λ before.
-        subst AllUncontended r.did.begins.1 (append_all (λ e. is_uncontended_act e.act ≡ true) old.seen r.did.begins.0
-        before (since old new f g call alone (λ a. is_uncontended_act a ≡ true) answer r (whole_acts answer r)));
-    fault = whole_fault answer r;
-  }
-
-module _ {A : Type 0} (s : State) (command : Asked) (last : ℕ) (work : Call A)
-    (uncontended : IsUncontended s last command work) (turns : ℕ) where
-  -- a call with a stay of its own, and one that opens a region
-  pub ran_alone : ChangesNothing (entered work) → (old new : PassView) (f g : Frames) → old.last ≡ last
-      → s ≡ state new.seen → IsAlone new → (answer : Result A Fault) → Ran old new f g (entered work) answer
-      → LedAlone turns command old new g answer
-  ran_alone changes old new f g same now alone answer r = whole_alone s command last (entered work)
-      (entered_whole uncontended) turns changes old new f g same now alone answer r
-
-  pub opened_ran : ChangesNothing (opened work) → (old new : PassView) (f g : Frames) → old.last ≡ last
-      → s ≡ state new.seen → IsAlone new → (answer : Result A Fault) → Ran old new f g (opened work) answer
-      → LedAlone turns command old new g answer
-  opened_ran changes old new f g same now alone answer r = whole_alone s command last (opened work)
-      (opened_whole uncontended) turns changes old new f g same now alone answer r
-
--- a call with a stay of its own
-pub call_alone : {A : Type 0} (turns : ℕ) (command : Asked) (silent : Config → ℕ)
-    (work : Config → ℕ → ℕ → State → Call A)
-    → ((c : Config) (last t : ℕ) (s : State) → c.threads ≡ 1 → t ≡ 0 → IsUncontended s last command (work c last t s))
-    → ((c : Config) (last t : ℕ) (s : State) → ChangesNothing (entered (work c last t s)))
-    → LeadsAlone turns command (call_by silent (λ c last t s. entered (work c last t s)))
-call_alone turns command silent work uncontended changes = record {
-  led = λ old new answer alone r.
-      let x = ran_of silent (λ c last t s. entered (work c last t s)) old new answer r in
-      let now = state new.pass.seen in
-      ran_alone now command old.pass.last (work old.pass.config old.pass.last old.pass.thread now)
-      (uncontended old.pass.config old.pass.last old.pass.thread now
-      (ap (λ c. c.threads) (sym x.did.config) ∙ alone.one) (sym x.did.thread ∙ alone.first)) turns
-      (changes old.pass.config old.pass.last old.pass.thread now) old.pass new.pass old.frames new.frames refl refl
-      alone answer x;
+-- the same of a deed
+pub made_alone : {A : Type 0} {asked : Purpose} (silent : Config → ℕ) {work : Config → ℕ → ℕ → State → Call A}
+    → ((c : Config) (last t : ℕ) (s : State) → IsLawful asked last t (work c last t s)) → asked.announces ≡ false
+    → LeadsAlone (within_by silent work)
+made_alone silent lawful quiet = record {
+  led = λ old new answer alone d. ran_alone (lawful old.pass.config old.pass.last old.pass.thread (state new.pass.seen))
+      old.pass new.pass old.frames new.frames alone quiet answer d.ran;
 }
-
--- a lone thread learns of nothing that others did
-pub learned_uncontended : (old new : ThreadState) → IsAlone new.pass → HasLearned old new → AllUncontended old.pass.seen
-    → AllUncontended new.pass.seen
-learned_uncontended old new alone l before =
-    let d = l.did in
-    let own = subst (λ t. AllByRecursion (λ (e : Event). e.thread ≡ t) d.begins.0) d.thread
-    (all_back (λ (e : Event). e.thread ≡ new.pass.thread) old.pass.seen d.begins.0
-    (subst (AllByRecursion (λ (e : Event). e.thread ≡ new.pass.thread)) (sym d.begins.1) alone.own)) in
-    let none = own_events (λ a. is_uncontended_act a ≡ true) old.pass.thread d.begins.0 own
-    (subst (AllByRecursion (λ a. is_uncontended_act a ≡ true)) (sym (mine_did [] d)) tt) in
-    subst AllUncontended d.begins.1
-    (append_all (λ e. is_uncontended_act e.act ≡ true) old.pass.seen d.begins.0 before none)

@@ -1,36 +1,20 @@
 -- The end of a thread that is alone: nothing is in the way of freeing its local references.
-use Rattle.std.proofs.Common.{◌≡◌, ◌≢◌, ◌⊎◌, ⊎_elim, inl, inr, ℕ, zero, suc, false, List, [], Result, Ok, Err, refl, ap}
+use Rattle.std.proofs.Common.{◌≡◌, ◌≢◌, ◌⊎◌, ⊎_elim, inl, inr, ℕ, zero, suc, false, List, Result, Ok, Err, refl, ap}
 use Rattle.jr_word.specs.declared.fault.Fault.{Fault}
 use Rattle.jr_word.specs.declared.fault.Fault.TheVariants.{Barred}
-use Rattle.jr_model.specs.References as references
-use Rattle.jr_model.specs.AllCalls.{CallOf}
-use Rattle.jr_model.proofs.EachCall.{refusals_change_nothing}
 use Rattle.jr_syntax.specs.declared.command.Command.{Command}
-use Rattle.jr_syntax.specs.declared.command.Command.TheVariants as commands
-use Rattle.jr_syntax.specs.declared.verb.Make.TheVariants as make
 use Rattle.jr_gate.specs.Performing.{ThreadState}
 use Rattle.jr_env.specs.Deeds.{free_locals}
 use Rattle.jr_env.specs.Tries.{is_tried_again}
 use Rattle.jr_scripts.specs.Tries.{Tried, answered, again, gave_up}
-use Rattle.jr_scripts.specs.Names.{no_names}
 use Rattle.jr_scripts.specs.Posting.{Speech}
 use Rattle.jr_scripts.specs.Explains.{Explained}
 use Rattle.jr_scripts.specs.AloneAnswers.{AnswersAlone}
 use Rattle.jr_scripts.specs.Runs.{IsFreed}
-use Rattle.jr_scripts.proofs.Uncontended.{Asked, freeing_uncontended}
-use Rattle.jr_scripts.proofs.AloneCalls.{IsAlone, LeadsAlone, AllUncontended, call_alone}
+use Rattle.jr_scripts.proofs.AloneCalls.{IsAlone, NoneLost}
 use Rattle.jr_scripts.proofs.AloneParts.{was_alone, once_alone, tries_alone}
-use Rattle.jr_scripts.proofs.AloneAnswers.{given_up_alone, went_alone}
-use Rattle.jr_scripts.proofs.AloneWithin.{led_alone}
-
--- a command whose refusals are those of a free, and more
-pub plainly : Asked
-plainly = (no_names, commands.Make make.Plain [])
-
-pub free_alone : (turns : ℕ) → LeadsAlone turns plainly free_locals
-free_alone turns = call_alone turns plainly (λ c. 0) (λ c last t s. references.freeing)
-    (λ c last t s one first. freeing_uncontended s plainly c last t one first) (λ c last t s.
-    refusals_change_nothing c last t s _ CallOf.free_locals)
+use Rattle.jr_scripts.proofs.AloneDeeds.{free_alone, given_up_alone}
+use Rattle.jr_scripts.proofs.AloneAnswers.{went_alone}
 
 free_answers : (old new : ThreadState) (answer : Result (Unit {0}) Fault) → free_locals old answer new
     → (answer ≡ Ok tt) ⊎ (answer ≡ Err Barred)
@@ -45,9 +29,9 @@ freed_all : (n : ℕ) (old new : ThreadState) (answer : Result (Unit {0}) Fault)
 freed_all (suc n) old new answer alone (answered d final) some =
     ⊎_elim (λ e. e) (barred_again answer final) (free_answers old new answer d)
 freed_all (suc n) old new answer alone (again {mid = mid} {once = once} d more rest) some =
-    let y = tries_alone plainly free_alone n mid new answer alone rest in
-    let x = (free_alone 0).led old mid once (was_alone y alone) d in
-    absurd (once_alone plainly mid.pass mid.frames once more x.fault)
+    let y = tries_alone free_alone n mid new answer alone rest in
+    let x = free_alone.led old mid once (was_alone y alone) d in
+    absurd (once_alone mid.pass once more x.fault)
 freed_all zero old new answer alone gave_up some = absurd (some refl)
 
 -- A LONE THREAD's commands, and its end
@@ -56,18 +40,18 @@ pub record EndedAlone {talk : Speech} {turns first : ℕ} {opening told left : T
     (f : IsFreed turns told left) : Type 0 where
   pub answers : AnswersAlone e.explains
   pub all : turns ≢ 0 → f.answer ≡ Ok tt
-  pub uncontended : AllUncontended opening.pass.seen → AllUncontended left.pass.seen
+  pub none_lost : NoneLost opening.pass.seen → NoneLost left.pass.seen
 
 pub ended_alone : {talk : Speech} (turns first : ℕ) (opening told left : ThreadState) (commands : List Command)
     (text : List ℕ) (e : Explained talk turns first opening commands text told) (f : IsFreed turns told left)
     → IsAlone left.pass → EndedAlone e f
 ended_alone turns first opening told left commands text e f alone =
-    let y = tries_alone plainly free_alone turns told left f.answer alone f.tries in
+    let y = tries_alone free_alone turns told left f.answer alone f.tries in
     let here = was_alone y alone in
-    let g = given_up_alone e.place.objects e.done told (Ok tt) here e.ended in
-    let x = went_alone turns first opening e.done commands text e.place e.words e.explains (led_alone g here) in
+    let g = (given_up_alone e.place.objects).led e.done told (Ok tt) here e.ended in
+    let x = went_alone turns first opening e.done commands text e.place e.words e.explains (was_alone g here) in
     record {
       answers = x.answers;
       all = freed_all turns told left f.answer alone f.tries;
-      uncontended = λ m. y.uncontended (g.uncontended (x.uncontended m));
+      none_lost = λ m. y.none_lost (g.none_lost (x.none_lost m));
     }

@@ -57,10 +57,10 @@ use Rattle.jr_scripts.specs.Text.{heading, ending}
 use Rattle.jr_scripts.specs.Runs.{IsRun, RunsSingle, seeing, opening_moment}
 use Rattle.jr_scripts.specs.AllRuns.{IsPartOf, ArePartsOf, text_of_parts, IsRunOfAll}
 use Rattle.jr_scripts.proofs.Alone.{undisturbed}
-use Rattle.jr_scripts.proofs.AloneAnswers.{all_map, lone_pass, unbarred}
-use Rattle.jr_scripts.proofs.AloneCalls.{IsAlone, AllUncontended}
-use Rattle.jr_scripts.proofs.AloneHistories.{all_back, own_events}
+use Rattle.jr_scripts.proofs.AloneAnswers.{unbarred}
+use Rattle.jr_scripts.proofs.AloneCalls.{IsAlone, NoneLost}
 use Rattle.jr_scripts.proofs.FreedAlone.{ended_alone}
+use Rattle.jr_scripts.proofs.AloneHistories.{all_back, all_map, own_events}
 use Rattle.jr_scripts.proofs.LoneRun.MeaningRun.{meant}
 
 one_part : (ps : List ThreadPart) → length ps ≡ 1 → (p : ThreadPart) × (ps ≡ p ∷ [])
@@ -99,7 +99,7 @@ module _ (board : List ℕ → Option (ℕ × History)) (rank : List ℕ → ℕ
         let legal_seen : IsLegal c last p.seen =
         ((legal_append c last p.seen p.begins.0).0 (subst (IsLegal c last) (sym p.begins.1) legal)).0 in
         let all = undisturbed c last one p.seen legal_seen in
-        let lone : IsAlone (p.left).pass = subst IsAlone (sym p.saw) (lone_pass (seeing c last p.seen) one refl all) in
+        let lone : IsAlone (p.left).pass = subst IsAlone (sym p.saw) (record { one = one; first = refl }) in
         let x = p.explained in
         let explained : Explained said_alone turns 3 (opening_moment c last) part.commands lines p.told = record {
           place = x.place;
@@ -115,7 +115,7 @@ module _ (board : List ℕ → Option (ℕ × History)) (rank : List ℕ → ℕ
           seen = p.seen;
           lines = lines;
           legal = legal_seen;
-          alone = unbarred p.seen all (ap-seen ended.uncontended);
+          alone = unbarred p.seen all (ap-seen ended.none_lost);
           told = p.told;
           explained = explained;
           answers = ended.answers;
@@ -126,8 +126,8 @@ module _ (board : List ℕ → Option (ℕ × History)) (rank : List ℕ → ℕ
           text_is = is ∙ ap (λ s. heading part.name ++ lines ++ ending (summary c last s)) same_state;
         }
       where
-        ap-seen : (AllUncontended [] → AllUncontended (p.left).pass.seen) → AllUncontended p.seen
-        ap-seen f = subst (λ v. AllUncontended v.seen) p.saw (f tt)
+        ap-seen : (NoneLost [] → NoneLost (p.left).pass.seen) → NoneLost p.seen
+        ap-seen f = subst (λ v. NoneLost v.seen) p.saw (f tt)
 
   parts_alone : (part : ThreadPart) (lines : List (List ℕ))
       → ArePartsOf board rank turns last c whole 0 2 (part ∷ []) lines → (text : List ℕ) → IsOfPosts part.commands board

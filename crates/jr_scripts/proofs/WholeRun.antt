@@ -23,7 +23,7 @@ use Rattle.jr_scripts.specs.Posting.{said_alone}
 use Rattle.jr_scripts.specs.Explains.{Explained}
 use Rattle.jr_scripts.specs.Runs.{IsRun, running_to_end, seeing, opening_moment}
 use Rattle.jr_scripts.proofs.Alone.{undisturbed}
-use Rattle.jr_scripts.proofs.AloneAnswers.{lone_pass, unbarred}
+use Rattle.jr_scripts.proofs.AloneAnswers.{unbarred}
 use Rattle.jr_scripts.proofs.FreedAlone.{ended_alone}
 
 -- a pass of thread 0 in this room
@@ -71,12 +71,12 @@ module _ {S : Type 0} {facts : S → Facts} (fits : AreOf facts) where
       (λ h. Explained said_alone turns 3 (thread_state (facts old) k0 h) part.commands lines told) fresh x.3.1)) in
       let all = undisturbed c last one k.seen legal in
       let ended = ended_alone turns 3 (opening_moment c last) told end part.commands lines from x.3.2
-      (lone_pass (view k) (ap (λ d. d.threads) config_of ∙ one) thread_of all) in
+      (record { one = ap (λ d. d.threads) config_of ∙ one; first = thread_of }) in
       record {
         seen = k.seen;
         lines = lines;
         legal = legal;
-        alone = unbarred k.seen all (ended.uncontended tt);
+        alone = unbarred k.seen all (ended.none_lost tt);
         told = told;
         explained = from;
         answers = ended.answers;

@@ -25,7 +25,9 @@ use Rattle.jr_scripts.specs.declared.reply.Reply.{Reply}
 use Rattle.jr_scripts.specs.declared.reply.Reply.TheVariants as replies
 use Rattle.jr_scripts.specs.declared.binding.Binding.{Binding}
 use Rattle.jr_scripts.specs.declared.binding.Binding.TheVariants as bound
-use Rattle.jr_scripts.specs.AloneAnswers.{IsCommandFault}
+use Rattle.jr_scripts.specs.AloneAnswers.{IsAloneFault}
+use Rattle.jr_scripts.proofs.AloneCalls.{LeadsAlone}
+use Rattle.jr_scripts.proofs.AloneDeeds.{release_alone}
 use Rattle.jr_scripts.specs.Buffers.{Copied, with_number}
 use Rattle.jr_scripts.specs.Commands.{deed, tried}
 use Rattle.jr_scripts.specs.Names.{binding, buffer_in, buffered, getting, names_put, putting, referent, wanted}
@@ -34,9 +36,6 @@ use Rattle.jr_scripts.specs.Posting.{ThreadWords}
 use Rattle.jr_scripts.specs.Text.{left_by, printed}
 use Rattle.jr_scripts.specs.Meaning.{World, Meaning, goes_on}
 use Rattle.jr_scripts.specs.Meaning as meaning
-use Rattle.jr_scripts.proofs.AloneBuffers.{buffer_found}
-use Rattle.jr_scripts.proofs.AloneCalls.{LeadsAlone}
-use Rattle.jr_scripts.proofs.AloneCopies.{aborted_alone, committed_alone, copied_back_alone}
 use Rattle.jr_scripts.proofs.LoneRun.MadeCalls.{Moment, Made, WasMadeOf, split, still}
 use Rattle.jr_scripts.proofs.LoneRun.MeaningFrames.{Pairing}
 use Rattle.jr_scripts.proofs.LoneRun.MeaningFits.{IsDone, Later, Outcome, handles_stay}
@@ -48,6 +47,12 @@ use Rattle.jr_scripts.proofs.LoneRun.MeaningDeeds.{was_formed}
 use Rattle.jr_scripts.proofs.LoneRun.CommandSteps.{Steps, Turn, at_most, even, handles, kept_step, named_step}
 use Rattle.jr_scripts.proofs.LoneRun.CommandSteps.{nothing_then, wanted_step, was_made}
 use Rattle.jr_scripts.proofs.LoneRun.ElementCommands.{apart_before}
+
+-- what stands there is the buffer that was found
+buffer_found : (s : Binding) (b : Copied) → buffer_in s ≡ Ok b → s ≡ bound.Buffer b
+buffer_found bound.Nothing b is = absurd cc
+buffer_found (bound.Reference h) b is = absurd cc
+buffer_found (bound.Buffer c) b is = let same : c ≡ b = cc in ap (λ (x : Copied). bound.Buffer x) same
 
 -- what is the same of all references is the same of what is meant
 same_of_binding : {A : Type 0} (P : Pairing) (w : World) (f : Binding → A)
@@ -153,8 +158,7 @@ module _ {c : Config} {last turns j k : ℕ} {P : Pairing} {w : World} {old new 
   -- RELEASE
 
   module _ (one : j ≡ k) (n : List ℕ) (r : Reference) (answer : Result Reply Fault) (mode : Mode)
-      (fault : IfErr answer (IsCommandFault turns p.names (commands.Release release.Elements n r mode) new.pass
-      new.frames)) where
+      (fault : IfErr answer (IsAloneFault new.pass)) where
     abbrev releases : Command
     releases = commands.Release release.Elements n r mode
 
@@ -187,12 +191,12 @@ module _ {c : Config} {last turns j k : ℕ} {P : Pairing} {w : World} {old new 
         abbrev called_back : ℕ → Deed (Option (List ℕ))
         called_back h = call_on_by (λ l. 1) h (λ l i t z a. asked_back a l i t z)
 
-        back_found : ((m h : ℕ) → LeadsAlone m (p.names, releases) (called_back h)) → (h g : HandleWord)
+        back_found : ((h : ℕ) → LeadsAlone (called_back h)) → (h g : HandleWord)
             → HandleFits P w h.0 g.0 → (tried turns (called_back h.0) >>= (λ u. done replies.Done)) old answer new
             → Steps s releases answer (goes_on done_then (meaning.copied_back g.0 b Copy w))
         back_found led h g same d =
             let f = was_formed (λ u. replies.Done) (tried turns (called_back h.0)) old new answer d in
-            let once = made_once (p.names, releases) (λ m. led m h.0) turns old new f.once s.alone s.some_turns f.did in
+            let once = made_once (led h.0) turns old new f.once s.alone s.some_turns f.did in
             let a = once.0 in
             let made = (once.2).0 in
             let z = state new.pass.seen in
@@ -210,7 +214,7 @@ module _ {c : Config} {last turns j k : ℕ} {P : Pairing} {w : World} {old new 
   module _ (one : j ≡ k) (n : List ℕ) (r : Reference) (answer : Result Reply Fault) where
     abbrev MayRefuse : Mode → Type 0
     MayRefuse mode =
-        IfErr answer (IsCommandFault turns p.names (commands.Release release.Elements n r mode) new.pass new.frames)
+        IfErr answer (IsAloneFault new.pass)
 
     abbrev released : Copied → Mode → HandleWord → Deed Reply
     released b mode h = tried turns (release_array_elements b.kind h.0 b.words mode) >>= (λ u. done replies.Done)
@@ -222,17 +226,15 @@ module _ {c : Config} {last turns j k : ℕ} {P : Pairing} {w : World} {old new 
         → (h g : HandleWord) → HandleFits P w h.0 g.0 → released b mode h old answer new
         → Steps s (commands.Release release.Elements n r mode) answer (released_then b mode g.0 w)
     found_by_mode Copy fault b is h g same d = back_found one n r answer Copy fault b None (λ Q v l. tt)
-        (λ m a. copied_back_alone m (p.names, commands.Release release.Elements n r Copy) tt (λ z some. some) b.kind
-        (λ z some. (b, is, some)) b.words (λ z some. (b, is, some)) a) h g same d
+        (λ m. release_alone b.kind m b.words Copy) h g same d
     found_by_mode Commit fault b is h g same d = back_found one n r answer Commit fault b (Some b.words)
         (λ Q v l. binding_later (handles_stay l) (binding p.names n) (binding q.names n) (s.stands.names n))
-        (λ m a. committed_alone m (p.names, commands.Release release.Elements n r Commit) tt (λ z some. some) b.kind
-        (λ z some. (b, is, some)) b.words (λ z some. (b, is, some)) a) h g same d
+        (λ m. release_alone b.kind m b.words Commit) h g same d
     found_by_mode Abort fault b is h g same d =
         let x = commands.Release release.Elements n r Abort in
         let f = was_formed (λ u. replies.Done) (tried turns (release_array_elements b.kind h.0 b.words Abort)) old new
         answer d in
-        let once = made_once (p.names, x) (λ m. aborted_alone m (p.names, x) b.kind h.0 b.words) turns old new f.once
+        let once = made_once (release_alone b.kind h.0 b.words Abort) turns old new f.once
         s.alone s.some_turns f.did in
         named_step s x answer n P w (Ok replies.Done) (Ok replies.Done) bound.Nothing bound.Nothing
         (nothing_then s once.1 (at_most one)) (f.is ∙ ap (formed (λ u. replies.Done)) once.0) (refl, refl, refl)

@@ -18,7 +18,7 @@ use Rattle.jr_model.specs.CollectionCalls.{Collects, IsWhole, announcing_acts, c
 use Rattle.jr_model.specs.Parts as parts
 use Rattle.jr_model.proofs.Exactly.{append_all}
 use Rattle.jr_model.proofs.Histories.{state_append}
-use Rattle.jr_model.proofs.Stays.{append_cancel, mine_did, sees_its_own_acts}
+use Rattle.jr_model.proofs.Stays.{append_cancel, mine_did}
 use Rattle.jr_gate.specs.Performing.{ThreadState}
 use Rattle.jr_weak.specs.declared.collecting.Collected.{Collected}
 use Rattle.jr_env.specs.Collections.{announced_collection}
@@ -35,12 +35,14 @@ use Rattle.jr_scripts.specs.Runs.{IsUnbarred}
 use Rattle.jr_scripts.specs.Text.{printed}
 use Rattle.jr_scripts.specs.Meaning.{World, collects, is_found_reached, swept, told_of}
 use Rattle.jr_scripts.proofs.AloneAnnouncing.{never_refused, once_led}
+use Rattle.jr_scripts.proofs.AloneCalls.{alone_before, sees_alone}
+use Rattle.jr_scripts.proofs.AloneDeeds.{never_busy}
 use Rattle.jr_scripts.proofs.AloneHistories.{all_back, all_prefix, own_acts}
-use Rattle.jr_scripts.proofs.LoneRun.MadeCalls.{Made, AreUnopposed, is_opposed, moment, moment_is}
+use Rattle.jr_scripts.proofs.LoneRun.MadeCalls.{AreUnopposed, is_opposed, moment, moment_is}
 use Rattle.jr_scripts.proofs.LoneRun.MeaningFrames.{Pairing}
 use Rattle.jr_scripts.proofs.LoneRun.MeaningFits.{Fits, HandlesStay, fits_less, gone_fits}
 use Rattle.jr_scripts.proofs.LoneRun.MeaningCollections.{at_reopen, fits_then, long, reopen_is, told_then}
-use Rattle.jr_scripts.proofs.LoneRun.MeaningDeeds.{IsPass, all_unopposed, call_made, made_once, names_stay, now}
+use Rattle.jr_scripts.proofs.LoneRun.MeaningDeeds.{IsPass, all_unopposed, made_once, names_stay, now}
 use Rattle.jr_scripts.proofs.LoneRun.MeaningDeeds.{words_stay}
 use Rattle.jr_scripts.proofs.LoneRun.MeaningStands.{Keeps, pass_later}
 use Rattle.jr_scripts.proofs.LoneRun.CommandSteps.{Turn, Steps, at_most, kept_as}
@@ -182,7 +184,7 @@ module _ {c : Config} {last turns j k : ℕ} {P : Pairing} {w : World} {old new 
   collected_step x answer a keeps is from pass fits cleared dropped clears drops d frames =
       let did = d.did in
       let acts = collection_acts cleared dropped a.used in
-      let seen : new.pass.seen ≡ from.seen ++ map (by 0) acts = sees_its_own_acts from new.pass acts did s.alone.own
+      let seen : new.pass.seen ≡ from.seen ++ map (by 0) acts = sees_alone from new.pass acts did s.alone
       ∙ ap (λ t. from.seen ++ map (by t) acts) (did.thread ∙ pass.thread) in
       let legal : IsLegal c last (from.seen ++ map (by 0) acts) = subst (IsLegal c last) seen
       (subst (λ z. IsLegal z last new.pass.seen) pass.config
@@ -221,18 +223,7 @@ module _ {c : Config} {last turns j k : ℕ} {P : Pairing} {w : World} {old new 
       d.cleared
       d.dropped d.clears d.drops d.collects (collect_keeps old.frames new.frames d.ran.acts
       (Ok (a.cleared, a.dropped, a.used)) d.ran.is)
-  collect_step one (Ok (replies.Busy n)) d = absurd (busy (call_made c last (λ l m t z. parts.collect) old new
-      (Err (Busy n)) s.stands.pass s.alone s.all tt 0 d.made))
-    where
-      busy : Made c last 0 parts.collect (now old) (Err (Busy n)) (now new) → ⊥
-      busy made = go made.is
-        where
-          go : parts.collect old.frames made.acts (Err (Busy n)) new.frames → ⊥
-          go (inl r) = absurd (let bad = r.4 in cc)
-          go (inr (inl r)) = absurd (let acts : made.acts ≡ ShutBusy r.5.0 ∷ r.3 = r.4 ∙ ap (λ l. l ++ r.3) r.5.1 in
-              let free = subst AreUnopposed acts made.unopposed in
-              let bad = free.0 in cc)
-          go (inr (inr r)) = absurd (let bad = r.2.2 in cc)
+  collect_step one (Ok (replies.Busy n)) d = absurd (never_busy old new n s.alone d)
   collect_step one _ d = absurd d
 
   -- GCANN
@@ -244,10 +235,7 @@ module _ {c : Config} {last turns j k : ℕ} {P : Pairing} {w : World} {old new 
       → collecting_announced turns tries old answer new
       → Steps s (commands.WithTries with_tries.CollectAnnounced tries) answer (collects w)
   announced_step one tries answer d =
-      let once = made_once (p.names, commands.WithTries with_tries.CollectAnnounced tries)
-      (once_led turns tries p.names)
-      turns old new d.0 s.alone s.some_turns d.2 in
-      go d.0 d.1 once
+      go d.0 d.1 (made_once (once_led tries) turns old new d.0 s.alone s.some_turns d.2)
     where
       go : (once : Result Collected Fault) → answer ≡ told_by once → announced_collection tries old once new
           → Steps s (commands.WithTries with_tries.CollectAnnounced tries) answer (collects w)
@@ -258,8 +246,6 @@ module _ {c : Config} {last turns j k : ℕ} {P : Pairing} {w : World} {old new 
           let first = done.collects.announced in
           let then = done.collects.done in
           let seen_all = all_prefix IsUnbarred mid.seen new.pass.seen then.did.begins s.all in
-          let own = all_prefix (λ (e : Event). e.thread ≡ 0) mid.seen new.pass.seen then.did.begins
-          (subst (λ t. AllByRecursion (λ (e : Event). e.thread ≡ t) new.pass.seen) s.alone.first s.alone.own) in
           let thread : mid.thread ≡ 0 = first.thread ∙ s.stands.pass.thread in
           let free = subst AreUnopposed (mine_did (announcing_acts r.refused) first)
           (own_acts (λ a. is_opposed a ≡ false) old.pass.thread first.begins.0
@@ -269,8 +255,7 @@ module _ {c : Config} {last turns j k : ℕ} {P : Pairing} {w : World} {old new 
           let acts : announcing_acts r.refused ≡ Meet ∷ Gate Announce ∷ [] =
           ap announcing_acts (announced_acts r.refused free) in
           let seen : mid.seen ≡ old.pass.seen ++ map (by 0) (Meet ∷ Gate Announce ∷ []) =
-          sees_its_own_acts old.pass mid (announcing_acts r.refused) first
-          (subst (λ t. AllByRecursion (λ (e : Event). e.thread ≡ t) mid.seen) (sym thread) own)
+          sees_alone old.pass mid (announcing_acts r.refused) first (alone_before then.did s.alone)
           ∙ (ap (λ t. old.pass.seen ++ map (by t) (announcing_acts r.refused)) thread
           ∙ ap (λ l. old.pass.seen ++ map (by 0) l) acts) in
           let state_is = ap state seen ∙ state_append old.pass.seen (map (by 0) (Meet ∷ Gate Announce ∷ [])) in

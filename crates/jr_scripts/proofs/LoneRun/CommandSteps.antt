@@ -31,17 +31,17 @@ use Rattle.jr_scripts.specs.Names.{referent, wanted, with_name}
 use Rattle.jr_scripts.specs.Places.{Place, objects_after}
 use Rattle.jr_scripts.specs.Posting.{ThreadWords, words_after}
 use Rattle.jr_scripts.specs.Text.{names_after, printed, reference_made, says}
-use Rattle.jr_scripts.specs.AloneAnswers.{IsCommandFault}
-use Rattle.jr_scripts.specs.Runs.{IsUnbarred}
+use Rattle.jr_scripts.specs.AloneAnswers.{IsAloneFault}
 use Rattle.jr_scripts.proofs.AloneCalls.{IsAlone, LeadsAlone}
-use Rattle.jr_scripts.proofs.LoneRun.MadeCalls.{IsSo, Made}
+use Rattle.jr_scripts.specs.Runs.{IsUnbarred}
+use Rattle.jr_scripts.proofs.LoneRun.MadeCalls.{Made}
 use Rattle.jr_scripts.proofs.LoneRun.MeaningFrames.{Pairing}
 use Rattle.jr_scripts.proofs.LoneRun.MeaningFits.{Later, Fits, Fitting, Means, Outcome, fits_less, later_self}
 use Rattle.jr_scripts.proofs.LoneRun.MeaningDeeds.{IsPass, NamesFit, BindingFits, HandleFits, WordsFit, after_decided}
 use Rattle.jr_scripts.proofs.LoneRun.MeaningDeeds.{call_made, formed, given_handle, names_later, names_set_fit, now}
 use Rattle.jr_scripts.proofs.LoneRun.MeaningDeeds.{formed_both, made_once, read_fits, was_formed, words_later}
-use Rattle.jr_scripts.proofs.LoneRun.MeaningStands.{Keeps, Sets, IsSilent, Stands, Stepped, err_formed, err_map}
-use Rattle.jr_scripts.proofs.LoneRun.MeaningStands.{pass_later, so_of}
+use Rattle.jr_scripts.proofs.LoneRun.MeaningStands.{Keeps, Sets, IsSilent, Stands, Stepped, err_formed}
+use Rattle.jr_scripts.proofs.LoneRun.MeaningStands.{pass_later}
 
 -- A COMMAND'S TURN: the thread stands as in the world before it, and is alone in its room behind it
 pub record Turn (c : Config) (last turns j k : ℕ) (P : Pairing) (w : World) (old new : ThreadState) (p q : Place)
@@ -66,15 +66,6 @@ even {c = c} {last = last} {j = j} {P = P} {w = w} {V = V} {call = call} {meant 
 
 module _ {c : Config} {last turns j k : ℕ} {P : Pairing} {w : World} {old new : ThreadState} {p q : Place}
     {had told : ThreadWords} (s : Turn c last turns j k P w old new p q had told) where
-  -- what a refusal says of the room is so at the end
-  so_then : (x : Command) (answer : Result Reply Fault) → IsPass c last new.pass
-      → IfErr answer (IsCommandFault turns p.names x new.pass new.frames)
-      → IfErr answer (IsSo c last (state new.pass.seen))
-  so_then x answer pass fault = err_map answer (λ e h.
-      subst (λ z. IsSo z last (state new.pass.seen) e) pass.config
-      (subst (λ l. IsSo new.pass.config l (state new.pass.seen) e) pass.last_is
-      (so_of turns p.names x new.pass new.frames e h))) fault
-
   pub handles : (i : ℕ) → i < length w.refs → IsHandle (P.handle i)
   handles i l = given_handle c last (P.handle i) s.small s.slots s.few (s.stands.fits.refs.given i l)
 
@@ -174,17 +165,18 @@ module _ {c : Config} {last turns j k : ℕ} {P : Pairing} {w : World} {old new 
         (bound.Reference (reference_made h)) (bound.Reference (reference_made g)) i is (sets h p.names p.objects had)
         (sets g q.names q.objects told) (λ line. text) fits
 
-    module _ (fault : IfErr answer (IsCommandFault turns p.names x new.pass new.frames)) where
+    module _ (fault : IfErr answer (IsAloneFault new.pass)) where
       pub was_made : {A : Type 0} (form : A → Reply) (n : ℕ) (asked : Config → ℕ → ℕ → State → Call A)
           (once : Result A Fault)
           → IsMade n old new (asked old.pass.config old.pass.last old.pass.thread (state new.pass.seen)) once
           → answer ≡ formed form once
           → IsPass c last new.pass × Made c last 0 (asked c last 0 (state new.pass.seen)) (now old) once (now new)
       was_made form n asked once made is =
-          let pass = pass_later c last old.pass new.pass made.ran.acts made.ran.did s.stands.pass in
-          let so = err_formed (IsSo c last (state new.pass.seen)) form once
-          (subst (λ z. IfErr z (IsSo c last (state new.pass.seen))) is (so_then x answer pass fault)) in
-          (pass, call_made c last asked old new once s.stands.pass s.alone s.all so n made)
+          let so =
+          err_formed (IsAloneFault new.pass) form once (subst (λ z. IfErr z (IsAloneFault new.pass)) is fault) in (
+            pass_later c last old.pass new.pass made.ran.acts made.ran.did s.stands.pass,
+            call_made c last asked old new once s.stands.pass s.alone s.all so n made,
+          )
 
       pub made_call : {A B : Type 0} {V : Fitting A B} (form : A → Reply) (n : ℕ)
           (asked : Config → ℕ → ℕ → State → Call A) (meant : Meaning B) (once : Result A Fault)
@@ -280,10 +272,9 @@ module _ {c : Config} {last turns j k : ℕ} {P : Pairing} {w : World} {old new 
 
   -- A COMMAND THAT MAKES A REFERENCE, or NULL, from one, by one call
   pub made_of_step : k ≤ j → (v : MakeFrom) (n : List ℕ) (r : Reference) (answer : Result Reply Fault)
-      → IfErr answer (IsCommandFault turns p.names (commands.MakeFrom v n r) new.pass new.frames)
+      → IfErr answer (IsAloneFault new.pass)
       → (asked : Config → ℕ → ℕ → Word → Call (Option Handle)) (meant : ℕ → Meaning ℕ)
-      → ((z h : ℕ) → LeadsAlone z (p.names, commands.MakeFrom v n r)
-      (answered_by packed_if (call_on_by (λ c. 0) h (λ c l t y a. asked c l t a))))
+      → ((h : ℕ) → LeadsAlone (answered_by packed_if (call_on_by (λ c. 0) h (λ c l t y a. asked c l t a))))
       → ((a : Word) (g : ℕ) → WordFits P w a g → Means c last j k MaybeFits P w (asked c last 0 a) (meant g))
       → (decided (wanted (referent p.names r)) >>= (λ h. makes_reference turns
       (answered_by packed_if (call_on_by (λ c. 0) h.0 (λ c l t y a. asked c l t a))))) old answer new
@@ -301,7 +292,7 @@ module _ {c : Config} {last turns j k : ℕ} {P : Pairing} {w : World} {old new 
           let x = commands.MakeFrom v n r in
           let call = call_on_by (λ c. 0) h.0 (λ c l t y a. asked c l t a) in
           let f = was_formed (λ z. replies.Made z) (tried turns (answered_by packed_if call)) old new answer d' in
-          let once = made_once (p.names, x) (λ z. led z h.0) turns old new f.once s.alone s.some_turns f.did in
+          let once = made_once (led h.0) turns old new f.once s.alone s.some_turns f.did in
           let y = was_formed packed_if call old new f.once once in
           let is : answer ≡ formed (λ z. replies.Made (packed_if z)) y.once =
           f.is ∙ (ap (formed (λ z. replies.Made z)) y.is ∙ formed_both (λ z. replies.Made z) packed_if y.once) in

@@ -22,7 +22,8 @@ use Rattle.jr_syntax.specs.declared.verb.On.TheVariants as on
 use Rattle.jr_scripts.specs.declared.reply.Reply.{Reply}
 use Rattle.jr_scripts.specs.declared.reply.Reply.TheVariants as replies
 use Rattle.jr_scripts.specs.declared.binding.Binding.TheVariants as bound
-use Rattle.jr_scripts.specs.AloneAnswers.{IsCommandFault}
+use Rattle.jr_scripts.specs.AloneAnswers.{IsAloneFault}
+use Rattle.jr_scripts.proofs.AloneDeeds.{elements_alone, units_alone}
 use Rattle.jr_scripts.specs.Buffers.{copy_of}
 use Rattle.jr_scripts.specs.Commands.{copying_as, deed, tried}
 use Rattle.jr_scripts.specs.Names.{referent, wanted}
@@ -32,9 +33,6 @@ use Rattle.jr_scripts.specs.Posting.{ThreadWords}
 use Rattle.jr_scripts.specs.Text.{printed}
 use Rattle.jr_scripts.specs.Meaning.{World, Meaning, goes_on, wanted_as, wanted_object}
 use Rattle.jr_scripts.specs.Meaning as meaning
-use Rattle.jr_scripts.proofs.AloneCalls.{LeadsAlone}
-use Rattle.jr_scripts.proofs.AloneCopies.{elements_alone, units_alone}
-use Rattle.jr_scripts.proofs.AloneDeeds.{kind_alone}
 use Rattle.jr_scripts.proofs.LoneRun.MadeCalls.{Made}
 use Rattle.jr_scripts.proofs.LoneRun.MeaningFrames.{Pairing}
 use Rattle.jr_scripts.proofs.LoneRun.MeaningFits.{IsSame, goes_on_twice}
@@ -82,7 +80,7 @@ module _ {c : Config} {last turns j k : ℕ} {P : Pairing} {w : World} {old new 
 module _ {c : Config} {last turns j k : ℕ} {P : Pairing} {w : World} {old new : ThreadState} {p q : Place}
     {had told : ThreadWords} (s : Turn c last turns j k P w old new p q had told) where
   pub elems_step : j ≡ k → (n : List ℕ) (r : Reference) (answer : Result Reply Fault)
-      → IfErr answer (IsCommandFault turns p.names (commands.MakeFrom make_from.Elements n r) new.pass new.frames)
+      → IfErr answer (IsAloneFault new.pass)
       → finds_memory w ≡ found_by answer
       → deed turns p.names (commands.MakeFrom make_from.Elements n r) old answer new
       → Steps s (commands.MakeFrom make_from.Elements n r) answer
@@ -91,7 +89,7 @@ module _ {c : Config} {last turns j k : ℕ} {P : Pairing} {w : World} {old new 
       (λ a v. goes_on (λ u. copied a) (has_numbers a.1.kind, v))
       (goes_on (λ h v. (Ok h.0, v)) (wanted (referent q.names r), w)))
       (numbered_step s one x r answer fault (λ e names os ws. (refl, refl, refl))
-      (λ m h. kind_alone m (p.names, x) tt h) (λ h t. copying_as turns h t) copied before rest d)
+      (λ h t. copying_as turns h t) copied before rest d)
     where
       x : Command
       x = commands.MakeFrom make_from.Elements n r
@@ -99,15 +97,11 @@ module _ {c : Config} {last turns j k : ℕ} {P : Pairing} {w : World} {old new 
       copied : ℕ × Contents → Meaning Reply
       copied a v = goes_on (λ words z. (Ok (replies.Copied (copy_of a.1.kind words)), z)) (meaning.copy a.1.words v)
 
-      led : (t : Kind) (h m : ℕ) → LeadsAlone m (p.names, x) (get_array_elements t h)
-      led t h m =
-          elements_alone m (p.names, x) tt (λ z some. some) t (λ z some. (some.0, some.1, some.2, some.3.0)) tt h
-
       before : (h : ℕ) (t : Kind) (m : ThreadState) → copying_as turns h t m answer new → AloneBefore s m
       before h t m d' =
           let f = was_formed (λ words. replies.Copied (copy_of t words)) (tried turns (get_array_elements t h)) m new
           answer d' in
-          alone_before s (p.names, x) (led t h) m f.once f.did
+          alone_before s (elements_alone t h) m f.once f.did
 
       rest : (Q : Pairing) (m : ThreadState) (y : Turn c last turns j k Q w m new p q had told) (h g o : ℕ)
           → HandleFits Q w h g → wanted_object g w ≡ (Ok (o, meant_in w o), w) → (t : Kind)
@@ -116,7 +110,7 @@ module _ {c : Config} {last turns j k : ℕ} {P : Pairing} {w : World} {old new 
       rest Q m y h g o same known t kind numbers d' =
           let f = was_formed (λ words. replies.Copied (copy_of t words)) (tried turns (get_array_elements t h)) m new
           answer d' in
-          let once = made_once (p.names, x) (led t h) turns m new f.once y.alone y.some_turns f.did in
+          let once = made_once (elements_alone t h) turns m new f.once y.alone y.some_turns f.did in
           let call = word_outcome y x answer fault {V = IsSame {A = List ℕ}} (λ words. replies.Copied (copy_of t words))
           (λ l i b z a. objects.elements_copying l i b z t a)
           (λ a. in_stay (CallOf.get_array_elements t a) (λ l i b z. refl)) (meaning.copy (meant_in w o).words) f.once
@@ -131,7 +125,7 @@ module _ {c : Config} {last turns j k : ℕ} {P : Pairing} {w : World} {old new 
   -- CHARS
 
   pub chars_step : j ≡ k → (r : Reference) (answer : Result Reply Fault)
-      → IfErr answer (IsCommandFault turns p.names (commands.On on.Chars r) new.pass new.frames)
+      → IfErr answer (IsAloneFault new.pass)
       → finds_memory w ≡ found_by answer → deed turns p.names (commands.On on.Chars r) old answer new
       → Steps s (commands.On on.Chars r) answer (meaning.outside c q.names told (commands.On on.Chars r) w)
   chars_step one r answer fault found d = subst (Steps s x answer) (sym (goes_on_twice (wanted_as is_text WrongKind)
@@ -156,7 +150,7 @@ module _ {c : Config} {last turns j k : ℕ} {P : Pairing} {w : World} {old new 
           (wanted_as is_text WrongKind g.0 w))
       units_found h g same d' =
           let f = was_formed (λ units. replies.Units units) (tried turns (get_string_chars h.0)) old new answer d' in
-          let once = made_once (p.names, x) (λ m. units_alone m (p.names, x) tt tt (λ z some. some) h.0) turns old new
+          let once = made_once (units_alone h.0) turns old new
           f.once s.alone s.some_turns f.did in
           let call = word_outcome s x answer fault {V = IsSame {A = List ℕ}} (λ units. replies.Units units)
           (λ l i b z a. objects.units_copying l i b z a)

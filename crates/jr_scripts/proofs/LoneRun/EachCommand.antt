@@ -9,7 +9,6 @@ use Rattle.jr_model.specs.declared.event.Act.TheVariants.{Gate}
 use Rattle.jr_model.specs.declared.event.GateAct.TheVariants.{Leave}
 use Rattle.jr_model.specs.History.{by, state, state_from}
 use Rattle.jr_model.proofs.Histories.{state_append}
-use Rattle.jr_model.proofs.Stays.{sees_its_own_acts}
 use Rattle.jr_gate.specs.Performing.{ThreadState}
 use Rattle.jr_syntax.specs.declared.command.Command.{Command}
 use Rattle.jr_syntax.specs.declared.command.Command.TheVariants as commands
@@ -24,10 +23,10 @@ use Rattle.jr_scripts.specs.RegionCommands.{deed_at, deed_within, giving_up_all}
 use Rattle.jr_scripts.specs.Places.{Place, by_region, levels_after}
 use Rattle.jr_scripts.specs.Posting.{ThreadWords, said_alone}
 use Rattle.jr_scripts.specs.Runs.{IsUnbarred}
-use Rattle.jr_scripts.specs.AloneAnswers.{IsAloneFault, IsFaultOutside, IsFaultWithin}
+use Rattle.jr_scripts.specs.AloneAnswers.{IsAloneFault}
+use Rattle.jr_scripts.proofs.AloneCalls.{IsAlone, sees_alone}
 use Rattle.jr_scripts.specs.Meaning.{gives_up, World, meaning_at}
 use Rattle.jr_scripts.specs.Meaning as meaning
-use Rattle.jr_scripts.proofs.AloneCalls.{IsAlone}
 use Rattle.jr_scripts.proofs.LoneRun.MadeCalls.{moment_is}
 use Rattle.jr_scripts.proofs.LoneRun.MeaningFrames.{Pairing}
 use Rattle.jr_scripts.proofs.LoneRun.MeaningFits.{Fits, gone_fits}
@@ -35,7 +34,7 @@ use Rattle.jr_scripts.proofs.LoneRun.MeaningDeeds.{IsPass, now}
 use Rattle.jr_scripts.proofs.LoneRun.MeaningStands.{left_before, left_then, pass_later}
 use Rattle.jr_scripts.proofs.LoneRun.MeaningLevels.{some_too, LedTo, StandsAt}
 use Rattle.jr_scripts.proofs.LoneRun.CommandSteps.{Turn, at_most, kept_step, nothing_then}
-use Rattle.jr_scripts.proofs.LoneRun.MeaningCommands.{IsSteady, deed_outside, fault_outside, memory_shown, step}
+use Rattle.jr_scripts.proofs.LoneRun.MeaningCommands.{IsSteady, deed_outside, memory_shown, step}
 use Rattle.jr_scripts.proofs.LoneRun.LevelCommands.{TurnIn, in_close, in_critical, in_get, in_nest, in_post, in_set}
 use Rattle.jr_scripts.proofs.LoneRun.LevelCommands.{in_wait}
 use Rattle.jr_scripts.proofs.LoneRun.OpeningCommands.{open_step, stepped_to}
@@ -53,19 +52,13 @@ within_deed : (turns : ℕ) (p : Place) (x : Command) (old new : ThreadState) (a
 within_deed turns p x old new answer [] some d = absurd (some refl)
 within_deed turns p x old new answer (o ∷ os) some d = d
 
-within_fault : (turns : ℕ) (p : Place) (x : Command) (new : ThreadState) (answer : Result Reply Fault) (os : List ℕ)
-    → os ≢ [] → IfErr answer (λ e. by_region os (IsFaultOutside turns p.names x new.pass new.frames e)
-    (IsFaultWithin p x (state new.pass.seen) e)) → IfErr answer (IsFaultWithin p x (state new.pass.seen))
-within_fault turns p x new answer [] some f = absurd (some refl)
-within_fault turns p x new answer (o ∷ os) some f = f
-
 module _ {c : Config} {last turns k : ℕ} {P : Pairing} {w : World} {old new : ThreadState} {p q : Place}
     {had told : ThreadWords} where
   -- IN A REGION
   in_step : (x : Command) (s : TurnIn c last turns (left_before x k) P w old new p q had told)
       (answer : Result Reply Fault) → deed_within p x old answer new
       → said_alone p.names had x old.pass.seen answer new.pass.seen
-      → IfErr answer (IsFaultWithin p x (state new.pass.seen))
+      → IfErr answer (IsAloneFault new.pass)
       → LedTo c last k x new p q had told answer (meaning.within c q.names told q.levels q.objects x w)
   in_step (commands.OpenLevel v n r) s answer d said fault =
       in_nest s k (fewer_before (commands.OpenLevel v n r) k) v n r answer fault d
@@ -137,19 +130,19 @@ module _ {c : Config} {last turns k : ℕ} {P : Pairing} {w : World} {old new : 
     steady : (x : Command) (s : Turn c last turns (left_before x k) k P w old new p q had told) → IsSteady x
         → ((a : Result Reply Fault) (ls : List (List ℕ)) → levels_after x a ls ≡ ls) → deed_at turns p x old answer new
         → said_alone p.names had x old.pass.seen answer new.pass.seen
-        → IfErr answer (IsAloneFault turns p x new.pass new.frames) → w.memory ≡ memory_shown x answer ++ rest
+        → IfErr answer (IsAloneFault new.pass) → w.memory ≡ memory_shown x answer ++ rest
         → LedTo c last k x new p q had told answer (meaning_at c q told q.objects x w)
     steady x s same keeps d said fault memory = stepped_to s levels x answer (meaning_at c q told q.objects x w)
         (step x s answer same d said fault rest memory) keeps
 
     out_step : (x : Command) (s : Turn c last turns (left_before x k) k P w old new p q had told)
         → deed_at turns p x old answer new → said_alone p.names had x old.pass.seen answer new.pass.seen
-        → IfErr answer (IsAloneFault turns p x new.pass new.frames) → w.memory ≡ memory_shown x answer ++ rest
+        → IfErr answer (IsAloneFault new.pass) → w.memory ≡ memory_shown x answer ++ rest
         → LedTo c last k x new p q had told answer (meaning_at c q told q.objects x w)
     out_step (commands.OpenLevel v n r) s d said fault memory =
         let x = commands.OpenLevel v n r in
         subst (λ os. LedTo c last k x new p q had told answer (meaning_at c q told os x w)) (sym s.stands.outside_then)
-        (open_step s levels refl v n r answer (fault_outside s x answer fault) (deed_outside s x answer d))
+        (open_step s levels refl v n r answer fault (deed_outside s x answer d))
     out_step (commands.CloseLevel v mode) s d said fault memory =
         let x = commands.CloseLevel v mode in
         let e = deed_outside s x answer d in
@@ -203,7 +196,7 @@ module _ {c : Config} {last turns k : ℕ} {P : Pairing} {w : World} {old new : 
       → StandsAt c last (left_before x k) P w old p q had told → IsAlone new.pass
       → AllByRecursion IsUnbarred new.pass.seen → (answer : Result Reply Fault) → deed_at turns p x old answer new
       → said_alone p.names had x old.pass.seen answer new.pass.seen
-      → IfErr answer (IsAloneFault turns p x new.pass new.frames) → (rest : List Bool)
+      → IfErr answer (IsAloneFault new.pass) → (rest : List Bool)
       → w.memory ≡ memory_shown x answer ++ rest
       → LedTo c last k x new p q had told answer (meaning_at c q told q.objects x w)
   step_at x some_turns some small slots few (inl (s, levels)) alone all answer d said fault rest memory =
@@ -228,8 +221,7 @@ module _ {c : Config} {last turns k : ℕ} {P : Pairing} {w : World} {old new : 
         stands = s;
         alone = alone;
         all = all;
-      }) answer (within_deed turns p x old new answer p.objects s.some d) said
-      (within_fault turns p x new answer p.objects s.some fault))
+      }) answer (within_deed turns p x old new answer p.objects s.some d) said fault)
     where
       place_in : (os : List ℕ) → os ≢ []
           → LedTo c last k x new p q had told answer (meaning.within c q.names told q.levels q.objects x w)
@@ -254,7 +246,7 @@ ended_at {c} {last} {k} {P} {w} {done} told {p} (inr s) alone d = go p.objects s
     go (o ∷ os) some d =
         let ran = d.0.ran in
         let seen : told.pass.seen ≡ done.pass.seen ++ map (by 0) (Gate Leave ∷ []) =
-        sees_its_own_acts done.pass told.pass ran.acts ran.did alone.own
+        sees_alone done.pass told.pass ran.acts ran.did alone
         ∙ (ap (λ t. done.pass.seen ++ map (by t) ran.acts) (ran.did.thread ∙ s.pass.thread)
         ∙ ap (λ l. done.pass.seen ++ map (by 0) l) ran.is.0) in
         let now_is = moment_is (state told.pass.seen) (state_from (state done.pass.seen) (map (by 0) (Gate Leave ∷ [])))

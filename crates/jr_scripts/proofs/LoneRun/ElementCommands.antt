@@ -7,6 +7,7 @@ use Rattle.jr_word.specs.declared.fault.Fault.{Fault}
 use Rattle.jr_word.specs.declared.fault.Fault.TheVariants.{NotArray, Range, WrongKind}
 use Rattle.jr_word.specs.declared.handle.Handle.{Handle as HandleWord}
 use Rattle.jr_word.specs.declared.kind.Kind.{Kind}
+use Rattle.jr_word.specs.declared.kind.Kind.TheVariants.{Plain, Objects, Text}
 use Rattle.jr_model.specs.declared.event.Act.{Act}
 use Rattle.jr_model.specs.State.{Contents, State}
 use Rattle.jr_model.specs.History.{PassView, Did, IsLegal, state}
@@ -30,7 +31,11 @@ use Rattle.jr_syntax.specs.declared.verb.SetAt.TheVariants as set_at
 use Rattle.jr_syntax.specs.declared.verb.StoreAt.TheVariants as store_at
 use Rattle.jr_scripts.specs.declared.reply.Reply.{Reply}
 use Rattle.jr_scripts.specs.declared.reply.Reply.TheVariants as replies
-use Rattle.jr_scripts.specs.AloneAnswers.{IsCommandFault}
+use Rattle.jr_scripts.specs.AloneAnswers.{IsAloneFault}
+use Rattle.jr_scripts.proofs.AloneCalls.{IsAlone, LeadsAlone}
+use Rattle.jr_scripts.proofs.AloneDeeds.{array_length_alone, get_alone, kind_alone, read_alone, set_alone}
+use Rattle.jr_scripts.proofs.AloneDeeds.{text_length_alone, write_alone}
+use Rattle.jr_scripts.proofs.AloneParts.{tries_alone, was_alone}
 use Rattle.jr_scripts.specs.Commands.{deed, loading_as, makes_reference, storing_as, tried}
 use Rattle.jr_scripts.specs.Names.{referent, wanted}
 use Rattle.jr_scripts.specs.Numbers.{first_number, has_numbers, word_of_number}
@@ -42,12 +47,7 @@ use Rattle.jr_scripts.specs.Tries.{Tried}
 use Rattle.jr_scripts.specs.Meaning.{World, Meaning, element_to, goes_on, named_by, reads_number, refused_if}
 use Rattle.jr_scripts.specs.Meaning.{reply_made, wanted_as, wanted_element, wanted_object, writes_number}
 use Rattle.jr_scripts.specs.Meaning as meaning
-use Rattle.jr_scripts.proofs.AloneCalls.{IsAlone, LeadsAlone}
-use Rattle.jr_scripts.proofs.AloneDeeds.{are_numbers, array_length_alone, get_alone, kind_alone, read_alone}
-use Rattle.jr_scripts.proofs.AloneDeeds.{set_alone, text_length_alone, write_alone}
 use Rattle.jr_scripts.proofs.AloneHistories.{all_prefix}
-use Rattle.jr_scripts.proofs.AloneParts.{tries_alone, was_alone}
-use Rattle.jr_scripts.proofs.Uncontended.{Asked}
 use Rattle.jr_scripts.proofs.LoneRun.MadeCalls.{Made}
 use Rattle.jr_scripts.proofs.LoneRun.MeaningFrames.{Pairing}
 use Rattle.jr_scripts.proofs.LoneRun.MeaningFits.{Fits, Fitting, IsDone, IsSame, Later, Means, Outcome}
@@ -63,6 +63,12 @@ use Rattle.jr_scripts.proofs.LoneRun.MeaningStands.{Keeps}
 use Rattle.jr_scripts.proofs.LoneRun.CommandSteps.{CallMeant, Steps, Turn, at_most, even, handles, kept_step}
 use Rattle.jr_scripts.proofs.LoneRun.CommandSteps.{makes_after, nothing_then, same_after, wanted_step, was_made}
 
+are_numbers : (k : Kind) {u : Unit {0}} → has_numbers k ≡ Ok u → is_primitive k ≡ true
+are_numbers Plain is = absurd cc
+are_numbers Text is = absurd cc
+are_numbers Objects is = absurd cc
+are_numbers _ is = refl
+
 -- nobody was within where a thread collected, before what a thread did
 pub apart_before : (old new : PassView) (acts : List Act) → Did old new acts → IsApart (state old.seen).role
 apart_before old new acts d = apart_state old.config old.last old.seen
@@ -72,7 +78,7 @@ apart_before old new acts d = apart_state old.config old.last old.seen
 module _ {c : Config} {last turns j k : ℕ} {P : Pairing} {w : World} {old new : ThreadState} {p q : Place}
     {had told : ThreadWords} (s : Turn c last turns j k P w old new p q had told) where
   module _ (x : Command) (answer : Result Reply Fault)
-      (fault : IfErr answer (IsCommandFault turns p.names x new.pass new.frames)) where
+      (fault : IfErr answer (IsAloneFault new.pass)) where
     -- A CALL AT OBJECTS, which names the state that it leaves
     object_outcome : {A B : Type 0} {V : Fitting A B} (form : A → Reply) (work : Config → ℕ → ℕ → State → Call A)
         → IsLawfulWork work → (meant : Meaning B) (once : Result A Fault)
@@ -129,10 +135,10 @@ module _ {c : Config} {last turns j k : ℕ} {P : Pairing} {w : World} {old new 
   alone_at : (m : ThreadState) → new ≡ m → AloneBefore m
   alone_at m same = subst AloneBefore same (record { alone = s.alone; all = s.all })
 
-  pub alone_before : {A : Type 0} {one : Deed A} (command : Asked) → ((n : ℕ) → LeadsAlone n command one)
-      → (m : ThreadState) (once : Result A Fault) → Tried one turns m once new → AloneBefore m
-  alone_before command led m once d =
-      let y = tries_alone command led turns m new once s.alone d in
+  pub alone_before : {A : Type 0} {one : Deed A} → LeadsAlone one → (m : ThreadState) (once : Result A Fault)
+      → Tried one turns m once new → AloneBefore m
+  alone_before led m once d =
+      let y = tries_alone led turns m new once s.alone d in
       record { alone = was_alone y s.alone; all = all_prefix IsUnbarred m.pass.seen new.pass.seen y.begins s.all }
 
   -- a call that was refused, after which nothing follows
@@ -149,11 +155,11 @@ module _ {c : Config} {last turns j k : ℕ} {P : Pairing} {w : World} {old new 
   -- LEN AND SLEN
 
   module _ (one : j ≡ k) (x : Command) (r : Reference) (answer : Result Reply Fault)
-      (fault : IfErr answer (IsCommandFault turns p.names x new.pass new.frames))
+      (fault : IfErr answer (IsAloneFault new.pass))
       (keeps : (n : ℕ) → Keeps x (Ok (replies.Length n))) (quiet : (e : Fault) → Keeps x (Err e)) (test : Kind → Bool)
       (e : Fault) (stays : (a : Word) → IsLawfulWork (λ l n t z. objects.length_reading l n t z test e a))
-      (led : (n h : ℕ) → LeadsAlone n (p.names, x)
-      (call_on_by (λ l. 1) h (λ l m t z a. entered (objects.length_reading l m t z test e a)))) where
+      (led : (h : ℕ) → LeadsAlone (call_on_by (λ l. 1) h (λ l m t z a.
+      entered (objects.length_reading l m t z test e a)))) where
     abbrev length_call : ℕ → Deed ℕ
     length_call h = call_on_by (λ l. 1) h (λ l n t z a. entered (objects.length_reading l n t z test e a))
 
@@ -165,7 +171,7 @@ module _ {c : Config} {last turns j k : ℕ} {P : Pairing} {w : World} {old new 
         → Steps s x answer (goes_on length_told (wanted_as test e g.0 w))
     length_found h g same d =
         let f = was_formed (λ n. replies.Length n) (tried turns (length_call h.0)) old new answer d in
-        let once = made_once (p.names, x) (λ n. led n h.0) turns old new f.once s.alone s.some_turns f.did in
+        let once = made_once (led h.0) turns old new f.once s.alone s.some_turns f.did in
         let i = object_call s x answer fault {V = LengthFits} (λ n. replies.Length n)
         (λ l n t z a. objects.length_reading l n t z test e a) stays (wanted_as test e g.0) f.once h.0 g.0 same
         (λ a z word headers. even one (length_means c last j test e z P w a g.0 s.some word headers)) once f.is in
@@ -183,23 +189,23 @@ module _ {c : Config} {last turns j k : ℕ} {P : Pairing} {w : World} {old new 
         (λ n v. goes_on length_told (wanted_as test e n v)) r quiet d length_found)
 
   pub len_step : j ≡ k → (r : Reference) (answer : Result Reply Fault)
-      → IfErr answer (IsCommandFault turns p.names (commands.On on.Len r) new.pass new.frames)
+      → IfErr answer (IsAloneFault new.pass)
       → deed turns p.names (commands.On on.Len r) old answer new
       → Steps s (commands.On on.Len r) answer (meaning.outside c q.names told (commands.On on.Len r) w)
   len_step one r answer fault d = length_step one (commands.On on.Len r) r answer fault
       (λ n names os ws. (refl, refl, refl)) (λ e names os ws. (refl, refl, refl)) is_array NotArray
       (λ a. in_stay (CallOf.get_array_length a) (λ l n t z. refl))
-      (λ n h. array_length_alone n (p.names, commands.On on.Len r) tt (λ z some. some) h) d
+      array_length_alone d
 
   pub text_length_step : j ≡ k → (r : Reference) (answer : Result Reply Fault)
-      → IfErr answer (IsCommandFault turns p.names (commands.On on.TextLength r) new.pass new.frames)
+      → IfErr answer (IsAloneFault new.pass)
       → deed turns p.names (commands.On on.TextLength r) old answer new
       → Steps s (commands.On on.TextLength r) answer
       (meaning.outside c q.names told (commands.On on.TextLength r) w)
   text_length_step one r answer fault d = length_step one (commands.On on.TextLength r) r answer fault
       (λ n names os ws. (refl, refl, refl)) (λ e names os ws. (refl, refl, refl)) is_text WrongKind
       (λ a. in_stay (CallOf.get_string_length a) (λ l n t z. refl))
-      (λ n h. text_length_alone n (p.names, commands.On on.TextLength r) tt (λ z some. some) h) d
+      text_length_alone d
 
   -- LOAD AND STORE, by a call for the kind and one for the element
 
@@ -227,9 +233,9 @@ module _ {c : Config} {last turns j k : ℕ} {P : Pairing} {w : World} {old new 
   kind_known g t m (Err e, v) o = absurd o.answers
 
   module _ (one : j ≡ k) (x : Command) (r : Reference) (answer : Result Reply Fault)
-      (fault : IfErr answer (IsCommandFault turns p.names x new.pass new.frames))
+      (fault : IfErr answer (IsAloneFault new.pass))
       (quiet : (e : Fault) → Keeps x (Err e))
-      (led : (n h : ℕ) → LeadsAlone n (p.names, x) (kind_of h)) (next : ℕ → Kind → Deed Reply)
+      (next : ℕ → Kind → Deed Reply)
       (then : ℕ × Contents → Meaning Reply)
       (before : (h : ℕ) (t : Kind) (m : ThreadState) → next h t m answer new → AloneBefore m)
       (rest : (Q : Pairing) (m : ThreadState) (y : Turn c last turns j k Q w m new p q had told) (h g o : ℕ)
@@ -243,7 +249,7 @@ module _ {c : Config} {last turns j k : ℕ} {P : Pairing} {w : World} {old new 
 
     -- the call for the kind
     kind_call : (m : ThreadState) (y : Turn c last turns j j P w old m p q had told) (z : Result Reply Fault)
-        → IfErr z (IsCommandFault turns p.names x m.pass m.frames) → (once : Result Kind Fault) (h g : ℕ)
+        → IfErr z (IsAloneFault m.pass) → (once : Result Kind Fault) (h g : ℕ)
         → HandleFits P w h g → kind_of h old once m → z ≡ formed (λ t. replies.Done) once
         → CallMeant y (KindFits g w) once (wanted_object g w)
     kind_call m y z fault' once h g same d is = object_call y x z fault' {V = KindFits g w} (λ t. replies.Done)
@@ -266,7 +272,7 @@ module _ {c : Config} {last turns j k : ℕ} {P : Pairing} {w : World} {old new 
     numbered_found : (h g : HandleWord) → HandleFits P w h.0 g.0 → numbered h.0 old answer new
         → Steps s x answer (goes_on numbered_meant (wanted_object g.0 w))
     numbered_found h g same (inr d) =
-        let once = made_once (p.names, x) (λ n. led n h.0) turns old new (Err d.0) s.alone s.some_turns d.2 in
+        let once = made_once (kind_alone h.0) turns old new (Err d.0) s.alone s.some_turns d.2 in
         let y = turn_at new (alone_at new refl) in
         let i = kind_call new y answer fault (Err d.0) h.0 g.0 same once d.1 in
         refused_kind one d.0 (wanted_object g.0 w) i d.1
@@ -285,7 +291,7 @@ module _ {c : Config} {last turns j k : ℕ} {P : Pairing} {w : World} {old new 
       where
         known_at : AloneBefore m → IsPass c last m.pass × KindKnown g.0 t m
         known_at a =
-            let once = made_once (p.names, x) (λ n. led n h.0) turns old m (Ok t) a.alone s.some_turns first in
+            let once = made_once (kind_alone h.0) turns old m (Ok t) a.alone s.some_turns first in
             let i = kind_call m (turn_at m a) (Ok replies.Done) tt (Ok t) h.0 g.0 same once refl in
             (i.pass, kind_known g.0 t m (wanted_object g.0 w) i.outcome)
 
@@ -343,25 +349,22 @@ module _ {c : Config} {last turns j k : ℕ} {P : Pairing} {w : World} {old new 
   -- LOAD
 
   pub load_step : j ≡ k → (r : Reference) (i : ℕ) (answer : Result Reply Fault)
-      → IfErr answer (IsCommandFault turns p.names (commands.OnAt on_at.Load r i) new.pass new.frames)
+      → IfErr answer (IsAloneFault new.pass)
       → deed turns p.names (commands.OnAt on_at.Load r i) old answer new
       → Steps s (commands.OnAt on_at.Load r i) answer
       (meaning.outside c q.names told (commands.OnAt on_at.Load r i) w)
   load_step one r i answer fault d = numbered_step one x r answer fault (λ e names os ws. (refl, refl, refl))
-      (λ n h. kind_alone n (p.names, x) tt h) (λ h t. loading_as turns h i t)
+      (λ h t. loading_as turns h i t)
       (λ a. reads_number a.1.kind a.1.words i) before rest d
     where
       x : Command
       x = commands.OnAt on_at.Load r i
 
-      led : (t : Kind) (h n : ℕ) → LeadsAlone n (p.names, x) (get_array_region t h i 1)
-      led t h n = read_alone n (p.names, x) tt i (λ z some. some) (λ z some. some) (λ z some. some) t h
-
       before : (h : ℕ) (t : Kind) (m : ThreadState) → loading_as turns h i t m answer new → AloneBefore m
       before h t m d' =
           let f = was_formed (λ ws. replies.Value (first_number t ws)) (tried turns (get_array_region t h i 1)) m new
           answer d' in
-          alone_before (p.names, x) (led t h) m f.once f.did
+          alone_before (read_alone t h i 1) m f.once f.did
 
       rest : (Q : Pairing) (m : ThreadState) (y : Turn c last turns j k Q w m new p q had told) (h g o : ℕ)
           → HandleFits Q w h g → wanted_object g w ≡ (Ok (o, meant_in w o), w) → (t : Kind)
@@ -370,7 +373,7 @@ module _ {c : Config} {last turns j k : ℕ} {P : Pairing} {w : World} {old new 
       rest Q m y h g o same known t kind numbers d' =
           let f = was_formed (λ ws. replies.Value (first_number t ws)) (tried turns (get_array_region t h i 1)) m new
           answer d' in
-          let once = made_once (p.names, x) (led t h) turns m new f.once y.alone y.some_turns f.did in
+          let once = made_once (read_alone t h i 1) turns m new f.once y.alone y.some_turns f.did in
           let call = object_call y x answer fault {V = IsSame {A = List ℕ}} (λ ws. replies.Value (first_number t ws))
           (λ l n b z a. objects.part_reading l n b z t a i 1)
           (λ a. in_stay (CallOf.get_array_region t a i 1) (λ l n b z. refl)) found f.once h g same
@@ -396,7 +399,7 @@ module _ {c : Config} {last turns j k : ℕ} {P : Pairing} {w : World} {old new 
   -- GET
 
   pub get_step : j ≡ k → (n : List ℕ) (r : Reference) (i : ℕ) (answer : Result Reply Fault)
-      → IfErr answer (IsCommandFault turns p.names (commands.MakeAt make_at.Get n r i) new.pass new.frames)
+      → IfErr answer (IsAloneFault new.pass)
       → deed turns p.names (commands.MakeAt make_at.Get n r i) old answer new
       → Steps s (commands.MakeAt make_at.Get n r i) answer
       (meaning.outside c q.names told (commands.MakeAt make_at.Get n r i) w)
@@ -419,8 +422,7 @@ module _ {c : Config} {last turns j k : ℕ} {P : Pairing} {w : World} {old new 
           → Steps s x answer (goes_on reply (referring g.0 w))
       found h g same d' =
           let f = was_formed (λ z. replies.Made z) (tried turns (get_object_array_element h.0 i)) old new answer d' in
-          let once = made_once (p.names, x) (λ m. get_alone m (p.names, x) tt i (λ z some. some) (λ z some. some)
-          (λ z some. some) (λ l v none. none) h.0) turns old new f.once s.alone s.some_turns f.did in
+          let once = made_once (get_alone h.0 i) turns old new f.once s.alone s.some_turns f.did in
           let y = was_formed packed_if (call_on_by (λ l. 1) h.0 (λ l m t z a. objects.get_object_array_element l m t z a
           i)) old new f.once once in
           let is : answer ≡ formed (λ z. replies.Made (packed_if z)) y.once =
@@ -435,12 +437,12 @@ module _ {c : Config} {last turns j k : ℕ} {P : Pairing} {w : World} {old new 
   -- STORE
 
   pub store_step : j ≡ k → (r : Reference) (i : ℕ) (v : ℤ) (answer : Result Reply Fault)
-      → IfErr answer (IsCommandFault turns p.names (commands.StoreAt store_at.Store r i v) new.pass new.frames)
+      → IfErr answer (IsAloneFault new.pass)
       → deed turns p.names (commands.StoreAt store_at.Store r i v) old answer new
       → Steps s (commands.StoreAt store_at.Store r i v) answer
       (meaning.outside c q.names told (commands.StoreAt store_at.Store r i v) w)
   store_step one r i v answer fault d = numbered_step one x r answer fault (λ e names os ws. (refl, refl, refl))
-      (λ n h. kind_alone n (p.names, x) tt h) (λ h t. storing_as turns h i v t) (λ a. writes_number a.0 a.1 i v)
+      (λ h t. storing_as turns h i v t) (λ a. writes_number a.0 a.1 i v)
       (λ h t m d'. before h t m (word_of_number t v) (after_decided (stored h t) m new answer (word_of_number t v) d'))
       (λ Q m y h g o same known t kind numbers d'. rest Q m y h g o same known t kind numbers (word_of_number t v) refl
       (after_decided (stored h t) m new answer (word_of_number t v) d')) d
@@ -451,15 +453,12 @@ module _ {c : Config} {last turns j k : ℕ} {P : Pairing} {w : World} {old new 
       stored : ℕ → Kind → ℕ → Deed Reply
       stored h t word = tried turns (set_array_region t h i (word ∷ [])) >>= (λ u. done replies.Done)
 
-      led : (t : Kind) (h word n : ℕ) → LeadsAlone n (p.names, x) (set_array_region t h i (word ∷ []))
-      led t h word n = write_alone n (p.names, x) tt i (λ z some. some) (λ z some. some) (λ z some. some) t h word
-
       before : (h : ℕ) (t : Kind) (m : ThreadState) (b : Result ℕ Fault)
           → AfterDecided (stored h t) m new answer b → AloneBefore m
       before h t m (Err e) d' = alone_at m d'.1
       before h t m (Ok word) d' =
           let f = was_formed (λ u. replies.Done) (tried turns (set_array_region t h i (word ∷ []))) m new answer d' in
-          alone_before (p.names, x) (led t h word) m f.once f.did
+          alone_before (write_alone t h i (word ∷ [])) m f.once f.did
 
       rest : (Q : Pairing) (m : ThreadState) (y : Turn c last turns j k Q w m new p q had told) (h g o : ℕ)
           → HandleFits Q w h g → wanted_object g w ≡ (Ok (o, meant_in w o), w) → (t : Kind)
@@ -482,7 +481,7 @@ module _ {c : Config} {last turns j k : ℕ} {P : Pairing} {w : World} {old new 
           go (Ok word) d' =
               let f = was_formed (λ u. replies.Done) (tried turns (set_array_region t h i (word ∷ []))) m new answer
               d' in
-              let once = made_once (p.names, x) (led t h word) turns m new f.once y.alone y.some_turns f.did in
+              let once = made_once (write_alone t h i (word ∷ [])) turns m new f.once y.alone y.some_turns f.did in
               let meant : Meaning (Unit {0}) =
               λ z. goes_on (λ u. meaning.rewrites o (meant_in w o) (slice_set (meant_in w o).words i word))
               (refused_if (nat_le (length (meant_in w o).words) i) Range, z) in
@@ -501,7 +500,7 @@ module _ {c : Config} {last turns j k : ℕ} {P : Pairing} {w : World} {old new 
   -- SET
 
   module _ (one : j ≡ k) (r : Reference) (i : ℕ) (t : Reference) (answer : Result Reply Fault)
-      (fault : IfErr answer (IsCommandFault turns p.names (commands.SetAt set_at.Set r i t) new.pass new.frames)) where
+      (fault : IfErr answer (IsAloneFault new.pass)) where
     abbrev set_call : HandleWord → HandleWord → Deed Reply
     set_call h u = tried turns (set_object_array_element h.0 i u.0) >>= (λ z. done replies.Done)
 
@@ -538,8 +537,7 @@ module _ {c : Config} {last turns j k : ℕ} {P : Pairing} {w : World} {old new 
     set_found h g u v same same' d =
         let x = commands.SetAt set_at.Set r i t in
         let f = was_formed (λ z. replies.Done) (tried turns (set_object_array_element h.0 i u.0)) old new answer d in
-        let once = made_once (p.names, x) (λ m. set_alone m (p.names, x) tt i (λ z some. some) (λ z some. some)
-        (λ z some. some) h.0 u.0) turns old new f.once s.alone s.some_turns f.did in
+        let once = made_once (set_alone h.0 i u.0) turns old new f.once s.alone s.some_turns f.did in
         let a = once.0 in
         let b = once.1 in
         let call = object_made s x answer fault {V = IsDone {A = Unit {0}} {B = Unit {0}}} (λ z. replies.Done)

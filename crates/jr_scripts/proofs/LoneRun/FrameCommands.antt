@@ -8,6 +8,7 @@ use Rattle.jr_env.specs.Deeds.{ensure_local_capacity, push_local_frame}
 use Rattle.jr_syntax.specs.declared.name.Reference.{Reference}
 use Rattle.jr_syntax.specs.declared.command.Command.TheVariants as commands
 use Rattle.jr_scripts.specs.Commands.{deed, tried}
+use Rattle.jr_scripts.specs.AloneAnswers.{IsAloneFault}
 use Rattle.jr_scripts.proofs.AloneDeeds.{ensure_alone, pop_alone, push_alone}
 use Rattle.jr_scripts.specs.Meaning.{World}
 use Rattle.jr_scripts.proofs.LoneRun.MeaningCalls.{MaybeFits}
@@ -17,8 +18,6 @@ use Rattle.jr_scripts.specs.declared.reply.Reply.{Reply}
 use Rattle.jr_scripts.specs.declared.reply.Reply.TheVariants as replies
 use Rattle.jr_scripts.specs.Places.{Place}
 use Rattle.jr_scripts.specs.Posting.{ThreadWords}
-use Rattle.jr_scripts.specs.AloneAnswers.{IsCommandFault}
-use Rattle.jr_scripts.proofs.Uncontended.{Asked}
 use Rattle.jr_scripts.specs.Meaning as meaning
 use Rattle.jr_scripts.proofs.LoneRun.MeaningFrames.{Pairing}
 use Rattle.jr_scripts.proofs.LoneRun.MeaningFits.{IsDone, Means}
@@ -32,15 +31,14 @@ module _ {c : Config} {last turns j k : ℕ} {P : Pairing} {w : World} {old new 
   -- ENSURE
 
   pub ensure_step : j ≡ k → (n : ℕ) (answer : Result Reply Fault)
-      → IfErr answer (IsCommandFault turns p.names (commands.WithCount with_count.Ensure n) new.pass new.frames)
+      → IfErr answer (IsAloneFault new.pass)
       → deed turns p.names (commands.WithCount with_count.Ensure n) old answer new
       → Steps s (commands.WithCount with_count.Ensure n) answer
       (meaning.outside c q.names told (commands.WithCount with_count.Ensure n) w)
   ensure_step one n answer fault d =
       let x = commands.WithCount with_count.Ensure n in
-      let command : Asked = (p.names, x) in
       let f = was_formed (λ u. replies.Done) (tried turns (ensure_local_capacity n)) old new answer d in
-      let once = made_once command (λ z. ensure_alone z p.names n) turns old new f.once s.alone s.some_turns f.did in
+      let once = made_once (ensure_alone n) turns old new f.once s.alone s.some_turns f.did in
       let i = made_call s x answer fault {V = IsDone {A = Unit {0}} {B = Unit {0}}} (λ u. replies.Done) 0
       (λ z l m y. references.ensure_local_capacity z l m n) (meaning.room_for c n) f.once
       (λ z. even one (room_means c last j {P = P} {w = w} n)) once.0 f.is in
@@ -51,14 +49,14 @@ module _ {c : Config} {last turns j k : ℕ} {P : Pairing} {w : World} {old new 
   -- PUSH
 
   pub push_step : j ≡ k → (n : ℕ) (answer : Result Reply Fault)
-      → IfErr answer (IsCommandFault turns p.names (commands.WithCount with_count.Push n) new.pass new.frames)
+      → IfErr answer (IsAloneFault new.pass)
       → deed turns p.names (commands.WithCount with_count.Push n) old answer new
       → Steps s (commands.WithCount with_count.Push n) answer
       (meaning.outside c q.names told (commands.WithCount with_count.Push n) w)
   push_step one n answer fault d =
       let x = commands.WithCount with_count.Push n in
       let f = was_formed (λ u. replies.Done) (tried turns (push_local_frame n)) old new answer d in
-      let once = made_once (p.names, x) (λ z. push_alone z p.names n) turns old new f.once s.alone s.some_turns f.did in
+      let once = made_once (push_alone n) turns old new f.once s.alone s.some_turns f.did in
       let i = made_call s x answer fault {V = IsDone {A = Unit {0}} {B = Unit {0}}} (λ u. replies.Done) 0
       (λ z l m y. references.push_local_frame z l m n) (meaning.push c n) f.once
       (λ z. even one (push_means c last j P w n)) once.0 f.is in
@@ -69,12 +67,12 @@ module _ {c : Config} {last turns j k : ℕ} {P : Pairing} {w : World} {old new 
   -- POP
 
   pub pop_step : j ≡ suc k → (n : List ℕ) (r : Reference) (answer : Result Reply Fault)
-      → IfErr answer (IsCommandFault turns p.names (commands.MakeFrom make_from.Pop n r) new.pass new.frames)
+      → IfErr answer (IsAloneFault new.pass)
       → deed turns p.names (commands.MakeFrom make_from.Pop n r) old answer new
       → Steps s (commands.MakeFrom make_from.Pop n r) answer
       (meaning.outside c q.names told (commands.MakeFrom make_from.Pop n r) w)
   pop_step spent n r answer fault d =
       made_of_step s (omega arith) make_from.Pop n r answer fault (λ z l t a. references.pop_local_frame z l t a)
-      (meaning.pop c) (λ z h. pop_alone z p.names n r h) (λ a m word. subst (λ l. Means c last l k MaybeFits P w
+      (meaning.pop c) pop_alone (λ a m word. subst (λ l. Means c last l k MaybeFits P w
       (references.pop_local_frame c last 0 a) (meaning.pop c m)) (sym spent)
       (pop_means c last k P w a m s.some word)) d

@@ -9,25 +9,25 @@ use Rattle.std.specs.List.{AllByRecursion}
 use Rattle.std.proofs.lemmas.List.{append-nil}
 use Rattle.jr_word.specs.declared.config.Config.{Config}
 use Rattle.jr_word.specs.declared.fault.Fault.{Fault}
-use Rattle.jr_word.specs.declared.fault.Fault.TheVariants.{InCritical, ObjectsFull, Range, RowFull, Stale, Turns}
+use Rattle.jr_word.specs.declared.fault.Fault.TheVariants.{InCritical, Range, Stale, Turns}
 use Rattle.jr_word.specs.declared.fault.Fault.TheVariants.{WrongKind}
 use Rattle.jr_word.specs.declared.handle.Handle.{Handle as HandleWord}
 use Rattle.jr_word.specs.declared.kind.Kind.{Kind}
 use Rattle.jr_word.specs.declared.kind.Kind.TheVariants.{Plain, Objects, Text}
 use Rattle.jr_model.specs.declared.event.Act.{Act}
 use Rattle.jr_model.specs.declared.event.Act.TheVariants.{Gate}
-use Rattle.jr_model.specs.declared.event.GateAct.TheVariants.{Knock, Leave}
+use Rattle.jr_model.specs.declared.event.GateAct.TheVariants.{Leave}
 use Rattle.jr_model.specs.declared.event.Role.TheVariants.{Within}
 use Rattle.jr_model.specs.State.{Contents, State}
 use Rattle.jr_model.specs.Frames.{Frames}
-use Rattle.jr_model.specs.History.{Did, PassView, by, state, state_from}
+use Rattle.jr_model.specs.History.{by, state, state_from}
 use Rattle.jr_model.specs.Calls.{Call}
 use Rattle.jr_model.specs.Checks.{Word, is_objects, is_read_as, is_text}
 use Rattle.jr_model.specs.Objects as objects
 use Rattle.jr_model.specs.OpenStays.{NoneLeaves}
 use Rattle.jr_model.proofs.EachCall.{get_work, nest_array_work, nest_string_work, set_work}
 use Rattle.jr_model.proofs.Lawful.{work_stays}
-use Rattle.jr_model.proofs.Stays.{sees_its_own_acts, still_did}
+use Rattle.jr_model.proofs.Stays.{still_did}
 use Rattle.jr_gate.specs.Performing.{HasLearned, IsMade, ThreadState}
 use Rattle.jr_env.specs.Deeds.{Deed, decided, done, ◌>>=◌, within_by}
 use Rattle.jr_syntax.specs.declared.name.Reference.{Reference}
@@ -55,12 +55,12 @@ use Rattle.jr_scripts.specs.RegionCommands.{level_writing}
 use Rattle.jr_scripts.specs.RegionCommands.{nesting, nests, read_kind, reading_as, writing_as}
 use Rattle.jr_scripts.specs.Runs.{IsUnbarred}
 use Rattle.jr_scripts.specs.Text.{names_after, printed}
-use Rattle.jr_scripts.specs.AloneAnswers.{IsNestingFault, IsReadingFault, IsWritingFault}
+use Rattle.jr_model.proofs.ShownRefusals.{words_alone}
+use Rattle.jr_scripts.specs.AloneAnswers.{IsAloneFault}
+use Rattle.jr_scripts.proofs.AloneCalls.{IsAlone, alone_before, sees_alone}
 use Rattle.jr_scripts.specs.Meaning.{World, Meaning, contents_in, goes_on, refused_if, standing_at}
 use Rattle.jr_scripts.specs.Meaning as meaning
-use Rattle.jr_scripts.proofs.AloneCalls.{IsAlone}
-use Rattle.jr_scripts.proofs.AloneHistories.{all_prefix}
-use Rattle.jr_scripts.proofs.LoneRun.MadeCalls.{IsSo, Moment, moment_is}
+use Rattle.jr_scripts.proofs.LoneRun.MadeCalls.{Moment, moment_is}
 use Rattle.jr_scripts.proofs.LoneRun.MeaningFrames.{Pairing}
 use Rattle.jr_scripts.proofs.LoneRun.MeaningFits.{Fits, Fitting, IsDone, IsSame, Later, Outcome, fits_less, form_means}
 use Rattle.jr_scripts.proofs.LoneRun.MeaningFits.{Means, gone_fits, goes_on_twice, later_self}
@@ -72,7 +72,7 @@ use Rattle.jr_scripts.proofs.LoneRun.MeaningDeeds.{AfterDecided, after_decided, 
 use Rattle.jr_scripts.proofs.LoneRun.MeaningDeeds.{names_later}
 use Rattle.jr_scripts.proofs.LoneRun.MeaningDeeds.{names_set_fit, now, posted_fits, read_fits, was_formed}
 use Rattle.jr_scripts.proofs.LoneRun.MeaningDeeds.{word_under_fits, words_later, words_with_fit}
-use Rattle.jr_scripts.proofs.LoneRun.MeaningStands.{err_formed, err_map, pass_later}
+use Rattle.jr_scripts.proofs.LoneRun.MeaningStands.{err_formed, pass_later}
 use Rattle.jr_scripts.proofs.LoneRun.MeaningLevels.{AreLevels, LedTo, StandsIn, level_at, level_last, levels_later}
 use Rattle.jr_scripts.proofs.LoneRun.MeaningLevels.{levels_less, levels_long, levels_put, some_put, stays_within}
 
@@ -93,17 +93,6 @@ pub record TurnIn (c : Config) (last turns j : ℕ) (P : Pairing) (w : World) (o
   pub stands : StandsIn c last j P w old p q had told
   pub alone : IsAlone new.pass
   pub all : AllByRecursion IsUnbarred new.pass.seen
-
--- what was alone later was so before
-pub alone_before : {mid new : PassView} {acts : List Act} → Did mid new acts → IsAlone new → IsAlone mid
-alone_before {mid} {new} d a = record {
-  one = ap (λ (z : Config). z.threads) (sym d.config) ∙ a.one;
-  first = sym d.thread ∙ a.first;
-  own = subst (λ t. AllByRecursion (λ e. e.thread ≡ t) mid.seen) d.thread
-      (all_prefix (λ e. e.thread ≡ new.thread) mid.seen new.seen d.begins a.own);
-  enters = all_prefix (λ e. e.act ≢ Gate Knock) mid.seen
-      new.seen d.begins a.enters;
-}
 
 -- kinds whose elements are numbers
 read_numbers : (t : Kind) {u : Unit {0}} → has_numbers (read_kind t) ≡ Ok u
@@ -182,7 +171,7 @@ module _ {c : Config} {last turns j : ℕ} {P : Pairing} {w : World} {old new : 
   learned_same : HasLearned old new → IsPass c last new.pass × (now new ≡ now old)
   learned_same l =
       let seen : new.pass.seen ≡ old.pass.seen =
-      sees_its_own_acts old.pass new.pass [] l.did s.alone.own ∙ append-nil old.pass.seen in (
+      sees_alone old.pass new.pass [] l.did s.alone ∙ append-nil old.pass.seen in (
         pass_later c last old.pass new.pass [] l.did s.stands.pass,
         moment_is (state new.pass.seen) (state old.pass.seen) new.frames old.frames (ap state seen) l.frames,
       )
@@ -251,7 +240,7 @@ module _ {c : Config} {last turns j : ℕ} {P : Pairing} {w : World} {old new : 
       → asked l m t z f acts answer g → NoneLeaves acts)
       → ((z : State) → HeadersFit P w z
       → Means c last k k V P w (asked c last 0 z) meant)
-      → IfErr once (IsSo c last (state new.pass.seen))
+      → IfErr once (IsAloneFault new.pass)
       → IsMade silent mid new (asked mid.pass.config mid.pass.last mid.pass.thread (state new.pass.seen)) once
       → CallIn V once (meant w)
   in_call asked meant mid silent once pass fits role stays means so d =
@@ -299,7 +288,7 @@ module _ {c : Config} {last turns j : ℕ} {P : Pairing} {w : World} {old new : 
       → IsAlone m.pass → KindKnownAt l t m
   kind_known_at l t m d alone =
       let i = d.ran.is in
-      let seen : m.pass.seen ≡ old.pass.seen = sees_its_own_acts old.pass m.pass d.ran.acts d.ran.did alone.own
+      let seen : m.pass.seen ≡ old.pass.seen = sees_alone old.pass m.pass d.ran.acts d.ran.did alone
       ∙ (ap (λ acts. old.pass.seen ++ map (by m.pass.thread) acts) i.2.0 ∙ append-nil old.pass.seen) in
       let f = s.stands.fits in
       let at_old : (state old.pass.seen).objects (nth_object p.objects l) ≡ Some i.0 =
@@ -333,7 +322,7 @@ module _ {c : Config} {last turns j : ℕ} {P : Pairing} {w : World} {old new : 
 
   -- CGET
   module _ (n : List ℕ) (i : ℕ) (answer : Result Reply Fault)
-      (fault : IfErr answer (IsReadingFault p n i (state new.pass.seen))) where
+      (fault : IfErr answer (IsAloneFault new.pass)) where
     abbrev reading : Command
     reading = commands.OnNameAt on_name_at.GetInLevel n i
 
@@ -342,11 +331,6 @@ module _ {c : Config} {last turns j : ℕ} {P : Pairing} {w : World} {old new : 
 
     read_value : (z : ℤ) → Leaves reading (Ok (replies.Value z))
     read_value z names os ls ws = (refl, refl, refl, refl)
-
-    so_read : (e : Fault) → IsReadingFault p n i (state new.pass.seen) e → IsSo c last (state new.pass.seen) e
-    so_read RowFull h = absurd h
-    so_read ObjectsFull h = absurd h
-    so_read _ h = tt
 
     abbrev read_told : ℕ × Contents → Meaning Reply
     read_told a v = goes_on (λ u. meaning.reads_number (read_kind a.1.kind) a.1.words i)
@@ -383,8 +367,8 @@ module _ {c : Config} {last turns j : ℕ} {P : Pairing} {w : World} {old new : 
             objects.region_get l' m' t' z (read_kind d.0) (nth_object p.objects l) i)) d.1 new answer d' in
             let i' = kind_known_at l d.0 d.1 d.2 (alone_before f.did.ran.did s.alone) in
             let known = read_numbers d.0 is in
-            let so = err_formed (IsSo c last (state new.pass.seen)) form f.once
-            (subst (λ z. IfErr z (IsSo c last (state new.pass.seen))) f.is (err_map answer so_read fault)) in
+            let so = err_formed (IsAloneFault new.pass) form f.once
+            (subst (λ z. IfErr z (IsAloneFault new.pass)) f.is fault) in
             let words = (meant_in w (nth_object q.objects l)).words in
             let call = in_call {V = IsSame {A = ℕ}} (λ l' m' t' z.
             objects.region_get l' m' t' z (read_kind d.0) (nth_object p.objects l) i)
@@ -393,7 +377,8 @@ module _ {c : Config} {last turns j : ℕ} {P : Pairing} {w : World} {old new : 
                   Range,
               v,
             )) d.1 0 f.once i'.pass (fits_at i') (role_at i')
-            (λ l' m' t' z. work_stays (get_work {asked = 0} l' m' t' z (read_kind d.0) (nth_object p.objects l) i))
+            (λ l' m' t' z.
+            work_stays (get_work {asked = words_alone 0} l' m' t' z (read_kind d.0) (nth_object p.objects l) i))
             (λ z headers. get_means c last k z P w (nth_object p.objects l) (nth_object q.objects l) i i'.named headers
             (ap is_objects (sym i'.kind) ∙ known.1) (read_kind d.0)
             (ap (is_read_as (read_kind d.0)) (sym i'.kind) ∙ known.0)) so f.did in
@@ -435,17 +420,12 @@ module _ {c : Config} {last turns j : ℕ} {P : Pairing} {w : World} {old new : 
 
   -- CSET
   module _ (n : List ℕ) (i : ℕ) (number : ℤ) (answer : Result Reply Fault)
-      (fault : IfErr answer (IsWritingFault p n i number (state new.pass.seen))) where
+      (fault : IfErr answer (IsAloneFault new.pass)) where
     abbrev writing : Command
     writing = commands.PutAt put_at.PutInLevel n i number
 
     write_refused : (e : Fault) → Leaves writing (Err e)
     write_refused e names os ls ws = (refl, refl, refl, refl)
-
-    so_write : (e : Fault) → IsWritingFault p n i number (state new.pass.seen) e → IsSo c last (state new.pass.seen) e
-    so_write RowFull h = absurd h
-    so_write ObjectsFull h = absurd h
-    so_write _ h = tt
 
     abbrev write_told : ℕ × Contents → Meaning Reply
     write_told a v = goes_on (λ u. meaning.writes_number a.0 a.1 i number) (has_numbers a.1.kind, v)
@@ -515,8 +495,8 @@ module _ {c : Config} {last turns j : ℕ} {P : Pairing} {w : World} {old new : 
                 objects.region_set l' m' t' z d.0 (nth_object p.objects l) i x)) d.1 new answer d'' in
                 let i' = kind_known_at l d.0 d.1 d.2 (alone_before f.did.ran.did s.alone) in
                 let known = own_numbers d.0 is in
-                let so = err_formed (IsSo c last (state new.pass.seen)) (λ (u' : Unit {0}). replies.Done) f.once
-                (subst (λ z. IfErr z (IsSo c last (state new.pass.seen))) f.is (err_map answer so_write fault)) in
+                let so = err_formed (IsAloneFault new.pass) (λ (u' : Unit {0}). replies.Done) f.once
+                (subst (λ z. IfErr z (IsAloneFault new.pass)) f.is fault) in
                 let words = (meant_in w (nth_object q.objects l)).words in
                 let put = λ (v : World). goes_on {A = Unit {0}} (λ u'. meaning.rewrites (nth_object q.objects l)
                 (meant_in w (nth_object q.objects l)) (slice_set words i x))
@@ -525,7 +505,8 @@ module _ {c : Config} {last turns j : ℕ} {P : Pairing} {w : World} {old new : 
                 let call = in_call {V = IsDone {A = Unit {0}} {B = Unit {0}}} (λ l' m' t' z.
                 objects.region_set l' m' t' z d.0 (nth_object p.objects l) i x) put d.1 0 f.once i'.pass (fits_at i')
                 (role_at i')
-                (λ l' m' t' z. work_stays (set_work {asked = 0} l' m' t' z d.0 (nth_object p.objects l) i x))
+                (λ l' m' t' z.
+                work_stays (set_work {asked = words_alone 0} l' m' t' z d.0 (nth_object p.objects l) i x))
                 (λ z headers. set_means c last k z P w (nth_object p.objects l) (nth_object q.objects l) i i'.named
                 headers
                 (ap is_objects (sym i'.kind) ∙ known.1) d.0 (ap (is_read_as d.0) (sym i'.kind) ∙ known.0)
@@ -572,17 +553,12 @@ module _ {c : Config} {last turns j : ℕ} {P : Pairing} {w : World} {old new : 
 
   -- CRIT AND CRITSTR, for a further level
   module _ (v : OpenLevel) (n : List ℕ) (r : Reference) (answer : Result Reply Fault)
-      (fault : IfErr answer (IsNestingFault p (commands.OpenLevel v n r) (state new.pass.seen))) where
+      (fault : IfErr answer (IsAloneFault new.pass)) where
     abbrev nesting_of : Command
     nesting_of = commands.OpenLevel v n r
 
     nest_refused : (e : Fault) → Leaves nesting_of (Err e)
     nest_refused e names os ls ws = (refl, refl, refl, refl)
-
-    so_nest : (e : Fault) → IsNestingFault p nesting_of (state new.pass.seen) e → IsSo c last (state new.pass.seen) e
-    so_nest RowFull h = absurd h
-    so_nest ObjectsFull h = absurd h
-    so_nest _ h = tt
 
     -- the number of the new level, with the objects then, and the reply
     abbrev NestFits : Fitting (ℕ × List ℕ) Reply
@@ -590,8 +566,8 @@ module _ {c : Config} {last turns j : ℕ} {P : Pairing} {w : World} {old new : 
 
     nest_stays : (v : OpenLevel) (l : Config) (m t : ℕ) (z : State) (os : List ℕ) (a : Word) (f g : Frames)
         (acts : List Act) (told : Result (ℕ × List ℕ) Fault) → nests v l m t z os a f acts told g → NoneLeaves acts
-    nest_stays at.Array l m t z os a = work_stays (nest_array_work {asked = 0} l m t z os a)
-    nest_stays at.Text l m t z os a = work_stays (nest_string_work {asked = 0} l m t z os a)
+    nest_stays at.Array l m t z os a = work_stays (nest_array_work {asked = words_alone 0} l m t z os a)
+    nest_stays at.Text l m t z os a = work_stays (nest_string_work {asked = words_alone 0} l m t z os a)
 
     nest_means : (v : OpenLevel) (z : State) (os : List ℕ) (a : Word) (g : ℕ)
         → WordFits P w a g → HeadersFit P w z
@@ -642,8 +618,8 @@ module _ {c : Config} {last turns j : ℕ} {P : Pairing} {w : World} {old new : 
         let form = λ (level : ℕ × List ℕ). replies.Level (nth_object level.1 level.0) in
         let f = was_formed form (nesting v p.objects h.0) old new answer d in
         let a = f.did.0 in
-        let so = err_formed (IsSo c last (state new.pass.seen)) form f.once
-        (subst (λ z. IfErr z (IsSo c last (state new.pass.seen))) f.is (err_map answer so_nest fault)) in
+        let so = err_formed (IsAloneFault new.pass) form f.once
+        (subst (λ z. IfErr z (IsAloneFault new.pass)) f.is fault) in
         let word = read_fits P w h.0 g.0 a (λ i l. given_handle c last (P.handle i) s.small s.slots s.few
         (s.stands.fits.refs.given i l)) f.did.1 same in
         let call = in_call {V = NestFits} (λ l m t z. nests v l m t z p.objects a)
@@ -699,7 +675,7 @@ module _ {c : Config} {last turns j : ℕ} {P : Pairing} {w : World} {old new : 
       let ran = d.0.ran in
       let acts : ran.acts ≡ Gate Leave ∷ [] = ran.is.0 in
       let seen : new.pass.seen ≡ old.pass.seen ++ map (by 0) (Gate Leave ∷ []) =
-      sees_its_own_acts old.pass new.pass ran.acts ran.did s.alone.own
+      sees_alone old.pass new.pass ran.acts ran.did s.alone
       ∙ (ap (λ t. old.pass.seen ++ map (by t) ran.acts) (ran.did.thread ∙ s.stands.pass.thread)
       ∙ ap (λ l. old.pass.seen ++ map (by 0) l) acts) in
       let now_is = moment_is (state new.pass.seen) (state_from (state old.pass.seen) (map (by 0) (Gate Leave ∷ [])))
@@ -723,7 +699,7 @@ module _ {c : Config} {last turns j : ℕ} {P : Pairing} {w : World} {old new : 
   closed_then x mode v (o ∷ r ∷ ps) os e f a some d =
       let ran = d.0.ran in
       let acts : ran.acts ≡ [] = ran.is.0 in
-      let seen : new.pass.seen ≡ old.pass.seen = sees_its_own_acts old.pass new.pass ran.acts ran.did s.alone.own
+      let seen : new.pass.seen ≡ old.pass.seen = sees_alone old.pass new.pass ran.acts ran.did s.alone
       ∙ (ap (λ l. old.pass.seen ++ map (by new.pass.thread) l) acts ∙ append-nil old.pass.seen) in
       let now_is = moment_is (state new.pass.seen) (state old.pass.seen) new.frames old.frames (ap state seen) ran.is.2
       in

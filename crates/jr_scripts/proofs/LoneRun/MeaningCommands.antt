@@ -4,7 +4,6 @@ use Rattle.std.proofs.Common.{Err, subst}
 use Rattle.jr_word.specs.declared.config.Config.{Config}
 use Rattle.jr_word.specs.declared.fault.Fault.{Fault}
 use Rattle.jr_word.specs.declared.fault.Fault.TheVariants.{InCritical}
-use Rattle.jr_model.specs.History.{state}
 use Rattle.jr_gate.specs.Performing.{ThreadState}
 use Rattle.jr_syntax.specs.declared.command.Command.{Command}
 use Rattle.jr_syntax.specs.declared.command.Command.TheVariants as commands
@@ -30,10 +29,10 @@ use Rattle.jr_scripts.specs.Names.{referent}
 use Rattle.jr_scripts.specs.RegionCommands.{deed_at, deed_within}
 use Rattle.jr_scripts.specs.Places.{Place, by_region}
 use Rattle.jr_scripts.specs.Posting.{ThreadWords, said_alone}
-use Rattle.jr_scripts.specs.AloneAnswers.{IsAloneFault, IsFaultOutside, IsFaultWithin}
+use Rattle.jr_scripts.specs.AloneAnswers.{IsAloneFault}
 use Rattle.jr_scripts.specs.Meaning as meaning
 use Rattle.jr_scripts.proofs.LoneRun.MeaningFrames.{Pairing}
-use Rattle.jr_scripts.proofs.LoneRun.MeaningStands.{Keeps, Stepped, err_map, left_before}
+use Rattle.jr_scripts.proofs.LoneRun.MeaningStands.{Keeps, Stepped, left_before}
 use Rattle.jr_scripts.proofs.LoneRun.CommandSteps.{Turn, Steps, at_most, kept_step, nothing_then, referent_fits}
 use Rattle.jr_scripts.proofs.LoneRun.ObjectCommands.{plain_step, sized_step, text_step, filled_step}
 use Rattle.jr_scripts.proofs.LoneRun.ReferenceCommands.{drop_step, global_step, local_step, same_step, type_step}
@@ -79,13 +78,6 @@ MakesNoCopy x = IsSteady x
 
 module _ {c : Config} {last turns j k : ℕ} {P : Pairing} {w : World} {old new : ThreadState} {p q : Place}
     {had told : ThreadWords} (s : Turn c last turns j k P w old new p q had told) where
-  pub fault_outside : (x : Command) (answer : Result Reply Fault)
-      → IfErr answer (IsAloneFault turns p x new.pass new.frames)
-      → IfErr answer (IsFaultOutside turns p.names x new.pass new.frames)
-  fault_outside x answer fault = err_map answer (λ e h. subst (λ os. by_region os
-      (IsFaultOutside turns p.names x new.pass new.frames e) (IsFaultWithin p x (state new.pass.seen) e))
-      s.stands.outside h) fault
-
   pub deed_outside : (x : Command) (answer : Result Reply Fault) → deed_at turns p x old answer new
       → deed turns p.names x old answer new
   deed_outside x answer d =
@@ -99,7 +91,7 @@ module _ {c : Config} {last turns j k : ℕ} {P : Pairing} {w : World} {old new 
 
   one_step : (x : Command) → j ≡ left_before x k → (answer : Result Reply Fault) → MakesNoCopy x
       → deed turns p.names x old answer new → said_alone p.names had x old.pass.seen answer new.pass.seen
-      → IfErr answer (IsFaultOutside turns p.names x new.pass new.frames)
+      → IfErr answer (IsAloneFault new.pass)
       → Steps s x answer (meaning.outside c q.names told x w)
   one_step (commands.Make make.Plain n) one answer covered d said fault = plain_step s one n answer fault d
   one_step (commands.Make make.Wait n) one answer covered d said fault = wait_step s one n answer said d
@@ -140,7 +132,7 @@ module _ {c : Config} {last turns j k : ℕ} {P : Pairing} {w : World} {old new 
 
   copy_step : (x : Command) → j ≡ left_before x k → (answer : Result Reply Fault) → IsSteady x
       → deed turns p.names x old answer new → said_alone p.names had x old.pass.seen answer new.pass.seen
-      → IfErr answer (IsFaultOutside turns p.names x new.pass new.frames) → (rest : List Bool)
+      → IfErr answer (IsAloneFault new.pass) → (rest : List Bool)
       → w.memory ≡ memory_shown x answer ++ rest → Steps s x answer (meaning.outside c q.names told x w)
   copy_step (commands.MakeFrom make_from.Elements n r) one answer covered d said fault rest memory =
       elems_step s one n r answer fault (ap next_found memory) d
@@ -158,9 +150,8 @@ pub step : {c : Config} {last turns k : ℕ} {P : Pairing} {w : World} {old new 
     {had told : ThreadWords} (x : Command) (s : Turn c last turns (left_before x k) k P w old new p q had told)
     (answer : Result Reply Fault) → IsSteady x → deed_at turns p x old answer new
     → said_alone p.names had x old.pass.seen answer new.pass.seen
-    → IfErr answer (IsAloneFault turns p x new.pass new.frames) → (rest : List Bool)
+    → IfErr answer (IsAloneFault new.pass) → (rest : List Bool)
     → w.memory ≡ memory_shown x answer ++ rest
     → Stepped c last k x new p q had told answer (meaning_at c q told q.objects x w)
 step x s answer covered d said fault rest memory =
-    at_place s x answer (copy_step s x refl answer covered (deed_outside s x answer d) said
-    (fault_outside s x answer fault) rest memory)
+    at_place s x answer (copy_step s x refl answer covered (deed_outside s x answer d) said fault rest memory)

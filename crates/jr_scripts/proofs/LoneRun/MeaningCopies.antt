@@ -25,7 +25,6 @@ use Rattle.jr_model.proofs.Updates.{at_number_self, eq_true}
 use Rattle.jr_scripts.specs.Buffers.{Copied}
 use Rattle.jr_scripts.specs.Meaning.{World, Meaning, goes_on, refused_if, wanted_as, wanted_object}
 use Rattle.jr_scripts.specs.Meaning as meaning
-use Rattle.jr_scripts.proofs.UncontendedObjects.{so}
 use Rattle.jr_scripts.proofs.LoneRun.MadeCalls.{Moment, Made, moment_is, made_as}
 use Rattle.jr_scripts.proofs.LoneRun.MeaningFrames.{Pairing}
 use Rattle.jr_scripts.proofs.LoneRun.MeaningFits.{AreAlike, ElementFits, Fits, IsDone, IsSame, Means, SameAnswer}
@@ -35,7 +34,7 @@ use Rattle.jr_scripts.proofs.LoneRun.MeaningParts.{ObjectFits}
 use Rattle.jr_scripts.proofs.LoneRun.MeaningCalls.{WordFits}
 use Rattle.jr_scripts.proofs.LoneRun.MeaningObjects.{HeadersFit, check_means, header_means, headers_later}
 use Rattle.jr_scripts.proofs.LoneRun.MeaningObjects.{meant_in, object_known_means, primitive_so, there}
-use Rattle.jr_scripts.proofs.LoneRun.MeaningObjects.{wanted_means, words_means}
+use Rattle.jr_scripts.proofs.LoneRun.MeaningObjects.{so, wanted_means, words_means}
 use Rattle.jr_scripts.proofs.LoneRun.MeaningStores.{put_fits, put_stands}
 
 -- WHETHER A COPY FOUND MEMORY

@@ -10,6 +10,7 @@ use Rattle.std.specs.Ordering.{is_eq}
 use Rattle.std.specs.Str.{bytes_eq}
 use Rattle.jr_word.specs.declared.config.Config.{Config}
 use Rattle.jr_word.specs.declared.fault.Fault.{Fault}
+use Rattle.jr_word.specs.declared.fault.Fault.TheVariants.{RowFull, ObjectsFull}
 use Rattle.jr_word.specs.declared.handle.HandleParts.{HandleParts}
 use Rattle.jr_word.specs.declared.handle.RefKind.{RefKind}
 use Rattle.jr_word.specs.declared.handle.RefKind.TheVariants.{Local, Global, Weak}
@@ -25,7 +26,7 @@ use Rattle.jr_model.specs.Calls.{Call}
 use Rattle.jr_model.specs.Frames.{Frames}
 use Rattle.jr_model.specs.Checks.{Word, Nothing, Malformed, Parts}
 use Rattle.jr_model.proofs.Histories.{legal_append, state_append}
-use Rattle.jr_model.proofs.Stays.{mine_did, sees_its_own_acts}
+use Rattle.jr_model.proofs.Stays.{mine_did}
 use Rattle.jr_frames.specs.Reading.{IsReadAs}
 use Rattle.jr_gate.specs.Performing.{IsMade, ThreadState}
 use Rattle.jr_env.specs.Deeds.{Deed, decided, done, ◌>>=◌}
@@ -36,9 +37,9 @@ use Rattle.jr_scripts.specs.Posting.{ThreadWords, word_under, words_with}
 use Rattle.jr_scripts.specs.Tries.{Tried, answered, again, gave_up}
 use Rattle.jr_scripts.specs.Runs.{IsUnbarred}
 use Rattle.jr_scripts.proofs.AloneHistories.{all_back, own_acts}
-use Rattle.jr_scripts.proofs.AloneCalls.{IsAlone, LeadsAlone}
+use Rattle.jr_scripts.specs.AloneAnswers.{IsAloneFault}
+use Rattle.jr_scripts.proofs.AloneCalls.{IsAlone, LeadsAlone, sees_alone}
 use Rattle.jr_scripts.proofs.AloneParts.{once_alone, tries_alone, was_alone}
-use Rattle.jr_scripts.proofs.Uncontended.{Asked}
 use Rattle.jr_scripts.specs.Meaning.{World}
 use Rattle.jr_scripts.proofs.LoneRun.MadeCalls.{Moment, Made, AreUnopposed, IsSo, is_opposed, moment}
 use Rattle.jr_scripts.proofs.LoneRun.MeaningFrames.{Pairing}
@@ -82,15 +83,15 @@ after_decided next old new answer r (inl d) = subst (AfterDecided next old new a
 after_decided next old new answer r (inr d) = subst (AfterDecided next old new answer) (d.2).0 (d.1, (d.2).1)
 
 -- NO CALL OF A LONE THREAD IS MADE AGAIN
-pub made_once : {A : Type 0} {one : Deed A} (command : Asked) → ((turns : ℕ) → LeadsAlone turns command one) → (n : ℕ)
-    (old new : ThreadState) (answer : Result A Fault) → IsAlone new.pass → n ≢ 0 → Tried one n old answer new
+pub made_once : {A : Type 0} {one : Deed A} → LeadsAlone one → (n : ℕ) (old new : ThreadState) (answer : Result A Fault)
+    → IsAlone new.pass → n ≢ 0 → Tried one n old answer new
     → one old answer new
-made_once command p (suc n) old new answer alone some (answered d final) = d
-made_once command p (suc n) old new answer alone some (again {mid = mid} {once = once} d more rest) =
-    let y = tries_alone command p n mid new answer alone rest in
-    let x = (p 0).led old mid once (was_alone y alone) d in
-    absurd (once_alone command mid.pass mid.frames once more x.fault)
-made_once command p zero old new answer alone some gave_up = absurd (some refl)
+made_once p (suc n) old new answer alone some (answered d final) = d
+made_once p (suc n) old new answer alone some (again {mid = mid} {once = once} d more rest) =
+    let y = tries_alone p n mid new answer alone rest in
+    let x = p.led old mid once (was_alone y alone) d in
+    absurd (once_alone mid.pass once more x.fault)
+made_once p zero old new answer alone some gave_up = absurd (some refl)
 
 -- A CALL AS IT WAS MADE
 
@@ -113,22 +114,34 @@ pub record IsPass (c : Config) (last : ℕ) (p : PassView) : Type 0 where
   pub last_is : p.last ≡ last
   pub thread : p.thread ≡ 0
 
+-- what a refusal says of the room is so
+so_at : (p : PassView) (e : Fault) → IsAloneFault p e → IsSo p.config p.last (state p.seen) e
+so_at p RowFull h = h
+so_at p ObjectsFull h = h
+so_at p _ h = tt
+
+so_of : {A : Type 0} (c : Config) (last : ℕ) (p : PassView) → p.config ≡ c → p.last ≡ last → (answer : Result A Fault)
+    → IfErr answer (IsAloneFault p) → IfErr answer (IsSo c last (state p.seen))
+so_of c last p config_is last_is (Ok x) fault = tt
+so_of c last p config_is last_is (Err e) fault = subst (λ z. IsSo z last (state p.seen) e) config_is
+    (subst (λ l. IsSo p.config l (state p.seen) e) last_is (so_at p e fault))
+
 abbrev pub now : ThreadState → Moment
 now m = moment (state m.pass.seen) m.frames
 
 module _ (c : Config) (last : ℕ) where
   pub call_made : {A : Type 0} (asked : Config → ℕ → ℕ → State → Call A) (old new : ThreadState)
       (answer : Result A Fault) → IsPass c last old.pass → IsAlone new.pass → AllByRecursion IsUnbarred new.pass.seen
-      → IfErr answer (IsSo c last (state new.pass.seen)) → (n : ℕ)
+      → IfErr answer (IsAloneFault new.pass) → (n : ℕ)
       → IsMade n old new (asked old.pass.config old.pass.last old.pass.thread (state new.pass.seen)) answer
       → Made c last 0 (asked c last 0 (state new.pass.seen)) (moment (state old.pass.seen) old.frames) answer
       (moment (state new.pass.seen) new.frames)
-  call_made asked old new answer p alone all so n d =
+  call_made asked old new answer p alone all fault n d =
       let ran = d.ran in
       let did = ran.did in
       let thread : new.pass.thread ≡ 0 = did.thread ∙ p.thread in
       let seen : new.pass.seen ≡ old.pass.seen ++ map (by 0) ran.acts =
-      sees_its_own_acts old.pass new.pass ran.acts did alone.own ∙ ap (λ t. old.pass.seen ++ map
+      sees_alone old.pass new.pass ran.acts did alone ∙ ap (λ t. old.pass.seen ++ map
       (by t) ran.acts) thread in
       let legal : IsLegal c last new.pass.seen =
       subst (λ x. IsLegal x last new.pass.seen) p.config (subst (λ l. IsLegal old.pass.config l new.pass.seen)
@@ -148,7 +161,7 @@ module _ (c : Config) (last : ℕ) where
         leads = ap state seen ∙ state_append old.pass.seen (map (by 0) ran.acts);
         unopposed = subst AreUnopposed (mine_did ran.acts did)
             (own_acts (λ a. is_opposed a ≡ false) old.pass.thread did.begins.0 rest);
-        so = so;
+        so = so_of c last new.pass (did.config ∙ p.config) (did.last ∙ p.last_is) answer fault;
       }
 
 -- NAMES

@@ -33,7 +33,6 @@ use Rattle.jr_model.proofs.Updates.{at_number_self}
 use Rattle.jr_scripts.specs.Meaning.{World, Meaning, contents_in, goes_on, named_by, refused_if, standing_at}
 use Rattle.jr_scripts.specs.Meaning.{wanted_as, wanted_element, wanted_object}
 use Rattle.jr_scripts.specs.Meaning as meaning
-use Rattle.jr_scripts.proofs.UncontendedObjects.{so}
 use Rattle.jr_scripts.proofs.LoneRun.MadeCalls.{Moment, Made, made_as, moment_is, stayed, stepped}
 use Rattle.jr_scripts.proofs.LoneRun.MeaningFrames.{Pairing}
 use Rattle.jr_scripts.proofs.LoneRun.MeaningFits.{AreAlike, ContentsFit, ElementFits, Fits, Fitting, IsSame, Later}
@@ -44,6 +43,10 @@ use Rattle.jr_scripts.proofs.LoneRun.MeaningMatches.{IsStanding}
 use Rattle.jr_scripts.proofs.LoneRun.MeaningParts.{ObjectFits, OptionFits, object_later}
 use Rattle.jr_scripts.proofs.LoneRun.MeaningCalls.{FoundFits, MaybeFits, WordFits, new_local_means, resolved_means}
 use Rattle.jr_scripts.proofs.LoneRun.MeaningScopes.{guard_means}
+
+pub so : (b : Bool) → not b ≡ false → b ≡ true
+so true is = refl
+so false is = absurd cc
 
 -- to answer just what was answered changes nothing
 pub goes_on_done : {A : Type 0} (r : Result A Fault × World) → goes_on (λ x z. (Ok x, z)) r ≡ r

@@ -33,18 +33,16 @@ use Rattle.jr_scripts.specs.Places.{Place, place_after}
 use Rattle.jr_scripts.specs.Posting.{ThreadWords, said_alone, words_after}
 use Rattle.jr_scripts.specs.Explains.{Explains, nothing, then}
 use Rattle.jr_scripts.specs.Text.{heading, ending, printed}
-use Rattle.jr_scripts.specs.AloneAnswers.{AnswersAlone}
+use Rattle.jr_scripts.specs.AloneAnswers.{AnswersAlone, IsAloneFault}
+use Rattle.jr_scripts.proofs.AloneCalls.{IsAlone}
+use Rattle.jr_scripts.proofs.AloneDeeds.{free_alone, given_up_alone, place_alone}
+use Rattle.jr_scripts.proofs.AloneParts.{tries_alone, was_alone}
 use Rattle.jr_scripts.specs.Runs.{IsFreed, IsRun, IsUnbarred, opening_moment}
 use Rattle.jr_scripts.proofs.AloneHistories.{all_prefix}
-use Rattle.jr_scripts.proofs.AloneCalls.{IsAlone}
-use Rattle.jr_scripts.proofs.AloneParts.{tries_alone, was_alone}
-use Rattle.jr_scripts.proofs.AloneAnswers.{all_map, given_up_alone, place_alone}
-use Rattle.jr_scripts.proofs.AloneWithin.{led_alone}
-use Rattle.jr_scripts.proofs.FreedAlone.{free_alone, plainly}
 use Rattle.jr_scripts.specs.Meaning.{MeansText, World, Told, gives_up, how_many, first_told, meaning_at}
 use Rattle.jr_scripts.specs.Meaning.{refs_of, standing, summary_of, tells, told_after, told_from, text_of_part}
 use Rattle.jr_scripts.specs.Meaning.{first_world, memory_after}
-use Rattle.jr_scripts.proofs.LoneRun.MadeCalls.{Moment, IsSo, stayed}
+use Rattle.jr_scripts.proofs.LoneRun.MadeCalls.{Moment, stayed}
 use Rattle.jr_scripts.proofs.LoneRun.MeaningFrames.{Pairing, no_frame, no_local, one_frame}
 use Rattle.jr_scripts.proofs.LoneRun.MeaningSlots.{at_index, in_row, taken_at}
 use Rattle.jr_scripts.proofs.LoneRun.MeaningFits.{Fits, counted}
@@ -267,10 +265,10 @@ module _ (c : Config) (last turns : ℕ) (one : c.threads ≡ 1) (some_turns : t
       (then {before = before} {text = lines} {mid = mid} {place = stood} {words = had} x answer done did said) answers
       alone all
       rest =
-      let y = place_alone turns stood x mid new answer alone did in
+      let y = (place_alone turns stood x).led mid new answer alone did in
       let i = all_told (left_before x k) before (let less : how_many gives_up (before ++ x ∷ []) + k
       ≡ how_many gives_up before + left_before x k = given_up_before x k before in omega arith) lines mid stood had done
-      answers.0 (led_alone y alone) (all_prefix IsUnbarred mid.pass.seen new.pass.seen y.begins all)
+      answers.0 (was_alone y alone) (all_prefix IsUnbarred mid.pass.seen new.pass.seen y.begins all)
       (memory_shown x answer ++ rest) in
       let memory : List Bool = memory_of done ++ (memory_shown x answer ++ rest) in
       let t = told_from c 3 before (first_told memory) in
@@ -296,9 +294,9 @@ module _ (c : Config) (last turns : ℕ) (one : c.threads ≡ 1) (some_turns : t
       → IsAlone left.pass → AllByRecursion IsUnbarred left.pass.seen
       → SameTables (state told.pass.seen) (state left.pass.seen)
   freed_tables told left f is pass alone all =
-      let d = made_once plainly free_alone turns told left f.answer alone some_turns f.tries in
+      let d = made_once free_alone turns told left f.answer alone some_turns f.tries in
       let made = call_made c last (λ k l t s. calls.free_locals) told left f.answer pass alone all
-      (subst (λ z. IfErr z (IsSo c last (state left.pass.seen))) (sym is) tt) 0 d.0 in
+      (subst (λ z. IfErr z (IsAloneFault left.pass)) (sym is) tt) 0 d.0 in
       let i = stayed c last 0 freeing (now told) (now left) f.answer made in
       let acts : (i.made).acts ≡ drop_all (all_refs told.frames) = ((i.made).is).0 in
       let keep = drops_keep (act_after (state told.pass.seen) 0 (Gate Enter)) (all_refs told.frames) in
@@ -332,18 +330,13 @@ module _ (c : Config) (last turns : ℕ) (one : c.threads ≡ 1) (some_turns : t
       let x = r.explained in
       let all : AllByRecursion IsUnbarred r.left.pass.seen = subst (λ (p : PassView). AllByRecursion IsUnbarred
       p.seen) (sym r.saw) r.alone in
-      let alone : IsAlone r.left.pass = subst IsAlone (sym r.saw) (record {
-        one = one;
-        first = refl;
-        own = all_map (λ e u. u.own) r.seen r.alone;
-        enters = all_map (λ e u. u.enters) r.seen r.alone;
-      }) in
-      let y = tries_alone plainly free_alone turns r.told r.left r.freed.answer alone r.freed.tries in
+      let alone : IsAlone r.left.pass = subst IsAlone (sym r.saw) (record { one = one; first = refl }) in
+      let y = tries_alone free_alone turns r.told r.left r.freed.answer alone r.freed.tries in
       let told_alone = was_alone y alone in
       let told_all = all_prefix IsUnbarred r.told.pass.seen r.left.pass.seen y.begins all in
-      let g = given_up_alone x.place.objects x.done r.told (Ok tt) told_alone x.ended in
+      let g = (given_up_alone x.place.objects).led x.done r.told (Ok tt) told_alone x.ended in
       let i = all_told 0 part.commands (omega arith) r.lines x.done x.place x.words x.explains r.answers
-      (led_alone g told_alone)
+      (was_alone g told_alone)
       (all_prefix IsUnbarred x.done.pass.seen r.told.pass.seen g.begins told_all) [] in
       let memory : List Bool = memory_of x.explains ++ [] in
       let t = told_from c 3 part.commands (first_told memory) in

@@ -2,11 +2,9 @@
 use Rattle.std.proofs.Common.{◌≡◌, ℕ, suc, Bool, true, false, Option, Some, List, [], Result, Ok, Err, IfErr, ◌∙◌}
 use Rattle.jr_word.specs.declared.config.Config.{Config}
 use Rattle.jr_word.specs.declared.fault.Fault.{Fault}
-use Rattle.jr_word.specs.declared.fault.Fault.TheVariants.{RowFull, ObjectsFull}
 use Rattle.jr_word.specs.declared.handle.Handle.{Handle as HandleWord}
 use Rattle.jr_model.specs.declared.event.Act.{Act}
-use Rattle.jr_model.specs.History.{PassView, Did, state}
-use Rattle.jr_model.specs.Frames.{Frames}
+use Rattle.jr_model.specs.History.{PassView, Did}
 use Rattle.jr_gate.specs.Performing.{ThreadState}
 use Rattle.jr_syntax.specs.declared.command.Command.{Command}
 use Rattle.jr_scripts.specs.declared.reply.Reply.{Reply}
@@ -16,9 +14,7 @@ use Rattle.jr_scripts.specs.Names.{Names, with_name}
 use Rattle.jr_scripts.specs.Places.{Place, objects_after, place_after}
 use Rattle.jr_scripts.specs.Posting.{ThreadWords, words_after}
 use Rattle.jr_scripts.specs.Text.{names_after, printed, reference_made, says}
-use Rattle.jr_scripts.specs.AloneAnswers.{IsCommandFault}
 use Rattle.jr_scripts.specs.Meaning.{World, gives_up}
-use Rattle.jr_scripts.proofs.LoneRun.MadeCalls.{IsSo}
 use Rattle.jr_scripts.proofs.LoneRun.MeaningFrames.{Pairing}
 use Rattle.jr_scripts.proofs.LoneRun.MeaningFits.{Fits}
 use Rattle.jr_scripts.proofs.LoneRun.MeaningDeeds.{IsPass, NamesFit, WordsFit, formed, now}
@@ -28,18 +24,6 @@ pub pass_later : (c : Config) (last : ℕ) (old new : PassView) (acts : List Act
     → IsPass c last new
 pass_later c last old new acts d p =
     record { config = d.config ∙ p.config; last_is = d.last ∙ p.last_is; thread = d.thread ∙ p.thread }
-
--- what a refusal of a command says of the room is so
-pub so_of : (turns : ℕ) (names : Names) (x : Command) (p : PassView) (f : Frames) (e : Fault)
-    → IsCommandFault turns names x p f e → IsSo p.config p.last (state p.seen) e
-so_of turns names x p f RowFull h = h
-so_of turns names x p f ObjectsFull h = h
-so_of turns names x p f _ h = tt
-
-pub err_map : {A : Type 0} {F G : Fault → Type 0} (r : Result A Fault) → ((e : Fault) → F e → G e)
-    → IfErr r F → IfErr r G
-err_map (Ok x) k h = tt
-err_map (Err e) k h = k e h
 
 pub err_formed : {A B : Type 0} (F : Fault → Type 0) (form : A → B) (r : Result A Fault) → IfErr (formed form r) F
     → IfErr r F

@@ -6,7 +6,6 @@ use Rattle.jr_word.specs.declared.config.Config.{Config}
 use Rattle.jr_word.specs.declared.fault.Fault.{Fault}
 use Rattle.jr_word.specs.declared.fault.Fault.TheVariants.{Turns}
 use Rattle.jr_model.specs.History.{state}
-use Rattle.jr_model.proofs.Stays.{sees_its_own_acts}
 use Rattle.jr_gate.specs.Performing.{HasLearned, ThreadState}
 use Rattle.jr_syntax.specs.declared.command.Command.TheVariants as commands
 use Rattle.jr_syntax.specs.declared.verb.Make.TheVariants as make
@@ -26,6 +25,7 @@ use Rattle.jr_scripts.proofs.LoneRun.MeaningDeeds.{MaybeWord, names_set_fit, pos
 use Rattle.jr_scripts.proofs.LoneRun.MeaningDeeds.{words_with_fit}
 use Rattle.jr_scripts.proofs.LoneRun.MeaningStands.{Stepped, pass_later}
 use Rattle.jr_scripts.proofs.LoneRun.CommandSteps.{Turn, Steps, IsThen, kept_step, nothing_then, at_most}
+use Rattle.jr_scripts.proofs.AloneCalls.{sees_alone}
 
 module _ {c : Config} {last turns j k : ℕ} {P : Pairing} {w : World} {old new : ThreadState} {p q : Place}
     {had told : ThreadWords} (s : Turn c last turns j k P w old new p q had told) where
@@ -62,7 +62,7 @@ module _ {c : Config} {last turns j k : ℕ} {P : Pairing} {w : World} {old new 
   learned_then : k ≤ j → HasLearned old new → IsThen s P w
   learned_then le l =
       let seen : new.pass.seen ≡ old.pass.seen =
-      sees_its_own_acts old.pass new.pass [] l.did s.alone.own ∙ append-nil old.pass.seen in
+      sees_alone old.pass new.pass [] l.did s.alone ∙ append-nil old.pass.seen in
       record {
         later = later_self P w;
         pass = pass_later c last old.pass new.pass [] l.did s.stands.pass;

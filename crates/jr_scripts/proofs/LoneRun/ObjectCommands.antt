@@ -18,7 +18,9 @@ use Rattle.jr_syntax.specs.declared.verb.MakeFilled.{MakeFilled}
 use Rattle.jr_syntax.specs.declared.verb.MakeSized.{MakeSized}
 use Rattle.jr_syntax.specs.declared.verb.MakeText.{MakeText}
 use Rattle.jr_scripts.specs.Commands.{kind_made, makes_new, deed, tried}
-use Rattle.jr_scripts.proofs.AloneDeeds.{array_alone, filled_alone, text_alone, plain_alone}
+use Rattle.jr_scripts.specs.AloneAnswers.{IsAloneFault}
+use Rattle.jr_scripts.proofs.AloneCalls.{LeadsAlone}
+use Rattle.jr_scripts.proofs.AloneDeeds.{array_alone, filled_alone, plain_alone, text_alone}
 use Rattle.jr_scripts.specs.Meaning.{element_to, World, Meaning, goes_on, reply_made}
 use Rattle.jr_scripts.proofs.LoneRun.MeaningCalls.{array_means, filled_means, string_means, MaybeFits, NewFits}
 use Rattle.jr_scripts.proofs.LoneRun.MeaningCalls.{plain_means, new_maybe}
@@ -27,8 +29,6 @@ use Rattle.jr_scripts.specs.declared.reply.Reply.TheVariants as replies
 use Rattle.jr_scripts.specs.Names.{referent, wanted}
 use Rattle.jr_scripts.specs.Places.{Place}
 use Rattle.jr_scripts.specs.Posting.{ThreadWords}
-use Rattle.jr_scripts.specs.AloneAnswers.{IsCommandFault}
-use Rattle.jr_scripts.proofs.AloneCalls.{LeadsAlone}
 use Rattle.jr_scripts.specs.Meaning as meaning
 use Rattle.jr_scripts.proofs.LoneRun.MeaningFrames.{Pairing}
 use Rattle.jr_scripts.proofs.LoneRun.MeaningFits.{Outcome}
@@ -65,12 +65,12 @@ module _ {c : Config} {last turns j k : ℕ} {P : Pairing} {w : World} {old new 
       → ((e : Fault) → Keeps x (Err e)) → (call : Deed Handle) (meant : Meaning ℕ)
       → ((once : Result Handle Fault) → call old once new
       → answer ≡ formed (λ h. replies.Made (Some (packed h))) once → CallMeant s NewFits once (meant w))
-      → ((z : ℕ) → LeadsAlone z (p.names, x) (answered_by packed call))
+      → LeadsAlone (answered_by packed call)
       → makes_new turns (answered_by packed call) old answer new
       → Steps s x answer (goes_on (λ z v. (Ok (reply_made z), v)) (meant w))
   new_step x n answer sets silent quiet call meant called led d =
       let f = was_formed (λ h. replies.Made (Some h)) (tried turns (answered_by packed call)) old new answer d in
-      let once = made_once (p.names, x) led turns old new f.once s.alone s.some_turns f.did in
+      let once = made_once led turns old new f.once s.alone s.some_turns f.did in
       let g = was_formed packed call old new f.once once in
       let is : answer ≡ formed (λ h. replies.Made (Some (packed h))) g.once =
       f.is ∙ (ap (formed (λ h. replies.Made (Some h))) g.is
@@ -81,7 +81,7 @@ module _ {c : Config} {last turns j k : ℕ} {P : Pairing} {w : World} {old new 
       (is ∙ sym (formed_both (λ h. replies.Made (packed_if h)) Some g.once))
 
   pub plain_step : j ≡ k → (n : List ℕ) (answer : Result Reply Fault)
-      → IfErr answer (IsCommandFault turns p.names (commands.Make make.Plain n) new.pass new.frames)
+      → IfErr answer (IsAloneFault new.pass)
       → deed turns p.names (commands.Make make.Plain n) old answer new
       → Steps s (commands.Make make.Plain n) answer (meaning.outside c q.names told (commands.Make make.Plain n) w)
   plain_step one n answer fault d =
@@ -90,12 +90,12 @@ module _ {c : Config} {last turns j k : ℕ} {P : Pairing} {w : World} {old new 
       (call_by (λ z. z.objects) (λ z l t y. references.new_plain z l t)) (meaning.made c Plain [])
       (λ once d' is. made_call s x answer fault {V = NewFits} (λ h. replies.Made (Some (packed h)))
       old.pass.config.objects (λ z l t y. references.new_plain z l t) (meaning.made c Plain []) once
-      (λ z. even one (plain_means c last j P w)) d'.0 is) (λ z. plain_alone z (p.names, x) (λ l g none. none)) d
+      (λ z. even one (plain_means c last j P w)) d'.0 is) plain_alone d
 
   -- THE ARRAYS
 
   pub sized_step : j ≡ k → (v : MakeSized) (n : List ℕ) (len : ℕ) (answer : Result Reply Fault)
-      → IfErr answer (IsCommandFault turns p.names (commands.MakeSized v n len) new.pass new.frames)
+      → IfErr answer (IsAloneFault new.pass)
       → deed turns p.names (commands.MakeSized v n len) old answer new
       → Steps s (commands.MakeSized v n len) answer
       (meaning.outside c q.names told (commands.MakeSized v n len) w)
@@ -108,12 +108,12 @@ module _ {c : Config} {last turns j k : ℕ} {P : Pairing} {w : World} {old new 
       (making_steps len old.pass.config) (λ z l t y. references.new_array z l t (kind_made v) len)
       (meaning.made c (kind_made v) (replicate len 0)) once
       (λ z. even one (array_means c last j P w (kind_made v) len)) d'.0 is)
-      (λ z. array_alone z (p.names, x) (λ l g none. none) (kind_made v) len (λ used l y short. short)) d
+      (array_alone (kind_made v) len) d
 
   -- STRING
 
   pub text_step : j ≡ k → (v : MakeText) (n : List ℕ) (units : List ℕ) (answer : Result Reply Fault)
-      → IfErr answer (IsCommandFault turns p.names (commands.MakeText v n units) new.pass new.frames)
+      → IfErr answer (IsAloneFault new.pass)
       → deed turns p.names (commands.MakeText v n units) old answer new
       → Steps s (commands.MakeText v n units) answer
       (meaning.outside c q.names told (commands.MakeText v n units) w)
@@ -125,12 +125,12 @@ module _ {c : Config} {last turns j k : ℕ} {P : Pairing} {w : World} {old new 
       (λ once d' is. made_call s x answer fault {V = NewFits} (λ h. replies.Made (Some (packed h)))
       (making_steps (length units) old.pass.config) (λ z l t y. references.new_string z l t units)
       (meaning.made c Text units) once (λ z. even one (string_means c last j P w units)) d'.0 is)
-      (λ z. text_alone z (p.names, x) (λ l g none. none) units (λ used l y short. short)) d
+      (text_alone units) d
 
   -- OBJS
 
   pub filled_step : j ≡ k → (v : MakeFilled) (n : List ℕ) (len : ℕ) (r : Reference) (answer : Result Reply Fault)
-      → IfErr answer (IsCommandFault turns p.names (commands.MakeFilled v n len r) new.pass new.frames)
+      → IfErr answer (IsAloneFault new.pass)
       → deed turns p.names (commands.MakeFilled v n len r) old answer new
       → Steps s (commands.MakeFilled v n len r) answer
       (meaning.outside c q.names told (commands.MakeFilled v n len r) w)
@@ -163,4 +163,4 @@ module _ {c : Config} {last turns j k : ℕ} {P : Pairing} {w : World} {old new 
           (making_steps len old.pass.config) (λ z l t y. references.new_object_array z l t len d''.0) (filled g.0)
           once (λ z. even one (filled_means c last j P w len d''.0 g.0 s.some
           (read_fits P w h.0 g.0 d''.0 (handles s) d''.1 same))) (d''.2).0 is)
-          (λ z. filled_alone z (p.names, x) (λ l y none. none) len h.0 (λ used l y short. short)) d'
+          (filled_alone len h.0) d'

@@ -32,11 +32,10 @@ use Rattle.jr_scripts.specs.Names.{referent, wanted}
 use Rattle.jr_scripts.specs.Places.{Place, levels_after}
 use Rattle.jr_scripts.specs.Posting.{ThreadWords}
 use Rattle.jr_scripts.specs.Text.{printed}
-use Rattle.jr_scripts.specs.AloneAnswers.{IsCommandFault}
+use Rattle.jr_scripts.specs.AloneAnswers.{IsAloneFault}
+use Rattle.jr_scripts.proofs.AloneDeeds.{opening_alone}
 use Rattle.jr_scripts.specs.Meaning.{World, goes_on}
 use Rattle.jr_scripts.specs.Meaning as meaning
-use Rattle.jr_scripts.proofs.AloneCalls.{LeadsAlone}
-use Rattle.jr_scripts.proofs.AloneDeeds.{array_opening_alone, text_opening_alone}
 use Rattle.jr_scripts.proofs.LoneRun.MadeCalls.{Made, Moment}
 use Rattle.jr_scripts.proofs.LoneRun.MeaningFrames.{Pairing}
 use Rattle.jr_scripts.proofs.LoneRun.MeaningFits.{Means, Outcome}
@@ -97,7 +96,7 @@ module _ {c : Config} {last turns j k : ℕ} {P : Pairing} {w : World} {old new 
 
   -- CRIT AND CRITSTR
   module _ (one : j ≡ k) (v : OpenLevel) (n : List ℕ) (r : Reference) (answer : Result Reply Fault)
-      (fault : IfErr answer (IsCommandFault turns p.names (commands.OpenLevel v n r) new.pass new.frames)) where
+      (fault : IfErr answer (IsAloneFault new.pass)) where
     abbrev opening : Command
     opening = commands.OpenLevel v n r
 
@@ -145,16 +144,11 @@ module _ {c : Config} {last turns j k : ℕ} {P : Pairing} {w : World} {old new 
     opened_so (Ok x) (Err d, u) pass o role is = absurd o.answers
     opened_so (Err e) (Ok y, u) pass o role is = absurd o.answers
 
-    led_opening : (v : OpenLevel) (n : List ℕ) (r : Reference) (z h : ℕ)
-        → LeadsAlone z (p.names, commands.OpenLevel v n r) (opening_by v h)
-    led_opening at.Array n r z h = array_opening_alone z _ tt (λ s some. some) (λ s some. some) h
-    led_opening at.Text n r z h = text_opening_alone z _ tt (λ s some. some) h
-
     open_found : (h g : HandleWord) → HandleFits P w h.0 g.0 → (once : Result ℕ Fault)
         → tried turns (opening_by v h.0) old once new → answer ≡ formed (λ o. replies.Level o) once
         → LedTo c last k opening new p q had told answer (meaning.level v 0 g.0 w)
     open_found h g same once d is =
-        let d' = made_once (p.names, opening) (λ z. led_opening v n r z h.0) turns old new once s.alone s.some_turns d
+        let d' = made_once (opening_alone v h.0) turns old new once s.alone s.some_turns d
         in
         let a = d'.0 in
         let z = state new.pass.seen in

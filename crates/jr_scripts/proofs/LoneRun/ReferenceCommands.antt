@@ -18,6 +18,7 @@ use Rattle.jr_env.specs.Deeds.{Deed, decided, done, get_object_ref_type, is_same
 use Rattle.jr_syntax.specs.declared.name.Reference.{Reference}
 use Rattle.jr_syntax.specs.declared.command.Command.TheVariants as commands
 use Rattle.jr_scripts.specs.Commands.{deed, deleted_as, deleted_of, deletion, tried, type_of}
+use Rattle.jr_scripts.specs.AloneAnswers.{IsAloneFault}
 use Rattle.jr_scripts.proofs.AloneCalls.{LeadsAlone}
 use Rattle.jr_scripts.proofs.AloneDeeds.{delete_alone, delete_local_alone, local_ref_alone, reference_alone}
 use Rattle.jr_scripts.proofs.AloneDeeds.{same_alone, type_alone}
@@ -33,8 +34,6 @@ use Rattle.jr_scripts.specs.declared.binding.Binding.TheVariants as bound
 use Rattle.jr_scripts.specs.Names.{reference_in, referent, wanted}
 use Rattle.jr_scripts.specs.Places.{Place}
 use Rattle.jr_scripts.specs.Posting.{ThreadWords}
-use Rattle.jr_scripts.specs.AloneAnswers.{IsCommandFault}
-use Rattle.jr_scripts.proofs.Uncontended.{Asked}
 use Rattle.jr_scripts.specs.Meaning as meaning
 use Rattle.jr_scripts.proofs.LoneRun.MeaningRow.{delete_reference_means, reference_means}
 use Rattle.jr_scripts.proofs.LoneRun.MeaningFrames.{Pairing}
@@ -49,42 +48,41 @@ module _ {c : Config} {last turns j k : ℕ} {P : Pairing} {w : World} {old new 
   -- GLOBAL, WEAK and LOCAL
 
   pub global_step : j ≡ k → (n : List ℕ) (r : Reference) (answer : Result Reply Fault)
-      → IfErr answer (IsCommandFault turns p.names (commands.MakeFrom make_from.Global n r) new.pass new.frames)
+      → IfErr answer (IsAloneFault new.pass)
       → deed turns p.names (commands.MakeFrom make_from.Global n r) old answer new
       → Steps s (commands.MakeFrom make_from.Global n r) answer
       (meaning.outside c q.names told (commands.MakeFrom make_from.Global n r) w)
   global_step one n r answer fault d =
       made_of_step s (at_most one) make_from.Global n r answer fault
       (λ z l t a. references.new_reference z l t Global a) (λ m z. goes_on (meaning.new_global c Global)
-      (meaning.object m z)) (λ z h. reference_alone z (p.names, commands.MakeFrom make_from.Global n r) Global h)
+      (meaning.object m z)) (reference_alone Global)
       (λ a m word. even one (reference_means c last j Global (λ e. cc) P w a m s.some word)) d
 
   pub weak_step : j ≡ k → (n : List ℕ) (r : Reference) (answer : Result Reply Fault)
-      → IfErr answer (IsCommandFault turns p.names (commands.MakeFrom make_from.Weak n r) new.pass new.frames)
+      → IfErr answer (IsAloneFault new.pass)
       → deed turns p.names (commands.MakeFrom make_from.Weak n r) old answer new
       → Steps s (commands.MakeFrom make_from.Weak n r) answer
       (meaning.outside c q.names told (commands.MakeFrom make_from.Weak n r) w)
   weak_step one n r answer fault d =
       made_of_step s (at_most one) make_from.Weak n r answer fault
       (λ z l t a. references.new_reference z l t Weak a) (λ m z. goes_on (meaning.new_global c Weak)
-      (meaning.object m z)) (λ z h. reference_alone z (p.names, commands.MakeFrom make_from.Weak n r) Weak h)
+      (meaning.object m z)) (reference_alone Weak)
       (λ a m word. even one (reference_means c last j Weak (λ e. cc) P w a m s.some word)) d
 
   pub local_step : j ≡ k → (n : List ℕ) (r : Reference) (answer : Result Reply Fault)
-      → IfErr answer (IsCommandFault turns p.names (commands.MakeFrom make_from.Local n r) new.pass new.frames)
+      → IfErr answer (IsAloneFault new.pass)
       → deed turns p.names (commands.MakeFrom make_from.Local n r) old answer new
       → Steps s (commands.MakeFrom make_from.Local n r) answer
       (meaning.outside c q.names told (commands.MakeFrom make_from.Local n r) w)
   local_step one n r answer fault d =
       made_of_step s (at_most one) make_from.Local n r answer fault (λ z l t a. references.new_local_ref z l t a)
-      (λ m z. goes_on (meaning.new_local c) (meaning.object m z)) (λ z h. local_ref_alone z
-      (p.names, commands.MakeFrom make_from.Local n r) (λ l f none. none) h)
+      (λ m z. goes_on (meaning.new_local c) (meaning.object m z)) local_ref_alone
       (λ a m word. even one (local_means c last j P w a m s.some word)) d
 
   -- SAME
 
   module _ (one : j ≡ k) (r t : Reference) (answer : Result Reply Fault)
-      (fault : IfErr answer (IsCommandFault turns p.names (commands.OnBoth on_both.Same r t) new.pass new.frames))
+      (fault : IfErr answer (IsAloneFault new.pass))
     where
       abbrev compare : HandleWord → HandleWord → Deed Reply
       compare h u = tried turns (is_same_object h.0 u.0) >>= (λ b. done (replies.Same b))
@@ -103,9 +101,8 @@ module _ {c : Config} {last turns j k : ℕ} {P : Pairing} {w : World} {old new 
           → compare h u old answer new → Steps s (commands.OnBoth on_both.Same r t) answer (compare_means g.0 v.0 w)
       same_found h g u v same same' d' =
           let x = commands.OnBoth on_both.Same r t in
-          let command : Asked = (p.names, x) in
           let f = was_formed (λ b. replies.Same b) (tried turns (is_same_object h.0 u.0)) old new answer d' in
-          let one_of = made_once command (λ z. same_alone z command h.0 u.0) turns old new f.once s.alone s.some_turns
+          let one_of = made_once (same_alone h.0 u.0) turns old new f.once s.alone s.some_turns
           f.did in
           let a = one_of.0 in
           let b = one_of.1 in
@@ -154,22 +151,21 @@ module _ {c : Config} {last turns j k : ℕ} {P : Pairing} {w : World} {old new 
   of_its_kind word (Parts h) zero once fits d = absurd fits
 
   module _ (spent : j ≡ suc k) (r : Reference) (answer : Result Reply Fault)
-      (fault : IfErr answer (IsCommandFault turns p.names (commands.On on.Drop r) new.pass new.frames)) where
+      (fault : IfErr answer (IsAloneFault new.pass)) where
     abbrev drop_meant : ℕ → Meaning Reply
     drop_meant n z = goes_on (λ u v. (Ok replies.Done, v)) (meaning.delete n z)
 
     -- by one call
     drop_by : (asked : Config → ℕ → ℕ → Word → Call (Unit {0})) (h g : HandleWord) (once : Result (Unit {0}) Fault)
         → HandleFits P w h.0 g.0
-        → ((z : ℕ) → LeadsAlone z (p.names, commands.On on.Drop r)
-        (call_on_by (λ c. 0) h.0 (λ z l t u a. asked z l t a)))
+        → LeadsAlone (call_on_by (λ c. 0) h.0 (λ z l t u a. asked z l t a))
         → ((a : Word) → WordFits P w a g.0
         → Means c last (suc k) k (IsDone {A = Unit {0}} {B = Unit {0}}) P w (asked c last 0 a) (meaning.delete g.0))
         → tried turns (call_on_by (λ c. 0) h.0 (λ z l t u a. asked z l t a)) old once new
         → answer ≡ formed (λ u. replies.Done) once → Steps s (commands.On on.Drop r) answer (drop_meant g.0 w)
     drop_by asked h g once same led means d is =
         let x = commands.On on.Drop r in
-        let one = made_once (p.names, x) led turns old new once s.alone s.some_turns d in
+        let one = made_once led turns old new once s.alone s.some_turns d in
         let i = word_call s x answer fault {V = IsDone {A = Unit {0}} {B = Unit {0}}} (λ u. replies.Done)
         (λ z l t u a. asked z l t a) (meaning.delete g.0) once h.0 g.0 same
         (λ a z word. subst (λ n. Means c last n k (IsDone {A = Unit {0}} {B = Unit {0}}) P w (asked c last 0 a)
@@ -188,20 +184,17 @@ module _ {c : Config} {last turns j k : ℕ} {P : Pairing} {w : World} {old new 
         let y = of_its_kind h.0 a g.0 f.once word (f.did).2 in
         go f.once f.is y.0 y.1 y.2
       where
-        command : Asked
-        command = (p.names, commands.On on.Drop r)
-
         go : (once : Result (Unit {0}) Fault) → answer ≡ formed (λ u. replies.Done) once → (kind : RefKind)
             → ((b : Word) → WordFits P w b g.0 → is_of_kind kind b ≡ true) → deleted_of turns kind h.0 old once new
             → Steps s (commands.On on.Drop r) answer (drop_meant g.0 w)
         go once is Local all d' = drop_by (λ z l t a. references.delete_local_ref z l t a) h g once same
-            (λ z. delete_local_alone z command h.0 (λ b reads. all b (read_fits P w h.0 g.0 b (handles s) reads same)))
+            (delete_local_alone h.0)
             (λ a word. delete_means c last k P w a g.0 s.some word (all a word)) d' is
         go once is Global all d' = drop_by (λ z l t a. references.delete_reference z l t Global a) h g once same
-            (λ z. delete_alone z command Global h.0 (λ b reads. all b (read_fits P w h.0 g.0 b (handles s) reads same)))
+            (delete_alone Global h.0)
             (λ a word. delete_reference_means c last k Global (λ e. cc) P w a g.0 s.some word (all a word)) d' is
         go once is Weak all d' = drop_by (λ z l t a. references.delete_reference z l t Weak a) h g once same
-            (λ z. delete_alone z command Weak h.0 (λ b reads. all b (read_fits P w h.0 g.0 b (handles s) reads same)))
+            (delete_alone Weak h.0)
             (λ a word. delete_reference_means c last k Weak (λ e. cc) P w a g.0 s.some word (all a word)) d' is
 
     pub drop_step : deed turns p.names (commands.On on.Drop r) old answer new
@@ -214,7 +207,7 @@ module _ {c : Config} {last turns j k : ℕ} {P : Pairing} {w : World} {old new 
   -- TYPE
 
   pub type_step : j ≡ k → (r : Reference) (answer : Result Reply Fault)
-      → IfErr answer (IsCommandFault turns p.names (commands.On on.Type r) new.pass new.frames)
+      → IfErr answer (IsAloneFault new.pass)
       → (b b' : Binding) → BindingFits P w b b'
       → (decided (reference_in b) >>= (λ h. type_of turns h >>= (λ z. done (replies.Type z)))) old answer new
       → Steps s (commands.On on.Type r) answer (goes_on (λ h v. goes_on (λ z v. (Ok (replies.Type z), v))
@@ -229,11 +222,10 @@ module _ {c : Config} {last turns j k : ℕ} {P : Pairing} {w : World} {old new 
       (λ names os ws. (refl, refl, refl)) (λ names os ws. (refl, refl, refl)) (λ line. refl)
   type_step one r answer fault (bound.Reference h) (bound.Reference g) fits d =
       let x = commands.On on.Type r in
-      let command : Asked = (p.names, x) in
       let d' = after_decided (λ y. type_of turns y >>= (λ z. done (replies.Type z))) old new answer
       (reference_in (bound.Reference h)) d in
       let f = was_formed (λ z. replies.Type z) (tried turns (get_object_ref_type h.0)) old new answer d' in
-      let once = made_once command (λ z. type_alone z command h.0) turns old new f.once s.alone s.some_turns f.did in
+      let once = made_once (type_alone h.0) turns old new f.once s.alone s.some_turns f.did in
       let i = word_call s x answer fault {V = IsSame {A = ℕ}} (λ z. replies.Type z)
       (λ z l t u a. references.get_object_ref_type z l t a) (meaning.type_meant g.0) f.once h.0 g.0 fits
       (λ a z word. even one (type_means c last j P w a g.0 s.some word)) once f.is in
