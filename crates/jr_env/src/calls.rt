@@ -18,8 +18,7 @@ mod texts;
 
 pub use array_parts::SetArrayRegion;
 pub use copies::{CopyBack, GetArrayElements, GetStringChars};
-pub use explaining::Explain;
-pub use frames::{EnsureLocalCapacity, FreeLocals, PopLocalFrame, PushLocalFrame};
+pub use frames::{FreeLocals, PopLocalFrame};
 pub use making::{NewArray, NewObjectArray, NewPlain, NewString};
 pub use objects::{
     GetArrayLength, GetObjectArrayElement, GetStringLength, KindOf, SetObjectArrayElement,

@@ -67,7 +67,7 @@ pub fn with_array_elements<S: Steps, E: Elem, T: Drop, F: FnOnce(&mut [E]) -> T>
         array,
         element,
     };
-    let mut elements = match env.retry(&call, patience) {
+    let mut elements = match env.retry(call, patience) {
         Ok(elements) => elements,
         Err(fault) => return Err(Unreleased::NotCopied(fault)),
     };

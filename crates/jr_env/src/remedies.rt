@@ -1,7 +1,7 @@
 //! What is done about a room that is full: a collection that gets its turn, a call that is made again behind one, and a cleared weak reference that is deleted.
 use crate::calls::{DeleteWeakGlobalRef, IsSameObject};
 use crate::env::Env;
-use crate::env_call::EnvCall;
+use crate::native_call::NativeCall;
 use crate::patience::Patience;
 use crate::retrying::is_short_of_room;
 use jr_steps::Steps;
@@ -13,6 +13,7 @@ impl<S: Steps> Env<S> {
     ghost use Rattle.jr_word.specs.declared.fault.Fault.TheVariants.{Size};
     ghost use Rattle.jr_weak.specs.Markers.{room_of};
     ghost use Rattle.jr_env.specs.Collections.{FitsRoom, IsNoTurn};
+    ghost use Rattle.jr_env.specs.Deeds.{whole};
     ghost use Rattle.jr_env.specs.Envs.{Does};
     ghost use Rattle.jr_env.specs.Remedies.{collection_in_turn, deleting_cleared, made_collecting_in_turn};
 
@@ -65,15 +66,15 @@ impl<S: Steps> Env<S> {
     /// # Operations
     ///
     /// Those of each try, and of each announcement.
-    pub fn retry_collecting_in_turn<C: EnvCall<S>>(
+    pub fn retry_collecting_in_turn<C: NativeCall<S> + Copy>(
         &mut self,
         marker: &mut Marker,
         tries: u32,
-        call: &C,
+        call: C,
         patience: Patience,
     ) -> Result<C::Answer, Fault>
         requires { 1 ≤ tries }
-        ensures call { FitsRoom marker.old self.old → Does self.old self.new (made_collecting_in_turn tries patience.waits_for_room patience.more (C.deed call.now)) result }
+        ensures call { FitsRoom marker.old self.old → Does self.old self.new (made_collecting_in_turn tries patience.waits_for_room patience.more (whole (C.request call))) result }
         ensures size { ¬ (FitsRoom marker.old self.old) → (result ≡ Err Size) × (self.new ≡ self.old) × (marker.new ≡ marker.old) }
         ensures room { room_of marker.new ≡ room_of marker.old }
     {
@@ -104,8 +105,8 @@ impl<S: Steps> Env<S> {
     pub fn delete_cleared(&mut self, weak: Handle, patience: Patience) -> Result<bool, Fault>
         ensures { Does self.old self.new (deleting_cleared patience.waits_for_room patience.more weak.0) result }
     {
-        if self.retry(&IsSameObject(weak, Handle::NULL), patience)? {
-            self.retry(&DeleteWeakGlobalRef(weak), patience)?;
+        if self.retry(IsSameObject(weak, Handle::NULL), patience)? {
+            self.retry(DeleteWeakGlobalRef(weak), patience)?;
             return Ok(true);
         }
         Ok(false)

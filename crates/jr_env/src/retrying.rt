@@ -4,7 +4,7 @@ ghost use Rattle.std.specs.Prelude.{◌≡◌, Result};
 ghost use Rattle.jr_env.specs.Tries.{is_tried_again, lacks_room};
 
 use crate::env::Env;
-use crate::env_call::EnvCall;
+use crate::native_call::{NativeCall, NativeCaller};
 use crate::patience::{Patience, with_patience};
 use jr_steps::Steps;
 use jr_weak::Marker;
@@ -32,6 +32,7 @@ impl<S: Steps> Env<S> {
     ghost use Rattle.jr_word.specs.declared.fault.Fault.TheVariants.{Size};
     ghost use Rattle.jr_weak.specs.Markers.{room_of};
     ghost use Rattle.jr_env.specs.Collections.{FitsRoom};
+    ghost use Rattle.jr_env.specs.Deeds.{whole};
     ghost use Rattle.jr_env.specs.Envs.{Does};
     ghost use Rattle.jr_env.specs.Tries.{made_again, made_collecting};
 
@@ -46,10 +47,14 @@ impl<S: Steps> Env<S> {
     /// # Operations
     ///
     /// Those of each try.
-    pub fn retry<C: EnvCall<S>>(&mut self, call: &C, patience: Patience) -> Result<C::Answer, Fault>
-        ensures { Does self.old self.new (made_again patience.waits_for_room patience.more (C.deed call.now)) result }
+    pub fn retry<C: NativeCall<S> + Copy>(
+        &mut self,
+        call: C,
+        patience: Patience,
+    ) -> Result<C::Answer, Fault>
+        ensures { Does self.old self.new (made_again patience.waits_for_room patience.more (whole (C.request call))) result }
     {
-        with_patience(self, patience, |env| call.make(env))
+        with_patience(self, patience, |env| env.make(call))
     }
 
     /// Makes a call as `retry` does, and where it is refused for want of words or of object numbers (E10, E11), collects once, and makes it as `retry` does once more.
@@ -63,13 +68,13 @@ impl<S: Steps> Env<S> {
     /// # Operations
     ///
     /// Those of each try, and of the collection.
-    pub fn retry_collecting<C: EnvCall<S>>(
+    pub fn retry_collecting<C: NativeCall<S> + Copy>(
         &mut self,
         marker: &mut Marker,
-        call: &C,
+        call: C,
         patience: Patience,
     ) -> Result<C::Answer, Fault>
-        ensures call { FitsRoom marker.old self.old → Does self.old self.new (made_collecting patience.waits_for_room patience.more (C.deed call.now)) result }
+        ensures call { FitsRoom marker.old self.old → Does self.old self.new (made_collecting patience.waits_for_room patience.more (whole (C.request call))) result }
         ensures size { ¬ (FitsRoom marker.old self.old) → (result ≡ Err Size) × (self.new ≡ self.old) × (marker.new ≡ marker.old) }
         ensures room { room_of marker.new ≡ room_of marker.old }
     {

@@ -87,7 +87,7 @@ impl<S: Steps> LocalFrames for Env<S> {
     }
 
     fn close_frame(&mut self, kept: Handle, patience: Patience) -> Result<Option<Handle>, Fault> {
-        self.retry(&PopLocalFrame(kept), patience)
+        self.retry(PopLocalFrame(kept), patience)
     }
 }
 

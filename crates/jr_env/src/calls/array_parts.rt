@@ -15,9 +15,7 @@ ghost use Rattle.jr_env.specs.ArrayParts.{FindsPart};
 ghost use Rattle.jr_env.specs.Works.{Serves, ServesWhole, ServesWithin};
 
 use crate::calls::names;
-use crate::env::Env;
-use crate::env_call::EnvCall;
-use crate::native_call::{Handed, NativeCall, NativeCaller};
+use crate::native_call::{Handed, NativeCall};
 use crate::work::outside;
 use jr_frames::{Frames, Held, Reference, find};
 use jr_gate::{Inside, enter};
@@ -61,19 +59,6 @@ impl<S: Steps, E: Elem> NativeCall<S> for SetArrayRegion<'_, E> {
         let (object, header) = find_part(steps, inside, frames, part, E::KIND, elements.len())?;
         write_part(steps, object, header, start, elements);
         Ok(())
-    }
-}
-
-impl<S: Steps, E: Elem> EnvCall<S> for SetArrayRegion<'_, E> {
-    ghost use Rattle.std.specs.Prelude.{map};
-    ghost use Rattle.jr_env.specs.Deeds.{set_array_region};
-
-    type Answer = ();
-
-    ghost deed = { λ c. set_array_region E.KIND c.0.0 c.1 (map E.word_of c.2.now) };
-
-    fn make(&self, env: &mut Env<S>) -> Result<(), Fault> {
-        env.make(*self)
     }
 }
 

@@ -2,7 +2,6 @@
 use crate::calls::array_parts::same_element;
 use crate::calls::names;
 use crate::env::Env;
-use crate::env_call::EnvCall;
 use crate::native_call::{Handed, NativeCall, NativeCaller};
 use crate::patience::Patience;
 use crate::work::outside;
@@ -88,7 +87,7 @@ impl<S: Steps> Env<S> {
             array,
             elements: &elements,
         };
-        match self.retry(&call, patience) {
+        match self.retry(call, patience) {
             Ok(()) => Ok(elements.kept(mode)),
             Err(fault) => Err((elements, fault)),
         }
@@ -161,20 +160,6 @@ impl<S: Steps, E: Elem> NativeCall<S> for GetArrayElements<E> {
     }
 }
 
-impl<S: Steps, E: Elem> EnvCall<S> for GetArrayElements<E> {
-    ghost use Rattle.std.specs.Prelude.{map};
-    ghost use Rattle.jr_env.specs.Deeds.{whole};
-    ghost use Rattle.jr_env.specs.Requests.{for_get_array_elements, told_by};
-
-    type Answer = Elements<E>;
-
-    ghost deed = { λ c. whole (told_by (map E.word_of) (for_get_array_elements E.KIND c.array.0)) };
-
-    fn make(&self, env: &mut Env<S>) -> Result<Elements<E>, Fault> {
-        env.make(*self)
-    }
-}
-
 /// A copy of all units of a string.
 #[derive(Clone, Copy)]
 pub struct GetStringChars {
@@ -215,19 +200,6 @@ impl<S: Steps> NativeCall<S> for GetStringChars {
             return Err(Fault::WrongKind);
         }
         read_all(self.alloc, steps, object, header)
-    }
-}
-
-impl<S: Steps> EnvCall<S> for GetStringChars {
-    ghost use Rattle.jr_env.specs.Deeds.{whole};
-    ghost use Rattle.jr_env.specs.Requests.{for_get_string_chars, told_by};
-
-    type Answer = Vec<u16>;
-
-    ghost deed = { λ c. whole (told_by (λ units. units.items) (for_get_string_chars c.string.0)) };
-
-    fn make(&self, env: &mut Env<S>) -> Result<Vec<u16>, Fault> {
-        env.make(*self)
     }
 }
 
@@ -283,19 +255,5 @@ impl<S: Steps, E: Elem> NativeCall<S> for CopyBack<'_, E> {
         }
         put_back(steps, object, header, elements);
         Ok(())
-    }
-}
-
-impl<S: Steps, E: Elem> EnvCall<S> for CopyBack<'_, E> {
-    ghost use Rattle.std.specs.Prelude.{map};
-    ghost use Rattle.jr_env.specs.Deeds.{whole};
-    ghost use Rattle.jr_env.specs.Requests.{for_copy_back};
-
-    type Answer = ();
-
-    ghost deed = { λ c. whole (for_copy_back E.KIND c.array.0 (map E.word_of c.elements.now)) };
-
-    fn make(&self, env: &mut Env<S>) -> Result<(), Fault> {
-        env.make(*self)
     }
 }

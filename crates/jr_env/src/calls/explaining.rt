@@ -4,7 +4,6 @@ ghost use Rattle.jr_env.specs.Calling.{CanCall};
 ghost use Rattle.jr_env.specs.Words.{ExplainsOver};
 
 use crate::env::Env;
-use crate::env_call::EnvCall;
 use crate::work::outside;
 use jr_frames::{Explanation, Held, Reference, explain};
 use jr_gate::enter;
@@ -51,20 +50,4 @@ fn explain_whole<S: Steps>(held: &mut Held<S>, target: Reference) -> Result<Expl
     let told = explain(&mut held.steps, &inside, &held.frames, target);
     inside.leave(&mut held.steps);
     Ok(told)
-}
-
-/// What a word is.
-#[derive(Clone, Copy)]
-pub struct Explain(pub Handle);
-
-impl<S: Steps> EnvCall<S> for Explain {
-    ghost use Rattle.jr_env.specs.Words.{explain as explanation};
-
-    type Answer = Explanation;
-
-    ghost deed = { λ c. explanation c.0.0 };
-
-    fn make(&self, env: &mut Env<S>) -> Result<Explanation, Fault> {
-        env.explain(self.0)
-    }
 }

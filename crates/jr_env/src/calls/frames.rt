@@ -1,7 +1,6 @@
 //! The calls of the Java Native Interface for the frames of one thread, over any steps.
 use crate::env::Env;
-use crate::env_call::EnvCall;
-use crate::native_call::{Handed, NativeCall, NativeCaller};
+use crate::native_call::{Handed, NativeCall};
 use crate::work::outside;
 use jr_frames::{Frames, Reference, free_all, pop_frame, resolve};
 use jr_gate::Inside;
@@ -62,38 +61,6 @@ impl<S: Steps> Env<S> {
     }
 }
 
-/// Whether so many more local references can be made.
-#[derive(Clone, Copy)]
-pub struct EnsureLocalCapacity(pub u32);
-
-impl<S: Steps> EnvCall<S> for EnsureLocalCapacity {
-    ghost use Rattle.jr_env.specs.Deeds.{ensure_local_capacity};
-
-    type Answer = ();
-
-    ghost deed = { λ c. ensure_local_capacity c.0 };
-
-    fn make(&self, env: &mut Env<S>) -> Result<(), Fault> {
-        env.ensure_local_capacity(self.0)
-    }
-}
-
-/// A frame in which so many local references can be made.
-#[derive(Clone, Copy)]
-pub struct PushLocalFrame(pub u32);
-
-impl<S: Steps> EnvCall<S> for PushLocalFrame {
-    ghost use Rattle.jr_env.specs.Deeds.{push_local_frame};
-
-    type Answer = ();
-
-    ghost deed = { λ c. push_local_frame c.0 };
-
-    fn make(&self, env: &mut Env<S>) -> Result<(), Fault> {
-        env.push_local_frame(self.0)
-    }
-}
-
 /// The newest frame is taken away, and a local reference to what a handle names, none for NULL, goes to the frame below.
 #[derive(Clone, Copy)]
 pub struct PopLocalFrame(pub Handle);
@@ -134,18 +101,6 @@ impl<S: Steps> NativeCall<S> for PopLocalFrame {
     }
 }
 
-impl<S: Steps> EnvCall<S> for PopLocalFrame {
-    ghost use Rattle.jr_env.specs.Deeds.{pop_local_frame};
-
-    type Answer = Option<Handle>;
-
-    ghost deed = { λ c. pop_local_frame c.0.0 };
-
-    fn make(&self, env: &mut Env<S>) -> Result<Option<Handle>, Fault> {
-        env.make(*self)
-    }
-}
-
 /// All local references of the thread are freed, and one frame is left.
 #[derive(Clone, Copy)]
 pub struct FreeLocals;
@@ -177,17 +132,5 @@ impl<S: Steps> NativeCall<S> for FreeLocals {
     ) -> Result<(), Fault> {
         free_all(steps, inside, frames);
         Ok(())
-    }
-}
-
-impl<S: Steps> EnvCall<S> for FreeLocals {
-    ghost use Rattle.jr_env.specs.Deeds.{free_locals};
-
-    type Answer = ();
-
-    ghost deed = { λ _. free_locals };
-
-    fn make(&self, env: &mut Env<S>) -> Result<(), Fault> {
-        env.make(*self)
     }
 }

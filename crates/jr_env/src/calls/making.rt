@@ -12,9 +12,7 @@ ghost use Rattle.jr_env.specs.Works.{Refers, MakesArray};
 
 use crate::calls::names;
 use crate::calls::objects::element_word;
-use crate::env::Env;
-use crate::env_call::EnvCall;
-use crate::native_call::{Handed, NativeCall, NativeCaller};
+use crate::native_call::{Handed, NativeCall};
 use jr_frames::{Frames, Reference, resolve};
 use jr_gate::Inside;
 use jr_heap::{Numbers, Range, fill, fill_from, publish, reserve};
@@ -59,18 +57,6 @@ impl<S: Steps> NativeCall<S> for NewPlain {
     }
 }
 
-impl<S: Steps> EnvCall<S> for NewPlain {
-    ghost use Rattle.jr_env.specs.Deeds.{new_plain};
-
-    type Answer = Handle;
-
-    ghost deed = { λ _. new_plain };
-
-    fn make(&self, env: &mut Env<S>) -> Result<Handle, Fault> {
-        env.make(*self)
-    }
-}
-
 /// An array of so many object references, each to what a handle names, and a local reference to it.
 #[derive(Clone, Copy)]
 pub struct NewObjectArray(pub u32, pub Handle);
@@ -108,18 +94,6 @@ impl<S: Steps> NativeCall<S> for NewObjectArray {
     }
 }
 
-impl<S: Steps> EnvCall<S> for NewObjectArray {
-    ghost use Rattle.jr_env.specs.Deeds.{new_object_array};
-
-    type Answer = Handle;
-
-    ghost deed = { λ c. new_object_array c.0 c.1.0 };
-
-    fn make(&self, env: &mut Env<S>) -> Result<Handle, Fault> {
-        env.make(*self)
-    }
-}
-
 /// A string of these units, and a local reference to it.
 #[derive(Clone, Copy)]
 pub struct NewString<'a>(pub &'a [u16]);
@@ -151,18 +125,6 @@ impl<S: Steps> NativeCall<S> for NewString<'_> {
     ) -> Result<Handle, Fault> {
         let made = make_string(steps, frames, numbers, self.0)?;
         Ok(Handle::pack(made))
-    }
-}
-
-impl<S: Steps> EnvCall<S> for NewString<'_> {
-    ghost use Rattle.jr_env.specs.Deeds.{new_string};
-
-    type Answer = Handle;
-
-    ghost deed = { λ c. new_string c.0.now };
-
-    fn make(&self, env: &mut Env<S>) -> Result<Handle, Fault> {
-        env.make(*self)
     }
 }
 
@@ -213,18 +175,6 @@ impl<S: Steps, E: Elem> NativeCall<S> for NewArray<E> {
         let kind = E::KIND;
         let made = make_array(steps, frames, numbers, kind, self.length, 0)?;
         Ok(Handle::pack(made))
-    }
-}
-
-impl<S: Steps, E: Elem> EnvCall<S> for NewArray<E> {
-    ghost use Rattle.jr_env.specs.Deeds.{new_array};
-
-    type Answer = Handle;
-
-    ghost deed = { λ c. new_array E.KIND c.length };
-
-    fn make(&self, env: &mut Env<S>) -> Result<Handle, Fault> {
-        env.make(*self)
     }
 }
 

@@ -4,9 +4,7 @@ ghost use Rattle.jr_model.specs.Frames.{Frames as LocalFrames};
 ghost use Rattle.jr_model.specs.Checks.{element_word, object_of_word};
 ghost use Rattle.jr_env.specs.Elements.{element_checks};
 
-use crate::env::Env;
-use crate::env_call::EnvCall;
-use crate::native_call::{Handed, NativeCall, NativeCaller};
+use crate::native_call::{Handed, NativeCall};
 use jr_frames::{Frames, Reference, find, new_local, resolve_both};
 use jr_gate::Inside;
 use jr_heap::{Numbers, header, is_array, is_objects, is_text};
@@ -48,18 +46,6 @@ impl<S: Steps> NativeCall<S> for KindOf {
     }
 }
 
-impl<S: Steps> EnvCall<S> for KindOf {
-    ghost use Rattle.jr_env.specs.Deeds.{kind_of};
-
-    type Answer = Kind;
-
-    ghost deed = { λ c. kind_of c.0.0 };
-
-    fn make(&self, env: &mut Env<S>) -> Result<Kind, Fault> {
-        env.make(*self)
-    }
-}
-
 /// How many elements an array has.
 #[derive(Clone, Copy)]
 pub struct GetArrayLength(pub Handle);
@@ -95,18 +81,6 @@ impl<S: Steps> NativeCall<S> for GetArrayLength {
             return Err(Fault::NotArray);
         }
         Ok(header.length)
-    }
-}
-
-impl<S: Steps> EnvCall<S> for GetArrayLength {
-    ghost use Rattle.jr_env.specs.Deeds.{get_array_length};
-
-    type Answer = u32;
-
-    ghost deed = { λ c. get_array_length c.0.0 };
-
-    fn make(&self, env: &mut Env<S>) -> Result<u32, Fault> {
-        env.make(*self)
     }
 }
 
@@ -148,18 +122,6 @@ impl<S: Steps> NativeCall<S> for GetStringLength {
     }
 }
 
-impl<S: Steps> EnvCall<S> for GetStringLength {
-    ghost use Rattle.jr_env.specs.Deeds.{get_string_length};
-
-    type Answer = u32;
-
-    ghost deed = { λ c. get_string_length c.0.0 };
-
-    fn make(&self, env: &mut Env<S>) -> Result<u32, Fault> {
-        env.make(*self)
-    }
-}
-
 /// A local reference to the element of an array of objects at an index, none where it is NULL.
 #[derive(Clone, Copy)]
 pub struct GetObjectArrayElement(pub Handle, pub u32);
@@ -196,18 +158,6 @@ impl<S: Steps> NativeCall<S> for GetObjectArrayElement {
         let object = object_in(word);
         let made = new_local(steps, inside, frames, object)?;
         Ok(made.map(Handle::pack))
-    }
-}
-
-impl<S: Steps> EnvCall<S> for GetObjectArrayElement {
-    ghost use Rattle.jr_env.specs.Deeds.{get_object_array_element};
-
-    type Answer = Option<Handle>;
-
-    ghost deed = { λ c. get_object_array_element c.0.0 c.1 };
-
-    fn make(&self, env: &mut Env<S>) -> Result<Option<Handle>, Fault> {
-        env.make(*self)
     }
 }
 
@@ -251,18 +201,6 @@ impl<S: Steps> NativeCall<S> for SetObjectArrayElement {
         let word = element_word(object);
         steps.put_element(array, header, self.1, word);
         Ok(())
-    }
-}
-
-impl<S: Steps> EnvCall<S> for SetObjectArrayElement {
-    ghost use Rattle.jr_env.specs.Deeds.{set_object_array_element};
-
-    type Answer = ();
-
-    ghost deed = { λ c. set_object_array_element c.0.0 c.1 c.2.0 };
-
-    fn make(&self, env: &mut Env<S>) -> Result<(), Fault> {
-        env.make(*self)
     }
 }
 

@@ -11,9 +11,7 @@ ghost use Rattle.jr_frames.specs.Ready.{StandsReady};
 ghost use Rattle.jr_env.specs.Requests.{for_delete_reference, for_is_same_object, for_new_reference};
 ghost use Rattle.jr_env.specs.Works.{Serves};
 
-use crate::env::Env;
-use crate::env_call::EnvCall;
-use crate::native_call::{Handed, NativeCall, NativeCaller};
+use crate::native_call::{Handed, NativeCall};
 use jr_frames::{
     Frames, Reference, delete_local, lies_outside, names_kind, new_local, resolve, resolve_both,
     type_of,
@@ -58,19 +56,6 @@ impl<S: Steps> NativeCall<S> for NewGlobalRef {
     }
 }
 
-impl<S: Steps> EnvCall<S> for NewGlobalRef {
-    ghost use Rattle.jr_word.specs.declared.handle.RefKind.TheVariants.{Global};
-    ghost use Rattle.jr_env.specs.Deeds.{new_reference};
-
-    type Answer = Option<Handle>;
-
-    ghost deed = { λ c. new_reference Global c.0.0 };
-
-    fn make(&self, env: &mut Env<S>) -> Result<Option<Handle>, Fault> {
-        env.make(*self)
-    }
-}
-
 /// A weak global reference to what a handle names, none for NULL.
 #[derive(Clone, Copy)]
 pub struct NewWeakGlobalRef(pub Handle);
@@ -102,19 +87,6 @@ impl<S: Steps> NativeCall<S> for NewWeakGlobalRef {
         _numbers: &mut Numbers,
     ) -> Result<Option<Handle>, Fault> {
         new_reference(steps, inside, frames, RefKind::Weak, self.0)
-    }
-}
-
-impl<S: Steps> EnvCall<S> for NewWeakGlobalRef {
-    ghost use Rattle.jr_word.specs.declared.handle.RefKind.TheVariants.{Weak};
-    ghost use Rattle.jr_env.specs.Deeds.{new_reference};
-
-    type Answer = Option<Handle>;
-
-    ghost deed = { λ c. new_reference Weak c.0.0 };
-
-    fn make(&self, env: &mut Env<S>) -> Result<Option<Handle>, Fault> {
-        env.make(*self)
     }
 }
 
@@ -154,18 +126,6 @@ impl<S: Steps> NativeCall<S> for NewLocalRef {
     }
 }
 
-impl<S: Steps> EnvCall<S> for NewLocalRef {
-    ghost use Rattle.jr_env.specs.Deeds.{new_local_ref};
-
-    type Answer = Option<Handle>;
-
-    ghost deed = { λ c. new_local_ref c.0.0 };
-
-    fn make(&self, env: &mut Env<S>) -> Result<Option<Handle>, Fault> {
-        env.make(*self)
-    }
-}
-
 /// Deletes a global reference.
 #[derive(Clone, Copy)]
 pub struct DeleteGlobalRef(pub Handle);
@@ -200,19 +160,6 @@ impl<S: Steps> NativeCall<S> for DeleteGlobalRef {
     }
 }
 
-impl<S: Steps> EnvCall<S> for DeleteGlobalRef {
-    ghost use Rattle.jr_word.specs.declared.handle.RefKind.TheVariants.{Global};
-    ghost use Rattle.jr_env.specs.Deeds.{delete_reference};
-
-    type Answer = ();
-
-    ghost deed = { λ c. delete_reference Global c.0.0 };
-
-    fn make(&self, env: &mut Env<S>) -> Result<(), Fault> {
-        env.make(*self)
-    }
-}
-
 /// Deletes a weak global reference.
 #[derive(Clone, Copy)]
 pub struct DeleteWeakGlobalRef(pub Handle);
@@ -244,19 +191,6 @@ impl<S: Steps> NativeCall<S> for DeleteWeakGlobalRef {
         _numbers: &mut Numbers,
     ) -> Result<(), Fault> {
         delete_reference(steps, inside, RefKind::Weak, self.0)
-    }
-}
-
-impl<S: Steps> EnvCall<S> for DeleteWeakGlobalRef {
-    ghost use Rattle.jr_word.specs.declared.handle.RefKind.TheVariants.{Weak};
-    ghost use Rattle.jr_env.specs.Deeds.{delete_reference};
-
-    type Answer = ();
-
-    ghost deed = { λ c. delete_reference Weak c.0.0 };
-
-    fn make(&self, env: &mut Env<S>) -> Result<(), Fault> {
-        env.make(*self)
     }
 }
 
@@ -298,18 +232,6 @@ impl<S: Steps> NativeCall<S> for DeleteLocalRef {
     }
 }
 
-impl<S: Steps> EnvCall<S> for DeleteLocalRef {
-    ghost use Rattle.jr_env.specs.Deeds.{delete_local_ref};
-
-    type Answer = ();
-
-    ghost deed = { λ c. delete_local_ref c.0.0 };
-
-    fn make(&self, env: &mut Env<S>) -> Result<(), Fault> {
-        env.make(*self)
-    }
-}
-
 /// Whether two handles name one object, or both none.
 #[derive(Clone, Copy)]
 pub struct IsSameObject(pub Handle, pub Handle);
@@ -340,18 +262,6 @@ impl<S: Steps> NativeCall<S> for IsSameObject {
         _numbers: &mut Numbers,
     ) -> Result<bool, Fault> {
         compare(steps, inside, frames, self.0, self.1)
-    }
-}
-
-impl<S: Steps> EnvCall<S> for IsSameObject {
-    ghost use Rattle.jr_env.specs.Deeds.{is_same_object};
-
-    type Answer = bool;
-
-    ghost deed = { λ c. is_same_object c.0.0 c.1.0 };
-
-    fn make(&self, env: &mut Env<S>) -> Result<bool, Fault> {
-        env.make(*self)
     }
 }
 
@@ -386,18 +296,6 @@ impl<S: Steps> NativeCall<S> for GetObjectRefType {
     ) -> Result<u8, Fault> {
         let target = Reference::of(self.0);
         Ok(type_of(steps, inside, frames, target))
-    }
-}
-
-impl<S: Steps> EnvCall<S> for GetObjectRefType {
-    ghost use Rattle.jr_env.specs.Deeds.{get_object_ref_type};
-
-    type Answer = u8;
-
-    ghost deed = { λ c. get_object_ref_type c.0.0 };
-
-    fn make(&self, env: &mut Env<S>) -> Result<u8, Fault> {
-        env.make(*self)
     }
 }
 
