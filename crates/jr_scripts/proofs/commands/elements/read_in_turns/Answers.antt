@@ -1,0 +1,7 @@
+use Rattle.std.proofs.Common.{◌≡◌, rules, of_calls, refl}
+use Rattle.jr_scripts.proofs.Retries.{does_tried}
+use Rattle.jr_scripts.proofs.commands.elements.read_in_turns.Goals as goal
+
+pub returns : goal.returns
+returns g c = does_tried (λ x. x.1.held.steps) (λ x. x.1.held.frames.frames) (λ x. x.0.0.now ≡ c.args.at)
+    (λ x y r s o. search (rules, of_calls)) refl c.requires c.in_turns.ensures.1
