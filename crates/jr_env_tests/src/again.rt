@@ -31,7 +31,7 @@ fn array_behind<S: Steps>(
     length: u32,
 ) -> Result<Result<Handle, Fault>, Fault> {
     let mut marker = Marker::new(alloc, env.held.steps.config())?;
-    Ok(env.retry_collecting(&mut marker, &NewArray::<i32>::of(length), Patience::of(3)))
+    Ok(env.retry_collecting(&mut marker, NewArray::<i32>::of(length), Patience::of(3)))
 }
 
 /// A room of two objects and four words.
@@ -43,18 +43,18 @@ const FEW: Config = Config {
 
 /// An array that leaves too few words for another. The reference to it is deleted.
 fn fill<S: Steps>(rt: &impl Abort, env: &mut Env<S>) -> Result<(), Fail> {
-    let first = env.retry(&NewArray::<i32>::of(3), Patience::of(0))?;
-    let full = env.retry(&NewArray::<i32>::of(2), Patience::of(3));
+    let first = env.retry(NewArray::<i32>::of(3), Patience::of(0))?;
+    let full = env.retry(NewArray::<i32>::of(2), Patience::of(3));
     assert!(rt; is_refused(full, Some(Fault::SpaceFull(3))));
-    env.retry(&DeleteLocalRef(first), Patience::of(3))?;
+    env.retry(DeleteLocalRef(first), Patience::of(3))?;
     Ok(())
 }
 
 /// An array is written, and the reference to it deleted.
 fn write<S: Steps>(rt: &impl Abort, env: &mut Env<S>, array: Handle) -> Result<(), Fail> {
-    env.retry(&SetArrayRegion(array, 1, &[7]), Patience::of(0))?;
+    env.retry(SetArrayRegion(array, 1, &[7]), Patience::of(0))?;
     has_ints(rt, env, array, [0, 7])?;
-    env.retry(&DeleteLocalRef(array), Patience::of(3))?;
+    env.retry(DeleteLocalRef(array), Patience::of(3))?;
     Ok(())
 }
 

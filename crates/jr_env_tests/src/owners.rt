@@ -30,7 +30,7 @@ type Queue = Mutex<Vec<Handle>>;
 
 /// Shares an array, and takes over one that some thread has shared: a weak reference to it is left. The length of what it took over. Each of the two others may reserve words in between once, so the array is made again.
 fn takes_over<R: Wait>(rt: &R, env: &mut OwnedEnv, queue: &Queue) -> Result<u32, Fault> {
-    let array = env.retry(&NewArray::<i32>::of(3), Patience::of(3))?;
+    let array = env.retry(NewArray::<i32>::of(3), Patience::of(3))?;
     let shared = Handle::or_null(env.new_global_ref(array)?);
     let Ok(()) = queue.lock(rt).push(shared) else {
         return Err(Fault::Memory);

@@ -42,7 +42,7 @@ const BEHIND_ALL: Summary = Summary {
 
 /// Makes an array and a global reference to it, and leaves the local one: the number of the thread.
 fn works(env: &mut OwnedEnv) -> Result<u8, Fault> {
-    let array = env.retry(&NewArray::<i32>::of(3), Patience::LONG)?;
+    let array = env.retry(NewArray::<i32>::of(3), Patience::LONG)?;
     env.new_global_ref(array)?;
     Ok(env.thread())
 }

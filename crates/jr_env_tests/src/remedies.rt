@@ -49,11 +49,11 @@ fn gives_the_words_back<S: Steps>(
 ) -> Result<(), Fail> {
     let mut marker = env.marker(alloc)?;
     let all = NewArray::<i32>::of(4);
-    let first = env.retry_collecting_in_turn(&mut marker, 1, &all, FEW)?;
-    let full = env.retry_collecting_in_turn(&mut marker, 1, &all, FEW);
+    let first = env.retry_collecting_in_turn(&mut marker, 1, all, FEW)?;
+    let full = env.retry_collecting_in_turn(&mut marker, 1, all, FEW);
     assert!(rt; is_refused(full, Some(Fault::SpaceFull(4))));
     env.delete_local_ref(first)?;
-    let second = env.retry_collecting_in_turn(&mut marker, 1, &all, FEW)?;
+    let second = env.retry_collecting_in_turn(&mut marker, 1, all, FEW)?;
     assert_eq!(rt; env.get_array_length(second)?, 4);
     Ok(())
 }

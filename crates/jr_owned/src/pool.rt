@@ -170,7 +170,7 @@ impl<'p> Attached<'p> {
         ensures held { IfErr result (λ e. Does self.entry.env.value e.0.env.value (made_again patience.waits_for_room patience.more free_locals) (Err e.1)) }
     {
         let Attached { mut env, mut place } = self;
-        if let Err(fault) = env.retry(&FreeLocals, patience) {
+        if let Err(fault) = env.retry(FreeLocals, patience) {
             return Err((Attached { env, place }, fault));
         }
         *place = Some(parked(env));

@@ -85,17 +85,6 @@ module _ {S : Type 0} {facts : S → Facts} where
             inr (y.0, y.1, subst (λ r. Tried one turns p r q) (formed_err form z.0 y.0 z.1) z.2))
       ])
 
-  -- the number of an element, by the call of its kind
-  pub does_load : {a b c : S} {f g h : Frames} {answer : Result Reply Fault} (turns w i : ℕ) (k : Kind) (n : NumberKind)
-      → k ≡ kind_numbered n → DoesDeed facts a b f g (tried turns (kind_of w)) (Ok k)
-      → DoesDeed facts b c g h (answered_by (λ x. replies.Value x) (tried turns
-      (answered_by (λ words. first_number (kind_numbered n) words) (get_array_region (kind_numbered n) w i 1)))) answer
-      → DoesDeed facts a c f h (loading turns w i) answer
-  does_load turns w i k n is first more =
-      does_of_kind turns w k (kind_numbered n) (loading_as turns w i) is (numbered_has n) first
-      (does_tried_form turns (λ words. first_number (kind_numbered n) words) (λ x. replies.Value x)
-      (get_array_region (kind_numbered n) w i 1) more)
-
   -- a number is stored, by the call of its kind
   pub does_store : {a b c : S} {f g h : Frames} {answer : Result Reply Fault} (turns w i : ℕ) (v : ℤ) (k : Kind)
       (n : NumberKind) (x : Element) → k ≡ kind_numbered n → kind_of_element x ≡ kind_numbered n
@@ -117,15 +106,6 @@ module _ {S : Type 0} {facts : S → Facts} where
       does_of_kind turns w k (kind_numbered n) (storing_as turns w i v) is (numbered_has n) first
       (did_decline (λ word. tried turns (set_array_region (kind_numbered n) w i (word ∷ [])) >> done replies.Done) refl
       (λ k m. m) word)
-
-  -- the number of an element, by the call of a kind that is known
-  pub does_number_of : {a b : S} {f g : Frames} {answer : Result ℤ Fault} (w i : ℕ) (n m : NumberKind) → n ≡ m
-      → DoesOutside facts a b f g
-      (answered_by (λ words. first_number (kind_numbered m) words) (get_array_region (kind_numbered m) w i 1)) answer
-      → DoesOutside facts a b f g
-      (answered_by (λ words. first_number (kind_numbered n) words) (get_array_region (kind_numbered n) w i 1)) answer
-  does_number_of {a} {b} {f} {g} {answer} w i n m is = subst (λ x. DoesOutside facts a b f g (answered_by
-      (λ words. first_number (kind_numbered x) words) (get_array_region (kind_numbered x) w i 1)) answer) (sym is)
 
   -- a part of one element was read
   pub does_read_one : {a b : S} {f g : Frames} {answer : Result (List ℕ) Fault} (k : Kind) (w i n : ℕ) → n ≡ 1

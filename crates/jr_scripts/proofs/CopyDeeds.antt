@@ -1,7 +1,7 @@
 -- What calls make up a command about copied elements, for whatever was known.
-use Rattle.std.proofs.Common.{MatchOption, ◌≡◌, ◌∙◌, ℕ, ℤ, List, Option, Some, None}
+use Rattle.std.proofs.Common.{MatchOption, MatchResult, map, ◌≡◌, ◌∙◌, ℕ, ℤ, List, Option, Some, None}
 use Rattle.std.proofs.Common.{Result, Ok, Err, ap, sym, subst, refl, inl, inr}
-use Rattle.std.specs.Result.{IsErrAnd}
+use Rattle.std.specs.Result.{IsErrAnd, IsOkAnd}
 use Rattle.std.specs.Option.{IsSomeAnd}
 use Rattle.std.proofs.lemmas.Result.{err_from_is_err_and}
 use Rattle.jr_word.specs.declared.fault.Fault.{Fault}
@@ -11,12 +11,10 @@ use Rattle.jr_model.specs.declared.frames.Mode.TheVariants.{Copy, Commit, Abort}
 use Rattle.jr_model.specs.Frames.{Frames}
 use Rattle.jr_steps.specs.Knowing.{Facts}
 use Rattle.jr_elements.specs.Copies.{answer_in, kept}
-use Rattle.jr_env.specs.Requests.{for_get_array_elements, told_by}
+use Rattle.jr_env.specs.Requests.{Request, told_by}
 use Rattle.jr_env.specs.Deeds.{Deed, DoesDeed, DoesOutside, answered_by, decided, done, release_answer, whole}
 use Rattle.jr_env.specs.Deeds.{release_array_elements, get_array_elements, kind_of, ◌>>◌, ◌>>=◌}
-use Rattle.jr_env.proofs.Carrying.{did_answer, did_refuse, does_nothing}
-use Rattle.jr_env.proofs.EnvCalls.{does_answer, does_refuse}
-use Rattle.jr_env.proofs.Served.{does_kept}
+use Rattle.jr_env.proofs.Carrying.{did_answer, did_more, did_refuse, does_nothing}
 use Rattle.jr_syntax.specs.declared.command.Command.TheVariants as commands
 use Rattle.jr_syntax.specs.declared.verb.OnNameAt.{OnNameAt}
 use Rattle.jr_syntax.specs.declared.verb.OnNameAt.TheVariants as on_name_at
@@ -35,45 +33,40 @@ use Rattle.jr_scripts.specs.Commands.{copying, copying_as, deed, tried}
 use Rattle.jr_scripts.specs.Text.{buffers_after, elements_left, left_by}
 use Rattle.jr_scripts.specs.Advancing.{got_by, put_by}
 use Rattle.jr_scripts.proofs.Retries.{IsHandedOn}
-use Rattle.jr_scripts.proofs.CommandDeeds.{does_of_kind, does_tried_form, numbered_has}
+use Rattle.jr_scripts.proofs.FormedTries.{tried_told}
 
-module _ {S : Type 0} {facts : S → Facts} where
-  -- a copy of elements, by the call of their kind
-  pub does_copy : {a b c : S} {f g h : Frames} {answer : Result Reply Fault} (turns w : ℕ) (k : Kind) (n : NumberKind)
-      → k ≡ kind_numbered n → DoesDeed facts a b f g (tried turns (kind_of w)) (Ok k)
-      → DoesDeed facts b c g h (answered_by (λ x. replies.Copied x) (tried turns
-      (answered_by (λ words. copy_of (kind_numbered n) words) (get_array_elements (kind_numbered n) w)))) answer
-      → DoesDeed facts a c f h (copying turns w) answer
-  does_copy turns w k n is first more =
-      does_of_kind turns w k (kind_numbered n) (copying_as turns w) is (numbered_has n) first
-      (does_tried_form turns (λ words. copy_of (kind_numbered n) words) (λ x. replies.Copied x)
-      (get_array_elements (kind_numbered n) w) more)
+-- a call that answers in a form of the code's own, made again where it was raced or barred
+pub does_told : {S A B C : Type 0} {facts : S → Facts} {a b : S} {f g : Frames} {answer : Result C Fault} (turns : ℕ)
+    (form : A → B) (after : B → C) (request : Request B)
+    → DoesDeed facts a b f g (answered_by (λ x. after (form x)) (tried turns (whole (told_by form request)))) answer
+    → DoesDeed facts a b f g (answered_by after (tried turns (whole request))) answer
+does_told turns form after request = did_more (λ p q d.
+    elim d [
+      | inl x ↦ inl (form x.0, x.1, tried_told form (whole request) x.2, x.3)
+      | inr y ↦ inr (y.0, y.1, tried_told form (whole request) y.2)
+    ])
 
-  module _ {a b : S} {f g : Frames} (w : ℕ) (n m : NumberKind) (is : n ≡ m) where
-    same_kind : (answer : Result Copied Fault) → DoesOutside facts a b f g
-        (answered_by (λ words. copy_of (kind_numbered m) words) (get_array_elements (kind_numbered m) w)) answer
-        → DoesOutside facts a b f g
-        (answered_by (λ words. copy_of (kind_numbered n) words) (get_array_elements (kind_numbered n) w)) answer
-    same_kind answer = subst (λ (x : NumberKind). DoesOutside facts a b f g (answered_by
-        (λ words. copy_of (kind_numbered x) words) (get_array_elements (kind_numbered x) w)) answer) (sym is)
-
-    -- a copy by the call of a kind that is known
-    pub does_copied : {A : Type 0} {form : A → List ℕ} (x : A) (copied : Copied)
-        → copied ≡ copy_of (kind_numbered m) (form x)
-        → DoesOutside facts a b f g (whole (told_by form (for_get_array_elements (kind_numbered m) w))) (Ok x)
-        → DoesOutside facts a b f g
-        (answered_by (λ words. copy_of (kind_numbered n) words) (get_array_elements (kind_numbered n) w)) (Ok copied)
-    does_copied {form = form} x copied made d = same_kind (Ok copied) (does_answer
-        (λ words. copy_of (kind_numbered m) words) made (does_kept form (for_get_array_elements (kind_numbered m) w) d))
-
-    pub does_not_copy : {A : Type 0} {form : A → List ℕ} (e : Fault) (answer : Result Copied Fault)
-        → IsErrAnd answer (λ y. y ≡ e)
-        → DoesOutside facts a b f g (whole (told_by form (for_get_array_elements (kind_numbered m) w))) (Err e)
-        → DoesOutside facts a b f g
-        (answered_by (λ words. copy_of (kind_numbered n) words) (get_array_elements (kind_numbered n) w)) answer
-    does_not_copy {form = form} e answer refused d =
-        same_kind answer (does_refuse (λ words. copy_of (kind_numbered m) words) answer refused
-        (does_kept form (for_get_array_elements (kind_numbered m) w) d))
+-- the elements of an array were copied by the call of a kind that is known, and the reply has them
+pub does_copied : {S V : Type 0} {facts : S → Facts} {a b : S} {f g : Frames} (turns w : ℕ) (k : Kind)
+    (word_of : V → ℕ) (wrap : List V → CopiedElements)
+    → ((vs : List V) → copied_in (wrap vs) ≡ copied_as k word_of vs) → (r : Result (List V) Fault)
+    (mapped : Result CopiedElements Fault) (answer : Result Reply Fault)
+    → DoesDeed facts a b f g (tried turns (get_array_elements k w)) (answer_in (map word_of) r)
+    → MatchResult r (λ x. IsOkAnd mapped (λ y. y ≡ wrap x)) (λ e. mapped ≡ Err e)
+    → answer ≡ answer_in (λ x. replies.Copied (copied_in x)) mapped → DoesDeed facts a b f g (copying_as turns w k) answer
+does_copied turns w k word_of wrap same (Ok x) (Ok y) answer d is told = did_more (λ p q t. inl (
+  map word_of x,
+  q,
+  t,
+  (
+    told ∙ ap (λ (z : CopiedElements). Ok (replies.Copied (copied_in z))) is
+        ∙ ap (λ (z : Copied). Ok (replies.Copied z)) (same x),
+    refl,
+  ),
+)) d
+does_copied turns w k word_of wrap same (Ok x) (Err e) answer d is told = absurd is
+does_copied turns w k word_of wrap same (Err e) mapped answer d is told =
+    did_more (λ p q t. inr (e, told ∙ ap (answer_in (λ x. replies.Copied (copied_in x))) is, t)) d
 
 -- elements that a release leaves
 pub some_left : {V : Type 0} (k : Kind) (word_of : V → ℕ) (mode : Mode) (answer : Result Reply Fault)
@@ -105,17 +98,6 @@ module _ {S : Type 0} {facts : S → Facts} where
       (tried turns (release_array_elements z.kind w z.words mode) >> done replies.Done) handed) is
       (subst (λ z. DoesDeed facts a b f g
       (tried turns (release_array_elements x.kind w x.words mode) >> done replies.Done) z) (sym same) d)
-
-  -- the answer of a call is what was read of it
-  pub does_read : {A : Type 0} {a b : S} {f g : Frames} {deed : Deed A} (x y : A) → y ≡ x
-      → DoesOutside facts a b f g deed (Ok x) → DoesOutside facts a b f g deed (Ok y)
-  does_read {A} {a} {b} {f} {g} {deed} x y is = subst (λ z. DoesOutside facts a b f g deed (Ok z)) (sym is)
-
-  -- its refusal is handed on
-  pub does_not_read : {A : Type 0} {a b : S} {f g : Frames} {deed : Deed A} (e : Fault) (answer : Result A Fault)
-      → IsErrAnd answer (λ y. y ≡ e) → DoesOutside facts a b f g deed (Err e) → DoesOutside facts a b f g deed answer
-  does_not_read {A} {a} {b} {f} {g} {deed} e answer refused = let why = err_from_is_err_and answer refused in
-      subst (λ z. DoesOutside facts a b f g deed z) (sym (why.1 ∙ ap (λ (v : Fault). Err v) why.2))
 
   -- what was decided without a call, and is answered
   pub does_decide : {A B : Type 0} {a : S} {f : Frames} (r : Result A Fault) (form : A → B) (answer : Result B Fault)

@@ -39,3 +39,10 @@ module _ {A B C : Type 0} (form : A → B) (after : B → C) (one : Deed A) (n :
   formed_ok y (Ok x) is t d = let same : y ≡ form x = (let e = is in cc) in
       inl (x, mid, t, (d.0 ∙ ap (λ z. Ok (after z)) same, d.1))
   formed_ok y (Err e) is t d = absurd (let bad = is in cc)
+
+-- what answered in a form of the code's own
+pub tried_told : {A B : Type 0} (form : A → B) (one : Deed B) {n : ℕ} {p q : ThreadState} {r : Result A Fault}
+    → Tried (λ old answer new. one old (answer_in form answer) new) n p r q → Tried one n p (answer_in form r) q
+tried_told form one (answered o is) = answered o (worth_formed false form _ ∙ is)
+tried_told form one (again o is t) = again o (worth_formed false form _ ∙ is) (tried_told form one t)
+tried_told form one gave_up = gave_up

@@ -5,8 +5,13 @@ use Rattle.std.specs.Result.{IsErrAnd}
 use Rattle.std.proofs.lemmas.Result.{err_from_is_err_and}
 use Rattle.jr_word.specs.declared.fault.Fault.{Fault}
 use Rattle.jr_word.specs.declared.fault.Fault.TheVariants as fault
+use Rattle.jr_model.specs.declared.event.Role.TheVariants.{Outside}
+use Rattle.jr_model.specs.Frames.{Frames}
+use Rattle.jr_steps.specs.Knowing.{Facts}
 use Rattle.jr_env.specs.declared.patience.Patience.{Patience}
+use Rattle.jr_env.specs.Deeds.{Deed, DoesDeed, DoesOutside}
 use Rattle.jr_env.specs.Tries.{MadeAgain, settled, once_more, the_last, is_tried_again}
+use Rattle.jr_env.proofs.Carrying.{did_more, does_both, does_nothing}
 use Rattle.jr_scripts.specs.Tries.{IsPatienceFor, Tried, answered, again, gave_up, last_refusal}
 
 -- what is handed on of an answer where there are no more turns
@@ -64,9 +69,22 @@ module _ {M A : Type 0} {one : M → Result A Fault → M → Type 0} where
       (sym (why.1 ∙ ap (λ (v : Fault). Err v) (why.2 ∙ none.1))) gave_up)
 
 -- what each try leaves as it was is so at the end
-pub tries_leave : {M A N : Type 0} {one : M → Result A Fault → M → Type 0} {waits : Bool} {n : ℕ} {old new : M}
+pub tries_leave : {M A N : Type 0} {one : M → Result A Fault → M → Type 0} {n : ℕ} {old new : M}
     {answer : Result A Fault} (part : M → N) → ((x y : M) (r : Result A Fault) → one x r y → part y ≡ part x)
-    → MadeAgain waits one n old answer new → part new ≡ part old
-tries_leave part turn (settled o is) = turn _ _ _ o
-tries_leave part turn (once_more o is t) = tries_leave part turn t ∙ turn _ _ _ o
-tries_leave part turn (the_last o) = turn _ _ _ o
+    → Tried one n old answer new → part new ≡ part old
+tries_leave part turn (answered o is) = turn _ _ _ o
+tries_leave part turn (again o is t) = tries_leave part turn t ∙ turn _ _ _ o
+tries_leave part turn gave_up = refl
+
+-- a call in turns did its deed in turns, as long as what `kept` says stays so
+module _ {S A M : Type 0} {facts : S → Facts} {deed : Deed A} {one : M → Result A Fault → M → Type 0} (steps : M → S)
+    (frames : M → Frames) (kept : M → Type 0) (turn : (x y : M) (r : Result A Fault) → kept x → one x r y
+    → DoesOutside facts (steps x) (steps y) (frames x) (frames y) deed r × kept y) where
+  pub does_tried : {n : ℕ} {old new : M} {answer : Result A Fault} → kept old
+      → (facts (steps old)).stands.role ≡ Outside → Tried one n old answer new
+      → DoesDeed facts (steps old) (steps new) (frames old) (frames new) (Tried deed n) answer
+  does_tried k out (answered o is) = did_more (λ p q d. answered d is) ((turn _ _ _ k o).0.does out)
+  does_tried k out (again o is t) =
+      let x = turn _ _ _ k o in
+      does_both (λ p m q d e. again d is e) (x.0.does out) (does_tried x.1 x.0.outside t)
+  does_tried k out gave_up = does_nothing (λ p. gave_up)

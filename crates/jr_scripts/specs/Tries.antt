@@ -1,5 +1,7 @@
 -- Calls of scripts that are made again.
 use Rattle.std.specs.Prelude.{◌≡◌, ℕ, suc, true, false, if◌then◌else◌, Result, Ok, Err}
+use Rattle.std.specs.Fn.{CalledAtMut, Mut}
+use denote.Ref.{MutBor}
 use Rattle.jr_word.specs.declared.fault.Fault.{Fault}
 use Rattle.jr_word.specs.declared.fault.Fault.TheVariants as fault
 use Rattle.jr_env.specs.declared.patience.Patience.{Patience}
@@ -12,6 +14,12 @@ pub data Tried {M A : Type 0} (one : M → Result A Fault → M → Type 0) : �
   again : {n : ℕ} {old mid new : M} {once answer : Result A Fault} → one old once mid → is_tried_again once ≡ true
       → Tried one n mid answer new → Tried one (suc n) old answer new
   gave_up : {old : M} → Tried one 0 old (Err fault.Turns) old
+
+-- a closure was called up to so many times, each call
+-- at what the one before left behind the `&mut` and of the closure
+abbrev pub CalledInTurns : {F E T : Type 0} → Mut F (MutBor E × Unit {0}) (Result T Fault × (MutBor E × Unit {0})) → ℕ
+    → F × E → Result T Fault → F × E → Type 0
+CalledInTurns g turns = Tried (λ old answer new. CalledAtMut g old.0 old.1 answer new.0 new.1) turns
 
 -- the patience for so many turns: a turn, and as many tries more as there are turns behind it;
 -- and where there is none the turns ran out

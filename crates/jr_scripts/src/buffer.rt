@@ -42,13 +42,6 @@ impl Model for Buffer {
     ghost view = { λ b. copied_in b.elements };
 }
 
-/// A buffer of copied elements.
-pub fn buffer_of(elements: CopiedElements) -> Buffer
-    ensures { result ≡ copied_in elements }
-{
-    Buffer { elements }
-}
-
 /// The number at an index of copied elements.
 fn number_at<E: Number>(elements: &Elements<E>, index: u32) -> Result<i64, Fault>
     ensures { result ≡ number_in (copied_as E.KIND E.word_of elements.now) index }

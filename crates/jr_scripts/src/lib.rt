@@ -7,7 +7,6 @@ mod ask;
 mod binding;
 mod board;
 mod buffer;
-mod calls;
 mod commands;
 mod copied_units;
 mod gathering;

@@ -4,37 +4,34 @@ ghost use Rattle.jr_syntax.specs.declared.command.Command.TheVariants as command
 ghost use Rattle.jr_syntax.specs.declared.verb.OnBoth.TheVariants.{Same};
 ghost use Rattle.jr_syntax.specs.declared.verb.SetAt.TheVariants.{Set};
 ghost use Rattle.jr_scripts.specs.declared.reply.Reply.TheVariants as replies;
-ghost use Rattle.jr_env.specs.Deeds.{answered_by};
+ghost use Rattle.jr_env.specs.Deeds.{answered_by, new_array};
 ghost use Rattle.jr_env.specs.Collections.{FitsRoom};
 ghost use Rattle.jr_env.specs.Envs.{WasDone, IsOutside};
 ghost use Rattle.std.specs.Prelude.{◌≡◌, None};
 ghost use Rattle.jr_weak.specs.Markers.{room_of};
 ghost use Rattle.jr_scripts.specs.Advancing.{answer_without_call, DidCommand};
 ghost use Rattle.jr_scripts.specs.Text.{buffers_after};
-ghost use Rattle.jr_scripts.specs.Commands.{deletion, type_of as type_deed, made_of, making_room, filling, referring_to, deed};
+ghost use Rattle.jr_scripts.specs.Commands.{deletion, type_of as type_deed, kind_made, made_of, makes_new, making_room, filling, referring_to, deed};
 
-use crate::ask::ask;
+use crate::ask::{ask, in_turns};
 use crate::board::Board;
-use crate::calls::copies::GetStringChars;
-use crate::calls::objects::NewArray;
 use crate::commands::collections::{collect, collect_announced};
-use crate::commands::copies::{copy, get_by, put_by, release};
+use crate::commands::copies::{copy, copy_units, get_by, put_by, release};
 use crate::commands::elements::{load, store};
 use crate::commands::posting::{post, wait};
 use crate::commands::regions::open_region;
 use crate::names::Names;
 use crate::region::Region;
-use crate::reply::Reply;
+use crate::reply::{IntoReply, Reply};
 use jr_env::Env;
 use jr_env::calls::{
-    DeleteGlobalRef, DeleteLocalRef, DeleteWeakGlobalRef, EnsureLocalCapacity, GetArrayLength,
-    GetObjectArrayElement, GetObjectRefType, GetStringLength, IsSameObject, NewGlobalRef,
-    NewLocalRef, NewObjectArray, NewPlain, NewString, NewWeakGlobalRef, PopLocalFrame,
-    PushLocalFrame, SetObjectArrayElement,
+    DeleteGlobalRef, DeleteLocalRef, DeleteWeakGlobalRef, GetArrayLength, GetObjectArrayElement,
+    GetObjectRefType, GetStringLength, IsSameObject, NewArray, NewGlobalRef, NewLocalRef,
+    NewObjectArray, NewPlain, NewString, NewWeakGlobalRef, PopLocalFrame, SetObjectArrayElement,
 };
 use jr_frames::Reference;
 use jr_steps::Steps;
-use jr_syntax::{Command, Make, MakeFrom, Name, On, Reference as Target, WithCount};
+use jr_syntax::{Command, Make, MakeFrom, MakeSized, Name, On, Reference as Target, WithCount};
 use jr_weak::Marker;
 use jr_word::{Fault, Handle, RefKind};
 use std::alloc::Global;
@@ -45,12 +42,12 @@ fn delete<S: Steps>(env: &mut Env<S>, turns: u64, handle: Handle) -> Result<Repl
     ensures { WasDone env.old env.new (answered_by (λ _. replies.Done) (deletion turns handle.0)) result }
 {
     match Reference::of(handle) {
-        Reference::Null => ask(env, turns, &DeleteLocalRef(handle)),
+        Reference::Null => ask(env, turns, DeleteLocalRef(handle)),
         Reference::Malformed => Err(Fault::Stale),
         Reference::Parts(parts) => match parts.kind {
-            RefKind::Local => ask(env, turns, &DeleteLocalRef(handle)),
-            RefKind::Global => ask(env, turns, &DeleteGlobalRef(handle)),
-            RefKind::Weak => ask(env, turns, &DeleteWeakGlobalRef(handle)),
+            RefKind::Local => ask(env, turns, DeleteLocalRef(handle)),
+            RefKind::Global => ask(env, turns, DeleteGlobalRef(handle)),
+            RefKind::Weak => ask(env, turns, DeleteWeakGlobalRef(handle)),
         },
     }
 }
@@ -61,7 +58,7 @@ fn type_of<S: Steps>(env: &mut Env<S>, turns: u64, referent: Option<Handle>) -> 
     ensures { WasDone env.old env.new (answered_by (λ t. replies.Type t) (type_deed turns referent)) result }
 {
     match referent {
-        Some(handle) => ask(env, turns, &GetObjectRefType(handle)),
+        Some(handle) => ask(env, turns, GetObjectRefType(handle)),
         None => Ok(Reply::Type(0)),
     }
 }
@@ -77,8 +74,34 @@ fn with_count<S: Steps>(
     ensures { WasDone env.old env.new (making_room turns verb count) result }
 {
     match verb {
-        WithCount::Push => ask(env, turns, &PushLocalFrame(count)),
-        WithCount::Ensure => ask(env, turns, &EnsureLocalCapacity(count)),
+        WithCount::Push => {
+            let pushed = in_turns(env, turns, |env| env.push_local_frame(count))?;
+            Ok(pushed.into_reply())
+        }
+        WithCount::Ensure => {
+            let ensured = in_turns(env, turns, |env| env.ensure_local_capacity(count))?;
+            Ok(ensured.into_reply())
+        }
+    }
+}
+
+/// Makes an array of the kind of a verb, of so many elements, each zero.
+fn make_sized<S: Steps>(
+    env: &mut Env<S>,
+    turns: u64,
+    verb: MakeSized,
+    length: u32,
+) -> Result<Reply, Fault>
+    requires { IsOutside env.old }
+    ensures { WasDone env.old env.new (makes_new turns (new_array (kind_made verb) length)) result }
+{
+    match verb {
+        MakeSized::Boolean => ask(env, turns, NewArray::<bool>::of(length)),
+        MakeSized::Byte => ask(env, turns, NewArray::<i8>::of(length)),
+        MakeSized::Char => ask(env, turns, NewArray::<u16>::of(length)),
+        MakeSized::Short => ask(env, turns, NewArray::<i16>::of(length)),
+        MakeSized::Int => ask(env, turns, NewArray::<i32>::of(length)),
+        MakeSized::Long => ask(env, turns, NewArray::<i64>::of(length)),
     }
 }
 
@@ -94,7 +117,7 @@ fn fill<S: Steps>(
     ensures { WasDone env.old env.new (filling turns names.now length target.now) result }
 {
     let initial = names.wanted(target)?;
-    ask(env, turns, &NewObjectArray(length, initial))
+    ask(env, turns, NewObjectArray(length, initial))
 }
 
 /// Makes a reference to an element of an array of objects.
@@ -109,7 +132,7 @@ fn get_at<S: Steps>(
     ensures { WasDone env.old env.new (referring_to turns names.now target.now index) result }
 {
     let array = names.wanted(target)?;
-    ask(env, turns, &GetObjectArrayElement(array, index))
+    ask(env, turns, GetObjectArrayElement(array, index))
 }
 
 /// Makes something of what a reference names.
@@ -126,10 +149,10 @@ fn make_of<S: Steps>(
 {
     let handle = names.wanted(target)?;
     match verb {
-        MakeFrom::Global => ask(env, turns, &NewGlobalRef(handle)),
-        MakeFrom::Weak => ask(env, turns, &NewWeakGlobalRef(handle)),
-        MakeFrom::Local => ask(env, turns, &NewLocalRef(handle)),
-        MakeFrom::Pop => ask(env, turns, &PopLocalFrame(handle)),
+        MakeFrom::Global => ask(env, turns, NewGlobalRef(handle)),
+        MakeFrom::Weak => ask(env, turns, NewWeakGlobalRef(handle)),
+        MakeFrom::Local => ask(env, turns, NewLocalRef(handle)),
+        MakeFrom::Pop => ask(env, turns, PopLocalFrame(handle)),
         MakeFrom::Elements => copy(alloc, env, turns, handle),
     }
 }
@@ -149,9 +172,9 @@ fn on<S: Steps>(
     match verb {
         On::Drop => delete(env, turns, names.wanted(target)?),
         On::Type => type_of(env, turns, names.referent(target)?),
-        On::Len => ask(env, turns, &GetArrayLength(names.wanted(target)?)),
-        On::TextLength => ask(env, turns, &GetStringLength(names.wanted(target)?)),
-        On::Chars => ask(env, turns, &GetStringChars(alloc, names.wanted(target)?)),
+        On::Len => ask(env, turns, GetArrayLength(names.wanted(target)?)),
+        On::TextLength => ask(env, turns, GetStringLength(names.wanted(target)?)),
+        On::Chars => copy_units(alloc, env, turns, names.wanted(target)?),
     }
 }
 
@@ -169,7 +192,7 @@ fn set_at<S: Steps>(
 {
     let array = names.wanted(target)?;
     let value = names.wanted(value)?;
-    ask(env, turns, &SetObjectArrayElement(array, index, value))
+    ask(env, turns, SetObjectArrayElement(array, index, value))
 }
 
 /// Whether two references are to one object.
@@ -185,7 +208,7 @@ fn same<S: Steps>(
 {
     let left = names.wanted(left)?;
     let right = names.wanted(right)?;
-    ask(env, turns, &IsSameObject(left, right))
+    ask(env, turns, IsSameObject(left, right))
 }
 
 /// What a command does, where no region stands, that makes no call: one about an element of what a name stands for. E19 for any other.
@@ -227,7 +250,7 @@ pub fn perform<S: Steps, B: Board<S>>(
 {
     match command {
         Command::Make { verb, name } => match verb {
-            Make::Plain => ask(env, turns, &NewPlain),
+            Make::Plain => ask(env, turns, NewPlain),
             Make::Wait => wait(board, env, words, name, turns),
         },
         Command::MakeFrom { verb, target, .. } => make_of(alloc, env, names, turns, *verb, target),
@@ -235,8 +258,8 @@ pub fn perform<S: Steps, B: Board<S>>(
         Command::OnBoth { left, right, .. } => same(env, names, turns, left, right),
         Command::OnName { name, .. } => post(board, env, name, names.word(name)),
         Command::WithCount { verb, count } => with_count(env, turns, *verb, *count),
-        Command::MakeSized { verb, length, .. } => ask(env, turns, &NewArray(*verb, *length)),
-        Command::MakeText { units, .. } => ask(env, turns, &NewString(units.as_slice())),
+        Command::MakeSized { verb, length, .. } => make_sized(env, turns, *verb, *length),
+        Command::MakeText { units, .. } => ask(env, turns, NewString(units.as_slice())),
         Command::MakeFilled { length, target, .. } => fill(env, names, turns, *length, target),
         Command::MakeAt { target, index, .. } => get_at(env, names, turns, target, *index),
         Command::OnAt { target, index, .. } => load(env, turns, names.wanted(target)?, *index),

@@ -116,22 +116,12 @@ impl IntoReply for i64 {
     }
 }
 
-impl IntoReply for Buffer {
-    ghost use Rattle.jr_scripts.specs.declared.reply.Reply.TheVariants.{Copied};
-
-    ghost reply = { λ b. Copied b };
-
-    fn into_reply(self) -> Reply {
-        Reply::Copied(self)
-    }
-}
-
-impl IntoReply for CopiedUnits {
+impl IntoReply for Vec<u16> {
     ghost use Rattle.jr_scripts.specs.declared.reply.Reply.TheVariants.{Units};
 
-    ghost reply = { λ units. Units units };
+    ghost reply = { λ units. Units units.items };
 
     fn into_reply(self) -> Reply {
-        Reply::Units(self)
+        Reply::Units(CopiedUnits::of(self))
     }
 }

@@ -81,6 +81,6 @@ pub fn run_to_end<S: Steps, B: Board<S>, H: Hold>(
     ensures memory { IfErr result (λ e. e ≡ Memory) }
 {
     let answer = run_with_marker(alloc, env, first, commands, board, hold, turns, out);
-    let _ = retry(env, turns, &FreeLocals);
+    let _ = retry(env, turns, FreeLocals);
     answer
 }

@@ -22,7 +22,7 @@ use jr_word::Handle;
 pub extern "C" fn luthrady_new_plain(env: &mut EnvHandle) -> Reply
     ensures { Replied the_word env.old env.new (new_plain) result }
 {
-    of_reference(make(env, &NewPlain))
+    of_reference(make(env, NewPlain))
 }
 
 /// An array of bytes, each zero, and a local reference to it. (JNI Specification, chapter 4, "New<PrimitiveType>Array Routines")
@@ -34,7 +34,7 @@ pub extern "C" fn luthrady_new_plain(env: &mut EnvHandle) -> Reply
 pub extern "C" fn luthrady_new_byte_array(env: &mut EnvHandle, length: u32) -> Reply
     ensures { Replied the_word env.old env.new (new_array Byte length) result }
 {
-    of_reference(make(env, &NewArray::<i8>::of(length)))
+    of_reference(make(env, NewArray::<i8>::of(length)))
 }
 
 /// An array of ints, each zero, and a local reference to it. (JNI Specification, chapter 4, "New<PrimitiveType>Array Routines")
@@ -46,7 +46,7 @@ pub extern "C" fn luthrady_new_byte_array(env: &mut EnvHandle, length: u32) -> R
 pub extern "C" fn luthrady_new_int_array(env: &mut EnvHandle, length: u32) -> Reply
     ensures { Replied the_word env.old env.new (new_array Int length) result }
 {
-    of_reference(make(env, &NewArray::<i32>::of(length)))
+    of_reference(make(env, NewArray::<i32>::of(length)))
 }
 
 /// An array of longs, each zero, and a local reference to it. (JNI Specification, chapter 4, "New<PrimitiveType>Array Routines")
@@ -58,7 +58,7 @@ pub extern "C" fn luthrady_new_int_array(env: &mut EnvHandle, length: u32) -> Re
 pub extern "C" fn luthrady_new_long_array(env: &mut EnvHandle, length: u32) -> Reply
     ensures { Replied the_word env.old env.new (new_array Long length) result }
 {
-    of_reference(make(env, &NewArray::<i64>::of(length)))
+    of_reference(make(env, NewArray::<i64>::of(length)))
 }
 
 /// An array of object references, each to what the word names, and a local reference to it. (JNI Specification, chapter 4, "NewObjectArray")
@@ -70,7 +70,7 @@ pub extern "C" fn luthrady_new_long_array(env: &mut EnvHandle, length: u32) -> R
 pub extern "C" fn luthrady_new_object_array(env: &mut EnvHandle, length: u32, initial: u64) -> Reply
     ensures { Replied the_word env.old env.new (new_object_array length initial) result }
 {
-    of_reference(make(env, &NewObjectArray(length, Handle(initial))))
+    of_reference(make(env, NewObjectArray(length, Handle(initial))))
 }
 
 /// A string of these UTF-16 units, and a local reference to it. (JNI Specification, chapter 4, "NewString")
@@ -82,7 +82,7 @@ pub extern "C" fn luthrady_new_object_array(env: &mut EnvHandle, length: u32, in
 pub extern "C" fn luthrady_new_string(env: &mut EnvHandle, units: &[u16]) -> Reply
     ensures { Replied the_word env.old env.new (new_string units.now) result }
 {
-    of_reference(make(env, &NewString(units)))
+    of_reference(make(env, NewString(units)))
 }
 
 /// How many elements an array has. (JNI Specification, chapter 4, "GetArrayLength")
@@ -94,7 +94,7 @@ pub extern "C" fn luthrady_new_string(env: &mut EnvHandle, units: &[u16]) -> Rep
 pub extern "C" fn luthrady_get_array_length(env: &mut EnvHandle, array: u64) -> Reply
     ensures { Replied the_number env.old env.new (get_array_length array) result }
 {
-    of_number(make(env, &GetArrayLength(Handle(array))))
+    of_number(make(env, GetArrayLength(Handle(array))))
 }
 
 /// How many UTF-16 units a string has. (JNI Specification, chapter 4, "GetStringLength")
@@ -106,7 +106,7 @@ pub extern "C" fn luthrady_get_array_length(env: &mut EnvHandle, array: u64) -> 
 pub extern "C" fn luthrady_get_string_length(env: &mut EnvHandle, string: u64) -> Reply
     ensures { Replied the_number env.old env.new (get_string_length string) result }
 {
-    of_number(make(env, &GetStringLength(Handle(string))))
+    of_number(make(env, GetStringLength(Handle(string))))
 }
 
 /// An element of an object array, as a local reference, NULL for null. (JNI Specification, chapter 4, "GetObjectArrayElement")
@@ -122,7 +122,7 @@ pub extern "C" fn luthrady_get_object_array_element(
 ) -> Reply
     ensures { Replied word_or_null env.old env.new (get_object_array_element array index) result }
 {
-    of_optional(make(env, &GetObjectArrayElement(Handle(array), index)))
+    of_optional(make(env, GetObjectArrayElement(Handle(array), index)))
 }
 
 /// Makes an element of an object array refer to what a word names. (JNI Specification, chapter 4, "SetObjectArrayElement")
@@ -141,6 +141,6 @@ pub extern "C" fn luthrady_set_object_array_element(
 {
     of_nothing(make(
         env,
-        &SetObjectArrayElement(Handle(array), index, Handle(value)),
+        SetObjectArrayElement(Handle(array), index, Handle(value)),
     ))
 }

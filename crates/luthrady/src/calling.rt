@@ -1,12 +1,13 @@
 //! A call of the env behind a pointer.
 ghost use Rattle.std.specs.Prelude.{◌≡◌};
+ghost use Rattle.jr_env.specs.Deeds.{whole};
 ghost use Rattle.jr_env.specs.Envs.{Does};
 ghost use Rattle.luthrady.specs.Calls.{WasMade};
 
 use crate::behind::env_of;
 use crate::handles::EnvHandle;
 use crate::held::Native;
-use jr_env::EnvCall;
+use jr_env::{NativeCall, NativeCaller};
 use jr_owned::OwnedSteps;
 use jr_word::Fault;
 
@@ -15,11 +16,11 @@ use jr_word::Fault;
 /// # Errors
 ///
 /// E21 where the thread was detached; else those of the call.
-pub(crate) fn make<C: EnvCall<OwnedSteps>>(
+pub(crate) fn make<C: NativeCall<OwnedSteps> + Copy>(
     handle: &mut EnvHandle,
-    call: &C,
+    call: C,
 ) -> Result<C::Answer, Fault>
-    ensures { WasMade handle.old handle.new (C.deed call.now) result }
+    ensures { WasMade handle.old handle.new (whole (C.request call)) result }
 {
     let Some(native) = &mut env_of(handle).native else {
         return Err(Fault::NotFresh);
@@ -32,9 +33,12 @@ pub(crate) fn make<C: EnvCall<OwnedSteps>>(
 /// # Errors
 ///
 /// Those of the call.
-fn make_by<C: EnvCall<OwnedSteps>>(native: &mut Native, call: &C) -> Result<C::Answer, Fault>
-    ensures call { Does native.old.env native.new.env (C.deed call.now) result }
+fn make_by<C: NativeCall<OwnedSteps> + Copy>(
+    native: &mut Native,
+    call: C,
+) -> Result<C::Answer, Fault>
+    ensures call { Does native.old.env native.new.env (whole (C.request call)) result }
     ensures marker { native.new.marker ≡ native.old.marker }
 {
-    call.make(&mut native.env)
+    native.env.make(call)
 }

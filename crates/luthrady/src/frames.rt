@@ -1,13 +1,17 @@
 //! Frames of local references.
 ghost use Rattle.jr_env.specs.Deeds.{ensure_local_capacity, free_locals, pop_local_frame, push_local_frame};
-ghost use Rattle.luthrady.specs.Calls.{Replied};
+ghost use Rattle.std.specs.Prelude.{◌≡◌};
+ghost use Rattle.jr_env.specs.Envs.{Does};
+ghost use Rattle.luthrady.specs.Calls.{Replied, WasMade, for_so_many};
 ghost use Rattle.luthrady.specs.Replies.{nothing_told, word_or_null};
 
+use crate::behind::env_of;
 use crate::calling::make;
 use crate::handles::EnvHandle;
+use crate::held::Native;
 use crate::reply::{Reply, of_nothing, of_optional};
-use jr_env::calls::{EnsureLocalCapacity, FreeLocals, PopLocalFrame, PushLocalFrame};
-use jr_word::Handle;
+use jr_env::calls::{FreeLocals, PopLocalFrame};
+use jr_word::{Fault, Handle};
 
 /// Ensures that so many local references can be made in the current frame. (JNI Specification, chapter 4, "EnsureLocalCapacity")
 ///
@@ -18,7 +22,7 @@ use jr_word::Handle;
 pub extern "C" fn luthrady_ensure_local_capacity(env: &mut EnvHandle, capacity: u32) -> Reply
     ensures { Replied nothing_told env.old env.new (ensure_local_capacity capacity) result }
 {
-    of_nothing(make(env, &EnsureLocalCapacity(capacity)))
+    of_nothing(with_room(env, false, capacity))
 }
 
 /// Opens a frame for so many local references. (JNI Specification, chapter 4, "PushLocalFrame")
@@ -30,7 +34,7 @@ pub extern "C" fn luthrady_ensure_local_capacity(env: &mut EnvHandle, capacity: 
 pub extern "C" fn luthrady_push_local_frame(env: &mut EnvHandle, capacity: u32) -> Reply
     ensures { Replied nothing_told env.old env.new (push_local_frame capacity) result }
 {
-    of_nothing(make(env, &PushLocalFrame(capacity)))
+    of_nothing(with_room(env, true, capacity))
 }
 
 /// Closes the current frame, and makes a reference in the one before to what the word names. (JNI Specification, chapter 4, "PopLocalFrame")
@@ -42,7 +46,7 @@ pub extern "C" fn luthrady_push_local_frame(env: &mut EnvHandle, capacity: u32) 
 pub extern "C" fn luthrady_pop_local_frame(env: &mut EnvHandle, kept: u64) -> Reply
     ensures { Replied word_or_null env.old env.new (pop_local_frame kept) result }
 {
-    of_optional(make(env, &PopLocalFrame(Handle(kept))))
+    of_optional(make(env, PopLocalFrame(Handle(kept))))
 }
 
 /// Frees all local references, as at the end of a native method. The Java Native Interface has no such call.
@@ -54,5 +58,35 @@ pub extern "C" fn luthrady_pop_local_frame(env: &mut EnvHandle, kept: u64) -> Re
 pub extern "C" fn luthrady_free_locals(env: &mut EnvHandle) -> Reply
     ensures { Replied nothing_told env.old env.new (free_locals) result }
 {
-    of_nothing(make(env, &FreeLocals))
+    of_nothing(make(env, FreeLocals))
+}
+
+/// Opens a frame for so many local references, or only tells whether they can be made: by the env behind a pointer.
+///
+/// # Errors
+///
+/// E21 where the thread was detached; else those of the same call of `Env`.
+fn with_room(handle: &mut EnvHandle, opens: bool, capacity: u32) -> Result<(), Fault>
+    ensures { WasMade handle.old handle.new (for_so_many opens capacity) result }
+{
+    let Some(native) = &mut env_of(handle).native else {
+        return Err(Fault::NotFresh);
+    };
+    with_room_by(&mut *native, opens, capacity)
+}
+
+/// Opens a frame for so many local references, or only tells whether they can be made: by a thread's env.
+///
+/// # Errors
+///
+/// Those of the same call of `Env`.
+fn with_room_by(native: &mut Native, opens: bool, capacity: u32) -> Result<(), Fault>
+    ensures call { Does native.old.env native.new.env (for_so_many opens capacity) result }
+    ensures marker { native.new.marker ≡ native.old.marker }
+{
+    if opens {
+        native.env.push_local_frame(capacity)
+    } else {
+        native.env.ensure_local_capacity(capacity)
+    }
 }

@@ -32,7 +32,7 @@ pub extern "C" fn luthrady_set_byte_array_region(
     ensures { Replied nothing_told env.old env.new (set_array_region Byte array start (map (signed_word w8) elements.now)) result }
 {
     let call = SetArrayRegion::<i8>(Handle(array), start, elements);
-    of_nothing(make(env, &call))
+    of_nothing(make(env, call))
 }
 
 /// Copies ints into a part of an array, from an index on. (JNI Specification, chapter 4, "Set<PrimitiveType>ArrayRegion Routines")
@@ -50,7 +50,7 @@ pub extern "C" fn luthrady_set_int_array_region(
     ensures { Replied nothing_told env.old env.new (set_array_region Int array start (map (signed_word w32) elements.now)) result }
 {
     let call = SetArrayRegion::<i32>(Handle(array), start, elements);
-    of_nothing(make(env, &call))
+    of_nothing(make(env, call))
 }
 
 /// Copies longs into a part of an array, from an index on. (JNI Specification, chapter 4, "Set<PrimitiveType>ArrayRegion Routines")
@@ -68,7 +68,7 @@ pub extern "C" fn luthrady_set_long_array_region(
     ensures { Replied nothing_told env.old env.new (set_array_region Long array start (map (signed_word w64) elements.now)) result }
 {
     let call = SetArrayRegion::<i64>(Handle(array), start, elements);
-    of_nothing(make(env, &call))
+    of_nothing(make(env, call))
 }
 
 /// Copies a part of an array of bytes out, from an index on: as many elements as the slice has room for. (JNI Specification, chapter 4, "Get<PrimitiveType>ArrayRegion Routines")

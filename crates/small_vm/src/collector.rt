@@ -35,7 +35,7 @@ pub(crate) fn run<S: Steps>(
 fn cleared<S: Steps>(env: &mut Env<S>, table: &SymbolTable) -> Result<u32, Fault> {
     let mut cleared = 0u32;
     for symbol in 0..SYMBOLS {
-        if env.retry(&IsSameObject(table.kept(symbol), Handle::NULL), PATIENCE)? {
+        if env.retry(IsSameObject(table.kept(symbol), Handle::NULL), PATIENCE)? {
             cleared = cleared.wrapping_add(1);
         }
     }

@@ -11,7 +11,7 @@ use jr::{Env, Fault, Handle, Steps, with_local_frame};
 /// Loads all symbols, hands each on by a global reference, and answers how many units their names have.
 pub(crate) fn run<S: Steps>(env: &mut Env<S>, table: &SymbolTable) -> Result<u32, Fault> {
     let units = load_all(env, table);
-    let freed = env.retry(&FreeLocals, PATIENCE);
+    let freed = env.retry(FreeLocals, PATIENCE);
     table.leave();
     freed?;
     units
@@ -31,14 +31,14 @@ fn load_all<S: Steps>(env: &mut Env<S>, table: &SymbolTable) -> Result<u32, Faul
 
 /// Loads a symbol, and answers how many units its name has.
 fn load<S: Steps>(env: &mut Env<S>, table: &SymbolTable, symbol: u32) -> Result<u32, Fault> {
-    let name = env.retry(&NewString(&name_of(symbol)), PATIENCE)?;
-    let numbers = env.retry(&NewArray::<i32>::of(4), PATIENCE)?;
+    let name = env.retry(NewString(&name_of(symbol)), PATIENCE)?;
+    let numbers = env.retry(NewArray::<i32>::of(4), PATIENCE)?;
     let first = i32::try_from(symbol).unwrap_or(0);
-    env.retry(&SetArrayRegion(numbers, 0, &[first, 1, 2, 3]), PATIENCE)?;
-    let entry = env.retry(&NewObjectArray(2, name), PATIENCE)?;
-    env.retry(&SetObjectArrayElement(entry, 1, numbers), PATIENCE)?;
-    let length = env.retry(&GetStringLength(name), PATIENCE)?;
-    let shared = env.retry(&NewGlobalRef(entry), PATIENCE)?;
+    env.retry(SetArrayRegion(numbers, 0, &[first, 1, 2, 3]), PATIENCE)?;
+    let entry = env.retry(NewObjectArray(2, name), PATIENCE)?;
+    env.retry(SetObjectArrayElement(entry, 1, numbers), PATIENCE)?;
+    let length = env.retry(GetStringLength(name), PATIENCE)?;
+    let shared = env.retry(NewGlobalRef(entry), PATIENCE)?;
     table.post(symbol, Handle::or_null(shared));
     Ok(length)
 }

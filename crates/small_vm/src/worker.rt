@@ -5,7 +5,7 @@ use crate::{PATIENCE, SYMBOLS};
 use jr::calls::{
     DeleteGlobalRef, FreeLocals, GetObjectArrayElement, GetStringChars, NewWeakGlobalRef,
 };
-use jr::{Env, EnvCall, Fault, Handle, NativeInterface, Steps, with_local_frame};
+use jr::{Env, Fault, Handle, NativeCall, Steps, with_local_frame};
 use std::alloc::Global;
 
 /// What the worker read.
@@ -24,7 +24,7 @@ pub(crate) fn run<S: Steps>(
     table: &SymbolTable,
 ) -> Result<Totals, Fault> {
     let found = work_all(alloc, env, table);
-    let freed = env.retry(&FreeLocals, PATIENCE);
+    let freed = env.retry(FreeLocals, PATIENCE);
     table.leave();
     freed?;
     found
@@ -46,7 +46,7 @@ fn work_all<S: Steps>(
         let one = worked?;
         found.units = found.units.wrapping_add(one.units);
         found.sum = found.sum.wrapping_add(one.sum);
-        env.retry(&DeleteGlobalRef(shared), PATIENCE)?;
+        env.retry(DeleteGlobalRef(shared), PATIENCE)?;
     }
     Ok(found)
 }
@@ -59,11 +59,11 @@ fn work<S: Steps>(
     symbol: u32,
     shared: Handle,
 ) -> Result<Totals, Fault> {
-    let string = made(env, &GetObjectArrayElement(shared, 0))?;
-    let numbers = made(env, &GetObjectArrayElement(shared, 1))?;
-    let units = env.retry(&GetStringChars { alloc, string }, PATIENCE)?;
+    let string = made(env, GetObjectArrayElement(shared, 0))?;
+    let numbers = made(env, GetObjectArrayElement(shared, 1))?;
+    let units = env.retry(GetStringChars { alloc, string }, PATIENCE)?;
     let sum = added(env, numbers)?;
-    table.keep(symbol, made(env, &NewWeakGlobalRef(numbers))?);
+    table.keep(symbol, made(env, NewWeakGlobalRef(numbers))?);
     Ok(Totals {
         units: units.len(),
         sum,
@@ -80,9 +80,9 @@ fn added<S: Steps>(env: &mut Env<S>, numbers: Handle) -> Result<i64, Fault> {
 }
 
 /// The reference that a call made, NULL where that is to nothing.
-fn made<S: Steps, C: EnvCall<S, Answer = Option<Handle>>>(
+fn made<S: Steps, C: NativeCall<S, Answer = Option<Handle>> + Copy>(
     env: &mut Env<S>,
-    call: &C,
+    call: C,
 ) -> Result<Handle, Fault> {
     Ok(Handle::or_null(env.retry(call, PATIENCE)?))
 }

@@ -52,9 +52,9 @@ fn fits_no_collection<S: Steps>(rt: &impl Abort, env: &mut Env<S>, marker: &mut 
     assert!(rt; is_refused(env.collect_announced(marker, 3), Some(Fault::Size)));
     let few = Patience::of(3);
     assert!(rt; is_refused(env.collect_in_turn(marker, 3, few), Some(Fault::Size)));
-    let made = env.retry_collecting(marker, &NewPlain, few);
+    let made = env.retry_collecting(marker, NewPlain, few);
     assert!(rt; is_refused(made, Some(Fault::Size)));
-    let made = env.retry_collecting_in_turn(marker, 3, &NewPlain, few);
+    let made = env.retry_collecting_in_turn(marker, 3, NewPlain, few);
     assert!(rt; is_refused(made, Some(Fault::Size)));
 }
 

@@ -43,7 +43,7 @@ const TRIES: u32 = 5_000_000;
 
 /// Writes a number in an array, as soon as nobody collects.
 fn write<S: Steps>(env: &mut Env<S>, array: Handle, number: i64) -> Result<(), Fault> {
-    env.retry(&SetArrayRegion(array, 1, &[number]), Patience::LONG)
+    env.retry(SetArrayRegion(array, 1, &[number]), Patience::LONG)
 }
 
 /// The number in an array, as soon as nobody collects.
@@ -94,7 +94,7 @@ fn make<S: Steps>(alloc: Global, env: &mut Env<S>, how: How) -> Result<Handle, F
 
 /// Deletes a reference, as soon as nobody collects.
 fn delete<S: Steps>(env: &mut Env<S>, array: Handle) -> Result<(), Fault> {
-    env.retry(&DeleteLocalRef(array), Patience::LONG)
+    env.retry(DeleteLocalRef(array), Patience::LONG)
 }
 
 /// Writes in an array, makes another, reads what was written, which a collection may have moved meanwhile, and drops it. The new array, where it was read.
@@ -168,12 +168,12 @@ fn make_global<S: Steps>(env: &mut Env<S>, array: Handle) -> Result<Handle, Faul
 
 /// The type of a reference, as soon as nobody collects.
 fn type_of<S: Steps>(env: &mut Env<S>, word: Handle) -> Result<u8, Fault> {
-    env.retry(&GetObjectRefType(word), Patience::LONG)
+    env.retry(GetObjectRefType(word), Patience::LONG)
 }
 
 /// Deletes a global reference, as soon as nobody collects.
 fn delete_global<S: Steps>(env: &mut Env<S>, word: Handle) -> Result<(), Fault> {
-    env.retry(&DeleteGlobalRef(word), Patience::LONG)
+    env.retry(DeleteGlobalRef(word), Patience::LONG)
 }
 
 /// Makes a global reference, which is found until it is deleted, and never after.

@@ -6,9 +6,9 @@ ghost use Rattle.jr_env.specs.Collections.{FitsRoom, announced_collection};
 ghost use Rattle.jr_env.specs.Envs.{IsOutside, WasDone};
 ghost use Rattle.jr_scripts.specs.Commands.{collecting, collecting_announced, tried};
 
-use crate::ask::{no_more, patience_for};
+use crate::ask::in_turns;
 use crate::reply::Reply;
-use jr_env::{Env, with_patience};
+use jr_env::Env;
 use jr_steps::Steps;
 use jr_syntax::Tries;
 use jr_weak::{Collected, Marker};
@@ -66,12 +66,10 @@ fn retry_announced<S: Steps>(
     ensures does { WasDone env.old env.new (tried turns (announced_collection tries)) result }
     ensures room { room_of marker.new ≡ room_of marker.old }
 {
-    let patience = patience_for(turns)?;
     let mut collector = Collector { env, marker };
-    with_patience(&mut collector, patience, |collector| {
+    in_turns(&mut collector, turns, |collector| {
         collector
             .env
             .collect_announced(&mut *collector.marker, tries.count())
     })
-    .map_err(no_more)
 }

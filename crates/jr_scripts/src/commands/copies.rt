@@ -2,27 +2,28 @@
 
 ghost use Rattle.std.specs.Prelude.{◌≡◌, map};
 ghost use Rattle.jr_elements.specs.Copies.{answer_in};
-ghost use Rattle.jr_env.specs.Deeds.{answered_by, release_array_elements};
+ghost use Rattle.jr_env.specs.Deeds.{answered_by, get_array_elements, get_string_chars, release_array_elements};
 ghost use Rattle.jr_env.specs.Envs.{WasDone, IsOutside};
 ghost use Rattle.jr_syntax.specs.declared.command.Command.TheVariants as commands;
 ghost use Rattle.jr_syntax.specs.declared.verb.Release.TheVariants as release_verbs;
 ghost use Rattle.jr_scripts.specs.declared.reply.Reply.TheVariants as replies;
 ghost use Rattle.jr_scripts.specs.declared.binding.Binding.TheVariants.{Buffer as Holds};
 ghost use Rattle.jr_scripts.specs.Names.{getting, names_put, putting, binding as binding_at, binding_left};
-ghost use Rattle.jr_scripts.specs.Commands.{copying, deed, tried};
+ghost use Rattle.jr_scripts.specs.Commands.{copying, copying_as, deed, tried};
+ghost use Rattle.jr_scripts.specs.Buffers.{copied_in};
+ghost use Rattle.jr_scripts.specs.Numbers.{kind_numbered};
 ghost use Rattle.jr_scripts.specs.Text.{buffers_after, elements_left, left_by};
 ghost use Rattle.jr_scripts.specs.Advancing.{got_by, put_by as put_by_verb};
 
 use crate::ask::{ask, no_more, patience_for, retry};
 use crate::binding::Binding;
 use crate::buffer::{Buffer, CopiedElements};
-use crate::calls::copies::GetElements;
 use crate::names::Names;
 use crate::number::NumberKind;
 use crate::reply::Reply;
 use jr_elements::Elements;
 use jr_env::Env;
-use jr_env::calls::KindOf;
+use jr_env::calls::{GetArrayElements, GetStringChars, KindOf};
 use jr_model::Mode;
 use jr_steps::Steps;
 use jr_syntax::{Name, OnNameAt, PutAt, Reference as Target};
@@ -39,9 +40,78 @@ pub(crate) fn copy<S: Steps>(
     requires { IsOutside env.old }
     ensures { WasDone env.old env.new (copying turns array.0) result }
 {
-    let kind = retry(env, turns, &KindOf(array))?;
+    let kind = retry(env, turns, KindOf(array))?;
     let numbered = NumberKind::of(kind)?;
-    ask(env, turns, &GetElements(alloc, numbered, array))
+    copy_as(alloc, env, turns, numbered, array)
+}
+
+/// Copies the elements of an array of a kind.
+fn copy_as<S: Steps>(
+    alloc: Global,
+    env: &mut Env<S>,
+    turns: u64,
+    kind: NumberKind,
+    array: Handle,
+) -> Result<Reply, Fault>
+    requires { IsOutside env.old }
+    ensures { WasDone env.old env.new (copying_as turns array.0 (kind_numbered kind)) result }
+{
+    match kind {
+        NumberKind::Boolean => {
+            copied(copy_elements(alloc, env, turns, array).map(CopiedElements::Boolean))
+        }
+        NumberKind::Byte => {
+            copied(copy_elements(alloc, env, turns, array).map(CopiedElements::Byte))
+        }
+        NumberKind::Char => {
+            copied(copy_elements(alloc, env, turns, array).map(CopiedElements::Char))
+        }
+        NumberKind::Short => {
+            copied(copy_elements(alloc, env, turns, array).map(CopiedElements::Short))
+        }
+        NumberKind::Int => {
+            copied(copy_elements(alloc, env, turns, array).map(CopiedElements::Int))
+        }
+        NumberKind::Long => {
+            copied(copy_elements(alloc, env, turns, array).map(CopiedElements::Long))
+        }
+    }
+}
+
+/// The reply of copied elements.
+fn copied(answer: Result<CopiedElements, Fault>) -> Result<Reply, Fault>
+    ensures { result ≡ answer_in (λ x. replies.Copied (copied_in x)) answer }
+{
+    match answer {
+        Ok(elements) => Ok(Reply::Copied(Buffer { elements })),
+        Err(fault) => Err(fault),
+    }
+}
+
+/// Copies the elements of an array of this type.
+fn copy_elements<S: Steps, E: Elem>(
+    alloc: Global,
+    env: &mut Env<S>,
+    turns: u64,
+    array: Handle,
+) -> Result<Elements<E>, Fault>
+    requires { IsOutside env.old }
+    ensures { WasDone env.old env.new (tried turns (get_array_elements E.KIND array.0)) (answer_in (map E.word_of) result) }
+{
+    retry(env, turns, GetArrayElements::<E>::of(alloc, array))
+}
+
+/// Copies the units of a string.
+pub(crate) fn copy_units<S: Steps>(
+    alloc: Global,
+    env: &mut Env<S>,
+    turns: u64,
+    string: Handle,
+) -> Result<Reply, Fault>
+    requires { IsOutside env.old }
+    ensures { WasDone env.old env.new (answered_by (λ units. replies.Units units) (tried turns (get_string_chars string.0))) result }
+{
+    ask(env, turns, GetStringChars { alloc, string })
 }
 
 /// The number at an index of the buffer that a name stands for.

@@ -1,14 +1,17 @@
 //! Commands about one element, which make two calls: for the kind of the array, and for the element.
 
-ghost use Rattle.jr_env.specs.Envs.{WasDone, IsOutside};
-ghost use Rattle.jr_scripts.specs.Commands.{loading, storing};
+ghost use Rattle.std.specs.Prelude.{◌≡◌, ◌∷◌, [], length};
+ghost use Rattle.jr_env.specs.Deeds.{answered_by, get_array_region, set_array_region};
+ghost use Rattle.jr_env.specs.Envs.{Does, WasDone, IsOutside};
+ghost use Rattle.jr_scripts.specs.declared.reply.Reply.TheVariants as replies;
+ghost use Rattle.jr_scripts.specs.Commands.{loading, loading_as, storing, tried};
+ghost use Rattle.jr_scripts.specs.Numbers.{first_number, kind_numbered, kind_of_element, word_of_element};
 
-use crate::ask::{ask, retry};
-use crate::calls::objects::{GetNumber, SetElement};
-use crate::number::{Element, NumberKind};
-use crate::reply::Reply;
-use jr_env::Env;
-use jr_env::calls::KindOf;
+use crate::ask::{ask, in_turns, retry};
+use crate::number::{Element, Number, NumberKind};
+use crate::reply::{IntoReply, Reply};
+use jr_env::calls::{KindOf, SetArrayRegion};
+use jr_env::{Env, NativeInterface};
 use jr_steps::Steps;
 use jr_word::{Fault, Handle};
 
@@ -22,9 +25,70 @@ pub(crate) fn load<S: Steps>(
     requires { IsOutside env.old }
     ensures { WasDone env.old env.new (loading turns array.0 index) result }
 {
-    let kind = retry(env, turns, &KindOf(array))?;
+    let kind = retry(env, turns, KindOf(array))?;
     let numbered = NumberKind::of(kind)?;
-    ask(env, turns, &GetNumber(numbered, array, index))
+    let at = ElementAt {
+        kind: numbered,
+        array,
+        index,
+    };
+    load_as(env, turns, at)
+}
+
+/// An index of an array of a kind.
+#[derive(Clone, Copy)]
+struct ElementAt {
+    /// The kind.
+    kind: NumberKind,
+    /// The array.
+    array: Handle,
+    /// The index.
+    index: u32,
+}
+
+/// The number at an index of an array of a kind.
+fn load_as<S: Steps>(env: &mut Env<S>, turns: u64, at: ElementAt) -> Result<Reply, Fault>
+    requires { IsOutside env.old }
+    ensures { WasDone env.old env.new (loading_as turns at.array.0 at.index (kind_numbered at.kind)) result }
+{
+    let number = read_in_turns(env, turns, at)?;
+    Ok(number.into_reply())
+}
+
+/// The number of the element at an index of an array of a kind, by a call that is made again.
+fn read_in_turns<S: Steps>(env: &mut Env<S>, turns: u64, at: ElementAt) -> Result<i64, Fault>
+    requires { IsOutside env.old }
+    ensures { WasDone env.old env.new (tried turns (answered_by (λ words. first_number (kind_numbered at.kind) words) (get_array_region (kind_numbered at.kind) at.array.0 at.index 1))) result }
+{
+    in_turns(env, turns, |env| read_as(env, at))
+}
+
+/// The number of the element at an index of an array of a kind, by a call.
+fn read_as<S: Steps>(env: &mut Env<S>, at: ElementAt) -> Result<i64, Fault>
+    ensures { Does env.old env.new (answered_by (λ words. first_number (kind_numbered at.kind) words) (get_array_region (kind_numbered at.kind) at.array.0 at.index 1)) result }
+{
+    match at.kind {
+        NumberKind::Boolean => read_number(env, at.array, at.index, &mut [false]),
+        NumberKind::Byte => read_number(env, at.array, at.index, &mut [0_i8]),
+        NumberKind::Char => read_number(env, at.array, at.index, &mut [0_u16]),
+        NumberKind::Short => read_number(env, at.array, at.index, &mut [0_i16]),
+        NumberKind::Int => read_number(env, at.array, at.index, &mut [0_i32]),
+        NumberKind::Long => read_number(env, at.array, at.index, &mut [0_i64]),
+    }
+}
+
+/// The number of the element at an index of an array of this type, by a buffer of one element.
+fn read_number<S: Steps, E: Number>(
+    env: &mut Env<S>,
+    array: Handle,
+    index: u32,
+    elements: &mut [E],
+) -> Result<i64, Fault>
+    requires { length elements.old ≡ 1 }
+    ensures { Does env.old env.new (answered_by (λ words. first_number E.KIND words) (get_array_region E.KIND array.0 index 1)) result }
+{
+    env.get_array_region(array, index, &mut *elements)?;
+    Ok(elements[0].to_number())
 }
 
 /// Stores a number at an index of an array: E5 and E6 where its elements are no numbers, and then E18 where none is that number.
@@ -38,8 +102,29 @@ pub(crate) fn store<S: Steps>(
     requires { IsOutside env.old }
     ensures { WasDone env.old env.new (storing turns array.0 index number) result }
 {
-    let kind = retry(env, turns, &KindOf(array))?;
+    let kind = retry(env, turns, KindOf(array))?;
     let numbered = NumberKind::of(kind)?;
     let element = Element::of(numbered, number)?;
-    ask(env, turns, &SetElement(array, index, element))
+    store_as(env, turns, array, index, element)
+}
+
+/// Stores an element at an index of an array of its kind.
+fn store_as<S: Steps>(
+    env: &mut Env<S>,
+    turns: u64,
+    array: Handle,
+    index: u32,
+    element: Element,
+) -> Result<Reply, Fault>
+    requires { IsOutside env.old }
+    ensures { WasDone env.old env.new (answered_by (λ _. replies.Done) (tried turns (set_array_region (kind_of_element element) array.0 index (word_of_element element ∷ [])))) result }
+{
+    match element {
+        Element::Boolean(element) => ask(env, turns, SetArrayRegion(array, index, &[element])),
+        Element::Byte(element) => ask(env, turns, SetArrayRegion(array, index, &[element])),
+        Element::Char(element) => ask(env, turns, SetArrayRegion(array, index, &[element])),
+        Element::Short(element) => ask(env, turns, SetArrayRegion(array, index, &[element])),
+        Element::Int(element) => ask(env, turns, SetArrayRegion(array, index, &[element])),
+        Element::Long(element) => ask(env, turns, SetArrayRegion(array, index, &[element])),
+    }
 }

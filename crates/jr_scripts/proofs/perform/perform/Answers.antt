@@ -21,7 +21,7 @@ returns-in-WithCount-clause-did g c =
 pub returns-in-MakeSized-clause-did : goal.returns-in-MakeSized-clause-did
 returns-in-MakeSized-clause-did g c =
     called c.args.command.now _ c.args.region.now c.in-MakeSized.is c.requires.none c.requires.outside refl
-    c.requires.follows c.ask-in-MakeSized.ensures refl refl refl
+    c.requires.follows c.make_sized.ensures refl refl refl
 
 pub returns-in-MakeFilled-clause-did : goal.returns-in-MakeFilled-clause-did
 returns-in-MakeFilled-clause-did g c =

@@ -2,13 +2,14 @@ use Rattle.std.proofs.Common.{refl}
 use Rattle.jr_env.specs.Deeds.{decided, ◌>>◌}
 use Rattle.jr_env.proofs.Carrying.{did_decline, did_refused, did_residual, does_then}
 use Rattle.jr_scripts.specs.Commands.{loading_as}
-use Rattle.jr_scripts.specs.Numbers.{has_numbers}
-use Rattle.jr_scripts.proofs.CommandDeeds.{does_load}
+use Rattle.jr_scripts.specs.Numbers.{has_numbers, kind_numbered}
+use Rattle.jr_scripts.proofs.CommandDeeds.{does_of_kind, numbered_has}
 use Rattle.jr_scripts.proofs.commands.elements.load.Goals as goal
 
 pub returns : goal.returns
-returns g c = does_load c.args.turns c.args.array.0 c.args.index c.in_ok-kind.kind c.in_ok-numbered.numbered
-    c.in_ok-numbered.ensures.ok c.in_ok-kind.ensures c.ask.ensures
+returns g c = does_of_kind c.args.turns c.args.array.0 c.in_ok-kind.kind (kind_numbered c.in_ok-numbered.numbered)
+    (loading_as c.args.turns c.args.array.0 c.args.index) c.in_ok-numbered.ensures.ok
+    (numbered_has c.in_ok-numbered.numbered) c.in_ok-kind.ensures c.load_as.ensures
 
 pub returns-in_err-kind : goal.returns-in_err-kind
 returns-in_err-kind g c = did_residual c.in_err-kind.field-0.0 c.from_residual.result c.from_residual.ensures.1

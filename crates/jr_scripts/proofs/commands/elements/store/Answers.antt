@@ -14,7 +14,7 @@ returns g c =
     (to_z-of_z w64 c.args.number c.ranges.number) c.in_ok-element.ensures.word in
     does_store c.args.turns c.args.array.0 c.args.index c.args.number c.in_ok-kind.kind c.in_ok-numbered.numbered
     c.in_ok-element.element c.in_ok-numbered.ensures.ok c.in_ok-element.ensures.kind word c.in_ok-kind.ensures
-    c.ask.ensures
+    c.store_as.ensures
 
 pub returns-in_err-element : goal.returns-in_err-element
 returns-in_err-element g c =

@@ -2,7 +2,7 @@ use Rattle.std.proofs.Common.{◌≡◌, ◌∙◌, rules, to_z, of_z, w64, leng
 use Rattle.jr_scripts.specs.Numbers.{first_number}
 use Rattle.jr_env.proofs.EnvCalls.{does_answer, does_refuse}
 use Rattle.jr_scripts.proofs.CommandDeeds.{does_read_one, number_of_one}
-use Rattle.jr_scripts.proofs.calls.objects.read_number.Goals as goal
+use Rattle.jr_scripts.proofs.commands.elements.read_number.Goals as goal
 
 pub returns-in_err-get_array_region : goal.returns-in_err-get_array_region
 returns-in_err-get_array_region g c =
