@@ -23,8 +23,7 @@ use Rattle.jr_scripts.specs.declared.number.Element.{Element}
 use Rattle.jr_scripts.specs.Numbers.{has_numbers, first_number, number_of_word, word_of_number}
 use Rattle.jr_scripts.specs.Numbers.{kind_numbered, kind_of_element, word_of_element}
 use Rattle.jr_scripts.specs.Commands.{tried, deleted_of, deletion, loading, loading_as, storing, storing_as}
-use Rattle.jr_scripts.specs.Tries.{Tried}
-use Rattle.jr_scripts.proofs.FormedTries.{tried_formed, formed_ok, formed_err}
+use Rattle.jr_scripts.proofs.FormedTries.{tried_answered, tried_formed}
 use Rattle.jr_env.proofs.Carrying.{did_decided, did_decline, did_more, does_then}
 
 -- arrays of such a kind have numbers
@@ -73,17 +72,12 @@ module _ {S : Type 0} {facts : S → Facts} where
       (did_decided (λ _. next kind) numbers more))
 
   -- a call whose answer has another form, made again where it was raced or barred
-  pub does_tried_form : {A B C : Type 0} {a b : S} {f g : Frames} {answer : Result C Fault} (turns : ℕ) (form : A → B)
-      (after : B → C) (one : Deed A)
-      → DoesDeed facts a b f g (answered_by after (tried turns (answered_by form one))) answer
-      → DoesDeed facts a b f g (answered_by (λ x. after (form x)) (tried turns one)) answer
-  does_tried_form turns form after one = did_more (λ p q d.
-      elim d [
-        | inl x ↦ (let y = tried_formed form one turns p x.1 (Ok x.0) x.2 in
-            formed_ok form after one turns p q x.1 x.0 y.0 y.1 y.2 x.3)
-        | inr y ↦ (let z = tried_formed form one turns p q (Err y.0) y.2 in
-            inr (y.0, y.1, subst (λ r. Tried one turns p r q) (formed_err form z.0 y.0 z.1) z.2))
-      ])
+  pub does_tried_form : {A B : Type 0} {a b : S} {f g : Frames} {answer : Result B Fault} (turns : ℕ) (form : A → B)
+      (one : Deed A) → DoesDeed facts a b f g (tried turns (answered_by form one)) answer
+      → DoesDeed facts a b f g (answered_by form (tried turns one)) answer
+  does_tried_form {answer = answer} turns form one = did_more (λ p q d.
+      let x = tried_formed form one turns p q answer d in
+      subst (λ r. answered_by form (tried turns one) p r q) (sym x.1) (tried_answered form one turns p q x.0 x.2))
 
   -- a number is stored, by the call of its kind
   pub does_store : {a b c : S} {f g h : Frames} {answer : Result Reply Fault} (turns w i : ℕ) (v : ℤ) (k : Kind)

@@ -3,7 +3,7 @@ use Rattle.std.proofs.Common.{◌≡◌, ◌∙◌, ℕ, false, Result, Ok, Err,
 use Rattle.jr_word.specs.declared.fault.Fault.{Fault}
 use Rattle.jr_word.specs.declared.fault.Fault.TheVariants as fault
 use Rattle.jr_gate.specs.Performing.{ThreadState}
-use Rattle.jr_env.specs.Deeds.{Deed, done, answered_by}
+use Rattle.jr_env.specs.Deeds.{Deed, answered_by}
 use Rattle.jr_elements.specs.Copies.{answer_in}
 use Rattle.jr_env.specs.Tries.{is_tried_again}
 use Rattle.jr_env.proofs.MadeAgain.{worth_formed}
@@ -27,18 +27,11 @@ module _ {A B : Type 0} (form : A → B) (one : Deed A) where
       (y.0, y.1, again x.2 (sym (worth_formed false form x.0) ∙ (ap is_tried_again (sym x.1) ∙ unsettled)) y.2)
   tried_formed n p q r gave_up = (Err fault.Turns, refl, gave_up)
 
--- the refusal of the one form is that of the other
-pub formed_err : {A B : Type 0} (form : A → B) (r : Result A Fault) (e : Fault) → Err e ≡ answer_in form r → r ≡ Err e
-formed_err form (Ok x) e is = absurd (let bad = is in cc)
-formed_err form (Err d) e is = let same = is in cc
-
-module _ {A B C : Type 0} (form : A → B) (after : B → C) (one : Deed A) (n : ℕ) (p q mid : ThreadState) where
-  pub formed_ok : (y : B) (r : Result A Fault) → Ok y ≡ answer_in form r → Tried one n p r mid
-      → {answer : Result C Fault} → done (after y) mid answer q
-      → answered_by (λ x. after (form x)) (Tried one n) p answer q
-  formed_ok y (Ok x) is t d = let same : y ≡ form x = (let e = is in cc) in
-      inl (x, mid, t, (d.0 ∙ ap (λ z. Ok (after z)) same, d.1))
-  formed_ok y (Err e) is t d = absurd (let bad = is in cc)
+-- the answer of calls that were made again, in the other form
+pub tried_answered : {A B : Type 0} (form : A → B) (one : Deed A) (n : ℕ) (p q : ThreadState) (r : Result A Fault)
+    → Tried one n p r q → answered_by form (Tried one n) p (answer_in form r) q
+tried_answered form one n p q (Ok x) t = inl (x, q, t, (refl, refl))
+tried_answered form one n p q (Err e) t = inr (e, refl, t)
 
 -- what answered in a form of the code's own
 pub tried_told : {A B : Type 0} (form : A → B) (one : Deed B) {n : ℕ} {p q : ThreadState} {r : Result A Fault}

@@ -12,6 +12,7 @@ use Rattle.jr_model.specs.State.{State}
 use Rattle.jr_model.specs.Calls.{Call}
 use Rattle.jr_model.specs.Checks.{Word, Nothing, Malformed, Parts}
 use Rattle.jr_model.specs.Objects.{get_array_critical, get_string_critical}
+use Rattle.jr_steps.specs.declared.steps.Steps.{Ghosts}
 use Rattle.jr_steps.specs.Holdings.{empty}
 use Rattle.jr_syntax.specs.declared.name.Reference.{Reference}
 use Rattle.jr_syntax.specs.declared.command.Command.{Command}
@@ -39,6 +40,7 @@ use Rattle.jr_gate.specs.Performing.{HasLearned}
 use Rattle.jr_scripts.specs.Buffers.{copy_of}
 use Rattle.jr_scripts.specs.Names.{Names, buffer_in, getting, putting, reference_in, referent, binding, wanted}
 use Rattle.jr_weak.specs.declared.collecting.Collected.{Collected}
+use Rattle.jr_env.specs.declared.env.Env.{Env}
 use Rattle.jr_env.specs.Collections.{announced_collection, collection}
 use Rattle.jr_env.specs.Deeds.{Deed, decided, done, new_plain, new_array, new_object_array, new_string}
 use Rattle.jr_env.specs.Deeds.{new_reference, new_local_ref, delete_reference, delete_local_ref, is_same_object}
@@ -46,9 +48,11 @@ use Rattle.jr_env.specs.Deeds.{get_object_ref_type, push_local_frame, ensure_loc
 use Rattle.jr_env.specs.Deeds.{kind_of, get_array_length, get_string_length, get_object_array_element}
 use Rattle.jr_env.specs.Deeds.{set_object_array_element, get_array_region, set_array_region, get_array_elements}
 use Rattle.jr_env.specs.Deeds.{release_array_elements, get_string_chars, ◌>>=◌, ◌>>◌}
-use Rattle.jr_env.specs.Deeds.{within_by}
+use Rattle.jr_env.specs.Deeds.{answered_by, within_by}
+use Rattle.jr_env.specs.Envs.{Does}
 use Rattle.jr_scripts.specs.Tries.{Tried}
-use Rattle.jr_scripts.specs.Numbers.{has_numbers, word_of_number, first_number}
+use Rattle.jr_scripts.specs.declared.commands.elements.ElementAt.{ElementAt}
+use Rattle.jr_scripts.specs.Numbers.{has_numbers, kind_numbered, word_of_number, first_number}
 
 -- the kind of the array that is made
 abbrev pub kind_made : MakeSized → Kind
@@ -58,6 +62,15 @@ kind_made make_sized.Char = Char
 kind_made make_sized.Short = Short
 kind_made make_sized.Int = Int
 kind_made make_sized.Long = Long
+
+-- the number at an index of an array of a kind, by one call
+abbrev pub reading_as : ℕ → ℕ → Kind → Deed Reply
+reading_as w i k = answered_by (λ words. replies.Value (first_number k words)) (get_array_region k w i 1)
+
+-- THE NUMBER of an element was read, by one call
+pub record ReadsNumber {S : Type 0} {G : Ghosts S} (element : ElementAt) (old new : Env S G)
+    (answer : Result Reply Fault) : Type 0 where
+  pub does : Does old new (reading_as element.array.0 element.index (kind_numbered element.kind)) answer
 
 module _ (turns : ℕ) where
   -- a call, made again where it was raced, barred or moved

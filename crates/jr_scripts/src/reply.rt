@@ -106,16 +106,6 @@ impl IntoReply for u32 {
     }
 }
 
-impl IntoReply for i64 {
-    ghost use Rattle.jr_scripts.specs.declared.reply.Reply.TheVariants.{Value};
-
-    ghost reply = { λ n. Value n };
-
-    fn into_reply(self) -> Reply {
-        Reply::Value(self)
-    }
-}
-
 impl IntoReply for Vec<u16> {
     ghost use Rattle.jr_scripts.specs.declared.reply.Reply.TheVariants.{Units};
 

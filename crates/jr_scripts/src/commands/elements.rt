@@ -1,15 +1,15 @@
 //! Commands about one element, which make two calls: for the kind of the array, and for the element.
 
 ghost use Rattle.std.specs.Prelude.{◌≡◌, ◌∷◌, [], length};
-ghost use Rattle.jr_env.specs.Deeds.{answered_by, get_array_region, set_array_region};
+ghost use Rattle.jr_env.specs.Deeds.{answered_by, set_array_region};
 ghost use Rattle.jr_env.specs.Envs.{Does, WasDone, IsOutside};
 ghost use Rattle.jr_scripts.specs.declared.reply.Reply.TheVariants as replies;
-ghost use Rattle.jr_scripts.specs.Commands.{loading, loading_as, storing, tried};
-ghost use Rattle.jr_scripts.specs.Numbers.{first_number, kind_numbered, kind_of_element, word_of_element};
+ghost use Rattle.jr_scripts.specs.Commands.{ReadsNumber, loading, loading_as, reading_as, storing, tried};
+ghost use Rattle.jr_scripts.specs.Numbers.{kind_numbered, kind_of_element, word_of_element};
 
 use crate::ask::{ask, in_turns, retry};
 use crate::number::{Element, Number, NumberKind};
-use crate::reply::{IntoReply, Reply};
+use crate::reply::Reply;
 use jr_env::calls::{KindOf, SetArrayRegion};
 use jr_env::{Env, NativeInterface};
 use jr_steps::Steps;
@@ -51,21 +51,12 @@ fn load_as<S: Steps>(env: &mut Env<S>, turns: u64, at: ElementAt) -> Result<Repl
     requires { IsOutside env.old }
     ensures { WasDone env.old env.new (loading_as turns at.array.0 at.index (kind_numbered at.kind)) result }
 {
-    let number = read_in_turns(env, turns, at)?;
-    Ok(number.into_reply())
-}
-
-/// The number of the element at an index of an array of a kind, by a call that is made again.
-fn read_in_turns<S: Steps>(env: &mut Env<S>, turns: u64, at: ElementAt) -> Result<i64, Fault>
-    requires { IsOutside env.old }
-    ensures { WasDone env.old env.new (tried turns (answered_by (λ words. first_number (kind_numbered at.kind) words) (get_array_region (kind_numbered at.kind) at.array.0 at.index 1))) result }
-{
     in_turns(env, turns, |env| read_as(env, at))
 }
 
-/// The number of the element at an index of an array of a kind, by a call.
-fn read_as<S: Steps>(env: &mut Env<S>, at: ElementAt) -> Result<i64, Fault>
-    ensures { Does env.old env.new (answered_by (λ words. first_number (kind_numbered at.kind) words) (get_array_region (kind_numbered at.kind) at.array.0 at.index 1)) result }
+/// The number at an index of an array of a kind, by a call.
+fn read_as<S: Steps>(env: &mut Env<S>, at: ElementAt) -> Result<Reply, Fault>
+    ensures { ReadsNumber at env.old env.new result }
 {
     match at.kind {
         NumberKind::Boolean => read_number(env, at.array, at.index, &mut [false]),
@@ -77,18 +68,18 @@ fn read_as<S: Steps>(env: &mut Env<S>, at: ElementAt) -> Result<i64, Fault>
     }
 }
 
-/// The number of the element at an index of an array of this type, by a buffer of one element.
+/// The number at an index of an array of this type, by a buffer of one element.
 fn read_number<S: Steps, E: Number>(
     env: &mut Env<S>,
     array: Handle,
     index: u32,
     elements: &mut [E],
-) -> Result<i64, Fault>
+) -> Result<Reply, Fault>
     requires { length elements.old ≡ 1 }
-    ensures { Does env.old env.new (answered_by (λ words. first_number E.KIND words) (get_array_region E.KIND array.0 index 1)) result }
+    ensures { Does env.old env.new (reading_as array.0 index E.KIND) result }
 {
     env.get_array_region(array, index, &mut *elements)?;
-    Ok(elements[0].to_number())
+    Ok(Reply::Value(elements[0].to_number()))
 }
 
 /// Stores a number at an index of an array: E5 and E6 where its elements are no numbers, and then E18 where none is that number.
