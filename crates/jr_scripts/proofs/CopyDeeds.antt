@@ -53,7 +53,8 @@ pub does_copied : {S V : Type 0} {facts : S → Facts} {a b : S} {f g : Frames} 
     (mapped : Result CopiedElements Fault) (answer : Result Reply Fault)
     → DoesDeed facts a b f g (tried turns (get_array_elements k w)) (answer_in (map word_of) r)
     → MatchResult r (λ x. IsOkAnd mapped (λ y. y ≡ wrap x)) (λ e. mapped ≡ Err e)
-    → answer ≡ answer_in (λ x. replies.Copied (copied_in x)) mapped → DoesDeed facts a b f g (copying_as turns w k) answer
+    → answer ≡ answer_in (λ x. replies.Copied (copied_in x)) mapped
+    → DoesDeed facts a b f g (copying_as turns w k) answer
 does_copied turns w k word_of wrap same (Ok x) (Ok y) answer d is told = did_more (λ p q t. inl (
   map word_of x,
   q,

@@ -64,13 +64,13 @@ kind_made make_sized.Int = Int
 kind_made make_sized.Long = Long
 
 -- the number at an index of an array of a kind, by one call
-abbrev pub reading_as : ℕ → ℕ → Kind → Deed Reply
-reading_as w i k = answered_by (λ words. replies.Value (first_number k words)) (get_array_region k w i 1)
+abbrev pub loading_once : ℕ → ℕ → Kind → Deed Reply
+loading_once w i k = answered_by (λ words. replies.Value (first_number k words)) (get_array_region k w i 1)
 
 -- THE NUMBER of an element was read, by one call
 pub record ReadsNumber {S : Type 0} {G : Ghosts S} (element : ElementAt) (old new : Env S G)
     (answer : Result Reply Fault) : Type 0 where
-  pub does : Does old new (reading_as element.array.0 element.index (kind_numbered element.kind)) answer
+  pub does : Does old new (loading_once element.array.0 element.index (kind_numbered element.kind)) answer
 
 module _ (turns : ℕ) where
   -- a call, made again where it was raced, barred or moved

@@ -4,7 +4,7 @@ ghost use Rattle.std.specs.Prelude.{◌≡◌, ◌∷◌, [], length};
 ghost use Rattle.jr_env.specs.Deeds.{answered_by, set_array_region};
 ghost use Rattle.jr_env.specs.Envs.{Does, WasDone, IsOutside};
 ghost use Rattle.jr_scripts.specs.declared.reply.Reply.TheVariants as replies;
-ghost use Rattle.jr_scripts.specs.Commands.{ReadsNumber, loading, loading_as, reading_as, storing, tried};
+ghost use Rattle.jr_scripts.specs.Commands.{ReadsNumber, loading, loading_as, loading_once, storing, tried};
 ghost use Rattle.jr_scripts.specs.Numbers.{kind_numbered, kind_of_element, word_of_element};
 
 use crate::ask::{ask, in_turns, retry};
@@ -51,11 +51,11 @@ fn load_as<S: Steps>(env: &mut Env<S>, turns: u64, at: ElementAt) -> Result<Repl
     requires { IsOutside env.old }
     ensures { WasDone env.old env.new (loading_as turns at.array.0 at.index (kind_numbered at.kind)) result }
 {
-    in_turns(env, turns, |env| read_as(env, at))
+    in_turns(env, turns, |env| load_once(env, at))
 }
 
 /// The number at an index of an array of a kind, by a call.
-fn read_as<S: Steps>(env: &mut Env<S>, at: ElementAt) -> Result<Reply, Fault>
+fn load_once<S: Steps>(env: &mut Env<S>, at: ElementAt) -> Result<Reply, Fault>
     ensures { ReadsNumber at env.old env.new result }
 {
     match at.kind {
@@ -76,7 +76,7 @@ fn read_number<S: Steps, E: Number>(
     elements: &mut [E],
 ) -> Result<Reply, Fault>
     requires { length elements.old ≡ 1 }
-    ensures { Does env.old env.new (reading_as array.0 index E.KIND) result }
+    ensures { Does env.old env.new (loading_once array.0 index E.KIND) result }
 {
     env.get_array_region(array, index, &mut *elements)?;
     Ok(Reply::Value(elements[0].to_number()))

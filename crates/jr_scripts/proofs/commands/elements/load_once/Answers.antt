@@ -1,4 +1,4 @@
-use Rattle.jr_scripts.proofs.commands.elements.read_as.Goals as goal
+use Rattle.jr_scripts.proofs.commands.elements.load_once.Goals as goal
 
 pub returns-in-Boolean : goal.returns-in-Boolean
 returns-in-Boolean g c = record { does = rw c.in-Boolean.is c.read_number.ensures }
