@@ -1,19 +1,21 @@
 -- What a call through a pointer did.
-use Rattle.std.specs.Prelude.{◌≡◌, ℕ, Bool, true, false, Option, Some, None, Result, Err, List}
+use Rattle.std.specs.Prelude.{◌≡◌, ℕ, Option, Some, None, Result, Err, List}
 use Rattle.std.specs.Global.{Box}
 use Rattle.jr_word.specs.declared.fault.Fault.{Fault}
 use Rattle.jr_word.specs.declared.fault.Fault.TheVariants.{NotFresh}
 use Rattle.jr_env.specs.Envs.{Does}
 use Rattle.jr_env.specs.Deeds.{Deed, ensure_local_capacity, push_local_frame, read_answer}
+use Rattle.luthrady.specs.declared.frames.FrameCall.{FrameCall}
+use Rattle.luthrady.specs.declared.frames.FrameCall.TheVariants.{Ensure, Push}
 use Rattle.luthrady.specs.declared.handles.EnvHandle.{EnvHandle}
 use Rattle.luthrady.specs.declared.held.Native.{Native}
 use Rattle.luthrady.specs.declared.reply.Reply.{Reply}
 use Rattle.luthrady.specs.Replies.{reply_of, nothing_told}
 
--- the call for so many local references: one that opens a frame, or one that only tells whether they can be made
-abbrev pub for_so_many : Bool → ℕ → Deed (Unit {0})
-for_so_many true n = push_local_frame n
-for_so_many false n = ensure_local_capacity n
+-- a call for room for so many local references
+abbrev pub for_so_many : FrameCall → ℕ → Deed (Unit {0})
+for_so_many Ensure n = ensure_local_capacity n
+for_so_many Push n = push_local_frame n
 
 -- the env of an attached thread did the deed, and the thread stays attached, with the marker as it was;
 -- a thread that was detached is refused with E21

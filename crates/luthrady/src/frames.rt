@@ -1,6 +1,6 @@
 //! Frames of local references.
-ghost use Rattle.jr_env.specs.Deeds.{ensure_local_capacity, free_locals, pop_local_frame, push_local_frame};
 ghost use Rattle.std.specs.Prelude.{◌≡◌};
+ghost use Rattle.jr_env.specs.Deeds.{ensure_local_capacity, free_locals, pop_local_frame, push_local_frame};
 ghost use Rattle.jr_env.specs.Envs.{Does};
 ghost use Rattle.luthrady.specs.Calls.{Replied, WasMade, for_so_many};
 ghost use Rattle.luthrady.specs.Replies.{nothing_told, word_or_null};
@@ -22,7 +22,7 @@ use jr_word::{Fault, Handle};
 pub extern "C" fn luthrady_ensure_local_capacity(env: &mut EnvHandle, capacity: u32) -> Reply
     ensures { Replied nothing_told env.old env.new (ensure_local_capacity capacity) result }
 {
-    of_nothing(with_room(env, false, capacity))
+    of_nothing(with_room(env, FrameCall::Ensure, capacity))
 }
 
 /// Opens a frame for so many local references. (JNI Specification, chapter 4, "PushLocalFrame")
@@ -34,7 +34,7 @@ pub extern "C" fn luthrady_ensure_local_capacity(env: &mut EnvHandle, capacity: 
 pub extern "C" fn luthrady_push_local_frame(env: &mut EnvHandle, capacity: u32) -> Reply
     ensures { Replied nothing_told env.old env.new (push_local_frame capacity) result }
 {
-    of_nothing(with_room(env, true, capacity))
+    of_nothing(with_room(env, FrameCall::Push, capacity))
 }
 
 /// Closes the current frame, and makes a reference in the one before to what the word names. (JNI Specification, chapter 4, "PopLocalFrame")
@@ -61,32 +61,40 @@ pub extern "C" fn luthrady_free_locals(env: &mut EnvHandle) -> Reply
     of_nothing(make(env, FreeLocals))
 }
 
-/// Opens a frame for so many local references, or only tells whether they can be made: by the env behind a pointer.
+/// A call for room for local references.
+#[derive(Clone, Copy)]
+enum FrameCall {
+    /// It tells whether they can be made.
+    Ensure,
+    /// It opens a frame for them.
+    Push,
+}
+
+/// Makes a call for room for so many local references, of the env behind a pointer.
 ///
 /// # Errors
 ///
 /// E21 where the thread was detached; else those of the same call of `Env`.
-fn with_room(handle: &mut EnvHandle, opens: bool, capacity: u32) -> Result<(), Fault>
-    ensures { WasMade handle.old handle.new (for_so_many opens capacity) result }
+fn with_room(handle: &mut EnvHandle, call: FrameCall, capacity: u32) -> Result<(), Fault>
+    ensures { WasMade handle.old handle.new (for_so_many call capacity) result }
 {
     let Some(native) = &mut env_of(handle).native else {
         return Err(Fault::NotFresh);
     };
-    with_room_by(&mut *native, opens, capacity)
+    with_room_by(&mut *native, call, capacity)
 }
 
-/// Opens a frame for so many local references, or only tells whether they can be made: by a thread's env.
+/// Makes a call for room for so many local references, of a thread's env.
 ///
 /// # Errors
 ///
 /// Those of the same call of `Env`.
-fn with_room_by(native: &mut Native, opens: bool, capacity: u32) -> Result<(), Fault>
-    ensures call { Does native.old.env native.new.env (for_so_many opens capacity) result }
+fn with_room_by(native: &mut Native, call: FrameCall, capacity: u32) -> Result<(), Fault>
+    ensures call { Does native.old.env native.new.env (for_so_many call capacity) result }
     ensures marker { native.new.marker ≡ native.old.marker }
 {
-    if opens {
-        native.env.push_local_frame(capacity)
-    } else {
-        native.env.ensure_local_capacity(capacity)
+    match call {
+        FrameCall::Ensure => native.env.ensure_local_capacity(capacity),
+        FrameCall::Push => native.env.push_local_frame(capacity),
     }
 }

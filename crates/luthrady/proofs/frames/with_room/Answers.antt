@@ -3,7 +3,6 @@ use Rattle.luthrady.specs.declared.held.Attached.{Attached}
 use Rattle.luthrady.proofs.ThroughPointers.{by_thread}
 use Rattle.luthrady.proofs.frames.with_room.Goals as goal
 
--- src/frames.rt
 pub returns : goal.returns
 returns c = (
   refl,
