@@ -10,7 +10,7 @@ use Rattle.jr_model.specs.Checks.{Word}
 use Rattle.jr_model.specs.History.{History}
 use Rattle.jr_model.specs.Objects.{get_array_critical, region_get, region_release}
 use Rattle.jr_frames.specs.Reading.{IsReadAs}
-use Rattle.jr_gate.specs.Performing.{HasLearned, ThreadState}
+use Rattle.jr_gate.specs.Performing.{HasLearned}
 use Rattle.jr_weak.specs.declared.collecting.Collected.{Collected}
 use Rattle.jr_env.specs.Collections.{collection}
 use Rattle.jr_env.specs.Deeds.{Deed, done, new_plain, new_array, new_object_array, new_reference}

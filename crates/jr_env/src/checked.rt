@@ -164,6 +164,7 @@ impl<'e, N, W> Checked<'e, N, W> {
 }
 
 impl<N: Explains, W: Watcher> Checked<'_, N, W> {
+    ghost use Rattle.std.specs.Prelude.{[], ◌∷◌};
     ghost use Rattle.jr_env.specs.Requests.{handed_words};
     ghost use Rattle.jr_env.specs.Watching.{ExaminesEach, HasTold, evidence_of};
 
@@ -184,9 +185,7 @@ impl<N: Explains, W: Watcher> Checked<'_, N, W> {
     }
 
     /// Tells the watcher of a refusal.
-    #[cold]
-    #[inline(never)]
-    fn tell(&mut self, call: &'static str, handed: Handed, fault: Fault)
+    fn report(&mut self, call: &'static str, handed: Handed, fault: Fault)
         ensures same_reference { self.new.caller.ghost_name ≡ self.old.caller.ghost_name }
         ensures told { HasTold N.explained N.thread W.hears self.old self.new call.now (handed_words handed) fault }
     {
@@ -198,6 +197,49 @@ impl<N: Explains, W: Watcher> Checked<'_, N, W> {
             evidence,
             fault,
         });
+    }
+
+    /// Tells of a call that was handed no word.
+    #[cold]
+    #[inline(never)]
+    fn tell_of_nothing(&mut self, call: &'static str, fault: Fault)
+        ensures same_reference { self.new.caller.ghost_name ≡ self.old.caller.ghost_name }
+        ensures told { HasTold N.explained N.thread W.hears self.old self.new call.now [] fault }
+    {
+        self.report(call, Handed::Nothing, fault);
+    }
+
+    /// Tells of a call that was handed one word.
+    #[cold]
+    #[inline(never)]
+    fn tell_of_one(&mut self, call: &'static str, word: Handle, fault: Fault)
+        ensures same_reference { self.new.caller.ghost_name ≡ self.old.caller.ghost_name }
+        ensures told { HasTold N.explained N.thread W.hears self.old self.new call.now (word.0 ∷ []) fault }
+    {
+        self.report(call, Handed::One(word), fault);
+    }
+
+    /// Tells of a call that was handed two words.
+    #[cold]
+    #[inline(never)]
+    fn tell_of_both(&mut self, call: &'static str, first: Handle, second: Handle, fault: Fault)
+        ensures same_reference { self.new.caller.ghost_name ≡ self.old.caller.ghost_name }
+        ensures told { HasTold N.explained N.thread W.hears self.old self.new call.now (first.0 ∷ second.0 ∷ []) fault }
+    {
+        self.report(call, Handed::Both(first, second), fault);
+    }
+
+    /// Tells the watcher of a refusal, by functions that take the words in registers: so a call that isn't refused stores none.
+    #[inline(always)]
+    fn tell(&mut self, call: &'static str, handed: Handed, fault: Fault)
+        ensures same_reference { self.new.caller.ghost_name ≡ self.old.caller.ghost_name }
+        ensures told { HasTold N.explained N.thread W.hears self.old self.new call.now (handed_words handed) fault }
+    {
+        match handed {
+            Handed::Nothing => self.tell_of_nothing(call, fault),
+            Handed::One(word) => self.tell_of_one(call, word, fault),
+            Handed::Both(first, second) => self.tell_of_both(call, first, second, fault),
+        }
     }
 }
 

@@ -11,7 +11,7 @@ use Rattle.jr_model.specs.declared.event.Act.TheVariants.{Gate, Create, Delete, 
 use Rattle.jr_model.specs.declared.event.GateAct.TheVariants.{Shut, Reopen}
 use Rattle.jr_model.specs.State.{Handle, same_handle, Contents, State, IsReached, present_words}
 use Rattle.jr_model.specs.Steps.{Needs, ActNeeds, act_after, after}
-use Rattle.jr_model.specs.History.{History, by, state, state_from, IsLegal, IsLegalFrom, mine}
+use Rattle.jr_model.specs.History.{History, by, state, state_from, IsLegalFrom, mine}
 use Rattle.jr_model.specs.CollectionCalls.{IsToClear, IsToDrop, IsWhole, IsExact, KeepsReached}
 use Rattle.jr_model.specs.CollectionCalls.{sweeping_acts}
 use Rattle.jr_model.specs.Laws.{CollectionIsExact}

@@ -22,7 +22,7 @@ use Rattle.jr_scripts.specs.declared.number.NumberKind.TheVariants as number
 use Rattle.jr_scripts.specs.declared.number.Element.{Element}
 use Rattle.jr_scripts.specs.Numbers.{has_numbers, first_number, number_of_word, word_of_number}
 use Rattle.jr_scripts.specs.Numbers.{kind_numbered, kind_of_element, word_of_element}
-use Rattle.jr_scripts.specs.Commands.{tried, deleted_of, deletion, loading, loading_as, storing, storing_as}
+use Rattle.jr_scripts.specs.Commands.{tried, deleted_of, deletion, storing, storing_as}
 use Rattle.jr_scripts.proofs.FormedTries.{tried_answered, tried_formed}
 use Rattle.jr_env.proofs.Carrying.{did_decided, did_decline, did_more, does_then}
 

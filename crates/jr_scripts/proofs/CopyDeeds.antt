@@ -12,24 +12,22 @@ use Rattle.jr_model.specs.Frames.{Frames}
 use Rattle.jr_steps.specs.Knowing.{Facts}
 use Rattle.jr_elements.specs.Copies.{answer_in, kept}
 use Rattle.jr_env.specs.Requests.{Request, told_by}
-use Rattle.jr_env.specs.Deeds.{Deed, DoesDeed, DoesOutside, answered_by, decided, done, release_answer, whole}
-use Rattle.jr_env.specs.Deeds.{release_array_elements, get_array_elements, kind_of, ◌>>◌, ◌>>=◌}
+use Rattle.jr_env.specs.Deeds.{Deed, DoesDeed, answered_by, decided, done, release_answer, whole}
+use Rattle.jr_env.specs.Deeds.{release_array_elements, get_array_elements, ◌>>◌, ◌>>=◌}
 use Rattle.jr_env.proofs.Carrying.{did_answer, did_more, did_refuse, does_nothing}
 use Rattle.jr_syntax.specs.declared.command.Command.TheVariants as commands
 use Rattle.jr_syntax.specs.declared.verb.OnNameAt.{OnNameAt}
 use Rattle.jr_syntax.specs.declared.verb.OnNameAt.TheVariants as on_name_at
 use Rattle.jr_syntax.specs.declared.verb.PutAt.{PutAt}
 use Rattle.jr_syntax.specs.declared.verb.PutAt.TheVariants as put_at
-use Rattle.jr_scripts.specs.declared.number.NumberKind.{NumberKind}
 use Rattle.jr_scripts.specs.declared.reply.Reply.{Reply}
 use Rattle.jr_scripts.specs.declared.reply.Reply.TheVariants as replies
 use Rattle.jr_scripts.specs.declared.binding.Binding.{Binding}
 use Rattle.jr_scripts.specs.declared.binding.Binding.TheVariants.{Nothing, Buffer}
 use Rattle.jr_scripts.specs.declared.buffer.CopiedElements.{CopiedElements}
-use Rattle.jr_scripts.specs.Buffers.{Copied, copied_as, copied_in, copy_of}
+use Rattle.jr_scripts.specs.Buffers.{Copied, copied_as, copied_in}
 use Rattle.jr_scripts.specs.Names.{Names, getting, names_put, putting, binding, binding_left}
-use Rattle.jr_scripts.specs.Numbers.{kind_numbered}
-use Rattle.jr_scripts.specs.Commands.{copying, copying_as, deed, tried}
+use Rattle.jr_scripts.specs.Commands.{copying_as, deed, tried}
 use Rattle.jr_scripts.specs.Text.{buffers_after, elements_left, left_by}
 use Rattle.jr_scripts.specs.Advancing.{got_by, put_by}
 use Rattle.jr_scripts.proofs.Retries.{IsHandedOn}

@@ -1,5 +1,5 @@
 -- Calls that are made again, up to so many times.
-use Rattle.std.proofs.Common.{MatchResult, ◌≡◌, ◌⊎◌, ⊎_elim, inl, inr, ℕ, suc, Bool, true, false, Result, Ok, Err, refl}
+use Rattle.std.proofs.Common.{MatchResult, ◌≡◌, ◌⊎◌, ⊎_elim, inl, inr, ℕ, suc, true, false, Result, Ok, Err, refl}
 use Rattle.std.proofs.Common.{sym, ◌∙◌, ap, subst}
 use Rattle.std.specs.Result.{IsErrAnd}
 use Rattle.std.proofs.lemmas.Result.{err_from_is_err_and}

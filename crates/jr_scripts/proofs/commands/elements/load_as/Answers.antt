@@ -1,9 +1,8 @@
-use Rattle.std.proofs.Common.{◌≡◌, ◌∙◌, of_calls, refl, rules, subst}
+use Rattle.std.proofs.Common.{◌≡◌, of_calls, refl, rules}
 use Rattle.jr_scripts.specs.Commands.{ReadsNumber}
 use Rattle.jr_scripts.specs.Numbers.{first_number, kind_numbered}
 use Rattle.jr_env.specs.Deeds.{get_array_region}
 use Rattle.jr_scripts.specs.declared.reply.Reply.TheVariants.{Value}
-use Rattle.jr_scripts.specs.declared.commands.elements.ElementAt.{ElementAt}
 use Rattle.jr_scripts.proofs.CommandDeeds.{does_tried_form}
 use Rattle.jr_scripts.proofs.Retries.{does_tried}
 use Rattle.jr_scripts.proofs.commands.elements.load_as.Goals as goal
