@@ -2,7 +2,6 @@
 use Rattle.std.proofs.Common.{◌≡◌, ◌≢◌, ◌<◌, ◌+◌, ℕ, suc, true, List, [], ◌∷◌, ◌++◌, take}
 use Rattle.std.proofs.Common.{map, length, get_or, Ok, refl, sym, ap, subst, ◌∙◌, arith}
 use Rattle.std.proofs.lemmas.List.{map-append, length-map, length-take-le, take_all, take_more}
-use Rattle.std.proofs.Props.{props}
 use mathlib.Core.Logic.{∥∥₁_map}
 use Rattle.jr_word.specs.declared.header.HeaderParts.{HeaderParts}
 use Rattle.jr_word.specs.declared.kind.Kind.{Kind}
@@ -15,7 +14,7 @@ use Rattle.jr_model.specs.declared.event.GateAct.TheVariants.{Leave}
 use Rattle.jr_model.specs.State.{State, IsWord}
 use Rattle.jr_model.specs.History.{Did}
 use Rattle.jr_model.specs.Checks.{is_read_as, same_element}
-use Rattle.jr_model.specs.Parts.{read, write, read_acts, write_acts}
+use Rattle.jr_model.specs.Parts.{write, read_acts, write_acts}
 use Rattle.jr_model.proofs.Stays.{did_then}
 use Rattle.jr_model.proofs.Windows.{AreWithin, window_within}
 use Rattle.jr_steps.specs.declared.known.Known.{Known}
