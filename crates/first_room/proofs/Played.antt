@@ -28,12 +28,12 @@ use Rattle.jr_env.specs.Deeds.{get_object_ref_type, push_local_frame, pop_local_
 use Rattle.jr_env.specs.Remedies.{collection_in_turn}
 use Rattle.first_room.specs.declared.TheConstants.{TRIES}
 use Rattle.first_room.specs.Calls.{Shared, Visited, clearing, collecting_in_turn, collecting_twice, is_handed}
-use Rattle.first_room.specs.Calls.{is_kept_out, preparing, reading_within, sharing, visiting, word_made}
+use Rattle.first_room.specs.Calls.{is_kept_out, making_own, preparing, reading_within, sharing, visiting, word_made}
 
 module _ {S : Type 0} {facts : S → Facts} where
   -- the first thread's calls before it collects
   pub prepared : (s0 s1 s2 s3 s4 s5 s6 s7 : S) (f0 f1 f2 f3 f4 f5 f6 f7 : Frames) (lost array : Handle)
-      (weak global popped : Option Handle)
+      (weak global popped : Option Handle) (w g : Handle) → w.0 ≡ word_made weak → g.0 ≡ word_made global
       → (facts s0).stands.role ≡ Outside → DoesOutside facts s0 s1 f0 f1 (push_local_frame 4) (Ok tt)
       → DoesOutside facts s1 s2 f1 f2 (new_array Long 4) (Ok lost)
       → DoesOutside facts s2 s3 f2 f3 (new_reference Weak lost.0) (Ok weak)
@@ -41,67 +41,66 @@ module _ {S : Type 0} {facts : S → Facts} where
       → DoesOutside facts s4 s5 f4 f5 (set_array_region Int array.0 0 (10 ∷ 20 ∷ 30 ∷ [])) (Ok tt)
       → DoesOutside facts s5 s6 f5 f6 (new_reference Global array.0) (Ok global)
       → DoesOutside facts s6 s7 f6 f7 (pop_local_frame 0) (Ok popped)
-      → DoesDeed facts s0 s7 f0 f7 preparing (Ok (word_made weak, word_made global))
-  prepared s0 s1 s2 s3 s4 s5 s6 s7 f0 f1 f2 f3 f4 f5 f6 f7 lost array weak global popped out d1 d2 d3 d4 d5 d6 d7 =
+      → DoesOutside facts s0 s7 f0 f7 preparing (Ok (w.0, g.0))
+  prepared s0 s1 s2 s3 s4 s5 s6 s7 f0 f1 f2 f3 f4 f5 f6 f7 lost array weak global popped w g w_is g_is
+      out d1 d2 d3 d4 d5 d6 d7 =
       let a = d1.does out in
       let b = d2.does d1.outside in
       let c = d3.does d2.outside in
       let d = d4.does d3.outside in
       let e = d5.does d4.outside in
       let f = d6.does d5.outside in
-      let g = d7.does d6.outside in
-      does_then _ a (does_then _ b (does_then _ c
-      (does_then _ d (does_then _ e (does_then _ f (did_reply (λ _. (word_made weak, word_made global)) popped g))))))
+      let h = d7.does d6.outside in
+      subst (λ (z : ℕ × ℕ). DoesOutside facts s0 s7 f0 f7 preparing (Ok z)) (λ i. (sym w_is i, sym g_is i)) (record {
+        does = λ o. does_then _ a (does_then _ b (does_then _ c
+            (does_then _ d (does_then _ e (does_then _ f
+            (did_reply (λ _. (word_made weak, word_made global)) popped h))))));
+        left = λ no. absurd (no out);
+        outside = d7.outside;
+      })
 
   -- its two collections
-  collected_twice : (s0 s1 s2 : S) (f0 f1 f2 : Frames) (inside more : ℕ) (c : Collected)
+  pub collected_twice : (s0 s1 s2 : S) (f0 f1 f2 : Frames) (inside more : ℕ) (c : Collected)
       → (facts s0).stands.role ≡ Outside → DoesOutside facts s0 s1 f0 f1 collection (Err (Busy inside))
       → DoesOutside facts s1 s2 f1 f2 (collection_in_turn TRIES more) (Ok c)
-      → DoesDeed facts s0 s2 f0 f2 collecting_twice (Ok inside)
+      → DoesOutside facts s0 s2 f0 f2 collecting_twice (Ok inside)
   collected_twice s0 s1 s2 f0 f1 f2 inside more c out d1 d2 =
       let kept_out : DoesDeed facts s0 s1 f0 f1 is_kept_out (Ok inside) =
       did_more (λ p q d. (inside, refl, d)) (d1.does out) in
       let in_turn : DoesDeed facts s1 s2 f1 f2 collecting_in_turn (Ok c) =
-      did_more (λ p q d. (more, d)) (d2.does d1.outside) in
-      does_then _ kept_out (did_reply (λ _. inside) c in_turn)
+      did_more (λ p q d. (more, d)) (d2.does d1.outside) in record {
+        does = λ o. does_then _ kept_out (did_reply (λ _. inside) c in_turn);
+        left = λ no. absurd (no out);
+        outside = d2.outside;
+      }
 
   -- and those at its end
-  cleared_then : (s0 s1 s2 s3 : S) (f0 f1 f2 f3 : Frames) (weak global : ℕ) (cleared : Bool) (kind : ℕ)
+  pub cleared_then : (s0 s1 s2 s3 : S) (f0 f1 f2 f3 : Frames) (weak global : ℕ) (cleared : Bool) (kind : ℕ)
       → (facts s0).stands.role ≡ Outside → DoesOutside facts s0 s1 f0 f1 (is_same_object weak 0) (Ok cleared)
       → DoesOutside facts s1 s2 f1 f2 (delete_reference Global global) (Ok tt)
       → DoesOutside facts s2 s3 f2 f3 (get_object_ref_type global) (Ok kind)
-      → DoesDeed facts s0 s3 f0 f3 (clearing weak global) (Ok (cleared, kind))
-  cleared_then s0 s1 s2 s3 f0 f1 f2 f3 weak global cleared kind out d1 d2 d3 =
-      does_then _ (d1.does out)
-      (does_then _ (d2.does d1.outside) (did_reply (λ k. (cleared, k)) kind (d3.does d2.outside)))
+      → DoesOutside facts s0 s3 f0 f3 (clearing weak global) (Ok (cleared, kind))
+  cleared_then s0 s1 s2 s3 f0 f1 f2 f3 weak global cleared kind out d1 d2 d3 = record {
+    does = λ o. does_then _ (d1.does out)
+        (does_then _ (d2.does d1.outside) (did_reply (λ k. (cleared, k)) kind (d3.does d2.outside)));
+    left = λ no. absurd (no out);
+    outside = d3.outside;
+  }
 
   -- THE FIRST THREAD'S CALLS
-  pub shared : (s0 s1 s2 s3 s4 s5 s6 s7 s8 s9 s10 s11 s12 : S) (f0 f1 f2 f3 f4 f5 f6 f7 f8 f9 f10 f11 f12 : Frames)
-      (lost array : Handle) (weak global popped : Option Handle) (inside more : ℕ) (c : Collected)
-      (cleared : Bool) (kind : ℕ)
-      → (facts s0).stands.role ≡ Outside → DoesOutside facts s0 s1 f0 f1 (push_local_frame 4) (Ok tt)
-      → DoesOutside facts s1 s2 f1 f2 (new_array Long 4) (Ok lost)
-      → DoesOutside facts s2 s3 f2 f3 (new_reference Weak lost.0) (Ok weak)
-      → DoesOutside facts s3 s4 f3 f4 (new_array Int 3) (Ok array)
-      → DoesOutside facts s4 s5 f4 f5 (set_array_region Int array.0 0 (10 ∷ 20 ∷ 30 ∷ [])) (Ok tt)
-      → DoesOutside facts s5 s6 f5 f6 (new_reference Global array.0) (Ok global)
-      → DoesOutside facts s6 s7 f6 f7 (pop_local_frame 0) (Ok popped)
-      → DoesOutside facts s7 s8 f7 f8 collection (Err (Busy inside))
-      → DoesOutside facts s8 s9 f8 f9 (collection_in_turn TRIES more) (Ok c)
-      → DoesOutside facts s9 s10 f9 f10 (is_same_object (word_made weak) 0) (Ok cleared)
-      → DoesOutside facts s10 s11 f10 f11 (delete_reference Global (word_made global)) (Ok tt)
-      → DoesOutside facts s11 s12 f11 f12 (get_object_ref_type (word_made global)) (Ok kind)
-      → DoesDeed facts s0 s12 f0 f12 sharing (Ok (Shared inside cleared kind))
-  shared s0 s1 s2 s3 s4 s5 s6 s7 s8 s9 s10 s11 s12 f0 f1 f2 f3 f4 f5 f6 f7 f8 f9 f10 f11 f12 lost array weak global
-      popped inside more c cleared kind out d1 d2 d3 d4 d5 d6 d7 d8 d9 d10 d11 d12 =
+  pub shared : (s0 s1 s2 s3 : S) (f0 f1 f2 f3 : Frames) (weak global inside : ℕ) (cleared : Bool) (kind : ℕ)
+      → (facts s0).stands.role ≡ Outside → DoesOutside facts s0 s1 f0 f1 preparing (Ok (weak, global))
+      → DoesOutside facts s1 s2 f1 f2 collecting_twice (Ok inside)
+      → DoesOutside facts s2 s3 f2 f3 (clearing weak global) (Ok (cleared, kind))
+      → DoesDeed facts s0 s3 f0 f3 sharing (Ok (Shared inside cleared kind))
+  shared s0 s1 s2 s3 f0 f1 f2 f3 weak global inside cleared kind out d1 d2 d3 =
       does_then {one = preparing}
       (λ words. collecting_twice >>= (λ n. clearing words.0 words.1 >>= (λ found. done (Shared n found.0 found.1))))
-      (prepared s0 s1 s2 s3 s4 s5 s6 s7 f0 f1 f2 f3 f4 f5 f6 f7 lost array weak global popped out d1 d2 d3 d4 d5 d6 d7)
-      (does_then {one = collecting_twice} (λ n. clearing (word_made weak) (word_made global)
-      >>= (λ found. done (Shared n found.0 found.1))) (collected_twice s7 s8 s9 f7 f8 f9 inside more c d7.outside d8 d9)
-      (did_reply {one = clearing (word_made weak) (word_made global)} (λ found. Shared inside found.0 found.1)
-      (cleared, kind) (cleared_then s9 s10 s11 s12 f9 f10 f11 f12 (word_made weak) (word_made global) cleared kind
-      d9.outside d10 d11 d12)))
+      (d1.does out)
+      (does_then {one = collecting_twice} (λ n. clearing weak global >>= (λ found. done (Shared n found.0 found.1)))
+      (d2.does d1.outside)
+      (did_reply {one = clearing weak global} (λ found. Shared inside found.0 found.1) (cleared, kind)
+      (d3.does d2.outside)))
 
   -- the second thread's reading in a region, from its entry to its exit
   pub region_read : AreOf facts → (a b c d : S) (f f1 f2 g : Frames) (word : ℕ) (v : Levels) (x : ℕ)
@@ -169,18 +168,27 @@ module _ {S : Type 0} {facts : S → Facts} where
   }
   reads_within fits a b c d f f1 f2 g word v w (Err e) out opened one same1 same2 same left reached ended done = tt
 
-  -- the second thread's calls
-  pub visited : (s s0 s1 s2 s3 s4 s5 : S) (f f0 f1 f2 f3 f4 f5 : Frames) (word : ℕ) (object array : Handle)
-      (popped : Option Handle) (x : ℕ)
-      → DoesDeed facts s s0 f f0 is_handed (Ok word) → (facts s0).stands.role ≡ Outside
-      → DoesOutside facts s0 s1 f0 f1 (push_local_frame 4) (Ok tt) → DoesOutside facts s1 s2 f1 f2 new_plain (Ok object)
+  -- the second thread's calls before it reads
+  pub made_own : (s0 s1 s2 s3 s4 : S) (f0 f1 f2 f3 f4 : Frames) (object array : Handle) (popped : Option Handle)
+      → (facts s0).stands.role ≡ Outside → DoesOutside facts s0 s1 f0 f1 (push_local_frame 4) (Ok tt)
+      → DoesOutside facts s1 s2 f1 f2 new_plain (Ok object)
       → DoesOutside facts s2 s3 f2 f3 (new_object_array 2 object.0) (Ok array)
       → DoesOutside facts s3 s4 f3 f4 (pop_local_frame 0) (Ok popped)
-      → DoesOutside facts s4 s5 f4 f5 (reading_within word) (Ok x) → DoesDeed facts s s5 f f5 visiting (Ok (Visited x))
-  visited s s0 s1 s2 s3 s4 s5 f f0 f1 f2 f3 f4 f5 word object array popped x handed out d1 d2 d3 d4 d5 =
-      let read = did_reply Visited x (d5.does d4.outside) in
-      does_then _ handed (does_then _ (d1.does out)
-      (does_then _ (d2.does d1.outside) (does_then _ (d3.does d2.outside) (does_then _ (d4.does d3.outside) read))))
+      → DoesOutside facts s0 s4 f0 f4 making_own (Ok tt)
+  made_own s0 s1 s2 s3 s4 f0 f1 f2 f3 f4 object array popped out d1 d2 d3 d4 = record {
+    does = λ o. does_then _ (d1.does out)
+        (does_then _ (d2.does d1.outside)
+        (does_then _ (d3.does d2.outside) (did_reply (λ _. tt) popped (d4.does d3.outside))));
+    left = λ no. absurd (no out);
+    outside = d4.outside;
+  }
+
+  -- and all of them
+  pub visited : (s s0 s1 s2 : S) (f f0 f1 f2 : Frames) (word x : ℕ) → DoesDeed facts s s0 f f0 is_handed (Ok word)
+      → (facts s0).stands.role ≡ Outside → DoesOutside facts s0 s1 f0 f1 making_own (Ok tt)
+      → DoesOutside facts s1 s2 f1 f2 (reading_within word) (Ok x) → DoesDeed facts s s2 f f2 visiting (Ok (Visited x))
+  visited s s0 s1 s2 f f0 f1 f2 word x handed out d1 d2 =
+      does_then _ handed (does_then _ (d1.does out) (did_reply Visited x (d2.does d1.outside)))
 
   -- a deed from steps that differ in nothing that is known of them
   module _ {A : Type 0} {r : Result A Fault} (a b c : S) (f f' g : Frames)

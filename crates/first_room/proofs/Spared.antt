@@ -16,6 +16,7 @@ use Rattle.jr_env.specs.Deeds.{is_same_object, new_array, new_object_array, new_
 use Rattle.jr_env.specs.Requests.{making_steps}
 use Rattle.jr_env.specs.Deeds.{pop_local_frame, push_local_frame, ◌>>=◌}
 use Rattle.jr_env.specs.Requests.{packed, packed_if}
+use Rattle.first_room.specs.Calls.{making_own}
 use Rattle.first_room.proofs.Sparing.{Spares, array_making_spares, comparison_spares, creation_spares}
 use Rattle.first_room.proofs.Sparing.{entered_spares, made_spares, popping_spares, pushing_spares}
 use Rattle.first_room.proofs.Sparing.{removal_spares, typing_spares}
@@ -105,3 +106,9 @@ pub same_spared : (v w : ℕ) → Spared (is_same_object v w)
 same_spared v w old new answer x =
     made_quiet (references.is_same_object old.pass.config old.pass.last old.pass.thread x.0 x.1)
     (entered_spares _ (comparison_spares old.pass.config old.pass.last old.pass.thread x.0 x.1)) x.4.0
+
+pub own_spared : Spared making_own
+own_spared =
+    spared_then (push_local_frame 4) _ (push_spared 4) (λ _. spared_then new_plain _ plain_spared (λ object.
+    spared_then (new_object_array 2 object.0) _ (objects_spared 2 object.0)
+    (λ _. answered_spared (λ _. tt) (pop_local_frame 0) (pop_spared 0))))

@@ -8,19 +8,17 @@ use Rattle.jr_model.specs.declared.event.GateAct.TheVariants.{Leave}
 use Rattle.jr_model.specs.History.{Did, History, state}
 use Rattle.jr_model.specs.Objects as objects
 use Rattle.jr_gate.specs.Performing.{HasLearned, ThreadState}
-use Rattle.jr_env.specs.Deeds.{Deed, done, new_object_array, new_plain, pop_local_frame, push_local_frame, ◌>>=◌, ◌>>◌}
-use Rattle.jr_env.specs.Deeds.{within_by}
-use Rattle.first_room.specs.Calls.{Findings, HasPrepared, Visited, is_handed, opens_region, reading_within}
-use Rattle.first_room.specs.Calls.{visiting}
+use Rattle.jr_env.specs.Deeds.{Deed, done, ◌>>=◌, ◌>>◌, within_by}
+use Rattle.first_room.specs.Calls.{Findings, HasPrepared, Visited, is_handed, making_own, opens_region}
+use Rattle.first_room.specs.Calls.{reading_within, visiting}
 use Rattle.first_room.proofs.Answered.{ints_read}
-use Rattle.first_room.proofs.Spared.{both_done, made_quiet, objects_spared, plain_spared, pop_spared, push_spared}
+use Rattle.first_room.proofs.Spared.{both_done, made_quiet, own_spared}
 use Rattle.first_room.proofs.Sparing.{opened_spares, opening_spares}
 use Rattle.first_room.proofs.Traces.{HasRead, quiet_then}
 
 -- its calls once it was handed the word
 abbrev pub rest_of_visit : ℕ → Deed Findings
-rest_of_visit global = push_local_frame 4 >> (new_plain >>= (λ object. new_object_array 2 object.0
-    >> (pop_local_frame 0 >> (reading_within global >>= (λ word. done (Visited word))))))
+rest_of_visit global = making_own >> (reading_within global >>= (λ word. done (Visited word)))
 
 -- it was handed a word
 pub record WasHanded (x : ℕ) (old new : ThreadState) : Type 0 where
@@ -58,43 +56,33 @@ has_read w x old new was =
     let ends : ℕ → Deed ℕ = λ v. within_by (λ c. 0) (λ c last t s. objects.region_release 1) >> done v in
     let gets : ℕ → Deed ℕ = λ o. within_by (λ c. 0) (λ c last t s. objects.region_get c last t s Int o 1) in
     let tells : ℕ → Deed Findings = λ word. done (Visited word) in
-    let s1 = both_done (push_local_frame 4) (λ _. new_plain
-    >>= (λ object. new_object_array 2 object.0 >> (pop_local_frame 0 >> (reading_within w >>= tells)))) old new y was in
-    let s2 =
-    both_done new_plain (λ object. new_object_array 2 object.0 >> (pop_local_frame 0 >> (reading_within w >>= tells)))
-    s1.mid new y s1.two in
-    let s3 = both_done (new_object_array 2 s2.x.0) (λ _. pop_local_frame 0 >> (reading_within w >>= tells)) s2.mid new y
-    s2.two in
-    let s4 = both_done (pop_local_frame 0) (λ _. reading_within w >>= tells) s3.mid new y s3.two in
-    let s5 = both_done (reading_within w) tells s4.mid new y s4.two in
-    let s6 = both_done (opens_region w) (λ o. gets o >>= ends) s4.mid s5.mid s5.x s5.one in
-    let s7 = both_done (gets s6.x) ends s6.mid s5.mid s5.x s6.two in
-    let s8 = both_done (within_by (λ c. 0) (λ c last t s. objects.region_release 1)) (λ _. done s7.x) s7.mid s5.mid s5.x
-    s7.two in
-    let c = s4.mid.pass in
-    let opens = made_quiet (objects.get_array_critical c.config c.last c.thread (state s6.mid.pass.seen) s6.one.0)
-    (opened_spares _ (opening_spares c.config c.last c.thread (state s6.mid.pass.seen) s6.one.0)) s6.one.2 in
-    let quiet = quiet_then (push_spared 4 old s1.mid (Ok s1.x) s1.one)
-    (quiet_then (plain_spared s1.mid s2.mid (Ok s2.x) s2.one) (quiet_then
-    (objects_spared 2 s2.x.0 s2.mid s3.mid (Ok s3.x) s3.one)
-    (quiet_then (pop_spared 0 s3.mid s4.mid (Ok s4.x) s4.one) opens))) in
-    let d = s6.mid.pass in
-    let q = s7.one.ran in
+    let s1 = both_done making_own (λ _. reading_within w >>= tells) old new y was in
+    let s2 = both_done (reading_within w) tells s1.mid new y s1.two in
+    let s3 = both_done (opens_region w) (λ o. gets o >>= ends) s1.mid s2.mid s2.x s2.one in
+    let s4 = both_done (gets s3.x) ends s3.mid s2.mid s2.x s3.two in
+    let s5 = both_done (within_by (λ c. 0) (λ c last t s. objects.region_release 1)) (λ _. done s4.x) s4.mid s2.mid s2.x
+    s4.two in
+    let c = s1.mid.pass in
+    let opens = made_quiet (objects.get_array_critical c.config c.last c.thread (state s3.mid.pass.seen) s3.one.0)
+    (opened_spares _ (opening_spares c.config c.last c.thread (state s3.mid.pass.seen) s3.one.0)) s3.one.2 in
+    let quiet = quiet_then (own_spared old s1.mid (Ok s1.x) s1.one) opens in
+    let d = s3.mid.pass in
+    let q = s4.one.ran in
     let read =
-    ints_read d.config d.last d.thread (state s7.mid.pass.seen) s6.x 1 s7.x s6.mid.frames s7.mid.frames q.acts q.is in
-    let value : s7.x ≡ x = same_word s7.x s5.x x s8.two.0 s5.two.0 in
+    ints_read d.config d.last d.thread (state s4.mid.pass.seen) s3.x 1 s4.x s3.mid.frames s4.mid.frames q.acts q.is in
+    let value : s4.x ≡ x = same_word s4.x s2.x x s5.two.0 s2.two.0 in
     record {
-      o = s6.x;
-      opened = s6.mid.pass;
-      read = s7.mid.pass;
+      o = s3.x;
+      opened = s3.mid.pass;
+      read = s4.mid.pass;
       begins = quiet;
-      reads = subst (λ v. Did s6.mid.pass s7.mid.pass (Read s6.x 1 v ∷ [])) value
-          (subst (Did s6.mid.pass s7.mid.pass) read.1 q.did);
+      reads = subst (λ v. Did s3.mid.pass s4.mid.pass (Read s3.x 1 v ∷ [])) value
+          (subst (Did s3.mid.pass s4.mid.pass) read.1 q.did);
       ints = read.0;
       ends = record {
         acts = Gate Leave ∷ [];
-        did = subst (λ (z : ThreadState). Did s7.mid.pass z.pass (Gate Leave ∷ [])) (sym (s5.two.1 ∙ s8.two.1))
-            (subst (Did s7.mid.pass s8.mid.pass) s8.one.ran.is.0 s8.one.ran.did);
+        did = subst (λ (z : ThreadState). Did s4.mid.pass z.pass (Gate Leave ∷ [])) (sym (s2.two.1 ∙ s5.two.1))
+            (subst (Did s4.mid.pass s5.mid.pass) s5.one.ran.is.0 s5.one.ran.did);
         none = (refl, tt);
       };
     }

@@ -98,15 +98,21 @@ reading_within global = do
   within_by (λ c. 0) (λ c last t s. region_release 1)
   done word
 
+-- two objects are made in a frame
+abbrev pub making_own : Deed (Unit {0})
+making_own = do
+  push_local_frame 4
+  object ← new_plain
+  new_object_array 2 object.0
+  pop_local_frame 0
+  done tt
+
 -- THE SECOND THREAD is handed the global reference's word, and makes two objects in a frame;
 -- and it reads an element of the array that the word names
 abbrev pub visiting : Deed Findings
 visiting = do
   global ← is_handed
-  push_local_frame 4
-  object ← new_plain
-  new_object_array 2 object.0
-  pop_local_frame 0
+  making_own
   word ← reading_within global
   done (Visited word)
 

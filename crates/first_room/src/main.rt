@@ -9,7 +9,8 @@ ghost use Rattle.std.specs.Io.KnownBytes.{Appends};
 ghost use Rattle.jr_word.specs.Elem.{signed_word};
 ghost use Rattle.jr_rule.specs.Passes.{AreOpened};
 ghost use Rattle.jr_env.specs.Envs.{Does, IsOutside};
-ghost use Rattle.first_room.specs.Calls.{Shared, Visited, reading_within};
+ghost use Rattle.first_room.specs.Calls.{Shared, Visited, clearing, collecting_twice};
+ghost use Rattle.first_room.specs.Calls.{making_own, preparing, reading_within};
 ghost use Rattle.first_room.specs.Hour.{IsTrueReport, IsWritten, report_lines, report_text};
 ghost use Rattle.first_room.specs.Sites.{HasCome, IsPassOfThread, IsRoomOf};
 
@@ -18,7 +19,6 @@ mod handing;
 use crate::handing::{First, Handed, Second, put, take, wait};
 use jr_env::{Env, NativeInterface, Patience};
 use jr_rule::{Pass, Room, Site, SiteSteps, Steps, Summary};
-use jr_weak::Marker;
 use jr_word::{Config, Fault, Handle, LAST_SERIAL};
 use std::alloc::Global;
 use std::io::Write;
@@ -144,6 +144,20 @@ fn share<Q: Site + Send + Sync>(
     let Ok(mut env) = Env::new(SiteSteps::<LAST, Q, First>::new(room, pass)) else {
         unreachable!();
     };
+    let (weak, global) = prepare(&mut env)?;
+    let note = env.note();
+    put(handed, Handed { global, note })?;
+    wait(baton, 0)?;
+    let inside = collect_twice(alloc, &mut env, baton)?;
+    let (cleared, kind) = clear(&mut env, weak, global)?;
+    Ok((env.into_pass().into_pass(), inside, cleared, kind))
+}
+
+/// Makes two arrays in a frame, and then a weak reference to the one and a global one to the other: the two references.
+fn prepare<S: Steps>(env: &mut Env<S>) -> Result<(Handle, Handle), Fault>
+    requires { IsOutside env.old }
+    ensures { IfOk result (λ r. Does env.old env.new preparing (Ok (r.0.0, r.1.0))) }
+{
     env.push_local_frame(4)?;
     let lost = env.new_array::<i64>(4)?;
     let weak = env.new_weak_global_ref(lost)?.unwrap_or(Handle::NULL);
@@ -151,19 +165,32 @@ fn share<Q: Site + Send + Sync>(
     env.set_array_region(array, 0, &[10, 20, 30])?;
     let global = env.new_global_ref(array)?.unwrap_or(Handle::NULL);
     env.pop_local_frame(Handle::NULL)?;
-    let note = env.note();
-    put(handed, Handed { global, note })?;
-    wait(baton, 0)?;
-    let mut marker = Marker::new(alloc, env.held.steps.config())?;
+    Ok((weak, global))
+}
+
+/// Collects, in vain while the other thread is inside, tells it so, and collects in its turn: how many threads were inside.
+fn collect_twice<S: Steps>(alloc: Global, env: &mut Env<S>, baton: &AtomicU64) -> Result<u32, Fault>
+    requires { IsOutside env.old }
+    ensures { IfOk result (λ n. (1 ≤ n) × Does env.old env.new collecting_twice (Ok n)) }
+{
+    let mut marker = env.marker(alloc)?;
     let Err(Fault::Busy(inside)) = env.collect(&mut marker) else {
         return Err(Fault::Turns);
     };
     baton.store(2, Ordering::SeqCst);
     env.collect_in_turn(&mut marker, TRIES, Patience::LONG)?;
+    Ok(inside)
+}
+
+/// Whether the weak reference is to null, and the type of the global one, once it is deleted.
+fn clear<S: Steps>(env: &mut Env<S>, weak: Handle, global: Handle) -> Result<(bool, u8), Fault>
+    requires { IsOutside env.old }
+    ensures { IfOk result (λ r. Does env.old env.new (clearing weak.0 global.0) (Ok (r.0, r.1))) }
+{
     let cleared = env.is_same_object(weak, Handle::NULL)?;
     env.delete_global_ref(global)?;
     let kind = env.get_object_ref_type(global)?;
-    Ok((env.into_pass().into_pass(), inside, cleared, kind))
+    Ok((cleared, kind))
 }
 
 /// The second thread has objects of its own, and reads in the first one's array, in a critical region.
@@ -181,12 +208,21 @@ fn visit<Q: Site + Send + Sync>(
     };
     let Handed { global, note } = take(handed)?;
     env.learn(note);
+    make_own(&mut env)?;
+    let read = read_within(&mut env, global, baton)?;
+    Ok((env.into_pass().into_pass(), read))
+}
+
+/// Makes an object and an array in a frame of its own.
+fn make_own<S: Steps>(env: &mut Env<S>) -> Result<(), Fault>
+    requires { IsOutside env.old }
+    ensures { IfOk result (λ u. Does env.old env.new making_own (Ok u)) }
+{
     env.push_local_frame(4)?;
     let object = env.new_plain()?;
     env.new_object_array(2, object)?;
     env.pop_local_frame(Handle::NULL)?;
-    let read = read_within(&mut env, global, baton)?;
-    Ok((env.into_pass().into_pass(), read))
+    Ok(())
 }
 
 /// Reads an element of an array in a critical region, and tells the other thread, which collects in vain as long as the region stands.

@@ -18,18 +18,13 @@ returns g c =
     let own : to_z w32 (of_z w32 c.in_ok-read.read) ≡ c.in_ok-read.read = search rules in
     let d0 = learns _ _ _ _ c.in_ok-global.field-0.global.0 c.in_ok-global.field-0.note.note c.learn.ensures.step
     c.learn.ensures.learned (ap (λ (t : Table). t.frames) c.learn.ensures.frames) c.in_ok-global.field-0.prepared in
-    let d1 = c.in_ok-push_local_frame.ensures in
-    let d2 = c.in_ok-object.ensures in
-    let d3 = c.in_ok-new_object_array.ensures in
-    let d4 = c.in_ok-pop_local_frame.ensures in
-    let d5 = c.in_ok-read.ensures in
+    let read = c.in_ok-read.ensures in
     let outside = d0.stands_is.role ∙ c.in-Ok.ensures.outside in
-    let calls = visited _ _ _ _ _ _ _ _ _ _ _ _ _ _ c.in_ok-global.field-0.global.0 c.in_ok-object.object
-    c.in_ok-new_object_array.field-0 c.in_ok-pop_local_frame.field-0 (signed_word w32 c.in_ok-read.read)
-    d0 outside d1 d2 d3 d4 d5 in
-    let handed = c.into_pass-2.ensures.pass ∙ ap holder_over (c.into_pass.ensures.steps d5.outside) in record {
+    let calls = visited _ _ _ _ _ _ _ _ c.in_ok-global.field-0.global.0 (signed_word w32 c.in_ok-read.read)
+    d0 outside c.in_ok-make_own.ensures read in
+    let handed = c.into_pass-2.ensures.pass ∙ ap holder_over (c.into_pass.ensures.steps read.outside) in record {
       back = c.into_pass-2.ensures.site;
-      outside = ap (λ (h : Holder). (facts_of h).stands.role) handed ∙ d5.outside;
+      outside = ap (λ (h : Holder). (facts_of h).stands.role) handed ∙ read.outside;
       did = subst (λ z. DidWithPass visiting c.args.pass (holder_of c.into_pass-2.result) (Visited (signed_word w32 z)))
           (sym own) (
           come holder_over visiting c.new.result _ _ c.args.pass (holder_of c.into_pass-2.result) _ _
