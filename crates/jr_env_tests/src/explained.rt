@@ -16,7 +16,7 @@ fn is_told<S: Steps>(
     word: Handle,
     wanted: Explanation,
 ) -> Result<(), Fail> {
-    assert_eq!(rt; env.explain(word)?, wanted);
+    assert!(rt; env.explain(word)? == wanted);
     Ok(())
 }
 

@@ -10,12 +10,14 @@ ghost use Rattle.jr_rule.specs.Rooms.{IsPinnedThere, seen_by_note};
 ghost use Rattle.jr_rule.specs.Sites.{IsSiteOf};
 ghost use Rattle.jr_steps.specs.declared.known.Known.{Known};
 
-use crate::references::{opened, shared_in};
+use crate::owners::shares;
+use crate::references::{find, opened};
 use jr_env::Env;
 use jr_fixtures::{LAST, has_type, next_pass, opened_env};
 use jr_model::references_stand_until_deleted;
 use jr_rule::{NoteOf, Pass, PinnedNote, Room, RoomSteps, Site, SiteSteps, StepsIn, ThreadNumber};
 use jr_word::Config;
+use std::alloc::Global;
 use std::marker::Brand;
 use std::process::Abort;
 use std::sync::Wait;
@@ -73,12 +75,52 @@ pub(crate) fn learns<Q: Site, S: StepsIn<Q>>(env: &mut Env<S>, note: NoteOf<Q>)
     env.learn(note);
 }
 
-/// A note that a thread of the site's room pinned is learned in turn, and again: whoever has learned it finds the reference.
-fn learn_again<Q: Site, T: ThreadNumber, U: ThreadNumber>(
+/// Two envs in one thread: the second makes a note once it has made a reference, and the first learns it, and finds the reference. A note that nobody learns, and one that says less, change nothing.
+fn find_by_note<Q: Site, S: StepsIn<Q>, U: StepsIn<Q>>(
+    rt: &impl Abort,
+    first: &mut Env<S>,
+    second: &mut Env<U>,
+) -> Result<(), Fail> {
+    let early = second.note();
+    let shared = shares(second)?;
+    let _ = second.note();
+    let note = second.note();
+    learns(first, note);
+    first.learn(early);
+    find(rt, first, second, shared)
+}
+
+/// A pinned note is learned, and again: whoever has learned it finds the reference.
+fn learn_again<Q: Site, S: StepsIn<Q>, U: StepsIn<Q>>(
+    rt: &impl Abort,
+    first: &mut Env<S>,
+    second: &mut Env<U>,
+) -> Result<(), Fail> {
+    let shared = shares(second)?;
+    let pinned = second.pin();
+    assert!(rt; first.learn_pinned(&pinned));
+    assert!(rt; first.learn_pinned(&pinned));
+    let again = first.pin();
+    assert!(rt; second.learn_pinned(&again));
+    has_type(first, shared, 2)
+}
+
+/// What is tried of two envs of one site.
+#[derive(Clone, Copy)]
+enum Case {
+    /// A note that one thread learns.
+    Note,
+    /// A note that stays.
+    Pinned,
+}
+
+/// Tries it in two envs over passes of the site's room.
+fn try_in_site<Q: Site, T: ThreadNumber, U: ThreadNumber>(
     rt: &impl Abort,
     room: &Room<LAST>,
     first: Pass,
     second: Pass,
+    case: Case,
 ) -> Result<(), Fail>
     requires opened { IsOpened room.now.row first × IsOpened room.now.row second }
     requires first { IsSiteOf Q.room Q.sizes T.number room.now first }
@@ -86,19 +128,26 @@ fn learn_again<Q: Site, T: ThreadNumber, U: ThreadNumber>(
 {
     let mut first = opened_env(SiteSteps::<LAST, Q, T>::new(room, first));
     let mut second = opened_env(SiteSteps::<LAST, Q, U>::new(room, second));
-    let shared = shared_in(&mut second)?;
-    let pinned = second.pin::<Q>();
-    assert!(rt; first.learn_pinned(&pinned));
-    assert!(rt; first.learn_pinned(&pinned));
-    let again = first.pin::<Q>();
-    assert!(rt; second.learn_pinned(&again));
-    has_type(&mut first, shared, 2)
+    match case {
+        Case::Note => find_by_note::<Q, _, _>(rt, &mut first, &mut second),
+        Case::Pinned => learn_again::<Q, _, _>(rt, &mut first, &mut second),
+    }
+}
+
+/// Tries it in a room that is opened for it.
+fn try_notes(rt: &impl Abort, alloc: Global, case: Case) -> Result<(), Fail> {
+    let (room, first, second) = opened(alloc)?;
+    try_in_site::<Brand, Brand, Brand>(rt, &room, first, second, case)
+}
+
+#[test]
+fn who_learns_a_note_finds_its_reference(rt: HostRuntime) -> Result<(), Fail> {
+    try_notes(&rt, rt.alloc(), Case::Note)
 }
 
 #[test]
 fn a_pinned_note_is_learned_again(rt: HostRuntime) -> Result<(), Fail> {
-    let (room, first, second) = opened(rt.alloc())?;
-    learn_again::<Brand, Brand, Brand>(&rt, &room, first, second)
+    try_notes(&rt, rt.alloc(), Case::Pinned)
 }
 
 /// Two threads learn one note side by side, in many turns each. No copy is lost: a third learns it afterwards.

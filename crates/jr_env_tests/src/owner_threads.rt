@@ -1,8 +1,9 @@
 //! Notes between threads that own their room: each thread takes over the array that its neighbour sent by a queue, with a note of it. No clause is written here, and no file of proofs.
 
+use crate::owners::{shares, takes_over};
 use jr::{
-    Config, Env, Fault, Handle, NativeInterface, NoteOf, NoteQueue, OwnedCode, OwnedStepsOf, Site,
-    Summary, close_owned, of_any_site, spawn_owned,
+    Config, Env, Fault, Handle, NoteOf, NoteQueue, OwnedCode, OwnedStepsOf, Site, StepsIn, Summary,
+    close_owned, of_any_site, spawn_owned,
 };
 use std::sync::Wait;
 use std::test::Fail;
@@ -66,6 +67,29 @@ fn taken<R: Wait, Q: Site>(
     None
 }
 
+/// Sends an array, and takes over the one that the neighbour sent: its length.
+fn hands_on<R: Wait, Q: Site, S: StepsIn<Q>>(
+    rt: &R,
+    thread: u8,
+    env: &mut Env<S>,
+    queue: &NoteQueue<Sent, Q>,
+) -> Result<u32, Fault> {
+    let shared = shares(env)?;
+    let sent = Sent {
+        from: thread,
+        shared,
+    };
+    let Ok(()) = queue.lock(rt).push((sent, env.note())) else {
+        return Err(Fault::Memory);
+    };
+    let neighbour = if thread == 0 { 2 } else { thread - 1 };
+    let Some((sent, note)) = taken(rt, queue, neighbour) else {
+        return Err(Fault::Memory);
+    };
+    env.learn(note);
+    takes_over(env, sent.shared)
+}
+
 impl<R: Wait + Drop> OwnedCode for TakesOver<R> {
     type Message = Sent;
 
@@ -77,25 +101,12 @@ impl<R: Wait + Drop> OwnedCode for TakesOver<R> {
         mut env: Env<OwnedStepsOf<Q>>,
         queue: &NoteQueue<Sent, Q>,
     ) -> Result<Ended, Fault> {
-        let array = env.new_array::<i32>(3)?;
-        let shared = Handle::or_null(env.new_global_ref(array)?);
-        let sent = Sent {
-            from: thread,
-            shared,
-        };
-        let Ok(()) = queue.lock(&self.rt).push((sent, env.note())) else {
-            return Err(Fault::Memory);
-        };
-        let neighbour = if thread == 0 { 2 } else { thread - 1 };
-        let Some((sent, note)) = taken(&self.rt, queue, neighbour) else {
-            return Err(Fault::Memory);
-        };
-        env.learn(note);
-        let length = env.get_array_length(sent.shared)?;
-        env.new_weak_global_ref(sent.shared)?;
-        env.delete_global_ref(sent.shared)?;
+        let length = hands_on(&self.rt, thread, &mut env, queue);
         let closed = close_owned(of_any_site(env.into_pass())).map_err(|left| left.fault)?;
-        Ok(Ended { length, closed })
+        Ok(Ended {
+            length: length?,
+            closed,
+        })
     }
 }
 

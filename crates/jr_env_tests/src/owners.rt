@@ -2,7 +2,8 @@
 
 use jr::calls::NewArray;
 use jr::{
-    Config, Fault, Handle, NativeInterface, OwnedEnv, Patience, Summary, close_owned, open_envs,
+    Config, Env, Fault, Handle, NativeInterface, OwnedEnv, Patience, Steps, Summary, close_owned,
+    open_envs,
 };
 use std::sync::{Arc, Mutex, Wait};
 use std::test::Fail;
@@ -28,18 +29,28 @@ const AT_THE_END: Summary = Summary {
 /// The references that threads hand on.
 type Queue = Mutex<Vec<Handle>>;
 
-/// Shares an array, and takes over one that some thread has shared: a weak reference to it is left. The length of what it took over. Each of the two others may reserve words in between once, so the array is made again.
-fn takes_over<R: Wait>(rt: &R, env: &mut OwnedEnv, queue: &Queue) -> Result<u32, Fault> {
-    let array = env.retry(NewArray::<i32>::of(3), Patience::of(3))?;
-    let shared = Handle::or_null(env.new_global_ref(array)?);
+/// Makes an array of three elements and a global reference to it. Other threads may reserve words in between, so the array is made again.
+pub(crate) fn shares<S: Steps>(env: &mut Env<S>) -> Result<Handle, Fault> {
+    let array = env.retry(NewArray::<i32>::of(3), Patience::LONG)?;
+    Ok(Handle::or_null(env.new_global_ref(array)?))
+}
+
+/// Takes an array over: a weak reference to it is left, and no global one. Its length.
+pub(crate) fn takes_over<S: Steps>(env: &mut Env<S>, shared: Handle) -> Result<u32, Fault> {
+    let length = env.get_array_length(shared)?;
+    env.new_weak_global_ref(shared)?;
+    env.delete_global_ref(shared)?;
+    Ok(length)
+}
+
+/// Shares an array, and takes over one that some thread has shared. The length of what it took over.
+fn hands_on<R: Wait, S: Steps>(rt: &R, env: &mut Env<S>, queue: &Queue) -> Result<u32, Fault> {
+    let shared = shares(env)?;
     let Ok(()) = queue.lock(rt).push(shared) else {
         return Err(Fault::Memory);
     };
-    let taken = Handle::or_null(queue.lock(rt).pop());
-    let length = env.get_array_length(taken)?;
-    env.new_weak_global_ref(taken)?;
-    env.delete_global_ref(taken)?;
-    Ok(length)
+    let taken = queue.lock(rt).pop();
+    takes_over(env, Handle::or_null(taken))
 }
 
 /// Runs in a thread of its own, to the end of what it owns of the room: the length, and the summary where it was the last.
@@ -48,9 +59,9 @@ fn runs<R: Wait>(
     mut env: OwnedEnv,
     queue: &Queue,
 ) -> Result<(u32, Option<Summary>), Fault> {
-    let length = takes_over(rt, &mut env, queue)?;
+    let length = hands_on(rt, &mut env, queue);
     let summary = close_owned(env.into_pass()).map_err(|left| left.fault)?;
-    Ok((length, summary))
+    Ok((length?, summary))
 }
 
 /// Three threads own a room, and nobody joins them in their room's scope: the last one closes it, and no other.

@@ -1,9 +1,9 @@
 //! A pool of envs: more native threads come and go than the room has threads.
 
-use jr::calls::NewArray;
+use crate::owners::shares;
 use jr::{
-    Attached, Config, EnvPool, Explains, Fault, Handle, NativeInterface, OwnedEnv, Patience,
-    Summary, close_owned,
+    Attached, Config, Env, EnvPool, Explains, Fault, Handle, NativeInterface, OwnedEnv, Patience,
+    Steps, Summary, close_owned,
 };
 use std::sync::Arc;
 use std::test::Fail;
@@ -41,9 +41,8 @@ const BEHIND_ALL: Summary = Summary {
 };
 
 /// Makes an array and a global reference to it, and leaves the local one: the number of the thread.
-fn works(env: &mut OwnedEnv) -> Result<u8, Fault> {
-    let array = env.retry(NewArray::<i32>::of(3), Patience::LONG)?;
-    env.new_global_ref(array)?;
+fn works<S: Steps>(env: &mut Env<S>) -> Result<u8, Fault> {
+    shares(env)?;
     Ok(env.thread())
 }
 
@@ -99,23 +98,33 @@ fn attached(pool: &EnvPool) -> Result<Attached<'_>, Fault> {
     pool.attach().ok_or(Fault::NotFresh)
 }
 
+/// Makes a local reference in a frame of its own.
+fn makes_in_a_frame<S: Steps>(env: &mut Env<S>) -> Result<Handle, Fault> {
+    env.push_local_frame(4)?;
+    env.new_plain()
+}
+
 /// Makes a local reference in a frame of its own, and goes: a handle that was let go.
 fn leaves_a_local(pool: &EnvPool) -> Result<Handle, Fault> {
     let mut attached = attached(pool)?;
-    let pushed = attached.env.push_local_frame(4);
-    let local = attached.env.new_plain();
+    let local = makes_in_a_frame(&mut *attached.env);
     detach(attached)?;
-    pushed?;
     local
+}
+
+/// Whether a word is no reference, and there is no frame to pop.
+fn has_neither<S: Steps>(env: &mut Env<S>, word: Handle) -> Result<bool, Fault> {
+    let code = env.get_object_ref_type(word)?;
+    let popped = env.pop_local_frame(Handle::NULL);
+    Ok(code == 0 && popped == Err(Fault::NoFrame))
 }
 
 /// Whether a handle of an earlier thread is no reference of the next one, and that has no frame to pop.
 fn finds_nothing(pool: &EnvPool, local: Handle) -> Result<bool, Fault> {
     let mut attached = attached(pool)?;
-    let code = attached.env.get_object_ref_type(local);
-    let popped = attached.env.pop_local_frame(Handle::NULL);
+    let found = has_neither(&mut *attached.env, local);
     detach(attached)?;
-    Ok(code? == 0 && matches!(popped, Err(Fault::NoFrame)))
+    found
 }
 
 /// Takes an env out of the pool while the other is held. E20 where a third is handed out.

@@ -3,17 +3,14 @@
 ghost use Rattle.std.specs.Prelude.{◌≡◌, IfOk};
 ghost use Rattle.jr_model.specs.declared.event.Role.TheVariants.{Outside};
 ghost use Rattle.jr_rule.specs.Passes.{IsAt, IsOpened};
-ghost use Rattle.jr_rule.specs.Sites.{IsSiteOf};
 
-use crate::notes::learns;
 use crate::plain::{Case, has_words, try_plain};
 use jr_env::{Env, NativeInterface};
 use jr_fixtures::{LAST, has_type, is_refused, made, next_pass, opened_env};
-use jr_rule::{Pass, PlainSteps, Room, RoomSteps, Site, SiteSteps, ThreadNumber};
+use jr_rule::{Pass, PlainSteps, Room, RoomSteps};
 use jr_steps::Steps;
 use jr_word::{Config, Fault, Handle};
 use std::alloc::Global;
-use std::marker::Brand;
 use std::process::Abort;
 use std::test::Fail;
 
@@ -264,7 +261,7 @@ fn who_meets_another_finds_its_reference(rt: HostRuntime) -> Result<(), Fail> {
 }
 
 /// A global reference that the thread of an env makes.
-pub(crate) fn shared_in<S: Steps>(env: &mut Env<S>) -> Result<Handle, Fail>
+fn shared_in<S: Steps>(env: &mut Env<S>) -> Result<Handle, Fail>
     requires { (S.facts env.old.held.steps).stands.role ≡ Outside }
     ensures { IfOk result (λ h. (S.facts env.new.held.steps).stands.room ≡ (S.facts env.old.held.steps).stands.room) }
 {
@@ -273,7 +270,7 @@ pub(crate) fn shared_in<S: Steps>(env: &mut Env<S>) -> Result<Handle, Fail>
 }
 
 /// Both threads find what the reference names, each by a local reference of its own; then the second makes its next global one.
-fn find<S: Steps, U: Steps>(
+pub(crate) fn find<S: Steps, U: Steps>(
     rt: &impl Abort,
     first: &mut Env<S>,
     second: &mut Env<U>,
@@ -294,34 +291,6 @@ fn who_meets_another_env_finds_its_reference(rt: HostRuntime) -> Result<(), Fail
     let shared = shared_in(&mut second)?;
     first.meet_env(&mut second);
     find(&rt, &mut first, &mut second, shared)
-}
-
-/// The same by a note, which the second makes once it has made the reference, and the first learns. One that nobody learns, and one that says less, change nothing.
-fn find_by_note<Q: Site, T: ThreadNumber, U: ThreadNumber>(
-    rt: &impl Abort,
-    room: &Room<LAST>,
-    first: Pass,
-    second: Pass,
-) -> Result<(), Fail>
-    requires opened { IsOpened room.now.row first × IsOpened room.now.row second }
-    requires first { IsSiteOf Q.room Q.sizes T.number room.now first }
-    requires second { IsSiteOf Q.room Q.sizes U.number room.now second }
-{
-    let mut first = opened_env(SiteSteps::<LAST, Q, T>::new(room, first));
-    let mut second = opened_env(SiteSteps::<LAST, Q, U>::new(room, second));
-    let early = second.note::<Q>();
-    let shared = shared_in(&mut second)?;
-    let _ = second.note::<Q>();
-    let note = second.note::<Q>();
-    learns(&mut first, note);
-    first.learn(early);
-    find(rt, &mut first, &mut second, shared)
-}
-
-#[test]
-fn who_learns_a_note_finds_its_reference(rt: HostRuntime) -> Result<(), Fail> {
-    let (room, first, second) = opened(rt.alloc())?;
-    find_by_note::<Brand, Brand, Brand>(&rt, &room, first, second)
 }
 
 /// Makes a global reference, which has the word.

@@ -5,6 +5,7 @@ use jr_env::calls::NewArray;
 use jr_env::{Env, NativeInterface, Patience};
 use jr_fixtures::is_refused;
 use jr_steps::Steps;
+use jr_weak::Marker;
 use jr_word::{Config, Fault, Handle};
 use std::alloc::Global;
 use std::process::Abort;
@@ -25,16 +26,15 @@ const FEW: Patience = Patience {
 /// The one slot is held by a weak reference, which is deleted once a collection has cleared it, and not before.
 fn gives_the_slot_back<S: Steps>(
     rt: &impl Abort,
-    alloc: Global,
     env: &mut Env<S>,
+    marker: &mut Marker,
 ) -> Result<(), Fail> {
-    let mut marker = env.marker(alloc)?;
     let object = env.new_plain()?;
     let weak = Handle::or_null(env.new_weak_global_ref(object)?);
     assert!(rt; is_refused(env.new_global_ref(object), Some(Fault::RowFull)));
     assert!(rt; !env.delete_cleared(weak, FEW)?);
     env.delete_local_ref(object)?;
-    let collected = env.collect_in_turn(&mut marker, 1, FEW)?;
+    let collected = env.collect_in_turn(marker, 1, FEW)?;
     assert_eq!(rt; collected.cleared, 1);
     assert!(rt; env.delete_cleared(weak, FEW)?);
     assert!(rt; is_refused(env.delete_cleared(weak, FEW), Some(Fault::Stale)));
@@ -44,16 +44,15 @@ fn gives_the_slot_back<S: Steps>(
 /// An array of all words is made behind a collection of the one before, and another one not while it stands.
 fn gives_the_words_back<S: Steps>(
     rt: &impl Abort,
-    alloc: Global,
     env: &mut Env<S>,
+    marker: &mut Marker,
 ) -> Result<(), Fail> {
-    let mut marker = env.marker(alloc)?;
     let all = NewArray::<i32>::of(4);
-    let first = env.retry_collecting_in_turn(&mut marker, 1, all, FEW)?;
-    let full = env.retry_collecting_in_turn(&mut marker, 1, all, FEW);
+    let first = env.retry_collecting_in_turn(marker, 1, all, FEW)?;
+    let full = env.retry_collecting_in_turn(marker, 1, all, FEW);
     assert!(rt; is_refused(full, Some(Fault::SpaceFull(4))));
     env.delete_local_ref(first)?;
-    let second = env.retry_collecting_in_turn(&mut marker, 1, all, FEW)?;
+    let second = env.retry_collecting_in_turn(marker, 1, all, FEW)?;
     assert_eq!(rt; env.get_array_length(second)?, 4);
     Ok(())
 }
@@ -64,8 +63,9 @@ pub(crate) fn give_back<S: Steps>(
     alloc: Global,
     env: &mut Env<S>,
 ) -> Result<(), Fail> {
-    gives_the_slot_back(rt, alloc, env)?;
-    gives_the_words_back(rt, alloc, env)
+    let mut marker = env.marker(alloc)?;
+    gives_the_slot_back(rt, env, &mut marker)?;
+    gives_the_words_back(rt, env, &mut marker)
 }
 
 #[test]

@@ -19,7 +19,7 @@ const SIZES: Config = Config {
 type Seen = (Collected, bool, Result<u32, Fault>);
 
 /// The lines.
-fn ten_lines(alloc: Global, room: &Room<LAST>, pass: Pass) -> Result<Seen, Fail>
+fn ten_lines(alloc: Global, room: &Room<LAST>, pass: Pass) -> Result<Seen, Fault>
     requires { IsOpened room.now.row pass }
 {
     let mut env = Env::new(RoomSteps::new(&room, pass)).map_err(|refused| refused.1)?;
