@@ -12,7 +12,7 @@ ghost use Rattle.jr_steps.specs.declared.known.Known.{Known};
 
 use crate::owners::shares;
 use crate::references::{find, opened};
-use jr_env::Env;
+use jr_env::{Env, Patience};
 use jr_fixtures::{LAST, has_type, next_pass, opened_env};
 use jr_model::references_stand_until_deleted;
 use jr_rule::{NoteOf, Pass, PinnedNote, Room, RoomSteps, Site, SiteSteps, StepsIn, ThreadNumber};
@@ -82,7 +82,7 @@ fn find_by_note<Q: Site, S: StepsIn<Q>, U: StepsIn<Q>>(
     second: &mut Env<U>,
 ) -> Result<(), Fail> {
     let early = second.note();
-    let shared = shares(second)?;
+    let shared = shares(second, Patience::of(0))?;
     let _ = second.note();
     let note = second.note();
     learns(first, note);
@@ -96,7 +96,7 @@ fn learn_again<Q: Site, S: StepsIn<Q>, U: StepsIn<Q>>(
     first: &mut Env<S>,
     second: &mut Env<U>,
 ) -> Result<(), Fail> {
-    let shared = shares(second)?;
+    let shared = shares(second, Patience::of(0))?;
     let pinned = second.pin();
     assert!(rt; first.learn_pinned(&pinned));
     assert!(rt; first.learn_pinned(&pinned));

@@ -2,8 +2,8 @@
 
 use crate::owners::{shares, takes_over};
 use jr::{
-    Config, Env, Fault, Handle, NoteOf, NoteQueue, OwnedCode, OwnedStepsOf, Site, StepsIn, Summary,
-    close_owned, of_any_site, spawn_owned,
+    Config, Env, Fault, Handle, NoteOf, NoteQueue, OwnedCode, OwnedStepsOf, Patience, Site,
+    StepsIn, Summary, close_owned, of_any_site, spawn_owned,
 };
 use std::sync::Wait;
 use std::test::Fail;
@@ -74,7 +74,7 @@ fn hands_on<R: Wait, Q: Site, S: StepsIn<Q>>(
     env: &mut Env<S>,
     queue: &NoteQueue<Sent, Q>,
 ) -> Result<u32, Fault> {
-    let shared = shares(env)?;
+    let shared = shares(env, Patience::of(3))?;
     let sent = Sent {
         from: thread,
         shared,

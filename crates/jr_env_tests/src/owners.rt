@@ -29,9 +29,9 @@ const AT_THE_END: Summary = Summary {
 /// The references that threads hand on.
 type Queue = Mutex<Vec<Handle>>;
 
-/// Makes an array of three elements and a global reference to it. Other threads may reserve words in between, so the array is made again.
-pub(crate) fn shares<S: Steps>(env: &mut Env<S>) -> Result<Handle, Fault> {
-    let array = env.retry(NewArray::<i32>::of(3), Patience::LONG)?;
+/// Makes an array of three elements and a global reference to it, again where others reserve words in between.
+pub(crate) fn shares<S: Steps>(env: &mut Env<S>, patience: Patience) -> Result<Handle, Fault> {
+    let array = env.retry(NewArray::<i32>::of(3), patience)?;
     Ok(Handle::or_null(env.new_global_ref(array)?))
 }
 
@@ -43,9 +43,9 @@ pub(crate) fn takes_over<S: Steps>(env: &mut Env<S>, shared: Handle) -> Result<u
     Ok(length)
 }
 
-/// Shares an array, and takes over one that some thread has shared. The length of what it took over.
+/// Shares an array, and takes over one that some thread has shared. The length of what it took over. Each of the two others may reserve words in between once, so the array is made again.
 fn hands_on<R: Wait, S: Steps>(rt: &R, env: &mut Env<S>, queue: &Queue) -> Result<u32, Fault> {
-    let shared = shares(env)?;
+    let shared = shares(env, Patience::of(3))?;
     let Ok(()) = queue.lock(rt).push(shared) else {
         return Err(Fault::Memory);
     };

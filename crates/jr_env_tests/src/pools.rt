@@ -42,7 +42,7 @@ const BEHIND_ALL: Summary = Summary {
 
 /// Makes an array and a global reference to it, and leaves the local one: the number of the thread.
 fn works<S: Steps>(env: &mut Env<S>) -> Result<u8, Fault> {
-    shares(env)?;
+    shares(env, Patience::LONG)?;
     Ok(env.thread())
 }
 
