@@ -360,16 +360,16 @@ class Copies(unittest.TestCase):
             module.leave_open("crates/low", "low", "low::one", file.path, way[-1].body)
             self.assertEqual(rattle.text_of("crates/low/src/lib.rt"), "fn one() -> u8 {\n loop {}        \n      \n}\n")
 
-    def test_a_copy_of_a_method_stands_in_an_impl(self):
-        text = "use core::one;\nimpl It {\n    fn one() { 1 }\n}\n"
+    def test_a_copy_of_a_method_stands_in_an_impl_with_its_imports(self):
+        text = "use core::one;\nimpl It {\n    ghost use Rattle.low.specs.It.{it};\n\n    fn one() { 1 }\n}\n"
         pair = "file: src/lib.rt\nold: { 1 }\nnew: { 2 }\nold: use core::one\nnew: use core::two\n"
         with repository({**FILES, "crates/low/src/lib.rt": text, ".ci/edits/low/it.edit": pair}):
             module, known = script("must-fail"), rattle.Functions("low")
             it = module.Edit(".ci/edits/low/it.edit", "low")
             it.find_function(known)
             it.copy = 1
-            self.assertEqual((it.function, it.source.copied("crates/low", it)), ("low::It::one", ("src/lib.rt", 6, 8)))
-            self.assertEqual(rattle.text_of("crates/low/src/lib.rt"), f"{text}\nimpl It {{\n    fn one_edit1() {{ 2 }}\n}}\n")
+            self.assertEqual((it.function, it.source.copied("crates/low", it)), ("low::It::one", ("src/lib.rt", 8, 11)))
+            self.assertEqual(rattle.text_of("crates/low/src/lib.rt"), f"{text}\nimpl It {{\nghost use Rattle.low.specs.It.{{it}};\n    fn one_edit1() {{ 2 }}\n}}\n")
 
     def test_what_can_be_copied(self):
         bodies = {"fn one() { 1 }": True, "fn one() { one() }": False, "impl It {\n fn one() { 1 }\n}": True, "impl Go for It {\n fn one() { 1 }\n}": False, "impl It {\n fn one() { self.one() }\n}": False}
