@@ -32,7 +32,7 @@ fn is_kept_out<S: Steps>(
 {
     match shut_gate(other) {
         Ok(shut) => shut.reopen(other),
-        Err(fault) => assert_eq!(rt; fault, Fault::Busy(1)),
+        Err(fault) => assert!(rt; fault == Fault::Busy(1)),
     }
     let mut marker = Marker::new(alloc, env.held.steps.config())?;
     assert!(rt; is_refused(env.collect(&mut marker), Some(Fault::Busy(1))));

@@ -83,7 +83,7 @@ fn is_left(rt: &impl Abort, room: Room<LAST>, pass: Pass) -> Result<(Room<LAST>,
         return Err("a thread is inside or announces")?;
     };
     let Left { room, pass, fault } = left;
-    assert_eq!(rt; fault, Fault::LeftInside(1));
+    assert!(rt; fault == Fault::LeftInside(1));
     Ok((room, pass))
 }
 

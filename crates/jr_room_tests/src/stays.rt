@@ -47,24 +47,24 @@ fn new(rt: &impl Abort, answer: Result<Handle, Fault>) -> Handle {
 
 /// A call is done.
 fn done(rt: &impl Abort, answer: Result<(), Fault>) {
-    assert_eq!(rt; answer, Ok(()));
+    assert!(rt; answer == Ok(()));
 }
 
 /// Checks the types of words in a stay, as `has_type` does in an env.
 fn have_types<S: Steps>(rt: &impl Abort, stay: &mut Stay<'_, S>, rows: &[(Handle, u8)]) {
     for (word, wanted) in rows {
-        assert_eq!(rt; stay.get_object_ref_type(*word), Ok(*wanted));
+        assert!(rt; stay.get_object_ref_type(*word) == Ok(*wanted));
     }
 }
 
 /// Two words name one object.
 fn are_same<S: Steps>(rt: &impl Abort, stay: &mut Stay<'_, S>, first: Handle, second: Handle) {
-    assert_eq!(rt; stay.is_same_object(first, second), Ok(true));
+    assert!(rt; stay.is_same_object(first, second) == Ok(true));
 }
 
 /// Checks the length of an array.
 fn has_length<S: Steps>(rt: &impl Abort, stay: &mut Stay<'_, S>, array: Handle, wanted: u32) {
-    assert_eq!(rt; stay.get_array_length(array), Ok(wanted));
+    assert!(rt; stay.get_array_length(array) == Ok(wanted));
 }
 
 /// Makes, compares and deletes references in a stay.
@@ -92,7 +92,7 @@ fn is_text<S: Steps>(
     length: u32,
     array: Handle,
 ) {
-    assert_eq!(rt; stay.get_string_length(text), Ok(length));
+    assert!(rt; stay.get_string_length(text) == Ok(length));
     let kind = stay.kind_of(text);
     assert!(rt; kind.is_ok());
     assert!(rt; kind != stay.kind_of(array));
@@ -115,7 +115,7 @@ fn calls_on_parts<S: Steps>(rt: &impl Abort, stay: &mut Stay<'_, S>, array: Hand
     done(rt, stay.set_array_region(array, 0, &[3, 4, 5]));
     let mut read = [0, 0];
     done(rt, stay.get_array_region(array, 1, &mut read));
-    assert_eq!(rt; read, [4, 5]);
+    assert!(rt; read == [4, 5]);
 }
 
 /// Copies an array of three elements in a stay, and gives them back.
@@ -126,7 +126,7 @@ fn copies_elements<S: Steps>(
     array: Handle,
 ) -> Result<(), Fail> {
     let elements = stay.get_array_elements::<i32>(alloc, array)?;
-    assert_eq!(rt; elements.length(), 3);
+    assert!(rt; elements.length() == 3);
     let released = stay.release_array_elements(array, elements, Mode::Copy);
     assert!(rt; released.is_ok());
     Ok(())
@@ -140,7 +140,7 @@ fn copies_units<S: Steps>(
 ) -> Result<(), Fail> {
     let text = new(rt, stay.new_string(&[104, 105]));
     let units = stay.get_string_chars(alloc, text)?;
-    assert_eq!(rt; units.len(), 2);
+    assert!(rt; units.len() == 2);
     Ok(())
 }
 
@@ -206,6 +206,15 @@ fn each_call_is_made_in_a_stay(rt: HostRuntime) -> Result<(), Fail> {
     try_plain(&rt, rt.alloc(), SIZES, plain::Case::Stays)
 }
 
+/// A collection was kept out by one thread, if there was memory for its marker.
+fn is_kept_out(rt: &impl Abort, answer: Result<[u32; 3], Fault>) -> Result<(), Fail> {
+    if matches!(answer, Err(Fault::Memory)) {
+        return Err(Fault::Memory)?;
+    }
+    assert!(rt; answer == Err(Fault::Busy(1)));
+    Ok(())
+}
+
 /// While a stay stands no other thread collects. What was made in it stands behind it, and then the other collects.
 fn keeps_a_collection_out<S: Steps>(
     rt: &impl Abort,
@@ -221,12 +230,9 @@ fn keeps_a_collection_out<S: Steps>(
         Err(fault) => Err(fault),
     };
     stay.end();
-    if matches!(kept_out, Err(Fault::Memory)) {
-        return Err(Fault::Memory)?;
-    }
-    assert_eq!(rt; kept_out, Err(Fault::Busy(1)));
+    is_kept_out(rt, kept_out)?;
     let global = made(global)?;
-    assert_eq!(rt; env.get_array_length(global)?, 2);
+    assert!(rt; env.get_array_length(global)? == 2);
     collects(alloc, other, [0, 0, 2])
 }
 
@@ -247,13 +253,10 @@ fn a_level_keeps_a_collection_out<S: Steps>(
             let mut read = [0];
             let answer = stay.get_array_region(array, 1, &mut read);
             stay.end();
-            if matches!(kept_out, Err(Fault::Memory)) {
-                return Err(Fault::Memory)?;
-            }
-            assert_eq!(rt; kept_out, Err(Fault::Busy(1)));
+            is_kept_out(rt, kept_out)?;
             done(rt, written);
             done(rt, answer);
-            assert_eq!(rt; read, [-4]);
+            assert!(rt; read == [-4]);
             Ok(())
         }
         Err(_) => panic!(rt; "no region is opened"),
@@ -287,9 +290,9 @@ fn goes_on_beside_who_announces<S: Steps>(
             let plain = stay.new_plain();
             announced.cancel(announcer);
             stay.end();
-            assert_eq!(rt; barred, Some(Fault::Barred));
+            assert!(rt; barred == Some(Fault::Barred));
             has_type(env, plain?, 1)?;
-            assert_eq!(rt; refused_stay(other), None);
+            assert!(rt; refused_stay(other).is_none());
             Ok(())
         }
         Err(_) => panic!(rt; "nobody keeps the gate closed"),

@@ -76,7 +76,7 @@ fn collects<S: Steps>(
     ensures room { FitsRoom marker.new env.new }
     ensures outside { IsOutside env.new }
 {
-    assert_eq!(rt; collection(env, marker, tries), wanted);
+    assert!(rt; collection(env, marker, tries) == wanted);
 }
 
 /// A word names an array of so many elements.
@@ -86,7 +86,7 @@ fn has_length<S: Steps>(
     word: Handle,
     wanted: u32,
 ) -> Result<(), Fail> {
-    assert_eq!(rt; env.get_array_length(word)?, wanted);
+    assert!(rt; env.get_array_length(word)? == wanted);
     Ok(())
 }
 

@@ -19,7 +19,7 @@ fn room_of(objects: u32) -> Config {
 #[test]
 fn a_marker_of_one_object(rt: HostRuntime) -> Result<(), Fail> {
     let marker = Marker::new(rt.alloc(), room_of(1))?;
-    assert_eq!(rt; marker.found().len(), 0);
+    assert!(rt; marker.found().is_empty());
     assert!(rt; !marker.is_marked(0));
     assert!(rt; !marker.is_marked(1));
     assert!(rt; !marker.is_marked(2));
@@ -29,7 +29,7 @@ fn a_marker_of_one_object(rt: HostRuntime) -> Result<(), Fail> {
 #[test]
 fn a_marker_of_as_many_objects_as_there_may_be(rt: HostRuntime) -> Result<(), Fail> {
     let marker = Marker::new(rt.alloc(), room_of(65_535))?;
-    assert_eq!(rt; marker.found().len(), 0);
+    assert!(rt; marker.found().is_empty());
     assert!(rt; !marker.is_marked(1));
     assert!(rt; !marker.is_marked(65_535));
     Ok(())
@@ -41,7 +41,7 @@ fn rooms_beyond_the_limits(rt: HostRuntime) -> Result<(), Fail> {
         let Err(fault) = Marker::new(rt.alloc(), room_of(objects)) else {
             return Err("a marker for no room")?;
         };
-        assert_eq!(rt; fault, Fault::Size);
+        assert!(rt; fault == Fault::Size);
     }
     Ok(())
 }
@@ -67,7 +67,7 @@ fn drops_one<S: Steps>(
 ) -> Result<(), Fail> {
     env.delete_local_ref(object)?;
     let collected = env.collect(marker)?;
-    assert_eq!(rt; collected.dropped, 1);
+    assert!(rt; collected.dropped == 1);
     Ok(())
 }
 
@@ -79,7 +79,7 @@ fn drops_none<S: Steps>(
 ) -> Result<(), Fail> {
     env.new_plain()?;
     let collected = env.collect_announced(marker, 3)?;
-    assert_eq!(rt; collected.dropped, 0);
+    assert!(rt; collected.dropped == 0);
     Ok(())
 }
 
@@ -99,9 +99,21 @@ fn collect_by_their_own<S: Steps>(
     drops_none(rt, large, &mut for_large)
 }
 
+/// The same, where both envs were made.
+fn both_collect<S: Steps + Drop>(
+    rt: &impl Abort,
+    alloc: Global,
+    small: Result<Env<S>, Fault>,
+    large: Result<Env<S>, Fault>,
+) -> Result<(), Fail> {
+    let mut small = small?;
+    let mut large = large?;
+    collect_by_their_own(rt, alloc, &mut small, &mut large)
+}
+
 #[test]
 fn a_marker_for_another_number_of_objects(rt: HostRuntime) -> Result<(), Fail> {
-    let mut small = plain_env(rt.alloc(), room_of(2))?;
-    let mut large = plain_env(rt.alloc(), room_of(3))?;
-    collect_by_their_own(&rt, rt.alloc(), &mut small, &mut large)
+    let small = plain_env(rt.alloc(), room_of(2));
+    let large = plain_env(rt.alloc(), room_of(3));
+    both_collect(&rt, rt.alloc(), small, large)
 }

@@ -242,7 +242,7 @@ fn leaves_arrays<S: Steps>(
     arrays: u32,
 ) -> Result<u32, Fail> {
     let [cleared, _, used] = collected(alloc, env)?;
-    assert_eq!(rt; (cleared, used / 2), (0, arrays));
+    assert!(rt; (cleared, used / 2) == (0, arrays));
     Ok(used)
 }
 
@@ -333,7 +333,7 @@ fn done_by<R: Threads + Wait, S: Steps + Drop + Send>(
 /// Each job was done as often as it was to be.
 fn is_each_done(rt: &impl Abort, jobs: [Job; 5], done: [Option<u32>; 5]) {
     for at in 0..5 {
-        assert_eq!(rt; done[at], Some(jobs[at].times()));
+        assert!(rt; done[at] == Some(jobs[at].times()));
     }
 }
 
