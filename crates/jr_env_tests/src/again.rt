@@ -20,7 +20,7 @@ fn has_ints<S: Steps>(
 ) -> Result<(), Fail> {
     let mut numbers = [5, 5];
     env.get_array_region(array, 0, &mut numbers)?;
-    assert_eq!(rt; numbers, wanted);
+    assert!(rt; numbers == wanted);
     Ok(())
 }
 
@@ -77,30 +77,43 @@ fn an_array_is_made_behind_a_collection(rt: HostRuntime) -> Result<(), Fail> {
     try_plain(&rt, rt.alloc(), FEW, Case::Again)
 }
 
-/// What comes of a closure that is refused so often before it answers how often it was called, and how often that was.
-fn called(patience: Patience, refusals: u32, fault: Fault) -> (Result<u32, Fault>, u32) {
+/// Counts a call, which is refused so often before it answers how often it was made.
+fn counted(calls: &mut u32, refusals: u32, fault: Fault) -> Result<u32, Fault> {
+    *calls = calls.wrapping_add(1);
+    if *calls > refusals {
+        Ok(*calls)
+    } else {
+        Err(fault)
+    }
+}
+
+/// Checks what comes of a closure that is refused so often before it answers how often it was called, and how often that was.
+fn is_called(
+    rt: &impl Abort,
+    patience: Patience,
+    refusals: u32,
+    fault: Fault,
+    wanted: Result<u32, Fault>,
+    times: u32,
+) {
     let mut calls = 0u32;
-    let answer = with_patience(&mut calls, patience, |calls| {
-        *calls = calls.wrapping_add(1);
-        if *calls > refusals {
-            Ok(*calls)
-        } else {
-            Err(fault)
-        }
-    });
-    (answer, calls)
+    let answer = with_patience(
+        &mut calls,
+        patience,
+        |calls| counted(calls, refusals, fault),
+    );
+    assert!(rt; answer == wanted);
+    assert!(rt; calls == times);
 }
 
 #[test]
 fn a_closure_is_called_again(rt: HostRuntime) {
-    let (few, full) = (Patience::of(3), Fault::ObjectsFull);
-    assert_eq!(rt; called(few, 0, Fault::Barred), (Ok(1), 1));
-    assert_eq!(rt; called(few, 3, Fault::Barred), (Ok(4), 4));
-    assert_eq!(rt; called(few, 4, Fault::Barred), (Err(Fault::Barred), 4));
-    assert_eq!(rt; called(few, 1, full), (Err(full), 1));
-    assert_eq!(rt; called(few.waiting_for_room(), 1, full), (Ok(2), 2));
-    assert_eq!(rt;
-        called(few.without_yields(), 9, Fault::Stale),
-        (Err(Fault::Stale), 1)
-    );
+    let (few, barred, full) = (Patience::of(3), Fault::Barred, Fault::ObjectsFull);
+    is_called(&rt, few, 0, barred, Ok(1), 1);
+    is_called(&rt, few, 3, barred, Ok(4), 4);
+    is_called(&rt, few, 4, barred, Err(barred), 4);
+    is_called(&rt, few, 1, full, Err(full), 1);
+    is_called(&rt, few.waiting_for_room(), 1, full, Ok(2), 2);
+    let stale = Fault::Stale;
+    is_called(&rt, few.without_yields(), 9, stale, Err(stale), 1);
 }

@@ -1,6 +1,7 @@
 //! Refusals, as a watcher is told them.
 
 use jr_env::{Checked, Env, NativeInterface, Refusal, Watcher};
+use jr_fixtures::is_refused;
 use jr_steps::Steps;
 use jr_word::{Fault, Handle};
 use std::alloc::Global;
@@ -56,7 +57,7 @@ pub(crate) fn are_told<S: Steps>(
     checked.get_array_length(array)?;
     assert!(rt; checked.watcher().last.is_none());
     let refused = checked.get_array_length(string);
-    assert!(rt; refused == Err(Fault::NotArray));
+    assert!(rt; is_refused(refused, Some(Fault::NotArray)));
     said(
         rt,
         alloc,
@@ -64,7 +65,7 @@ pub(crate) fn are_told<S: Steps>(
         "thread 0: GetArrayLength: E5, the object is not an array; 0x1 is a local reference to a String",
     )?;
     let refused = checked.is_same_object(array, Handle(u64::MAX));
-    assert!(rt; refused == Err(Fault::Stale));
+    assert!(rt; is_refused(refused, Some(Fault::Stale)));
     said(
         rt,
         alloc,
@@ -72,7 +73,7 @@ pub(crate) fn are_told<S: Steps>(
         "thread 0: IsSameObject: E2, no reference of this word stands; 0x400000001 is a local reference to an int[]; 0xffffffffffffffff is no handle",
     )?;
     let refused = checked.set_array_region(array, 1, &[7i64]);
-    assert!(rt; refused == Err(Fault::WrongElement));
+    assert!(rt; is_refused(refused, Some(Fault::WrongElement)));
     said(
         rt,
         alloc,

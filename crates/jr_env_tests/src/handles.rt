@@ -61,12 +61,12 @@ fn gives_more<S: Steps>(
     given: &Given,
 ) -> Result<(), Fail> {
     let last = last_renewed(env, kind, object)?;
-    assert_eq!(rt; last, given.later[0]);
+    assert!(rt; last == given.later[0]);
     has_type(env, last, 0)?;
     has_type(env, given.first[0], 0)?;
     // A later reference is told from the one whose serial has the same lower half.
     let next = renew(env, kind, object)?;
-    assert_eq!(rt; next, given.later[1]);
+    assert!(rt; next == given.later[1]);
     has_type(env, next, given.ref_type)?;
     has_type(env, given.first[1], 0)
 }
@@ -113,7 +113,7 @@ fn retires_a_slot<S: Steps>(rt: &impl Abort, env: &mut Env<S>) -> Result<Handle,
     let words = [Handle(2), Handle(6), Handle(10)];
     for word in words {
         let global = made(env.new_global_ref(local))?;
-        assert_eq!(rt; global, word);
+        assert!(rt; global == word);
         env.delete_global_ref(global)?;
     }
     assert!(rt; is_refused(env.new_global_ref(local), Some(Fault::RowFull)));

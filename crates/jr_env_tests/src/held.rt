@@ -39,7 +39,7 @@ fn resolves(
     answer: Result<Option<u16>, Fault>,
     wanted: Result<Option<u16>, Fault>,
 ) {
-    assert_eq!(rt; answer, wanted);
+    assert!(rt; answer == wanted);
 }
 
 /// A reference that stands resolves to its object, one that was deleted to none, and NULL to nothing.

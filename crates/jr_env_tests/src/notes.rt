@@ -1,7 +1,8 @@
 //! What stands where a note was learned, and notes that are pinned, which several threads learn, each as often as it likes.
-ghost use Rattle.std.specs.Prelude.{◌≡◌, ◌++◌, ℕ};
+ghost use Rattle.std.specs.Prelude.{◌≡◌, ◌++◌, true, ℕ};
 ghost use Rattle.jr_word.specs.declared.handle.HandleParts.{HandleParts};
 ghost use Rattle.jr_model.specs.declared.event.Found.TheVariants.{Object};
+ghost use Rattle.jr_model.specs.declared.event.Role.TheVariants.{Outside};
 ghost use Rattle.jr_model.specs.History.{History, state};
 ghost use Rattle.jr_model.specs.Laws.{IsFoundAs};
 ghost use Rattle.jr_model.specs.StandingReferences.{NoneDeletes};
@@ -114,7 +115,27 @@ enum Case {
     Pinned,
 }
 
-/// Tries it in two envs over passes of the site's room.
+/// Tries it in two envs over steps of passes that were not used.
+fn try_over<Q: Site, S: StepsIn<Q> + Drop, U: StepsIn<Q> + Drop>(
+    rt: &impl Abort,
+    first: S,
+    second: U,
+    case: Case,
+) -> Result<(), Fail>
+    requires first { (S.facts first).stands.role ≡ Outside }
+    requires first_fresh { (S.facts first).stands.fresh ≡ true }
+    requires second { (U.facts second).stands.role ≡ Outside }
+    requires second_fresh { (U.facts second).stands.fresh ≡ true }
+{
+    let mut first = opened_env(first);
+    let mut second = opened_env(second);
+    match case {
+        Case::Note => find_by_note::<Q, _, _>(rt, &mut first, &mut second),
+        Case::Pinned => learn_again::<Q, _, _>(rt, &mut first, &mut second),
+    }
+}
+
+/// Tries it over passes of the site's room.
 fn try_in_site<Q: Site, T: ThreadNumber, U: ThreadNumber>(
     rt: &impl Abort,
     room: &Room<LAST>,
@@ -126,12 +147,9 @@ fn try_in_site<Q: Site, T: ThreadNumber, U: ThreadNumber>(
     requires first { IsSiteOf Q.room Q.sizes T.number room.now first }
     requires second { IsSiteOf Q.room Q.sizes U.number room.now second }
 {
-    let mut first = opened_env(SiteSteps::<LAST, Q, T>::new(room, first));
-    let mut second = opened_env(SiteSteps::<LAST, Q, U>::new(room, second));
-    match case {
-        Case::Note => find_by_note::<Q, _, _>(rt, &mut first, &mut second),
-        Case::Pinned => learn_again::<Q, _, _>(rt, &mut first, &mut second),
-    }
+    let first = SiteSteps::<LAST, Q, T>::new(room, first);
+    let second = SiteSteps::<LAST, Q, U>::new(room, second);
+    try_over::<Q, _, _>(rt, first, second, case)
 }
 
 /// Tries it in a room that is opened for it.

@@ -1,30 +1,13 @@
 //! Notes between threads that own their room: each thread takes over the array that its neighbour sent by a queue, with a note of it. No clause is written here, and no file of proofs.
 
-use crate::owners::{shares, takes_over};
+use crate::owners::{AT_THE_END, THREE, closed_by_one, shares, takes_over};
 use jr::{
-    Config, Env, Fault, Handle, NoteOf, NoteQueue, OwnedCode, OwnedStepsOf, Patience, Site,
-    StepsIn, Summary, close_owned, of_any_site, spawn_owned,
+    Env, Fault, Handle, NoteOf, NoteQueue, OwnedCode, OwnedStepsOf, Patience, Site, StepsIn,
+    Summary, close_owned, of_any_site, spawn_owned,
 };
 use std::sync::Wait;
 use std::test::Fail;
 use std::thread;
-
-/// A room of three threads.
-const THREE: Config = Config {
-    threads: 3,
-    slots: 8,
-    objects: 4,
-    words: 16,
-    locals: 16,
-};
-
-/// What stands at the end: an array of three elements of each thread, and to each a weak reference of its neighbour. Each global reference was deleted by whoever took it over.
-const AT_THE_END: Summary = Summary {
-    globals: 0,
-    weaks: 3,
-    live: 3,
-    used: 9,
-};
 
 /// In how many turns a thread looks for what its neighbour sent.
 const TURNS: u32 = 10_000_000;
@@ -114,16 +97,12 @@ impl<R: Wait + Drop> OwnedCode for TakesOver<R> {
 #[test]
 fn three_owners_hand_notes_on(rt: HostRuntime) -> Result<(), Fail> {
     let threads = spawn_owned(&rt, rt.alloc(), THREE, TakesOver { rt })?;
-    assert_eq!(rt; threads.len(), 3);
+    assert!(rt; threads.len() == 3);
     let mut closed = None;
     for thread in threads {
         let ended = thread.join(&rt)?;
-        assert_eq!(rt; ended.length, 3);
-        if ended.closed.is_some() {
-            assert_eq!(rt; closed, None);
-            closed = ended.closed;
-        }
+        closed = closed_by_one(&rt, closed, ended.length, ended.closed);
     }
-    assert_eq!(rt; closed, Some(AT_THE_END));
+    assert!(rt; closed == Some(AT_THE_END));
     Ok(())
 }

@@ -5,12 +5,14 @@ use jr::{
     Config, Env, Fault, Handle, NativeInterface, OwnedEnv, Patience, Steps, Summary, close_owned,
     open_envs,
 };
+use std::process::Abort;
 use std::sync::{Arc, Mutex, Wait};
 use std::test::Fail;
 use std::thread;
+use std::thread::{JoinHandle, Threads};
 
 /// A room of three threads.
-const THREE: Config = Config {
+pub(crate) const THREE: Config = Config {
     threads: 3,
     slots: 8,
     objects: 4,
@@ -18,8 +20,8 @@ const THREE: Config = Config {
     locals: 16,
 };
 
-/// What stands at the end: each thread made an array of three elements, and a weak reference of some thread's.
-const AT_THE_END: Summary = Summary {
+/// What stands at the end: each thread made an array of three elements, and a weak reference of some thread's. Each global reference was deleted by whoever took it over.
+pub(crate) const AT_THE_END: Summary = Summary {
     globals: 0,
     weaks: 3,
     live: 3,
@@ -64,6 +66,32 @@ fn runs<R: Wait>(
     Ok((length?, summary))
 }
 
+/// Starts a thread for an env: E16 where none can be started.
+fn start<R: Threads + Wait + Copy + Send + 'static>(
+    rt: R,
+    env: OwnedEnv,
+    queue: Arc<Queue>,
+) -> Result<JoinHandle<Result<(u32, Option<Summary>), Fault>>, Fault> {
+    thread::spawn(&rt, move || runs(&rt, env, &queue))
+        .ok()
+        .ok_or(Fault::Memory)
+}
+
+/// A thread has taken an array of three elements over, and has closed the room or not. What the room was closed with by this one or another, if it was: one alone does.
+pub(crate) fn closed_by_one(
+    rt: &impl Abort,
+    closed: Option<Summary>,
+    length: u32,
+    by_this: Option<Summary>,
+) -> Option<Summary> {
+    assert!(rt; length == 3);
+    if by_this.is_some() {
+        assert!(rt; closed.is_none());
+        return by_this;
+    }
+    closed
+}
+
 /// Three threads own a room, and nobody joins them in their room's scope: the last one closes it, and no other.
 #[test]
 fn the_last_of_three_owners_closes_the_room(rt: HostRuntime) -> Result<(), Fail> {
@@ -71,18 +99,13 @@ fn the_last_of_three_owners_closes_the_room(rt: HostRuntime) -> Result<(), Fail>
     let queue = Arc::new(alloc, Mutex::new(Vec::new(alloc)))?;
     let mut threads = Vec::with_capacity(alloc, 3)?;
     for env in open_envs(alloc, THREE)? {
-        let queue = Arc::try_clone(&queue)?;
-        threads.push(thread::spawn(&rt, move || runs(&rt, env, &queue))?)?;
+        threads.push(start(rt, env, Arc::try_clone(&queue)?)?)?;
     }
     let mut closed = None;
     for thread in threads {
         let (length, summary) = thread.join(&rt)?;
-        assert_eq!(rt; length, 3);
-        if summary.is_some() {
-            assert_eq!(rt; closed, None);
-            closed = summary;
-        }
+        closed = closed_by_one(&rt, closed, length, summary);
     }
-    assert_eq!(rt; closed, Some(AT_THE_END));
+    assert!(rt; closed == Some(AT_THE_END));
     Ok(())
 }

@@ -75,5 +75,5 @@ pub(crate) fn try_plain(
 
 /// Checks the words of a row.
 pub(crate) fn has_words(rt: &impl Abort, words: &[u64], wanted: &[u64]) {
-    assert_eq!(rt; words, wanted);
+    assert!(rt; words == wanted);
 }

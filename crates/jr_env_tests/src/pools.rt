@@ -5,6 +5,7 @@ use jr::{
     Attached, Config, Env, EnvPool, Explains, Fault, Handle, NativeInterface, OwnedEnv, Patience,
     Steps, Summary, close_owned,
 };
+use jr_fixtures::is_refused;
 use std::sync::Arc;
 use std::test::Fail;
 use std::thread;
@@ -89,7 +90,7 @@ fn threads_come_and_go(rt: HostRuntime) -> Result<(), Fail> {
         return Err("a thread has the pool still")?;
     };
     let closed = pool.close().map_err(|left| left.fault)?;
-    assert_eq!(rt; closed, Some(AT_THE_END));
+    assert!(rt; closed == Some(AT_THE_END));
     Ok(())
 }
 
@@ -116,7 +117,7 @@ fn leaves_a_local(pool: &EnvPool) -> Result<Handle, Fault> {
 fn has_neither<S: Steps>(env: &mut Env<S>, word: Handle) -> Result<bool, Fault> {
     let code = env.get_object_ref_type(word)?;
     let popped = env.pop_local_frame(Handle::NULL);
-    Ok(code == 0 && popped == Err(Fault::NoFrame))
+    Ok(code == 0 && is_refused(popped, Some(Fault::NoFrame)))
 }
 
 /// Whether a handle of an earlier thread is no reference of the next one, and that has no frame to pop.
@@ -153,8 +154,8 @@ fn an_env_serves_one_thread_at_a_time(rt: HostRuntime) -> Result<(), Fail> {
     assert!(rt; finds_nothing(&pool, local)?);
     let env = takes_one(&pool)?;
     let others = pool.close().map_err(|left| left.fault)?;
-    assert_eq!(rt; others, None);
+    assert!(rt; others.is_none());
     let closed = close_owned(env.into_pass()).map_err(|left| left.fault)?;
-    assert_eq!(rt; closed, Some(BEHIND_ALL));
+    assert!(rt; closed == Some(BEHIND_ALL));
     Ok(())
 }

@@ -168,7 +168,7 @@ fn refused_after_an_env<S: Steps + Drop>(rt: &impl Abort, steps: S) -> Result<S,
         return Err("the pass is fresh")?;
     };
     assert!(rt; !env.held.steps.fresh());
-    assert_eq!(rt; env.new_plain()?, OWN);
+    assert!(rt; env.new_plain()? == OWN);
     refused(rt, Env::new(env.into_pass()))
 }
 
@@ -217,16 +217,26 @@ fn shared_by(room: &Room<LAST>, pass: Pass) -> Result<(Handle, Pass), Fail>
     ensures { IfOk result (λ r. IsAt room.now.row r.1) }
 {
     let mut env = opened_env(RoomSteps::new(room, pass));
-    let object = env.new_plain()?;
-    let shared = env.new_global_ref(object)?.ok_or("an object")?;
-    Ok((shared, env.into_pass().into_pass()))
+    let shared = shared_in(&mut env);
+    let pass = env.into_pass().into_pass();
+    Ok((shared?, pass))
 }
 
 /// A thread finds what a reference names: its first local reference is to it.
 fn finds_as_own<S: Steps>(rt: &impl Abort, env: &mut Env<S>, shared: Handle) -> Result<(), Fail> {
     let own = made(env.new_local_ref(shared))?;
-    assert_eq!(rt; own, OWN);
+    assert!(rt; own == OWN);
     Ok(())
+}
+
+/// The same of a thread by its env, whose pass is spent.
+fn finds_by_env<S: Steps + Drop>(
+    rt: &impl Abort,
+    mut env: Env<S>,
+    shared: Handle,
+) -> Result<(), Fail> {
+    assert!(rt; !env.held.steps.fresh());
+    finds_as_own(rt, &mut env, shared)
 }
 
 /// The pass of another thread, once an env over a pass has met it.
@@ -243,8 +253,7 @@ fn met_by(
 {
     let mut env = opened_env(RoomSteps::new(room, pass));
     let other = env.meet(other);
-    assert!(rt; !env.held.steps.fresh());
-    finds_as_own(rt, &mut env, shared)?;
+    finds_by_env(rt, env, shared)?;
     Ok(other)
 }
 
@@ -255,7 +264,7 @@ fn who_meets_another_finds_its_reference(rt: HostRuntime) -> Result<(), Fail> {
     let second = met_by(&rt, &room, first, shared, second)?;
     // The pass that was met is as it was: of thread 1, and not fresh.
     let steps = RoomSteps::new(&room, second);
-    assert_eq!(rt; steps.thread(), 1);
+    assert!(rt; steps.thread() == 1);
     assert!(rt; !steps.fresh());
     Ok(())
 }
@@ -263,7 +272,9 @@ fn who_meets_another_finds_its_reference(rt: HostRuntime) -> Result<(), Fail> {
 /// A global reference that the thread of an env makes.
 fn shared_in<S: Steps>(env: &mut Env<S>) -> Result<Handle, Fail>
     requires { (S.facts env.old.held.steps).stands.role ≡ Outside }
-    ensures { IfOk result (λ h. (S.facts env.new.held.steps).stands.room ≡ (S.facts env.old.held.steps).stands.room) }
+    ensures room { (S.facts env.new.held.steps).stands.room ≡ (S.facts env.old.held.steps).stands.room }
+    ensures config { (S.facts env.new.held.steps).stands.config ≡ (S.facts env.old.held.steps).stands.config }
+    ensures last { (S.facts env.new.held.steps).stands.last ≡ (S.facts env.old.held.steps).stands.last }
 {
     let object = env.new_plain()?;
     made(env.new_global_ref(object))
@@ -282,15 +293,25 @@ pub(crate) fn find<S: Steps, U: Steps>(
     is_next(rt, second, FOREIGN, Handle(0x4_0000_0002))
 }
 
+/// The same, where the reference was made.
+fn both_find<S: Steps + Drop>(
+    rt: &impl Abort,
+    mut first: Env<S>,
+    mut second: Env<S>,
+    shared: Result<Handle, Fail>,
+) -> Result<(), Fail> {
+    find(rt, &mut first, &mut second, shared?)
+}
+
 /// Two envs in one thread: once the first has met the second, it finds a reference that this one made, by its handle. The second is as it was: its local reference stands, and its next global one follows.
 #[test]
 fn who_meets_another_env_finds_its_reference(rt: HostRuntime) -> Result<(), Fail> {
     let (room, first, second) = opened(rt.alloc())?;
     let mut first = opened_env(RoomSteps::new(&room, first));
     let mut second = opened_env(RoomSteps::new(&room, second));
-    let shared = shared_in(&mut second)?;
+    let shared = shared_in(&mut second);
     first.meet_env(&mut second);
-    find(&rt, &mut first, &mut second, shared)
+    both_find(&rt, first, second, shared)
 }
 
 /// Makes a global reference, which has the word.
@@ -301,7 +322,7 @@ fn is_next<S: Steps>(
     wanted: Handle,
 ) -> Result<(), Fail> {
     let next = made(env.new_global_ref(object))?;
-    assert_eq!(rt; next, wanted);
+    assert!(rt; next == wanted);
     Ok(())
 }
 

@@ -35,7 +35,7 @@ fn gives_the_slot_back<S: Steps>(
     assert!(rt; !env.delete_cleared(weak, FEW)?);
     env.delete_local_ref(object)?;
     let collected = env.collect_in_turn(marker, 1, FEW)?;
-    assert_eq!(rt; collected.cleared, 1);
+    assert!(rt; collected.cleared == 1);
     assert!(rt; env.delete_cleared(weak, FEW)?);
     assert!(rt; is_refused(env.delete_cleared(weak, FEW), Some(Fault::Stale)));
     Ok(())
@@ -53,7 +53,7 @@ fn gives_the_words_back<S: Steps>(
     assert!(rt; is_refused(full, Some(Fault::SpaceFull(4))));
     env.delete_local_ref(first)?;
     let second = env.retry_collecting_in_turn(marker, 1, all, FEW)?;
-    assert_eq!(rt; env.get_array_length(second)?, 4);
+    assert!(rt; env.get_array_length(second)? == 4);
     Ok(())
 }
 

@@ -5,7 +5,7 @@ use jr_env::{
     Env, NativeInterface, Patience, with_array_elements, with_local_frame,
     with_local_frame_returning,
 };
-use jr_fixtures::{has_type, made};
+use jr_fixtures::{has_type, is_refused, made};
 use jr_model::Mode;
 use jr_steps::Steps;
 use jr_word::{Config, Fault, Handle};
@@ -38,14 +38,14 @@ fn hands_on_from_its_frame<S: Steps>(rt: &impl Abort, env: &mut Env<S>) -> Resul
         Patience::LONG,
         |env| env.new_string(&[104]),
     ).map_err(|unscoped| unscoped.fault())?;
-    assert_eq!(rt; env.get_string_length(Handle::or_null(string?)), Ok(1));
+    assert!(rt; env.get_string_length(Handle::or_null(string?)) == Ok(1));
     let refused = with_local_frame_returning(
         env,
         4,
         Patience::LONG,
         |env| env.new_array::<i32>(17),
     ).map_err(|unscoped| unscoped.fault())?;
-    assert_eq!(rt; refused, Err(Fault::SpaceFull(3)));
+    assert!(rt; is_refused(refused, Some(Fault::SpaceFull(3))));
     Ok(())
 }
 
@@ -59,8 +59,8 @@ fn ends_with_both<S: Steps>(
     let mut region = env.get_array_critical(first)?;
     let nested = region.nest_array(second);
     region.release_all();
-    assert_eq!(rt; nested, Ok(1));
-    assert_eq!(rt; env.get_array_length(first), Ok(2));
+    assert!(rt; nested == Ok(1));
+    assert!(rt; env.get_array_length(first) == Ok(2));
     Ok(())
 }
 
@@ -94,7 +94,7 @@ fn is_turned_round<S: Steps>(
         },
     )
     .map_err(|unreleased| unreleased.fault())?;
-    assert_eq!(rt; count, 2);
+    assert!(rt; count == 2);
     Ok(())
 }
 
@@ -109,7 +109,8 @@ fn are_opened<S: Steps>(rt: &impl Abort, env: &mut Env<S>, array: Handle) -> Res
     let mut region = env.retry_string_critical(string?, Patience::LONG)?;
     let unit = region.get::<u16>(0, 0);
     region.release_all();
-    assert_eq!(rt; (first, unit), (Ok(2), Ok(104)));
+    assert!(rt; first == Ok(2));
+    assert!(rt; unit == Ok(104));
     Ok(())
 }
 

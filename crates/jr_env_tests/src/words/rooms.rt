@@ -209,23 +209,6 @@ fn is_answered<S: Steps>(
     Ok(())
 }
 
-/// Each of these calls of a word is.
-fn is_answered_by<S: Steps>(
-    rt: &impl Abort,
-    alloc: Global,
-    env: &mut Env<S>,
-    given: &mut Given,
-    known: &Known,
-    calls: &[Call],
-    word: Handle,
-) -> Result<(), Fail> {
-    has_type(env, word, known.ref_type(word))?;
-    for call in calls {
-        is_answered(rt, alloc, env, given, known, *call, [word, Handle::NULL])?;
-    }
-    Ok(())
-}
-
 /// Each of these calls of each word is.
 fn are_answered_by<S: Steps>(
     rt: &impl Abort,
@@ -237,7 +220,10 @@ fn are_answered_by<S: Steps>(
     words: &[Handle],
 ) -> Result<(), Fail> {
     for word in words {
-        is_answered_by(rt, alloc, env, given, known, calls, *word)?;
+        has_type(env, *word, known.ref_type(*word))?;
+        for call in calls {
+            is_answered(rt, alloc, env, given, known, *call, [*word, Handle::NULL])?;
+        }
     }
     Ok(())
 }
@@ -249,20 +235,17 @@ fn is_answered_beside<S: Steps>(
     env: &mut Env<S>,
     given: &mut Given,
     known: &Known,
-    word: Handle,
-    others: &[Handle],
+    pair: [Handle; 2],
 ) -> Result<(), Fail> {
-    for other in others {
-        let [same, set] = OF_TWO;
-        is_answered(rt, alloc, env, given, known, same, [word, *other])?;
-        is_answered(rt, alloc, env, given, known, same, [*other, word])?;
-        is_answered(rt, alloc, env, given, known, set, [word, *other])?;
-        is_answered(rt, alloc, env, given, known, set, [*other, word])?;
+    let [word, other] = pair;
+    for call in OF_TWO {
+        is_answered(rt, alloc, env, given, known, call, [word, other])?;
+        is_answered(rt, alloc, env, given, known, call, [other, word])?;
     }
     Ok(())
 }
 
-/// Each call of two references is, of each word beside each of the others.
+/// The same of each word beside each of the others.
 fn are_answered_beside<S: Steps>(
     rt: &impl Abort,
     alloc: Global,
@@ -273,7 +256,9 @@ fn are_answered_beside<S: Steps>(
     others: &[Handle],
 ) -> Result<(), Fail> {
     for word in words {
-        is_answered_beside(rt, alloc, env, given, known, *word, others)?;
+        for other in others {
+            is_answered_beside(rt, alloc, env, given, known, [*word, *other])?;
+        }
     }
     Ok(())
 }
@@ -288,7 +273,7 @@ fn are_deleted<S: Steps>(
     words: &[Handle],
 ) -> Result<(), Fail> {
     for word in words {
-        is_answered_by(rt, alloc, env, given, known, &DELETIONS, *word)?;
+        are_answered_by(rt, alloc, env, given, known, &DELETIONS, &[*word])?;
         known.forget(*word);
         has_type(env, *word, 0)?;
     }
@@ -310,7 +295,7 @@ fn are_answered_by_nothing<S: Steps>(
     are_deleted(rt, alloc, env, given, known, words)?;
     are_answered_by(rt, alloc, env, given, known, &CALLS, words)?;
     are_answered_by(rt, alloc, env, given, known, &DELETIONS, &null)?;
-    is_answered_beside(rt, alloc, env, given, known, Handle::NULL, words)?;
+    are_answered_beside(rt, alloc, env, given, known, &null, words)?;
     are_answered_by(rt, alloc, env, given, known, &CALLS, &null)
 }
 
@@ -396,7 +381,7 @@ fn tries<S: Steps>(
     if !is_full {
         return in_an_empty_room(rt, alloc, env, given, words);
     }
-    assert_eq!(rt; foreign.new_plain()?, FOREIGN);
+    assert!(rt; foreign.new_plain()? == FOREIGN);
     in_a_full_room(rt, alloc, env, given, words)?;
     has_type(foreign, FOREIGN, 1)
 }
