@@ -1,7 +1,7 @@
 //! The machine's steps at objects and local places, of threads that are within and of one that collects.
 
 use crate::at_slots::handle_of;
-use crate::machine::{LONGEST, Machine, Verdict, at, must, put_at};
+use crate::machine::{LONGEST, Machine, Verdict, at, at_or, must, put_at};
 use crate::seen::Did;
 use crate::step::Step;
 use jr_model::Found;
@@ -84,9 +84,9 @@ impl Machine {
 
     /// The object that a local place refers to.
     pub(crate) fn local(&self, thread: u8, place: u16) -> Option<u16> {
-        match at(&self.locals, self.place_of(thread, place)) {
-            None | Some(0) => None,
-            Some(object) => Some(object),
+        match at_or(&self.locals, self.place_of(thread, place), 0) {
+            0 => None,
+            object => Some(object),
         }
     }
 
@@ -174,10 +174,7 @@ impl Machine {
 
     /// What a thread has reserved.
     fn reserved(&self, thread: u8) -> Option<HeaderParts> {
-        match at(&self.reserved, usize::from(thread)) {
-            Some(reserved) => reserved,
-            None => None,
-        }
+        at_or(&self.reserved, usize::from(thread), None)
     }
 
     /// A thread has reserved this.

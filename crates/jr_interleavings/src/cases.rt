@@ -29,6 +29,9 @@ const BEHIND: &[Call] = &[
 /// Of one reference.
 const LOOKS: &[Call] = &[Call::TypeOf(Ready(1)), Call::TypeOf(Ready(1))];
 
+/// Of the element of an array.
+const READS: &[Call] = &[Call::ReadCritical(Ready(2)), Call::ReadCritical(Ready(2))];
+
 /// All of them.
 pub(crate) const CASES: [Case; 21] = [
     Case {
@@ -172,20 +175,14 @@ pub(crate) const CASES: [Case; 21] = [
         slots: 1,
         objects: 2,
         ready: &[BEHIND, &[]],
-        calls: &[
-            &[Call::Collect],
-            &[Call::ReadCritical(Ready(2)), Call::ReadCritical(Ready(2))],
-        ],
+        calls: &[&[Call::Collect], READS],
     },
     Case {
         name: "a critical region beside an announced collection",
         slots: 1,
         objects: 2,
         ready: &[BEHIND, &[]],
-        calls: &[
-            &[Call::CollectAnnounced(2)],
-            &[Call::ReadCritical(Ready(2)), Call::ReadCritical(Ready(2))],
-        ],
+        calls: &[&[Call::CollectAnnounced(2)], READS],
     },
     Case {
         name: "censuses beside a deletion and a creation",

@@ -1,6 +1,6 @@
 //! What a census counts, of a room and of the machine.
 
-use crate::machine::{Machine, at};
+use crate::machine::{Machine, at_or};
 use crate::seen::{Answer, Seen};
 use jr_census::Census;
 use jr_model::Found;
@@ -76,7 +76,7 @@ impl Machine {
     fn cleared(&self) -> u32 {
         let mut cleared = 0u32;
         for number in 0..self.found.len() {
-            if at(&self.found, number) == Some(Found::Cleared) {
+            if self.found_at(number) == Found::Cleared {
                 cleared = cleared.saturating_add(1);
             }
         }
@@ -87,9 +87,8 @@ impl Machine {
     fn standing_locals(&self) -> u32 {
         let mut locals = 0u32;
         for place in 0..self.locals.len() {
-            match at(&self.locals, place) {
-                None | Some(0) => {}
-                Some(_) => locals = locals.saturating_add(1),
+            if at_or(&self.locals, place, 0) != 0 {
+                locals = locals.saturating_add(1);
             }
         }
         locals

@@ -58,6 +58,14 @@ pub(crate) fn at<T: Copy>(list: &Vec<T>, place: usize) -> Option<T> {
     }
 }
 
+/// What a list has at a place, or this where it is not as long.
+pub(crate) fn at_or<T: Copy>(list: &Vec<T>, place: usize, other: T) -> T {
+    match list.get(place) {
+        Some(value) => *value,
+        None => other,
+    }
+}
+
 /// A list has this at a place from now on, if it is as long.
 pub(crate) fn put_at<T: Copy>(list: &mut Vec<T>, place: usize, value: T) {
     if let Some(old) = list.get_mut(place) {
@@ -67,11 +75,10 @@ pub(crate) fn put_at<T: Copy>(list: &mut Vec<T>, place: usize, value: T) {
 
 /// A list of so many that are the same.
 pub(crate) fn all<T: Copy>(alloc: Global, count: usize, value: T) -> Result<Vec<T>, &'static str> {
-    let mut list = Vec::new(alloc);
-    for _ in 0..count {
-        add(&mut list, value)?;
+    match vec![in alloc; value; count] {
+        Ok(list) => Ok(list),
+        Err(_) => Err(NO_MEMORY),
     }
-    Ok(list)
 }
 
 /// Adds to a list.
@@ -154,10 +161,7 @@ impl Machine {
 
     /// The role of the thread at a place.
     pub(crate) fn role_at(&self, place: usize) -> Role {
-        match at(&self.roles, place) {
-            Some(role) => role,
-            None => Role::Outside,
-        }
+        at_or(&self.roles, place, Role::Outside)
     }
 
     /// Shows each thread that is within which slots and which numbers have nothing free now.
@@ -194,7 +198,7 @@ impl Machine {
     fn taken_numbers(&self) -> u64 {
         let (mut numbers, mut bit) = (0u64, 1u64);
         for number in 0..self.headers.len() {
-            if let Some(Some(_)) = at(&self.headers, number) {
+            if at_or(&self.headers, number, None).is_some() {
                 numbers |= bit;
             }
             bit = bit.wrapping_mul(2);
@@ -258,11 +262,8 @@ impl Machine {
     }
 
     /// What the reference with a number stands for.
-    fn found_at(&self, number: usize) -> Found {
-        match at(&self.found, number) {
-            Some(found) => found,
-            None => Found::Stale,
-        }
+    pub(crate) fn found_at(&self, number: usize) -> Found {
+        at_or(&self.found, number, Found::Stale)
     }
 
     /// The reference of a handle stands for this from now on.
@@ -285,10 +286,7 @@ impl Machine {
 
     /// The header of the object with a number, if it is present.
     pub(crate) fn header(&self, number: u16) -> Option<HeaderParts> {
-        match at(&self.headers, usize::from(number)) {
-            Some(header) => header,
-            None => None,
-        }
+        at_or(&self.headers, usize::from(number), None)
     }
 
     /// The object with a number has this header from now on, or is absent.
@@ -327,7 +325,7 @@ impl Machine {
     pub(crate) fn present_words(&self) -> u32 {
         let mut words = 0u32;
         for number in 0..self.headers.len() {
-            if let Some(Some(header)) = at(&self.headers, number) {
+            if let Some(header) = at_or(&self.headers, number, None) {
                 words = words.saturating_add(header.length);
             }
         }
@@ -375,10 +373,7 @@ impl Machine {
 
     /// What the call of the thread at a place has seen so far.
     fn seen_at(&self, place: usize) -> Seen {
-        match at(&self.seen, place) {
-            Some(seen) => seen,
-            None => Seen::new(),
-        }
+        at_or(&self.seen, place, Seen::new())
     }
 
     /// What the call of a thread has seen from now on.

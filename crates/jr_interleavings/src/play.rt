@@ -122,14 +122,19 @@ fn make_all<R: Wait, S: Steps>(env: &mut Scheduling<'_, '_, R, S>, alloc: Global
     }
 }
 
+/// Whether a reference has this type.
+fn has_type<S: Steps>(env: &mut Env<S>, handle: Handle, wanted: u8) -> bool {
+    matches!(env.get_object_ref_type(handle), Ok(found) if found == wanted)
+}
+
 /// Each reference that stands has its type, and each that was deleted has none.
 fn look_at_all<R: Wait, S: Steps>(env: &mut Scheduling<'_, '_, R, S>) {
     for number in 0..env.held.steps.baton.answers() {
         let Some((handle, wanted)) = env.held.steps.baton.answer(number) else {
             return;
         };
-        let found = env.get_object_ref_type(handle);
-        env.held.steps.baton.looked(found == Ok(wanted));
+        let is_right = has_type(env, handle, wanted);
+        env.held.steps.baton.looked(is_right);
     }
 }
 

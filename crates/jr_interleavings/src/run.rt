@@ -1,7 +1,7 @@
 //! One run of a case: its threads, of which one goes at a time, and the machine beside them.
 
 use crate::case::{Call, Name};
-use crate::machine::{Machine, Verdict, add, at, must, put_at};
+use crate::machine::{Machine, Verdict, add, at, at_or, must, put_at};
 use crate::schedule::{Schedule, bit};
 use crate::seen::Answer;
 use crate::step::Step;
@@ -90,10 +90,7 @@ impl State {
 
     /// The stage of a thread.
     fn stage(&self, thread: u8) -> Stage {
-        match at(&self.stages, usize::from(thread)) {
-            Some(stage) => stage,
-            None => Stage::Ready,
-        }
+        at_or(&self.stages, usize::from(thread), Stage::Ready)
     }
 
     /// A thread has made ready what it needs: who goes next.
@@ -158,7 +155,7 @@ impl State {
     /// The handle that a name means for a thread.
     fn handle(&self, thread: u8, name: Name) -> Option<Handle> {
         match name {
-            Name::Own => at(&self.own, usize::from(thread))?,
+            Name::Own => at_or(&self.own, usize::from(thread), None),
             Name::Ready(number) => at(&self.ready, number),
         }
     }
