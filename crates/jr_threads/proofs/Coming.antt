@@ -7,7 +7,7 @@ use Rattle.jr_env.proofs.Carrying.{did_more}
 use Rattle.jr_rule.specs.declared.pass.Pass.{Pass}
 use Rattle.jr_rule.specs.Passes.{Holder, facts_of, holder_of, standing_of}
 use Rattle.jr_env.specs.Deeds.{Deed, DoesDeed, DoesOutside}
-use Rattle.jr_threads.specs.Parts.{DidWithPass, replied}
+use Rattle.jr_threads.specs.Parts.{DidOver, DidWithPass, replied}
 
 -- from the moment that the steps of a pass were made, and the pass was spent
 pub come : {S : Type 0} (holder : S → Holder) {A : Type 0} (deed : Deed A) (made a b : S) (p : Pass) (now : Holder)
@@ -27,6 +27,18 @@ come holder deed made a b p now f g x spent d old new fresh =
       did = subst (λ h. DoesDeed facts_of (holder a) now h g deed (Ok x)) fresh
           (subst (λ z. DoesDeed facts_of (holder a) z f g deed (Ok x)) (sym new) here);
     }
+
+-- what native code did in an env over steps, which were spent for it and came back of it
+pub did_over : {S A : Type 0} (facts : S → Facts) (deed : Deed A) (made a b now : S) (f g : Frames) (x : A)
+    → Spent facts made a → DoesDeed facts a b f g deed (Ok x) → now ≡ b
+    → f ≡ fresh_frames (facts made).stands.config.locals → DidOver facts deed made now x
+did_over facts deed made a b now f g x spent d same fresh = record {
+  spent = a;
+  spends = spent;
+  frames = g;
+  did = subst (λ h. DoesDeed facts a now h g deed (Ok x)) fresh
+      (subst (λ z. DoesDeed facts a z f g deed (Ok x)) (sym same) d);
+}
 
 -- what a call of an env did, as what native code did that hands its reply on
 pub does_replied : {S : Type 0} {facts : S → Facts} {A : Type 0} {a b : S} {f g : Frames} {deed : Deed A}

@@ -12,7 +12,7 @@ use Rattle.jr_model.specs.History.{History, PassView, IsLegal, mine, state}
 use Rattle.jr_model.specs.Laws.{KeepsTheLaws}
 use Rattle.jr_model.specs.State.{not_outside, summary}
 use Rattle.jr_steps.specs.Holdings.{empty}
-use Rattle.jr_steps.specs.Knowing.{Spent}
+use Rattle.jr_steps.specs.Knowing.{Facts, Spent}
 use Rattle.jr_gate.specs.Performing.{ThreadState}
 use Rattle.jr_rule.specs.declared.pass.Pass.{Pass}
 use Rattle.jr_rule.specs.Passes.{Holder, facts_of, holder_of, standing_of}
@@ -81,6 +81,13 @@ pub record DidWithPass {A : Type 0} (deed : Deed A) (old : Pass) (now : Holder) 
   pub spends : Spent facts_of (holder_of old) spent
   pub frames : Frames
   pub did : DoesDeed facts_of spent now (fresh_frames (standing_of old).config.locals) frames deed (Ok x)
+
+-- over these steps, which were spent first, native code did this and nothing else, with this answer, and left these
+pub record DidOver {S A : Type 0} (facts : S → Facts) (deed : Deed A) (old new : S) (x : A) : Type 0 where
+  pub spent : S
+  pub spends : Spent facts old spent
+  pub frames : Frames
+  pub did : DoesDeed facts spent new (fresh_frames (facts old).stands.config.locals) frames deed (Ok x)
 
 -- the reply of a deed, a refusal too, as the answer of native code
 abbrev pub replied : {A : Type 0} → Deed A → Deed (Result A Fault)

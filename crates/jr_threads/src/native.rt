@@ -3,7 +3,7 @@ ghost use Rattle.std.specs.Prelude.{◌≡◌, true};
 ghost use Rattle.jr_model.specs.declared.event.Role.TheVariants.{Outside};
 ghost use Rattle.jr_rule.specs.Passes.{holder_of, IsOpened};
 ghost use Rattle.jr_rule.specs.Sites.{IsPassOf, IsSiteOf};
-ghost use Rattle.jr_threads.specs.Parts.{DidWithPass};
+ghost use Rattle.jr_threads.specs.Parts.{DidOver, DidWithPass};
 ghost use Rattle.jr_threads.specs.Sites.{ThreadRan};
 
 use jr_env::Env;
@@ -53,6 +53,21 @@ pub(crate) struct Place<A: Drop> {
     pub(crate) ended: Option<Ended<A>>,
 }
 
+/// Runs the native code over an env of these steps, which are fresh and whose thread stands outside, and hands them back.
+fn run_over<S: Steps + Drop, N: NativeCode>(native: &N, steps: S) -> (N::Answer, S)
+    requires outside { (S.facts steps).stands.role ≡ Outside }
+    requires fresh { (S.facts steps).stands.fresh ≡ true }
+    ensures outside { (S.facts result.1).stands.role ≡ Outside }
+    ensures came { N.tells result.0 ≡ true → DidOver S.facts (N.deed native.now (S.facts steps).stands.thread) steps result.1 result.0 }
+{
+    let thread = steps.thread();
+    let Ok(mut env) = Env::new(steps) else {
+        unreachable!();
+    };
+    let answer = native.run(thread, &mut env);
+    (answer, env.into_pass())
+}
+
 /// Runs the native code in the site's thread.
 fn run_at<Q: Site, T: ThreadNumber, N: NativeCode>(
     room: &Room<LAST>,
@@ -65,12 +80,8 @@ fn run_at<Q: Site, T: ThreadNumber, N: NativeCode>(
     ensures came { N.tells result.answer ≡ true → DidWithPass (N.deed native.now pass.thread) pass (holder_of result.pass) result.answer }
 {
     let steps = SiteSteps::<LAST, Q, T>::new(room, pass);
-    let thread = steps.thread();
-    let Ok(mut env) = Env::new(steps) else {
-        unreachable!();
-    };
-    let answer = native.run(thread, &mut env);
-    let pass = env.into_pass().into_pass();
+    let (answer, steps) = run_over(native, steps);
+    let pass = steps.into_pass();
     Ended { answer, pass }
 }
 
