@@ -209,6 +209,23 @@ fn is_answered<S: Steps>(
     Ok(())
 }
 
+/// Each of these calls of a word is.
+fn is_answered_by<S: Steps>(
+    rt: &impl Abort,
+    alloc: Global,
+    env: &mut Env<S>,
+    given: &mut Given,
+    known: &Known,
+    calls: &[Call],
+    word: Handle,
+) -> Result<(), Fail> {
+    has_type(env, word, known.ref_type(word))?;
+    for call in calls {
+        is_answered(rt, alloc, env, given, known, *call, [word, Handle::NULL])?;
+    }
+    Ok(())
+}
+
 /// Each of these calls of each word is.
 fn are_answered_by<S: Steps>(
     rt: &impl Abort,
@@ -220,10 +237,7 @@ fn are_answered_by<S: Steps>(
     words: &[Handle],
 ) -> Result<(), Fail> {
     for word in words {
-        has_type(env, *word, known.ref_type(*word))?;
-        for call in calls {
-            is_answered(rt, alloc, env, given, known, *call, [*word, Handle::NULL])?;
-        }
+        is_answered_by(rt, alloc, env, given, known, calls, *word)?;
     }
     Ok(())
 }
@@ -235,17 +249,20 @@ fn is_answered_beside<S: Steps>(
     env: &mut Env<S>,
     given: &mut Given,
     known: &Known,
-    pair: [Handle; 2],
+    word: Handle,
+    others: &[Handle],
 ) -> Result<(), Fail> {
-    let [word, other] = pair;
-    for call in OF_TWO {
-        is_answered(rt, alloc, env, given, known, call, [word, other])?;
-        is_answered(rt, alloc, env, given, known, call, [other, word])?;
+    for other in others {
+        let [same, set] = OF_TWO;
+        is_answered(rt, alloc, env, given, known, same, [word, *other])?;
+        is_answered(rt, alloc, env, given, known, same, [*other, word])?;
+        is_answered(rt, alloc, env, given, known, set, [word, *other])?;
+        is_answered(rt, alloc, env, given, known, set, [*other, word])?;
     }
     Ok(())
 }
 
-/// The same of each word beside each of the others.
+/// Each call of two references is, of each word beside each of the others.
 fn are_answered_beside<S: Steps>(
     rt: &impl Abort,
     alloc: Global,
@@ -256,9 +273,7 @@ fn are_answered_beside<S: Steps>(
     others: &[Handle],
 ) -> Result<(), Fail> {
     for word in words {
-        for other in others {
-            is_answered_beside(rt, alloc, env, given, known, [*word, *other])?;
-        }
+        is_answered_beside(rt, alloc, env, given, known, *word, others)?;
     }
     Ok(())
 }
@@ -273,7 +288,7 @@ fn are_deleted<S: Steps>(
     words: &[Handle],
 ) -> Result<(), Fail> {
     for word in words {
-        are_answered_by(rt, alloc, env, given, known, &DELETIONS, &[*word])?;
+        is_answered_by(rt, alloc, env, given, known, &DELETIONS, *word)?;
         known.forget(*word);
         has_type(env, *word, 0)?;
     }
@@ -295,7 +310,7 @@ fn are_answered_by_nothing<S: Steps>(
     are_deleted(rt, alloc, env, given, known, words)?;
     are_answered_by(rt, alloc, env, given, known, &CALLS, words)?;
     are_answered_by(rt, alloc, env, given, known, &DELETIONS, &null)?;
-    are_answered_beside(rt, alloc, env, given, known, &null, words)?;
+    is_answered_beside(rt, alloc, env, given, known, Handle::NULL, words)?;
     are_answered_by(rt, alloc, env, given, known, &CALLS, &null)
 }
 
