@@ -1,14 +1,14 @@
 //! What is shown of a thread that others overtake in a room, in one function that makes the room and all in it: steps over a room are dear to prove.
-ghost use Rattle.std.specs.Prelude.{◌≡◌, All};
+ghost use Rattle.std.specs.Prelude.{◌≡◌, All, IfOk};
 ghost use Rattle.jr_model.specs.declared.event.Role.TheVariants.{Outside};
 ghost use Rattle.jr_rule.specs.Passes.{IsOpened};
 
 use crate::announced::{answers, is_closed_between, is_moved};
 use crate::envs::{env_of, leaves};
 use crate::overtaken::{Before, Others, Overtaken, is_overtaken, with_others};
-use crate::plans::{Neighbour, with_plans};
+use crate::plans::{Neighbour, Planned, with_plans};
 use jr_env::Env;
-use jr_fixtures::{LAST, next_env, next_steps};
+use jr_fixtures::{LAST, NoPass, next_env, next_steps};
 use jr_model::Summary;
 use jr_rule::{Parts, Pass, Room, RoomSteps, StepsOver};
 use jr_steps::Steps;
@@ -37,21 +37,31 @@ pub(crate) enum Shown {
     Answers(u32, Result<Collected, Fault>),
 }
 
+/// Two threads that plan, where there is a pass for each.
+fn both_plan<U: Steps + Drop>(
+    first: Result<Planned<U>, NoPass>,
+    second: Result<Planned<U>, NoPass>,
+) -> Result<Others<U>, NoPass> {
+    let first = first?;
+    let second = second?;
+    Ok(Others::Planners(first, second))
+}
+
 /// Who else is in the room.
 fn others<'a>(
     room: &'a Room<LAST>,
     passes: &mut Vec<Pass>,
     by: By,
-) -> Result<Others<RoomSteps<'a, LAST>>, Fail>
+) -> Result<Others<RoomSteps<'a, LAST>>, NoPass>
     requires { All (λ p. IsOpened room.now.row p) passes.old.items }
     ensures { All (λ p. IsOpened room.now.row p) passes.new.items }
 {
     match by {
         By::Maker => Ok(Others::Maker(next_env(room, passes)?, 3)),
         By::Both(kind, first, second) => {
-            let first = with_plans(room, passes, kind, first)?;
-            let second = with_plans(room, passes, kind, second)?;
-            Ok(Others::Planners(first, second))
+            let first = with_plans(room, passes, kind, first);
+            let second = with_plans(room, passes, kind, second);
+            both_plan(first, second)
         }
     }
 }
@@ -71,16 +81,18 @@ fn shows<C: Parts<P>, P: Copy, U: Steps>(
     }
 }
 
-/// Shows it over an env of a thread that the others overtake.
+/// Shows it over an env of a thread that the others overtake, where there is a pass for each.
 fn shows_overtaken<C: Parts<P> + Drop, P: Copy, U: Steps + Drop>(
     rt: &impl Abort,
     alloc: Global,
-    steps: StepsOver<C, P>,
-    others: Others<U>,
+    steps: Result<StepsOver<C, P>, NoPass>,
+    others: Result<Others<U>, NoPass>,
     shown: Shown,
 ) -> Result<(), Fail>
-    requires { steps.role ≡ Outside }
+    requires { IfOk steps (λ s. s.role ≡ Outside) }
 {
+    let steps = steps?;
+    let others = others?;
     let mut env = env_of(with_others(steps, others))?;
     shows(rt, alloc, &mut env, shown)
 }
@@ -95,8 +107,8 @@ pub(crate) fn overtakes(
     left: Option<Summary>,
 ) -> Result<(), Fail> {
     let (room, mut passes) = Room::<LAST>::open(alloc, config)?;
-    let others = others(&room, &mut passes, by)?;
-    let steps = next_steps(&room, &mut passes)?;
+    let others = others(&room, &mut passes, by);
+    let steps = next_steps(&room, &mut passes);
     shows_overtaken(rt, alloc, steps, others, shown)?;
     if let Some(summary) = left {
         leaves(rt, room, passes, summary);

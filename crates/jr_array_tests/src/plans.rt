@@ -1,12 +1,12 @@
 //! What a thread does before steps of another.
-ghost use Rattle.std.specs.Prelude.{All};
+ghost use Rattle.std.specs.Prelude.{◌≡◌, All};
+ghost use Rattle.jr_model.specs.declared.event.Role.TheVariants.{Outside};
 ghost use Rattle.jr_rule.specs.Passes.{IsOpened};
 
 use crate::overtaken::Before;
-use jr_fixtures::{LAST, next_steps};
+use jr_fixtures::{LAST, NoPass, next_steps};
 use jr_rule::{Pass, Room, RoomSteps};
 use jr_steps::{Role, Steps};
-use std::test::Fail;
 
 /// Before how many steps of its kind a thread has plans.
 pub(crate) const PLANS: usize = 4;
@@ -88,25 +88,32 @@ pub(crate) struct Neighbour {
     pub(crate) plans: [Plan; PLANS],
 }
 
+/// Steps with what their thread plans, which comes in where it is inside at first.
+fn planning<S: Steps>(mut steps: S, kind: Before, neighbour: Neighbour) -> Planned<S>
+    requires { (S.facts steps).stands.role ≡ Outside }
+{
+    let Neighbour { is_inside, plans } = neighbour;
+    if is_inside {
+        steps.go_in();
+    }
+    Planned {
+        steps,
+        kind,
+        plans,
+        done: 0,
+    }
+}
+
 /// The steps over the last of the passes, with what their thread plans.
 pub(crate) fn with_plans<'a>(
     room: &'a Room<LAST>,
     passes: &mut Vec<Pass>,
     kind: Before,
     neighbour: Neighbour,
-) -> Result<Planned<RoomSteps<'a, LAST>>, Fail>
+) -> Result<Planned<RoomSteps<'a, LAST>>, NoPass>
     requires { All (λ p. IsOpened room.now.row p) passes.old.items }
     ensures { All (λ p. IsOpened room.now.row p) passes.new.items }
 {
-    let Neighbour { is_inside, plans } = neighbour;
-    let mut steps = next_steps(room, passes)?;
-    if is_inside {
-        steps.go_in();
-    }
-    Ok(Planned {
-        steps,
-        kind,
-        plans,
-        done: 0,
-    })
+    let steps = next_steps(room, passes)?;
+    Ok(planning(steps, kind, neighbour))
 }

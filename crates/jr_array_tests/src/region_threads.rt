@@ -1,5 +1,5 @@
 //! Regions beside the collections of another thread of the room: what a shut gate bars, and what goes on while one is announced.
-ghost use Rattle.std.specs.Prelude.{◌≡◌};
+ghost use Rattle.std.specs.Prelude.{◌≡◌, IfOk};
 ghost use Rattle.jr_model.specs.declared.event.Role.TheVariants.{Outside};
 ghost use Rattle.jr_gate.specs.Stays.{IsOwnAnnouncement};
 
@@ -7,7 +7,7 @@ use crate::at_a_level::{give_up, has, nests_array, put};
 use crate::envs::{ONES, TWO, env_of, has_elements};
 use crate::not_opened::{opens_array, opens_string};
 use jr_env::{Env, NativeInterface};
-use jr_fixtures::{LAST, next_steps};
+use jr_fixtures::{LAST, NoPass, next_steps};
 use jr_gate::{Announced, announce, shut_gate};
 use jr_model::Mode;
 use jr_rule::Room;
@@ -103,28 +103,29 @@ enum Beside {
     Announcing,
 }
 
-/// Shows it over an env of these steps, of a thread whose pass was not used.
+/// Shows it over an env of these steps, of a thread whose pass was not used, where there is a pass for both threads.
 fn shows<S: Steps + Drop>(
     rt: &impl Abort,
-    steps: S,
-    other: &mut S,
+    steps: Result<S, NoPass>,
+    other: Result<S, NoPass>,
     what: Beside,
 ) -> Result<(), Fail>
-    requires { (S.facts steps).stands.role ≡ Outside }
+    requires { IfOk steps (λ s. (S.facts s).stands.role ≡ Outside) }
 {
-    let mut env = env_of(steps)?;
+    let mut other = other?;
+    let mut env = env_of(steps?)?;
     match what {
-        Beside::Collecting => is_barred(rt, &mut env, other),
-        Beside::Announcing => goes_on_while_announced(rt, &mut env, other),
+        Beside::Collecting => is_barred(rt, &mut env, &mut other),
+        Beside::Announcing => goes_on_while_announced(rt, &mut env, &mut other),
     }
 }
 
 /// Shows what regions are beside another thread of the room.
 fn beside_another(rt: &impl Abort, alloc: Global, what: Beside) -> Result<(), Fail> {
     let (room, mut passes) = Room::<LAST>::open(alloc, TWO)?;
-    let mut other = next_steps(&room, &mut passes)?;
-    let steps = next_steps(&room, &mut passes)?;
-    shows(rt, steps, &mut other, what)
+    let other = next_steps(&room, &mut passes);
+    let steps = next_steps(&room, &mut passes);
+    shows(rt, steps, other, what)
 }
 
 #[test]

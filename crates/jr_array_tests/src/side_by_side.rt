@@ -3,7 +3,7 @@ use crate::deletion_threads::{Side, delete_beside, make_contested};
 use crate::envs::leaves;
 use crate::overtaken::FIRST;
 use jr_env::{Env, NativeInterface};
-use jr_fixtures::{LAST, next_env};
+use jr_fixtures::{LAST, NoPass, next_env};
 use jr_gate::shut_gate;
 use jr_model::{Mode, Summary};
 use jr_rule::Room;
@@ -186,17 +186,16 @@ fn ended<R: Threads>(rt: &R, thread: Option<JoinHandle<Result<u32, Fault>>>) -> 
     }
 }
 
-/// Two threads do their jobs side by side, each as often as it is to. Then what they made stands, and no more.
-pub(crate) fn both_do<R: Threads + Wait + Abort>(
+/// What two threads made that did their jobs side by side, each as often as it is to.
+fn made_by<R: Threads + Wait + Abort, S: Steps + Drop + Send>(
     rt: &R,
-    alloc: Global,
-    config: Config,
     one: Job,
     two: Job,
-) -> Result<(), Fail> {
-    let (room, mut passes) = Room::<LAST>::open(alloc, config)?;
-    let mut second = next_env(&room, &mut passes)?;
-    let mut first = next_env(&room, &mut passes)?;
+    first: Result<Env<S>, NoPass>,
+    second: Result<Env<S>, NoPass>,
+) -> Result<Summary, Fail> {
+    let mut first = first?;
+    let mut second = second?;
     one.prepare(rt, &mut first)?;
     two.prepare(rt, &mut second)?;
     let (first, second) = thread::scope(thread::scope_env(), rt, |scope| {
@@ -206,12 +205,26 @@ pub(crate) fn both_do<R: Threads + Wait + Abort>(
     });
     let (live, used, globals) = one.made(first?)?;
     let (more_live, more_used, more_globals) = two.made(second?)?;
-    let summary = Summary {
+    Ok(Summary {
         globals: globals.saturating_add(more_globals),
         weaks: 0,
         live: live.saturating_add(more_live),
         used: used.saturating_add(more_used),
-    };
+    })
+}
+
+/// Two threads do their jobs side by side, each as often as it is to. Then what they made stands, and no more.
+pub(crate) fn both_do<R: Threads + Wait + Abort>(
+    rt: &R,
+    alloc: Global,
+    config: Config,
+    one: Job,
+    two: Job,
+) -> Result<(), Fail> {
+    let (room, mut passes) = Room::<LAST>::open(alloc, config)?;
+    let second = next_env(&room, &mut passes);
+    let first = next_env(&room, &mut passes);
+    let summary = made_by(rt, one, two, first, second)?;
     leaves(rt, room, passes, summary);
     Ok(())
 }
