@@ -42,22 +42,32 @@ fn right<R: Threads + Clock + Sync>(rt: &R, alloc: Global, job: Job) -> usize {
     right
 }
 
+/// Prints how often a call answered as it should.
+fn print_right<R: Print>(
+    rt: &R,
+    before: &str,
+    name: &str,
+    one: usize,
+    two: usize,
+) -> io::Result<()> {
+    println!(rt; "{before}{name}: {one} by one thread, {two} by two")
+}
+
 /// Prints the text.
 pub(crate) fn print<R: Threads + Clock + Print + Sync>(rt: &R, alloc: Global) -> io::Result<()> {
     println!(rt; "each call, {CALLS} times by each thread: how often it answered as it should")?;
     for case in CASES {
         let one = right(rt, alloc, Job::Calls(case, work_of(1)));
         let two = right(rt, alloc, Job::Calls(case, work_of(2)));
-        let name = case.name();
-        println!(rt; "{name}: {one} by one thread, {two} by two")?;
+        print_right(rt, "", case.name(), one, two)?;
         let one = right(rt, alloc, Job::Owned(case, work_of(1)));
         let two = right(rt, alloc, Job::Owned(case, work_of(2)));
-        println!(rt; "{OWNED}{name}: {one} by one thread, {two} by two")?;
+        print_right(rt, OWNED, case.name(), one, two)?;
     }
     print_checked(rt, alloc)?;
     let one = right(rt, alloc, Job::Notes(work_of(1)));
     let two = right(rt, alloc, Job::Notes(work_of(2)));
-    println!(rt; "{NOTES}: {one} by one thread, {two} by two")?;
+    print_right(rt, "", NOTES, one, two)?;
     print_collections(rt, alloc)?;
     print_beside(rt, alloc)
 }
@@ -69,8 +79,7 @@ fn print_checked<R: Threads + Clock + Print + Sync>(rt: &R, alloc: Global) -> io
             let case = CheckedCase { call, caller };
             let one = right(rt, alloc, Job::Calls(Case::Checked(case), work_of(1)));
             let two = right(rt, alloc, Job::Calls(Case::Checked(case), work_of(2)));
-            let (before, name) = (case.before_name(), case.name());
-            println!(rt; "{before}{name}: {one} by one thread, {two} by two")?;
+            print_right(rt, case.before_name(), case.name(), one, two)?;
         }
     }
     Ok(())

@@ -1,6 +1,6 @@
 //! The calls at arrays.
 
-use crate::calls::{Call, make_each};
+use crate::calls::{Call, Inline, LONG, Length, make_each};
 use crate::case::Env;
 use jr_env::NativeInterface;
 use jr_steps::Steps;
@@ -16,9 +16,6 @@ pub(crate) enum ArrayCase {
     GetElement,
     SetElement,
 }
-
-/// How many elements the longest part has, and the array that it is a part of.
-const LONG: u32 = 4_096;
 
 /// How many elements a new array has.
 const SHORT: u32 = 16;
@@ -54,7 +51,7 @@ impl ArrayCase {
     /// Makes the call with each of the handles: how often it answered as it should.
     pub(crate) fn make_all<S: Steps>(self, env: &mut Env<S>, handed: &[Handle]) -> usize {
         match self {
-            ArrayCase::Length => make_each(env, handed, Length),
+            ArrayCase::Length => make_each(env, handed, Inline(Length)),
             ArrayCase::CopyOut(length) => copy_out_each(env, handed, length),
             ArrayCase::CopyIn(length) => copy_in_each(env, handed, length),
             ArrayCase::New => make_each(env, handed, New),
@@ -64,22 +61,12 @@ impl ArrayCase {
     }
 }
 
-/// The length of an array.
-#[derive(Clone, Copy)]
-struct Length;
-
-impl Call for Length {
-    fn is_right<S: Steps>(&self, env: &mut Env<S>, _first: Handle, at: Handle) -> bool {
-        matches!(env.get_array_length(at), Ok(LONG))
-    }
-}
-
 /// A new array.
 #[derive(Clone, Copy)]
 struct New;
 
-impl Call for New {
-    fn is_right<S: Steps>(&self, env: &mut Env<S>, _first: Handle, _at: Handle) -> bool {
+impl<S: Steps> Call<S, Env<S>> for New {
+    fn is_right(&self, env: &mut Env<S>, _first: Handle, _at: Handle) -> bool {
         is_made(env)
     }
 }
@@ -88,8 +75,8 @@ impl Call for New {
 #[derive(Clone, Copy)]
 struct GetElement;
 
-impl Call for GetElement {
-    fn is_right<S: Steps>(&self, env: &mut Env<S>, _first: Handle, at: Handle) -> bool {
+impl<S: Steps> Call<S, Env<S>> for GetElement {
+    fn is_right(&self, env: &mut Env<S>, _first: Handle, at: Handle) -> bool {
         matches!(env.get_object_array_element(at, 0), Ok(Some(_)))
     }
 }
@@ -98,8 +85,8 @@ impl Call for GetElement {
 #[derive(Clone, Copy)]
 struct SetElement;
 
-impl Call for SetElement {
-    fn is_right<S: Steps>(&self, env: &mut Env<S>, _first: Handle, at: Handle) -> bool {
+impl<S: Steps> Call<S, Env<S>> for SetElement {
+    fn is_right(&self, env: &mut Env<S>, _first: Handle, at: Handle) -> bool {
         env.set_object_array_element(at, 0, at).is_ok()
     }
 }

@@ -196,7 +196,10 @@ pub(crate) fn tries_of(done: &[Option<Done>]) -> Option<(u128, bool)> {
 
 /// Whether each try of a round was a collection, or was refused as it may be.
 pub(crate) fn is_right<R: Threads + Clock + Sync>(rt: &R, alloc: Global, task: Task) -> bool {
-    round(rt, alloc, Job::Beside(task)).is_some_and(|done| tries_of(&done).is_some())
+    match round(rt, alloc, Job::Beside(task)) {
+        Some(done) => tries_of(&done).is_some(),
+        None => false,
+    }
 }
 
 /// Prints a line for each call and each way: of the rounds that count, in which all threads ran, what the tries came to in the one with the median of the collections that came in, and how many rounds these are.

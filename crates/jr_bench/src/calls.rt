@@ -8,37 +8,90 @@ use jr_word::Handle;
 /// How many local references a frame is asked to have room for.
 const CAPACITY: u32 = 16;
 
-/// A call, or some that belong together.
-pub(crate) trait Call {
+/// How many elements the array has whose length is told.
+pub(crate) const LONG: u32 = 4_096;
+
+/// A call, or some that belong together, by an env or another who makes them over the same steps.
+pub(crate) trait Call<S: Steps, N> {
     /// Makes it, with the first handle and another one: whether it answered as it should.
-    fn is_right<S: Steps>(&self, env: &mut Env<S>, first: Handle, at: Handle) -> bool;
+    fn is_right(&self, made: &mut N, first: Handle, at: Handle) -> bool;
 }
 
-/// Makes a call with the first handle and each of them: how often it answered as it should.
-pub(crate) fn make_each<C: Call + Copy, S: Steps>(
-    env: &mut Env<S>,
+/// A call that is made by an env, in a stay, and by each of them with a watcher.
+pub(crate) trait AnyCall {
+    /// Makes it, with the first handle and another one: whether it answered as it should.
+    fn is_right_by<S: Steps, N: NativeInterface<S>>(
+        &self,
+        made: &mut N,
+        first: Handle,
+        at: Handle,
+    ) -> bool;
+}
+
+/// Such a call as a part of the loop that makes it.
+#[derive(Clone, Copy)]
+pub(crate) struct Inline<C>(pub(crate) C);
+
+impl<S: Steps, N: NativeInterface<S>, C: AnyCall> Call<S, N> for Inline<C> {
+    #[inline(always)]
+    fn is_right(&self, made: &mut N, first: Handle, at: Handle) -> bool {
+        self.0.is_right_by(made, first, at)
+    }
+}
+
+/// Such a call as a function of its own and no part of the loop that makes it, as none is of native code.
+#[derive(Clone, Copy)]
+pub(crate) struct Apart<C>(pub(crate) C);
+
+impl<S: Steps, N: NativeInterface<S>, C: AnyCall> Call<S, N> for Apart<C> {
+    #[inline(never)]
+    fn is_right(&self, made: &mut N, first: Handle, at: Handle) -> bool {
+        self.0.is_right_by(made, first, at)
+    }
+}
+
+/// Makes a call with one handle and each of some: how often it answered as it should.
+#[inline(always)]
+pub(crate) fn make_some<S: Steps, N, C: Call<S, N> + Copy>(
+    made: &mut N,
+    first: Handle,
     handed: &[Handle],
     call: C,
 ) -> usize {
-    let Some(first) = handed.first() else {
-        return 0;
-    };
     let mut right = 0;
     for handle in handed {
-        if call.is_right(env, *first, *handle) {
+        if call.is_right(made, first, *handle) {
             right += 1;
         }
     }
     right
 }
 
+/// Makes a call with the first handle and each of them: how often it answered as it should.
+pub(crate) fn make_each<S: Steps, N, C: Call<S, N> + Copy>(
+    made: &mut N,
+    handed: &[Handle],
+    call: C,
+) -> usize {
+    match handed.first() {
+        Some(first) => make_some(made, *first, handed, call),
+        None => 0,
+    }
+}
+
 /// What NULL is.
 #[derive(Clone, Copy)]
 pub(crate) struct TypeOfNull;
 
-impl Call for TypeOfNull {
-    fn is_right<S: Steps>(&self, env: &mut Env<S>, _first: Handle, at: Handle) -> bool {
-        matches!(env.get_object_ref_type(at), Ok(0))
+impl AnyCall for TypeOfNull {
+    #[inline(always)]
+    fn is_right_by<S: Steps, N: NativeInterface<S>>(
+        &self,
+        made: &mut N,
+        _first: Handle,
+        at: Handle,
+    ) -> bool {
+        matches!(made.get_object_ref_type(at), Ok(0))
     }
 }
 
@@ -46,19 +99,15 @@ impl Call for TypeOfNull {
 #[derive(Clone, Copy)]
 pub(crate) struct TypeOfGlobal;
 
-impl Call for TypeOfGlobal {
-    fn is_right<S: Steps>(&self, env: &mut Env<S>, _first: Handle, at: Handle) -> bool {
-        matches!(env.get_object_ref_type(at), Ok(2))
-    }
-}
-
-/// A plain object.
-#[derive(Clone, Copy)]
-pub(crate) struct NewPlain;
-
-impl Call for NewPlain {
-    fn is_right<S: Steps>(&self, env: &mut Env<S>, _first: Handle, _at: Handle) -> bool {
-        env.new_plain().is_ok()
+impl AnyCall for TypeOfGlobal {
+    #[inline(always)]
+    fn is_right_by<S: Steps, N: NativeInterface<S>>(
+        &self,
+        made: &mut N,
+        _first: Handle,
+        at: Handle,
+    ) -> bool {
+        matches!(made.get_object_ref_type(at), Ok(2))
     }
 }
 
@@ -66,9 +115,15 @@ impl Call for NewPlain {
 #[derive(Clone, Copy)]
 pub(crate) struct NewGlobal;
 
-impl Call for NewGlobal {
-    fn is_right<S: Steps>(&self, env: &mut Env<S>, _first: Handle, at: Handle) -> bool {
-        matches!(env.new_global_ref(at), Ok(Some(_)))
+impl AnyCall for NewGlobal {
+    #[inline(always)]
+    fn is_right_by<S: Steps, N: NativeInterface<S>>(
+        &self,
+        made: &mut N,
+        _first: Handle,
+        at: Handle,
+    ) -> bool {
+        matches!(made.new_global_ref(at), Ok(Some(_)))
     }
 }
 
@@ -76,9 +131,89 @@ impl Call for NewGlobal {
 #[derive(Clone, Copy)]
 pub(crate) struct DeleteGlobal;
 
-impl Call for DeleteGlobal {
-    fn is_right<S: Steps>(&self, env: &mut Env<S>, _first: Handle, at: Handle) -> bool {
-        env.delete_global_ref(at).is_ok()
+impl AnyCall for DeleteGlobal {
+    #[inline(always)]
+    fn is_right_by<S: Steps, N: NativeInterface<S>>(
+        &self,
+        made: &mut N,
+        _first: Handle,
+        at: Handle,
+    ) -> bool {
+        made.delete_global_ref(at).is_ok()
+    }
+}
+
+/// A local reference.
+#[derive(Clone, Copy)]
+pub(crate) struct NewLocal;
+
+impl AnyCall for NewLocal {
+    #[inline(always)]
+    fn is_right_by<S: Steps, N: NativeInterface<S>>(
+        &self,
+        made: &mut N,
+        _first: Handle,
+        at: Handle,
+    ) -> bool {
+        matches!(made.new_local_ref(at), Ok(Some(_)))
+    }
+}
+
+/// A local reference is deleted.
+#[derive(Clone, Copy)]
+pub(crate) struct DeleteLocal;
+
+impl AnyCall for DeleteLocal {
+    #[inline(always)]
+    fn is_right_by<S: Steps, N: NativeInterface<S>>(
+        &self,
+        made: &mut N,
+        _first: Handle,
+        at: Handle,
+    ) -> bool {
+        made.delete_local_ref(at).is_ok()
+    }
+}
+
+/// Whether two references name one object.
+#[derive(Clone, Copy)]
+pub(crate) struct Same;
+
+impl AnyCall for Same {
+    #[inline(always)]
+    fn is_right_by<S: Steps, N: NativeInterface<S>>(
+        &self,
+        made: &mut N,
+        first: Handle,
+        at: Handle,
+    ) -> bool {
+        matches!(made.is_same_object(first, at), Ok(true))
+    }
+}
+
+/// How many elements an array has.
+#[derive(Clone, Copy)]
+pub(crate) struct Length;
+
+impl AnyCall for Length {
+    #[inline(always)]
+    fn is_right_by<S: Steps, N: NativeInterface<S>>(
+        &self,
+        made: &mut N,
+        _first: Handle,
+        at: Handle,
+    ) -> bool {
+        matches!(made.get_array_length(at), Ok(LONG))
+    }
+}
+
+/// A plain object.
+#[derive(Clone, Copy)]
+pub(crate) struct NewPlain;
+
+impl<S: Steps> Call<S, Env<S>> for NewPlain {
+    fn is_right(&self, env: &mut Env<S>, _first: Handle, _at: Handle) -> bool {
+        env.new_plain().is_ok()
     }
 }
 
@@ -86,8 +221,8 @@ impl Call for DeleteGlobal {
 #[derive(Clone, Copy)]
 pub(crate) struct NewWeak;
 
-impl Call for NewWeak {
-    fn is_right<S: Steps>(&self, env: &mut Env<S>, _first: Handle, at: Handle) -> bool {
+impl<S: Steps> Call<S, Env<S>> for NewWeak {
+    fn is_right(&self, env: &mut Env<S>, _first: Handle, at: Handle) -> bool {
         matches!(env.new_weak_global_ref(at), Ok(Some(_)))
     }
 }
@@ -96,39 +231,9 @@ impl Call for NewWeak {
 #[derive(Clone, Copy)]
 pub(crate) struct DeleteWeak;
 
-impl Call for DeleteWeak {
-    fn is_right<S: Steps>(&self, env: &mut Env<S>, _first: Handle, at: Handle) -> bool {
+impl<S: Steps> Call<S, Env<S>> for DeleteWeak {
+    fn is_right(&self, env: &mut Env<S>, _first: Handle, at: Handle) -> bool {
         env.delete_weak_global_ref(at).is_ok()
-    }
-}
-
-/// A local reference.
-#[derive(Clone, Copy)]
-pub(crate) struct NewLocal;
-
-impl Call for NewLocal {
-    fn is_right<S: Steps>(&self, env: &mut Env<S>, _first: Handle, at: Handle) -> bool {
-        matches!(env.new_local_ref(at), Ok(Some(_)))
-    }
-}
-
-/// A local reference is deleted.
-#[derive(Clone, Copy)]
-pub(crate) struct DeleteLocal;
-
-impl Call for DeleteLocal {
-    fn is_right<S: Steps>(&self, env: &mut Env<S>, _first: Handle, at: Handle) -> bool {
-        env.delete_local_ref(at).is_ok()
-    }
-}
-
-/// Whether two references name one object.
-#[derive(Clone, Copy)]
-pub(crate) struct Same;
-
-impl Call for Same {
-    fn is_right<S: Steps>(&self, env: &mut Env<S>, first: Handle, at: Handle) -> bool {
-        matches!(env.is_same_object(first, at), Ok(true))
     }
 }
 
@@ -136,8 +241,8 @@ impl Call for Same {
 #[derive(Clone, Copy)]
 struct Empty;
 
-impl Call for Empty {
-    fn is_right<S: Steps>(&self, env: &mut Env<S>, _first: Handle, at: Handle) -> bool {
+impl<S: Steps> Call<S, Env<S>> for Empty {
+    fn is_right(&self, env: &mut Env<S>, _first: Handle, at: Handle) -> bool {
         env.ensure_local_capacity(CAPACITY).is_ok()
             && env.push_local_frame(CAPACITY).is_ok()
             && matches!(env.pop_local_frame(at), Ok(None))
@@ -148,8 +253,8 @@ impl Call for Empty {
 #[derive(Clone, Copy)]
 struct OfFour;
 
-impl Call for OfFour {
-    fn is_right<S: Steps>(&self, env: &mut Env<S>, _first: Handle, at: Handle) -> bool {
+impl<S: Steps> Call<S, Env<S>> for OfFour {
+    fn is_right(&self, env: &mut Env<S>, _first: Handle, at: Handle) -> bool {
         frame_of_four(env, at).is_some()
     }
 }
@@ -158,8 +263,8 @@ impl Call for OfFour {
 #[derive(Clone, Copy)]
 struct FreeOne;
 
-impl Call for FreeOne {
-    fn is_right<S: Steps>(&self, env: &mut Env<S>, _first: Handle, at: Handle) -> bool {
+impl<S: Steps> Call<S, Env<S>> for FreeOne {
+    fn is_right(&self, env: &mut Env<S>, _first: Handle, at: Handle) -> bool {
         matches!(env.new_local_ref(at), Ok(Some(_))) && env.free_locals().is_ok()
     }
 }

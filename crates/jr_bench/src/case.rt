@@ -2,7 +2,7 @@
 
 use crate::arrays::ArrayCase;
 use crate::calls::{
-    DeleteGlobal, DeleteLocal, DeleteWeak, NewGlobal, NewLocal, NewPlain, NewWeak, Same,
+    DeleteGlobal, DeleteLocal, DeleteWeak, Inline, NewGlobal, NewLocal, NewPlain, NewWeak, Same,
     TypeOfGlobal, TypeOfNull, make_each,
 };
 use crate::checked::{Caller, CheckedCase};
@@ -163,6 +163,38 @@ impl Case {
         }
     }
 
+    /// The same call with an entry and an exit of its own.
+    fn whole(self) -> Case {
+        match self {
+            Case::Stays(call) | Case::Checked(CheckedCase { call, caller: _ }) => call.whole(),
+            case => case,
+        }
+    }
+
+    /// What the references are to: the one object, or an array.
+    fn named<S: Steps>(self, env: &mut Env<S>, object: Handle) -> Option<Handle> {
+        match self {
+            Case::Arrays(case) => case.array(env, object),
+            Case::Copies(case) => case.array(env),
+            Case::Criticals(case) => case.array(env),
+            _ => Some(object),
+        }
+    }
+
+    /// What one call is handed.
+    fn handle<S: Steps>(self, env: &mut Env<S>, local: Handle, global: Handle) -> Option<Handle> {
+        match self {
+            Case::TypeOfNull | Case::NewPlain | Case::Frames(FrameCase::Empty) => Some(
+                Handle::NULL,
+            ),
+            Case::NewGlobal | Case::NewWeak => Some(local),
+            Case::DeleteGlobal => env.new_global_ref(local).ok()?,
+            Case::DeleteWeak => env.new_weak_global_ref(local).ok()?,
+            Case::DeleteLocal => env.new_local_ref(global).ok()?,
+            _ => Some(global),
+        }
+    }
+
     /// What each of so many calls is handed, in order. All references are to one object, or to one array, and are made here.
     pub(crate) fn handed<S: Steps>(
         self,
@@ -170,36 +202,13 @@ impl Case {
         alloc: Global,
         calls: u32,
     ) -> Option<Vec<Handle>> {
+        let case = self.whole();
         let local = env.new_plain().ok()?;
-        let named = match self {
-            Case::Arrays(case) => case.array(env, local)?,
-            Case::Copies(case) => case.array(env)?,
-            Case::Criticals(case) => case.array(env)?,
-            Case::Stays(case) | Case::Checked(CheckedCase { call: case, .. }) => {
-                case.named(env, local)?
-            }
-            _ => local,
-        };
+        let named = case.named(env, local)?;
         let global = env.new_global_ref(named).ok()??;
         let mut handed = Vec::with_capacity(alloc, calls as usize).ok()?;
         for _ in 0..calls {
-            let handle = match self {
-                Case::TypeOfNull | Case::NewPlain | Case::Frames(FrameCase::Empty) => Handle::NULL,
-                Case::NewGlobal | Case::NewWeak => local,
-                Case::NewLocal
-                | Case::Same
-                | Case::TypeOfGlobal
-                | Case::Frames(_)
-                | Case::Arrays(_)
-                | Case::Copies(_)
-                | Case::Criticals(_) => { global }
-                Case::DeleteGlobal => env.new_global_ref(local).ok()??,
-                Case::DeleteWeak => env.new_weak_global_ref(local).ok()??,
-                Case::DeleteLocal => env.new_local_ref(global).ok()??,
-                Case::Stays(case) | Case::Checked(CheckedCase { call: case, .. }) => {
-                    case.handle(env, local, global)?
-                }
-            };
+            let handle = case.handle(env, local, global)?;
             handed.push(handle).ok()?;
         }
         Some(handed)
@@ -214,22 +223,22 @@ impl Case {
         handed: &[Handle],
     ) -> usize {
         match self {
-            Case::TypeOfNull => make_each(env, handed, TypeOfNull),
+            Case::TypeOfNull => make_each(env, handed, Inline(TypeOfNull)),
             Case::NewPlain => make_each(env, handed, NewPlain),
-            Case::NewGlobal => make_each(env, handed, NewGlobal),
-            Case::DeleteGlobal => make_each(env, handed, DeleteGlobal),
+            Case::NewGlobal => make_each(env, handed, Inline(NewGlobal)),
+            Case::DeleteGlobal => make_each(env, handed, Inline(DeleteGlobal)),
             Case::NewWeak => make_each(env, handed, NewWeak),
             Case::DeleteWeak => make_each(env, handed, DeleteWeak),
-            Case::NewLocal => make_each(env, handed, NewLocal),
-            Case::DeleteLocal => make_each(env, handed, DeleteLocal),
-            Case::Same => make_each(env, handed, Same),
-            Case::TypeOfGlobal => make_each(env, handed, TypeOfGlobal),
+            Case::NewLocal => make_each(env, handed, Inline(NewLocal)),
+            Case::DeleteLocal => make_each(env, handed, Inline(DeleteLocal)),
+            Case::Same => make_each(env, handed, Inline(Same)),
+            Case::TypeOfGlobal => make_each(env, handed, Inline(TypeOfGlobal)),
             Case::Frames(case) => case.make_all(env, handed),
             Case::Arrays(case) => case.make_all(env, handed),
             Case::Copies(case) => case.make_all(env, alloc, handed),
             Case::Criticals(case) => case.make_all(env, handed),
-            Case::Stays(case) => case.make_all(env, handed),
-            Case::Checked(case) => case.make_all(env, handed),
+            Case::Stays(case) => case.make_all(env, handed, Caller::Stays),
+            Case::Checked(CheckedCase { call, caller }) => call.make_all(env, handed, caller),
         }
     }
 }

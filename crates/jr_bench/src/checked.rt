@@ -1,12 +1,13 @@
-//! The calls with a watcher, who is told none of them since none is refused, beside the same calls without.
+//! By whom calls are made: with a watcher, who is told none of them since none is refused, or without, and in stays.
 
-use crate::stays::{
-    DeleteGlobal, DeleteLocal, Length, NewGlobal, NewLocal, Same, StayCall, StayCase, TypeOfGlobal,
-    TypeOfNull,
-};
-use jr_env::{Checked, Env, NativeInterface, Refusal, Stay, Watcher};
+use crate::calls::{AnyCall, Apart, make_some};
+use crate::stays::StayCase;
+use jr_env::{Checked, Env, Explains, NativeInterface, Refusal, Watcher};
 use jr_steps::Steps;
 use jr_word::Handle;
+
+/// How many calls are made in each of the stays.
+const CALLS: usize = 16;
 
 /// Counts what it is told.
 #[derive(Drop)]
@@ -31,6 +32,8 @@ pub(crate) enum Caller {
     Stay,
     /// A stay with a watcher.
     CheckedStay,
+    /// Stays of sixteen calls.
+    Stays,
 }
 
 /// Which call is made, and by whom.
@@ -44,7 +47,7 @@ impl CheckedCase {
     /// What its name has before the call's.
     pub(crate) fn before_name(self) -> &'static str {
         match self.caller {
-            Caller::Env | Caller::Stay => "",
+            Caller::Env | Caller::Stay | Caller::Stays => "",
             Caller::CheckedEnv | Caller::CheckedStay => "checked:",
         }
     }
@@ -53,104 +56,77 @@ impl CheckedCase {
     pub(crate) fn name(self) -> &'static str {
         match self.caller {
             Caller::Env | Caller::CheckedEnv => self.call.whole().name(),
-            Caller::Stay | Caller::CheckedStay => self.call.name(),
-        }
-    }
-
-    /// Makes the call with each of the handles: how often it answered as it should.
-    pub(crate) fn make_all<S: Steps>(self, env: &mut Env<S>, handed: &[Handle]) -> usize {
-        match self.call {
-            StayCase::TypeOfNull => make_by(env, handed, self.caller, TypeOfNull),
-            StayCase::NewGlobal => make_by(env, handed, self.caller, NewGlobal),
-            StayCase::DeleteGlobal => make_by(env, handed, self.caller, DeleteGlobal),
-            StayCase::NewLocal => make_by(env, handed, self.caller, NewLocal),
-            StayCase::DeleteLocal => make_by(env, handed, self.caller, DeleteLocal),
-            StayCase::Same => make_by(env, handed, self.caller, Same),
-            StayCase::TypeOfGlobal => make_by(env, handed, self.caller, TypeOfGlobal),
-            StayCase::Length => make_by(env, handed, self.caller, Length),
+            Caller::Stay | Caller::CheckedStay | Caller::Stays => self.call.name(),
         }
     }
 }
 
 /// Makes a call with each of the handles, by whom it is to be made: how often it answered as it should.
-fn make_by<C: StayCall + Copy, S: Steps>(
+pub(crate) fn make_by<S: Steps, C: AnyCall + Copy>(
     env: &mut Env<S>,
     handed: &[Handle],
     caller: Caller,
-    call: C,
-) -> usize {
-    match caller {
-        Caller::Env => make_each(env, handed, call),
-        Caller::CheckedEnv => make_checked(env, handed, call),
-        Caller::Stay => make_in_a_stay(env, handed, call),
-        Caller::CheckedStay => make_checked_in_a_stay(env, handed, call),
-    }
-}
-
-/// Makes a call with the first handle and each of them: how often it answered as it should.
-fn make_each<C: StayCall + Copy, S: Steps, N: NativeInterface<S>>(
-    made: &mut N,
-    handed: &[Handle],
-    call: C,
+    call: Apart<C>,
 ) -> usize {
     let Some(first) = handed.first() else {
         return 0;
     };
-    let mut right = 0;
-    for handle in handed {
-        if call.is_right(made, *first, *handle) {
-            right += 1;
+    match caller {
+        Caller::Env => make_some(env, *first, handed, call),
+        Caller::CheckedEnv => make_watched(env, *first, handed, call),
+        Caller::Stay => make_in_stay(env, *first, handed, call, false),
+        Caller::CheckedStay => make_in_stay(env, *first, handed, call, true),
+        Caller::Stays => make_in_stays(env, *first, handed, call),
+    }
+}
+
+/// Makes a call with a watcher: 0 where that was told a refusal.
+fn make_watched<S: Steps, N: NativeInterface<S> + Explains, C: AnyCall + Copy>(
+    made: &mut N,
+    first: Handle,
+    handed: &[Handle],
+    call: Apart<C>,
+) -> usize {
+    let mut checked = Checked::new(made, Counting(0));
+    let right = make_some(&mut checked, first, handed, call);
+    if checked.watcher().0 == 0 { right } else { 0 }
+}
+
+/// Makes a call in one stay, with a watcher where that is asked for.
+#[inline(always)]
+fn make_in_stay<S: Steps, C: AnyCall + Copy>(
+    env: &mut Env<S>,
+    first: Handle,
+    handed: &[Handle],
+    call: Apart<C>,
+    is_watched: bool,
+) -> usize {
+    let Ok(mut stay) = env.stay() else {
+        return 0;
+    };
+    let right = if is_watched {
+        make_watched(&mut stay, first, handed, call)
+    } else {
+        make_some(&mut stay, first, handed, call)
+    };
+    stay.end();
+    right
+}
+
+/// Makes a call in stays of sixteen.
+fn make_in_stays<S: Steps, C: AnyCall + Copy>(
+    env: &mut Env<S>,
+    first: Handle,
+    handed: &[Handle],
+    call: Apart<C>,
+) -> usize {
+    let mut right = 0usize;
+    for stay in 0..handed.len().div_ceil(CALLS) {
+        let from = stay.saturating_mul(CALLS);
+        let to = from.saturating_add(CALLS).min(handed.len());
+        if let Some(some) = handed.get(from..to) {
+            right = right.saturating_add(make_in_stay(env, first, some, call, false));
         }
     }
     right
-}
-
-/// The same of an env with a watcher: 0 where that was told a refusal.
-fn make_checked<C: StayCall + Copy, S: Steps>(
-    env: &mut Env<S>,
-    handed: &[Handle],
-    call: C,
-) -> usize {
-    let mut checked = Checked::new(env, Counting(0));
-    let right = make_each(&mut checked, handed, call);
-    if checked.watcher().0 == 0 { right } else { 0 }
-}
-
-/// The same in one stay.
-fn make_in_a_stay<C: StayCall + Copy, S: Steps>(
-    env: &mut Env<S>,
-    handed: &[Handle],
-    call: C,
-) -> usize {
-    let Ok(mut stay) = env.stay() else {
-        return 0;
-    };
-    let right = make_each(&mut stay, handed, call);
-    stay.end();
-    right
-}
-
-/// The same in one stay with a watcher.
-fn make_checked_in_a_stay<C: StayCall + Copy, S: Steps>(
-    env: &mut Env<S>,
-    handed: &[Handle],
-    call: C,
-) -> usize {
-    let Ok(mut stay) = env.stay() else {
-        return 0;
-    };
-    let right = watch_stay(&mut stay, handed, call);
-    stay.end();
-    right
-}
-
-/// The same of a stay, with a watcher.
-fn watch_stay<C: StayCall + Copy, S: Steps>(
-    stay: &mut Stay<'_, S>,
-    handed: &[Handle],
-    call: C,
-) -> usize {
-    let mut checked = Checked::new(stay, Counting(0));
-    let right = make_each(&mut checked, handed, call);
-    if checked.watcher().0 == 0 { right } else { 0 }
 }

@@ -3,7 +3,7 @@
 ghost use Rattle.jr_env.specs.Collections.{FitsRoom};
 
 use crate::case::Env;
-use crate::measure::{print_times, times_of};
+use crate::measure::print_job;
 use crate::round::{Done, Job, Signs};
 use jr_census::Census;
 use jr_env::NativeInterface;
@@ -147,8 +147,7 @@ pub(crate) fn print<R: Threads + Clock + Print + Sync>(
     rounds: u32,
 ) -> io::Result<()> {
     for (way, name) in WAYS {
-        let times = times_of(rt, alloc, Job::Collects(work, way), rounds)?;
-        print_times(rt, name, times.as_slice())?;
+        print_job(rt, alloc, "", name, Job::Collects(work, way), rounds)?;
     }
     Ok(())
 }

@@ -67,8 +67,8 @@ impl CopyCase {
 #[derive(Clone, Copy)]
 struct Back(Global);
 
-impl Call for Back {
-    fn is_right<S: Steps>(&self, env: &mut Env<S>, _first: Handle, at: Handle) -> bool {
+impl<S: Steps> Call<S, Env<S>> for Back {
+    fn is_right(&self, env: &mut Env<S>, _first: Handle, at: Handle) -> bool {
         copy_back(env, self.0, at).is_some()
     }
 }
@@ -77,8 +77,8 @@ impl Call for Back {
 #[derive(Clone, Copy)]
 struct Committed(Global);
 
-impl Call for Committed {
-    fn is_right<S: Steps>(&self, env: &mut Env<S>, _first: Handle, at: Handle) -> bool {
+impl<S: Steps> Call<S, Env<S>> for Committed {
+    fn is_right(&self, env: &mut Env<S>, _first: Handle, at: Handle) -> bool {
         commit(env, self.0, at).is_some()
     }
 }
@@ -87,8 +87,8 @@ impl Call for Committed {
 #[derive(Clone, Copy)]
 struct Text(Global);
 
-impl Call for Text {
-    fn is_right<S: Steps>(&self, env: &mut Env<S>, _first: Handle, at: Handle) -> bool {
+impl<S: Steps> Call<S, Env<S>> for Text {
+    fn is_right(&self, env: &mut Env<S>, _first: Handle, at: Handle) -> bool {
         env.get_string_chars(self.0, at).is_ok()
     }
 }

@@ -53,8 +53,8 @@ impl CriticalCase {
 #[derive(Clone, Copy)]
 struct Open;
 
-impl Call for Open {
-    fn is_right<S: Steps>(&self, env: &mut Env<S>, _first: Handle, at: Handle) -> bool {
+impl<S: Steps> Call<S, Env<S>> for Open {
+    fn is_right(&self, env: &mut Env<S>, _first: Handle, at: Handle) -> bool {
         is_opened(env, at)
     }
 }

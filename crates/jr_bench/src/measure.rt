@@ -67,7 +67,20 @@ pub(crate) fn times_of<R: Threads + Clock + Sync>(
     Ok(times)
 }
 
-/// Prints a line for each case: its name, the median and the least of its times in nanoseconds, and how many rounds counted.
+/// Prints a line of so many rounds: what is measured, with what its name has before it, the median and the least of its times in nanoseconds, and how many rounds counted.
+pub(crate) fn print_job<R: Threads + Clock + Print + Sync>(
+    rt: &R,
+    alloc: Global,
+    before: &str,
+    name: &str,
+    job: Job,
+    rounds: u32,
+) -> io::Result<()> {
+    let times = times_of(rt, alloc, job, rounds)?;
+    print_times(rt, before, name, times.as_slice())
+}
+
+/// Prints a line for each case.
 pub(crate) fn print<R: Threads + Clock + Print + Sync>(
     rt: &R,
     alloc: Global,
@@ -76,8 +89,7 @@ pub(crate) fn print<R: Threads + Clock + Print + Sync>(
     rounds: u32,
 ) -> io::Result<()> {
     for case in cases {
-        let times = times_of(rt, alloc, Job::Calls(*case, work), rounds)?;
-        print_times(rt, case.name(), times.as_slice())?;
+        print_job(rt, alloc, "", case.name(), Job::Calls(*case, work), rounds)?;
     }
     Ok(())
 }
@@ -92,21 +104,20 @@ pub(crate) fn print_checked<R: Threads + Clock + Print + Sync>(
     for call in WATCHED {
         for caller in CALLERS {
             let case = CheckedCase { call, caller };
-            let times = times_of(rt, alloc, Job::Calls(Case::Checked(case), work), rounds)?;
-            print!(rt; "{}", case.before_name())?;
-            print_times(rt, case.name(), times.as_slice())?;
+            let job = Job::Calls(Case::Checked(case), work);
+            print_job(rt, alloc, case.before_name(), case.name(), job, rounds)?;
         }
     }
     Ok(())
 }
 
 /// Prints a line of times in order, which are in tenths of nanoseconds.
-pub(crate) fn print_times<R: Print>(rt: &R, name: &str, times: &[u128]) -> io::Result<()> {
+fn print_times<R: Print>(rt: &R, before: &str, name: &str, times: &[u128]) -> io::Result<()> {
     let counted = times.len();
     let (Some(least), Some(median)) = (times.first(), times.get(counted / 2)) else {
-        return println!(rt; "{name} - - 0");
+        return println!(rt; "{before}{name} - - 0");
     };
     let (whole, tenth) = (*median / 10, *median % 10);
     let (least_whole, least_tenth) = (*least / 10, *least % 10);
-    println!(rt; "{name} {whole}.{tenth} {least_whole}.{least_tenth} {counted}")
+    println!(rt; "{before}{name} {whole}.{tenth} {least_whole}.{least_tenth} {counted}")
 }

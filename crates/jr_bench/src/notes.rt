@@ -1,6 +1,6 @@
 //! How long it takes to note what a thread has seen, and to learn it.
 
-use crate::measure::{print_times, times_of};
+use crate::measure::print_job;
 use crate::round::{Done, Job, Signs, Work, all_came};
 use jr_env::Env;
 use jr_rule::{Site, StepsIn};
@@ -39,6 +39,5 @@ pub(crate) fn print<R: Threads + Clock + Print + Sync>(
     work: Work,
     rounds: u32,
 ) -> io::Result<()> {
-    let times = times_of(rt, alloc, Job::Notes(work), rounds)?;
-    print_times(rt, NOTES, times.as_slice())
+    print_job(rt, alloc, "", NOTES, Job::Notes(work), rounds)
 }

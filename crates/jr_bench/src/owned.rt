@@ -1,7 +1,7 @@
 //! The calls over steps that own their room, beside the same calls over steps that borrow it.
 
 use crate::case::{CASES, Case};
-use crate::measure::{print_times, times_of};
+use crate::measure::print_job;
 use crate::round::{Done, Job, Signs, Work, call_all};
 use jr_owned::{OwnedEnv, open_envs};
 use jr_word::Config;
@@ -47,11 +47,9 @@ pub(crate) fn print<R: Threads + Clock + Print + Sync>(
     rounds: u32,
 ) -> io::Result<()> {
     for case in CASES {
-        let room = times_of(rt, alloc, Job::Calls(case, work), rounds)?;
-        print_times(rt, case.name(), room.as_slice())?;
-        let owned = times_of(rt, alloc, Job::Owned(case, work), rounds)?;
-        print!(rt; "{OWNED}")?;
-        print_times(rt, case.name(), owned.as_slice())?;
+        let (room, owned) = (Job::Calls(case, work), Job::Owned(case, work));
+        print_job(rt, alloc, "", case.name(), room, rounds)?;
+        print_job(rt, alloc, OWNED, case.name(), owned, rounds)?;
     }
     Ok(())
 }

@@ -217,7 +217,9 @@ fn work_at<Q: Site, T: ThreadNumber, R: Clock>(
     requires site { IsSiteOf Q.room Q.sizes T.number room.now pass }
 {
     let steps = SiteSteps::<LAST_SERIAL, Q, T>::new(room, pass);
-    let mut env = Env::new(steps).ok()?;
+    let Ok(mut env) = Env::new(steps) else {
+        return None;
+    };
     job.act::<Q, R, _>(rt, alloc, &mut env, signs)
 }
 

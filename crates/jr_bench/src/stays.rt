@@ -1,18 +1,15 @@
-//! The calls in stays of sixteen, of which each is a type: so the loop that makes it is a loop of its own.
+//! The calls that are made in stays too, and with a watcher.
 
 use crate::arrays::ArrayCase;
+use crate::calls::{
+    Apart, DeleteGlobal, DeleteLocal, Length, NewGlobal, NewLocal, Same, TypeOfGlobal, TypeOfNull,
+};
 use crate::case::{Case, Env};
-use jr_env::NativeInterface;
+use crate::checked::{Caller, make_by};
 use jr_steps::Steps;
 use jr_word::Handle;
 
-/// How many calls are made in a stay.
-const CALLS: usize = 16;
-
-/// How many elements the array has whose length is told.
-const LONG: u32 = 4_096;
-
-/// Which call is made in the stays.
+/// Which of these calls is made.
 #[derive(Clone, Copy)]
 pub(crate) enum StayCase {
     TypeOfNull,
@@ -54,221 +51,22 @@ impl StayCase {
         }
     }
 
-    /// What the references are to: the one object, or an array.
-    pub(crate) fn named<S: Steps>(self, env: &mut Env<S>, object: Handle) -> Option<Handle> {
-        match self {
-            StayCase::Length => env.new_array::<i32>(LONG).ok(),
-            _ => Some(object),
-        }
-    }
-
-    /// What one call is handed.
-    pub(crate) fn handle<S: Steps>(
+    /// Makes the call with each of the handles, by whom it is to be made: how often it answered as it should.
+    pub(crate) fn make_all<S: Steps>(
         self,
         env: &mut Env<S>,
-        local: Handle,
-        global: Handle,
-    ) -> Option<Handle> {
+        handed: &[Handle],
+        caller: Caller,
+    ) -> usize {
         match self {
-            StayCase::TypeOfNull => Some(Handle::NULL),
-            StayCase::NewGlobal => Some(local),
-            StayCase::DeleteGlobal => env.new_global_ref(local).ok()?,
-            StayCase::DeleteLocal => env.new_local_ref(global).ok()?,
-            _ => Some(global),
+            StayCase::TypeOfNull => make_by(env, handed, caller, Apart(TypeOfNull)),
+            StayCase::NewGlobal => make_by(env, handed, caller, Apart(NewGlobal)),
+            StayCase::DeleteGlobal => make_by(env, handed, caller, Apart(DeleteGlobal)),
+            StayCase::NewLocal => make_by(env, handed, caller, Apart(NewLocal)),
+            StayCase::DeleteLocal => make_by(env, handed, caller, Apart(DeleteLocal)),
+            StayCase::Same => make_by(env, handed, caller, Apart(Same)),
+            StayCase::TypeOfGlobal => make_by(env, handed, caller, Apart(TypeOfGlobal)),
+            StayCase::Length => make_by(env, handed, caller, Apart(Length)),
         }
     }
-
-    /// Makes the call with each of the handles, in stays of sixteen: how often it answered as it should.
-    pub(crate) fn make_all<S: Steps>(self, env: &mut Env<S>, handed: &[Handle]) -> usize {
-        match self {
-            StayCase::TypeOfNull => make_in_stays(env, handed, TypeOfNull),
-            StayCase::NewGlobal => make_in_stays(env, handed, NewGlobal),
-            StayCase::DeleteGlobal => make_in_stays(env, handed, DeleteGlobal),
-            StayCase::NewLocal => make_in_stays(env, handed, NewLocal),
-            StayCase::DeleteLocal => make_in_stays(env, handed, DeleteLocal),
-            StayCase::Same => make_in_stays(env, handed, Same),
-            StayCase::TypeOfGlobal => make_in_stays(env, handed, TypeOfGlobal),
-            StayCase::Length => make_in_stays(env, handed, Length),
-        }
-    }
-}
-
-/// A call that is made in a stay, or by an env with a watcher. Each is a function of its own and no part of the loop that makes it, as none is of native code.
-pub(crate) trait StayCall {
-    /// Makes it, with the first handle and another one: whether it answered as it should.
-    fn is_right<S: Steps, N: NativeInterface<S>>(
-        &self,
-        made: &mut N,
-        first: Handle,
-        at: Handle,
-    ) -> bool;
-}
-
-/// What NULL is.
-#[derive(Clone, Copy)]
-pub(crate) struct TypeOfNull;
-
-impl StayCall for TypeOfNull {
-    #[inline(never)]
-    fn is_right<S: Steps, N: NativeInterface<S>>(
-        &self,
-        made: &mut N,
-        _first: Handle,
-        at: Handle,
-    ) -> bool {
-        matches!(made.get_object_ref_type(at), Ok(0))
-    }
-}
-
-/// A global reference.
-#[derive(Clone, Copy)]
-pub(crate) struct NewGlobal;
-
-impl StayCall for NewGlobal {
-    #[inline(never)]
-    fn is_right<S: Steps, N: NativeInterface<S>>(
-        &self,
-        made: &mut N,
-        _first: Handle,
-        at: Handle,
-    ) -> bool {
-        matches!(made.new_global_ref(at), Ok(Some(_)))
-    }
-}
-
-/// A global reference is deleted.
-#[derive(Clone, Copy)]
-pub(crate) struct DeleteGlobal;
-
-impl StayCall for DeleteGlobal {
-    #[inline(never)]
-    fn is_right<S: Steps, N: NativeInterface<S>>(
-        &self,
-        made: &mut N,
-        _first: Handle,
-        at: Handle,
-    ) -> bool {
-        made.delete_global_ref(at).is_ok()
-    }
-}
-
-/// A local reference.
-#[derive(Clone, Copy)]
-pub(crate) struct NewLocal;
-
-impl StayCall for NewLocal {
-    #[inline(never)]
-    fn is_right<S: Steps, N: NativeInterface<S>>(
-        &self,
-        made: &mut N,
-        _first: Handle,
-        at: Handle,
-    ) -> bool {
-        matches!(made.new_local_ref(at), Ok(Some(_)))
-    }
-}
-
-/// A local reference is deleted.
-#[derive(Clone, Copy)]
-pub(crate) struct DeleteLocal;
-
-impl StayCall for DeleteLocal {
-    #[inline(never)]
-    fn is_right<S: Steps, N: NativeInterface<S>>(
-        &self,
-        made: &mut N,
-        _first: Handle,
-        at: Handle,
-    ) -> bool {
-        made.delete_local_ref(at).is_ok()
-    }
-}
-
-/// Whether two references name one object.
-#[derive(Clone, Copy)]
-pub(crate) struct Same;
-
-impl StayCall for Same {
-    #[inline(never)]
-    fn is_right<S: Steps, N: NativeInterface<S>>(
-        &self,
-        made: &mut N,
-        first: Handle,
-        at: Handle,
-    ) -> bool {
-        matches!(made.is_same_object(first, at), Ok(true))
-    }
-}
-
-/// What a global reference is.
-#[derive(Clone, Copy)]
-pub(crate) struct TypeOfGlobal;
-
-impl StayCall for TypeOfGlobal {
-    #[inline(never)]
-    fn is_right<S: Steps, N: NativeInterface<S>>(
-        &self,
-        made: &mut N,
-        _first: Handle,
-        at: Handle,
-    ) -> bool {
-        matches!(made.get_object_ref_type(at), Ok(2))
-    }
-}
-
-/// How many elements an array has.
-#[derive(Clone, Copy)]
-pub(crate) struct Length;
-
-impl StayCall for Length {
-    #[inline(never)]
-    fn is_right<S: Steps, N: NativeInterface<S>>(
-        &self,
-        made: &mut N,
-        _first: Handle,
-        at: Handle,
-    ) -> bool {
-        matches!(made.get_array_length(at), Ok(LONG))
-    }
-}
-
-/// Makes a call with each of the handles of one stay: how often it answered as it should.
-#[inline(always)]
-fn make_some<C: StayCall + Copy, S: Steps>(
-    env: &mut Env<S>,
-    first: Handle,
-    handed: &[Handle],
-    call: C,
-) -> usize {
-    let Ok(mut stay) = env.stay() else {
-        return 0;
-    };
-    let mut right = 0;
-    for handle in handed {
-        if call.is_right(&mut stay, first, *handle) {
-            right += 1;
-        }
-    }
-    stay.end();
-    right
-}
-
-/// Makes a call with each of the handles, in stays of sixteen: how often it answered as it should.
-fn make_in_stays<C: StayCall + Copy, S: Steps>(
-    env: &mut Env<S>,
-    handed: &[Handle],
-    call: C,
-) -> usize {
-    let Some(first) = handed.first() else {
-        return 0;
-    };
-    let mut right = 0usize;
-    for stay in 0..handed.len().div_ceil(CALLS) {
-        let from = stay.saturating_mul(CALLS);
-        let to = from.saturating_add(CALLS).min(handed.len());
-        if let Some(some) = handed.get(from..to) {
-            right = right.saturating_add(make_some(env, *first, some, call));
-        }
-    }
-    right
 }
