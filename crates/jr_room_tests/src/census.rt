@@ -3,7 +3,7 @@
 use crate::shared::{Case, in_a_room};
 use jr_census::Census;
 use jr_env::{Env, NativeInterface};
-use jr_fixtures::{collected, made};
+use jr_fixtures::{collected, is_refused, made};
 use jr_steps::Steps;
 use jr_weak::Marker;
 use jr_word::{Fault, HeaderParts, LocalParts, SlotParts};
@@ -103,7 +103,7 @@ fn lose_words<S: Steps>(rt: &impl Abort, env: &mut Env<S>) -> Result<(), Fail> {
         env.new_plain()?;
     }
     let refused = env.new_array::<i32>(2);
-    assert!(rt; refused == Err(Fault::ObjectsFull));
+    assert!(rt; is_refused(refused, Some(Fault::ObjectsFull)));
     Ok(())
 }
 

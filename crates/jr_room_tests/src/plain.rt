@@ -36,7 +36,7 @@ fn try_case<S: Steps>(
 ) -> Result<(), Fail> {
     match case {
         Case::Chain => reaches_a_chain(alloc, env),
-        Case::Cycle => reaches_a_cycle(rt, alloc, env),
+        Case::Cycle => reaches_a_cycle(alloc, env),
         Case::Filled => fills(env),
         Case::Collected => fills_and_collects(alloc, env),
         Case::Stays => goes_on(rt, alloc, env),

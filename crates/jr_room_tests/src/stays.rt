@@ -47,7 +47,7 @@ fn new(rt: &impl Abort, answer: Result<Handle, Fault>) -> Handle {
 
 /// A call is done.
 fn done(rt: &impl Abort, answer: Result<(), Fault>) {
-    assert!(rt; answer == Ok(()));
+    assert!(rt; answer.is_ok());
 }
 
 /// Checks the types of words in a stay, as `has_type` does in an env.
@@ -211,7 +211,7 @@ fn is_kept_out(rt: &impl Abort, answer: Result<[u32; 3], Fault>) -> Result<(), F
     if matches!(answer, Err(Fault::Memory)) {
         return Err(Fault::Memory)?;
     }
-    assert!(rt; answer == Err(Fault::Busy(1)));
+    assert!(rt; is_refused(answer, Some(Fault::Busy(1))));
     Ok(())
 }
 

@@ -6,7 +6,6 @@ use jr_fixtures::{collects, has_type, made};
 use jr_steps::Steps;
 use jr_word::{Config, Handle};
 use std::alloc::Global;
-use std::process::Abort;
 use std::test::Fail;
 
 /// How many arrays a chain has.
@@ -33,17 +32,11 @@ fn chain<S: Steps>(env: &mut Env<S>, first: Handle, links: u32) -> Result<Handle
 }
 
 /// Lets the first of a chain name the last, so that each is reached from each.
-fn close<S: Steps>(
-    rt: &impl Abort,
-    env: &mut Env<S>,
-    first: Handle,
-    last: Handle,
-) -> Result<(), Fail> {
+fn close<S: Steps>(env: &mut Env<S>, first: Handle, last: Handle) -> Result<(), Fail> {
     env.set_object_array_element(first, 0, last)?;
     env.delete_local_ref(last)?;
-    let found = env.get_object_array_element(first, 0)?;
-    assert!(rt; found.is_some());
-    env.delete_local_ref(found.unwrap_or(Handle::NULL))?;
+    let found = made(env.get_object_array_element(first, 0))?;
+    env.delete_local_ref(found)?;
     Ok(())
 }
 
@@ -62,16 +55,12 @@ fn a_chain_is_reached_from_its_last(rt: HostRuntime) -> Result<(), Fail> {
 }
 
 /// A cycle stands while one of it is named, and is dropped then.
-pub(crate) fn reaches_a_cycle<S: Steps>(
-    rt: &impl Abort,
-    alloc: Global,
-    env: &mut Env<S>,
-) -> Result<(), Fail> {
+pub(crate) fn reaches_a_cycle<S: Steps>(alloc: Global, env: &mut Env<S>) -> Result<(), Fail> {
     let first = env.new_object_array(1, Handle::NULL)?;
     let kept = made(env.new_global_ref(first))?;
     let word = made(env.new_weak_global_ref(first))?;
     let last = chain(env, first, LINKS)?;
-    close(rt, env, kept, last)?;
+    close(env, kept, last)?;
     collects(alloc, env, [0, 0, 60_000])?;
     env.delete_global_ref(kept)?;
     collects(alloc, env, [1, 60_000, 0])?;
