@@ -1,5 +1,5 @@
 //! A dump as a drawing for Graphviz.
-use crate::dump::{Dump, is_reached};
+use crate::dump::Dump;
 use jr_word::{Handle, HandleParts, HeaderParts, Kind, LocalParts, RefKind, SlotParts};
 use std::io;
 use std::io::Write;
@@ -30,10 +30,11 @@ pub(crate) fn draw<W: Write>(
     for (index, local) in dump.locals.iter().enumerate() {
         draw_local(out, index, locals as usize, *local)?;
     }
-    for index in 0..dump.headers.len() {
-        if let Some(header) = dump.header(index) {
-            draw_object(out, index + 1, header, is_reached(reached, index))?;
-            draw_elements(out, index + 1, header, dump)?;
+    for (index, header) in dump.headers.iter().enumerate() {
+        if let Some(header) = header {
+            let is_reached = reached.get(index).copied().unwrap_or(false);
+            draw_object(out, index + 1, *header, is_reached)?;
+            draw_elements(out, index + 1, *header, dump)?;
         }
     }
     writeln!(out, "}}")

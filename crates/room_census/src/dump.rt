@@ -19,10 +19,7 @@ pub(crate) struct Dump {
 fn blank<T: Copy>(alloc: Global, blank: T, count: u32) -> Result<Vec<T>, Fault>
     ensures { IfOk result (λ v. vec_len v ≡ count) }
 {
-    match vec![in alloc; blank; count as usize] {
-        Ok(notes) => Ok(notes),
-        Err(_) => Err(Fault::Memory),
-    }
+    vec![in alloc; blank; count as usize].map_err(|_| Fault::Memory)
 }
 
 impl Dump {
@@ -53,17 +50,10 @@ fn mark(reached: &mut [bool], object: u64) {
     }
 }
 
-/// Whether the object at a place is marked.
-pub(crate) fn is_reached(reached: &[bool], place: usize) -> bool {
-    matches!(reached.get(place), Some(true))
-}
-
 impl Dump {
     /// Of each object number, from 1 upward, whether references that aren't weak lead to the object.
     pub(crate) fn reached(&self, alloc: Global) -> Result<Vec<bool>, Fault> {
-        let Ok(mut reached) = vec![in alloc; false; self.headers.len()] else {
-            return Err(Fault::Memory);
-        };
+        let mut reached = vec![in alloc; false; self.headers.len()].map_err(|_| Fault::Memory)?;
         for slot in &self.slots {
             if let SlotParts::Global { serial: _, object } = *slot {
                 mark(&mut reached, u64::from(object));
@@ -82,18 +72,15 @@ impl Dump {
 
     /// Marks what the arrays that are marked name.
     fn spread(&self, reached: &mut [bool]) {
-        for index in 0..self.headers.len() {
-            if is_reached(reached, index) {
-                self.mark_elements(index, reached);
+        for (index, header) in self.headers.iter().enumerate() {
+            if let (Some(header), Some(true)) = (header, reached.get(index).copied()) {
+                self.mark_elements(*header, reached);
             }
         }
     }
 
-    /// Marks what the object at a place names, if it is an array of objects.
-    fn mark_elements(&self, place: usize, reached: &mut [bool]) {
-        let Some(header) = self.header(place) else {
-            return;
-        };
+    /// Marks what an array of objects names.
+    fn mark_elements(&self, header: HeaderParts, reached: &mut [bool]) {
         if header.kind != Kind::Objects {
             return;
         }
@@ -102,20 +89,9 @@ impl Dump {
         }
     }
 
-    /// The header of the object at a place, if one is present.
-    pub(crate) fn header(&self, place: usize) -> Option<HeaderParts> {
-        match self.headers.get(place) {
-            Some(header) => *header,
-            None => None,
-        }
-    }
-
     /// The word of an element: of an array of objects, the number of the object that it names, 0 where it names none.
     pub(crate) fn element(&self, header: HeaderParts, index: u32) -> u64 {
         let place = u64::from(header.place) + u64::from(index);
-        match self.words.get(place as usize) {
-            Some(word) => *word,
-            None => 0,
-        }
+        self.words.get(place as usize).copied().unwrap_or(0)
     }
 }

@@ -8,7 +8,6 @@ mod leak;
 use crate::drawing::draw;
 use crate::dump::Dump;
 use crate::leak::leak;
-use jr_census::Census;
 use jr_env::Env;
 use jr_rule::{Room, RoomSteps, Steps};
 use jr_word::{Config, Fault, LAST_SERIAL};
@@ -45,10 +44,8 @@ fn main(rt: HostRuntime) -> Result<(), Trouble> {
 fn tell<W: Write + Drop>(alloc: Global, out: &mut W) -> Result<(), Trouble> {
     let (room, mut passes) = Room::<LAST_SERIAL>::open(alloc, SIZES)?;
     let pass = passes.remove(0);
-    match Env::new(RoomSteps::new(&room, pass)) {
-        Ok(mut env) => tell_by(alloc, &mut env, out),
-        Err((_steps, fault)) => Err(Trouble::Refused(fault)),
-    }
+    let mut env = Env::new(RoomSteps::new(&room, pass)).map_err(|refused| refused.1)?;
+    tell_by(alloc, &mut env, out)
 }
 
 /// Leaks by an env, and tells what stands in its room.
@@ -58,20 +55,11 @@ fn tell_by<S: Steps, W: Write>(
     out: &mut W,
 ) -> Result<(), Trouble> {
     leak(env)?;
-    let census = census_of(alloc, env)?;
-    writeln!(out, "{census}")?;
-    tell_dump(&Dump::of(alloc, env)?, alloc, out)
-}
-
-/// A census of the room of an env.
-fn census_of<S: Steps>(alloc: Global, env: &mut Env<S>) -> Result<Census, Fault> {
     let mut marker = env.marker(alloc)?;
-    env.census(&mut marker)
-}
-
-/// Tells what a dump says.
-fn tell_dump<W: Write>(dump: &Dump, alloc: Global, out: &mut W) -> Result<(), Trouble> {
+    let census = env.census(&mut marker)?;
+    writeln!(out, "{census}")?;
+    let dump = Dump::of(alloc, env)?;
     let reached = dump.reached(alloc)?;
-    draw(out, dump, &reached, SIZES.locals)?;
+    draw(out, &dump, &reached, SIZES.locals)?;
     Ok(())
 }
