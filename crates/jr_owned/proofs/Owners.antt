@@ -87,14 +87,10 @@ zip_more R [] (z ∷ zs) x y was more = absurd was
 zip_more R (z ∷ zs) [] x y was more = absurd was
 zip_more R (v ∷ vs) (w ∷ ws) x y was more = (was.0, zip_more R vs ws x y was.1 more)
 
-module _ {P : Type 0} {G : Ghosts (OwnedCells 4294967295) P}
-    {H : StepsGhosts (StepsOver (OwnedCells 4294967295) P G)} where
-  pub env_more : (ss : List (StepsOver (OwnedCells 4294967295) P G))
-      (es ts : List (Env (StepsOver (OwnedCells 4294967295) P G) H)) (s : StepsOver (OwnedCells 4294967295) P G)
-      (e : Env (StepsOver (OwnedCells 4294967295) P G) H) → ts ≡ es ++ e ∷ [] → AllZip IsEnvOver ss es → IsEnvOver s e
-      → AllZip IsEnvOver (ss ++ s ∷ []) ts
-  env_more ss es ts s e is was more =
-      subst (AllZip IsEnvOver (ss ++ s ∷ [])) (sym is) (zip_more IsEnvOver ss es s e was more)
+pub env_more : {S : Type 0} {G : StepsGhosts S} (ss : List S) (es ts : List (Env S G)) (s : S) (e : Env S G)
+    → ts ≡ es ++ e ∷ [] → AllZip IsEnvOver ss es → IsEnvOver s e → AllZip IsEnvOver (ss ++ s ∷ []) ts
+env_more ss es ts s e is was more =
+    subst (AllZip IsEnvOver (ss ++ s ∷ [])) (sym is) (zip_more IsEnvOver ss es s e was more)
 
 pub numbers_long : (n : ℕ) → length (numbers_below n) ≡ n
 numbers_long zero = refl

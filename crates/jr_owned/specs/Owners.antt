@@ -51,12 +51,10 @@ pub record AreOwnersOpened {P : Type 0} {G : Ghosts (OwnedCells 4294967295) P} (
   pub each : All (IsOwnerOpened room) ss
 
 -- THE ENV OVER STEPS: outside, in one base frame, and with what the thread knew; the steps are spent
-pub record IsEnvOver {P : Type 0} {G : Ghosts (OwnedCells 4294967295) P}
-    {H : StepsGhosts (StepsOver (OwnedCells 4294967295) P G)} (s : StepsOver (OwnedCells 4294967295) P G)
-    (env : Env (StepsOver (OwnedCells 4294967295) P G) H) : Type 0 where
-  pub spent : Spent H.facts s env.held.steps
+pub record IsEnvOver {S : Type 0} {G : StepsGhosts S} (s : S) (env : Env S G) : Type 0 where
+  pub spent : Spent G.facts s env.held.steps
   pub outside : IsOutside env
-  pub frames : env.held.frames.frames ≡ fresh_frames (H.facts s).stands.config.locals
+  pub frames : env.held.frames.frames ≡ fresh_frames (G.facts s).stands.config.locals
 
 -- A ROOM WAS OPENED, of these sizes, for envs: one over the steps of each owner
 pub record AreEnvsOpened {P : Type 0} {G : Ghosts (OwnedCells 4294967295) P}

@@ -7,6 +7,7 @@ ghost use Rattle.jr_model.specs.declared.event.Role.TheVariants.{Outside};
 ghost use Rattle.jr_rule.specs.Passes.{IsOpened};
 
 use crate::LAST;
+use crate::envs::env_over;
 use crate::owned::owned_steps;
 use crate::site::{OwnedStepsOf, of_site};
 use jr_env::Env;
@@ -69,10 +70,7 @@ impl<Q: Site, C: OwnedCode> Job<Q, C> {
         } = self;
         let steps = of_site::<Q>(owned_steps(room, pass));
         let thread = steps.thread();
-        let Ok(env) = Env::new(steps) else {
-            unreachable!();
-        };
-        code.run(thread, env, &*queue)
+        code.run(thread, env_over(steps), &*queue)
     }
 }
 

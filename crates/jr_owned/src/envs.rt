@@ -8,23 +8,33 @@ ghost use Rattle.jr_owned.specs.Owners.{AreEnvsOpened, IsEnvOver};
 
 use crate::owned::{OwnedSteps, open_owned};
 use jr_env::Env;
+use jr_steps::Steps;
 use jr_word::{Config, Fault};
 use std::alloc::{AllocError, Global};
 
 /// The env of a thread that owns its room together with others. It has no lifetime: it may be moved into a thread that was spawned, or kept in a table.
 pub type OwnedEnv = Env<OwnedSteps>;
 
+/// The env over these steps, which are fresh, and whose thread stands outside.
+pub(crate) fn env_over<S: Steps + Drop>(steps: S) -> Env<S>
+    requires outside { (S.facts steps).stands.role ≡ Outside }
+    requires fresh { (S.facts steps).stands.fresh ≡ true }
+    ensures { IsEnvOver steps result }
+{
+    let Ok(env) = Env::new(steps) else {
+        unreachable!();
+    };
+    env
+}
+
 /// The env over each of these steps, in the same order.
-fn over_each(alloc: Global, owners: Vec<OwnedSteps>) -> Result<Vec<OwnedEnv>, AllocError>
-    requires { All (λ s. (s.role ≡ Outside) × (s.fresh ≡ true)) owners.items }
+fn over_each<S: Steps + Drop>(alloc: Global, owners: Vec<S>) -> Result<Vec<Env<S>>, AllocError>
+    requires { All (λ s. ((S.facts s).stands.role ≡ Outside) × ((S.facts s).stands.fresh ≡ true)) owners.items }
     ensures { IfOk result (λ r. AllZip IsEnvOver owners.items r.items) }
 {
     let mut envs = Vec::with_capacity(alloc, owners.len())?;
     for steps in owners {
-        let Ok(env) = Env::new(steps) else {
-            unreachable!();
-        };
-        envs.push(env)?;
+        envs.push(env_over(steps))?;
     }
     Ok(envs)
 }

@@ -3,4 +3,4 @@ use Rattle.jr_owned.specs.Owners.{IsEnvOver}
 use Rattle.jr_owned.proofs.envs.over_each.Given as goal
 
 abbrev pub invariant-loop-steps : goal.invariant-loop-steps
-invariant-loop-steps l = AllZip IsEnvOver l.yielded l.envs.items
+invariant-loop-steps g l = AllZip IsEnvOver l.yielded l.envs.items
