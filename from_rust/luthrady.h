@@ -15,7 +15,7 @@
 struct luthrady_sizes { uint32_t threads, slots, objects, words, locals; };
 
 /* What a call answers: `fault` is the number of the refusal, 0 where there is none, and `told` is what the
-   refusal tells beside it. */
+   refusal tells beside it: the first of its two numbers at E12 and E23, and 0 where it has none. */
 struct luthrady_reply { uint64_t value; uint32_t fault, told; };
 
 /* What stood in a room as it was closed. */

@@ -188,6 +188,10 @@ class Verdicts(unittest.TestCase):
         self.assertIsNone(self.verdict("proofs/one/Answers.antt:3:4: error: `shows`: it has another type\nonly=1\n"))
         self.assertEqual(self.verdict("proofs/two/Answers.antt:3:4: error: `shows`: it has another type\nonly=1\n"), "all is still proved")
 
+    def test_an_answer_of_a_function_that_calls_itself(self):
+        self.assertIsNone(self.verdict("proofs/+one/Answers.antt:3:4: error: `shows`: it has another type\nonly=1\n"))
+        self.assertEqual(self.verdict("proofs/+two/Answers.antt:3:4: error: `shows`: it has another type\nonly=1\n"), "all is still proved")
+
     def test_missing_names_tell_nothing(self):
         self.assertIn("only names that a proof cites", self.verdict("proofs/one/Answers.antt:3:4: error: `shows`: `x` is not in scope\nonly=1\n"))
 

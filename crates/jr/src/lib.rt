@@ -2,7 +2,7 @@
 #![tactic(auto)]
 
 pub use jr_census::{Census, KindCounts, Objects, Slots, WordCounts};
-pub use jr_elements::{Elements, text_of, utf16_of};
+pub use jr_elements::{Elements, discard_left, text_of, utf16_of};
 pub use jr_env::{
     Checked, Env, Evidence, Examined, Explains, Explanation, Handed, LocalFrames, NativeCall,
     NativeCaller, NativeInterface, Patience, Refusal, Region, Stay, Unreleased, Unscoped, Watcher,

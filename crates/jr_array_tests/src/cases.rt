@@ -2,7 +2,9 @@
 ghost use Rattle.std.specs.Prelude.{◌≡◌};
 ghost use Rattle.jr_model.specs.declared.event.Role.TheVariants.{Outside};
 
-use crate::copies::{copies_both, copies_elements, copies_units, goes_to_another, have_no_copies};
+use crate::copies::{
+    copies_both, copies_elements, copies_units, goes_to_another, have_no_copies, is_discarded,
+};
 use crate::element_types::{are_of_one_type, has_units};
 use crate::envs::env_of;
 use crate::in_a_stay::has_levels;
@@ -34,6 +36,7 @@ pub(crate) enum Case {
     HasUnits,
     HaveNoCopies,
     GoesToAnother,
+    IsDiscarded,
     SpellTexts,
     Units(u32),
     Elements(u32),
@@ -59,6 +62,7 @@ fn shows<S: Steps>(
         Case::HasUnits => has_units(rt, env),
         Case::HaveNoCopies => have_no_copies(rt, env, alloc),
         Case::GoesToAnother => goes_to_another(rt, env, alloc),
+        Case::IsDiscarded => is_discarded(rt, env, alloc),
         Case::SpellTexts => spell_texts(rt, alloc, env),
         Case::Units(count) => copies_units(rt, alloc, env, count),
         Case::Elements(count) => copies_elements(rt, alloc, env, count),

@@ -3,7 +3,7 @@
 use crate::cases::{Case, alone, in_a_room};
 use crate::envs::{TWO, has_elements, refuses};
 use crate::regions::no_arrays_of_chars;
-use jr_elements::{Elements, elements_of};
+use jr_elements::{Elements, discard_left, elements_of};
 use jr_env::{Env, NativeInterface};
 use jr_model::Mode;
 use jr_steps::Steps;
@@ -17,6 +17,18 @@ pub(crate) fn are<E: Elem + PartialEq>(rt: &impl Abort, elements: &Elements<E>, 
     assert!(rt; elements.as_slice() == wanted);
 }
 
+/// Checks that a release was not refused, and kept no elements.
+fn keeps_none<E: Elem>(
+    rt: &impl Abort,
+    released: Result<Option<Elements<E>>, (Elements<E>, Fault)>,
+) {
+    match released {
+        Ok(None) => {}
+        Ok(Some(_left)) => panic!(rt; "a release keeps elements"),
+        Err((_left, fault)) => panic!(rt; "a release is refused: {fault}"),
+    }
+}
+
 /// What the word names is no array of chars: no elements of it are copied, and an abort, which looks at nothing, is not refused.
 fn is_no_such_array<S: Steps>(
     rt: &impl Abort,
@@ -27,11 +39,8 @@ fn is_no_such_array<S: Steps>(
 ) -> Result<(), Fail> {
     refuses(rt, env.get_array_elements::<u16>(alloc, word), fault);
     let elements = elements_of(Vec::from_slice(alloc, &[65_535u16, 7])?);
-    match env.release_array_elements(word, elements, Mode::Abort) {
-        Ok(None) => Ok(()),
-        Ok(Some(_)) => Err("an abort keeps nothing")?,
-        Err((_, fault)) => Err(fault)?,
-    }
+    keeps_none(rt, env.release_array_elements(word, elements, Mode::Abort));
+    Ok(())
 }
 
 /// None of these words names such an array.
@@ -52,6 +61,18 @@ fn what_is_no_array_of_the_kind(rt: HostRuntime) -> Result<(), Fail> {
     alone(&rt, rt.alloc(), TWO, Case::HaveNoCopies)
 }
 
+/// The elements that a commit keeps.
+fn committed<E: Elem>(
+    rt: &impl Abort,
+    released: Result<Option<Elements<E>>, (Elements<E>, Fault)>,
+) -> Elements<E> {
+    match released {
+        Ok(Some(elements)) => elements,
+        Ok(None) => panic!(rt; "a commit gives the elements up"),
+        Err((_left, fault)) => panic!(rt; "a commit is refused: {fault}"),
+    }
+}
+
 /// The elements of one array are written to another, by a commit and then by a copy, which keeps none.
 pub(crate) fn goes_to_another<S: Steps>(
     rt: &impl Abort,
@@ -62,20 +83,45 @@ pub(crate) fn goes_to_another<S: Steps>(
     env.set_array_region(array, 0, &[10i64, -20])?;
     let other = env.new_array::<i64>(2)?;
     let mut elements = env.get_array_elements::<i64>(alloc, array)?;
-    elements.set(0, i64::MIN)?;
-    let Ok(Some(elements)) = env.release_array_elements(other, elements, Mode::Commit) else {
-        return Err("a commit gave the elements up")?;
-    };
-    has_elements(rt, env, other, 0, &mut [7i64; 2], &[i64::MIN, -20])?;
-    let Ok(None) = env.release_array_elements(array, elements, Mode::Copy) else {
-        return Err("a copy keeps nothing")?;
-    };
+    assert!(rt; elements.set(0, i64::MIN).is_ok());
+    let elements = committed(
+        rt,
+        env.release_array_elements(other, elements, Mode::Commit),
+    );
+    let written = has_elements(rt, env, other, 0, &mut [7i64; 2], &[i64::MIN, -20]);
+    keeps_none(rt, env.release_array_elements(array, elements, Mode::Copy));
+    written?;
     has_elements(rt, env, array, 0, &mut [7i64; 2], &[i64::MIN, -20])
 }
 
 #[test]
 fn elements_of_one_array_for_another(rt: HostRuntime) -> Result<(), Fail> {
     alone(&rt, rt.alloc(), TWO, Case::GoesToAnother)
+}
+
+/// An array has nothing of what was written to a copy that is discarded, nor to one whose release was refused.
+pub(crate) fn is_discarded<S: Steps>(
+    rt: &impl Abort,
+    env: &mut Env<S>,
+    alloc: Global,
+) -> Result<(), Fail> {
+    let array = env.new_array::<i64>(2)?;
+    env.set_array_region(array, 0, &[10i64, -20])?;
+    let mut elements = env.get_array_elements::<i64>(alloc, array)?;
+    assert!(rt; elements.set(0, i64::MIN).is_ok());
+    elements.discard();
+    let longer = env.new_array::<i64>(3)?;
+    let mut elements = env.get_array_elements::<i64>(alloc, array)?;
+    assert!(rt; elements.set(1, i64::MAX).is_ok());
+    let released = discard_left(env.release_array_elements(longer, elements, Mode::Copy));
+    assert!(rt; released == Err(Fault::Range));
+    has_elements(rt, env, longer, 0, &mut [7i64; 3], &[0; 3])?;
+    has_elements(rt, env, array, 0, &mut [7i64; 2], &[10, -20])
+}
+
+#[test]
+fn writes_to_a_discarded_copy(rt: HostRuntime) -> Result<(), Fail> {
+    alone(&rt, rt.alloc(), TWO, Case::IsDiscarded)
 }
 
 /// Units of which no two beside each other are alike, and none comes again within some thousands.
@@ -120,6 +166,7 @@ pub(crate) fn copies_elements<S: Steps>(
     env.set_array_region(array, 0, units.as_slice())?;
     let copied = env.get_array_elements::<u16>(alloc, array)?;
     are(rt, &copied, units.as_slice());
+    copied.discard();
     Ok(())
 }
 

@@ -1,5 +1,5 @@
 use crate::copies::are;
-use jr_elements::{Elements, elements_of};
+use jr_elements::{Elements, discard_left, elements_of};
 use jr_model::Mode;
 use jr_word::{Elem, Fault};
 use std::process::Abort;
@@ -36,12 +36,13 @@ fn elements_within_and_past_the_end(rt: HostRuntime) -> Result<(), Fail> {
     are_copies(&rt, &elements, 3);
     has(&rt, &elements, 0, 10);
     has(&rt, &elements, 2, 30);
-    elements.set(0, i32::MIN)?;
-    elements.set(2, i32::MAX)?;
+    assert!(rt; elements.set(0, i32::MIN).is_ok());
+    assert!(rt; elements.set(2, i32::MAX).is_ok());
     let wanted = [i32::MIN, -20, i32::MAX];
     are(&rt, &elements, &wanted);
     ends_at(&rt, &mut elements, 3, 7, &wanted);
     ends_at(&rt, &mut elements, u32::MAX, 7, &wanted);
+    elements.discard();
     Ok(())
 }
 
@@ -51,6 +52,7 @@ fn elements_are_written_as_a_slice(rt: HostRuntime) -> Result<(), Fail> {
     elements.as_mut_slice().reverse();
     elements.as_mut_slice()[1] = i64::MIN;
     are(&rt, &elements, &[30, i64::MIN, 10]);
+    elements.discard();
     Ok(())
 }
 
@@ -70,23 +72,37 @@ fn no_elements(rt: HostRuntime) -> Result<(), Fail> {
     are_copies(&rt, &elements, 0);
     ends_at(&rt, &mut elements, 0, true, &[]);
     ends_at(&rt, &mut elements, u32::MAX, true, &[]);
+    elements.discard();
     Ok(())
 }
 
 /// Checks that a release in this mode keeps no elements.
 fn are_given_up<E: Elem>(rt: &impl Abort, elements: Elements<E>, mode: Mode) {
-    assert!(rt; elements.kept(mode).is_none());
+    match elements.kept(mode) {
+        None => {}
+        Some(_) => panic!(rt; "a mode keeps the elements"),
+    }
 }
 
 #[test]
 fn a_commit_alone_keeps_the_elements(rt: HostRuntime) -> Result<(), Fail> {
     let elements = elements_of(Vec::from_slice(rt.alloc(), &[7u16, 65_535])?);
     let Some(elements) = elements.kept(Mode::Commit) else {
-        return Err("a commit gave the elements up")?;
+        panic!(rt; "a commit gave the elements up");
     };
     are(&rt, &elements, &[7u16, 65_535]);
     are_given_up(&rt, elements, Mode::Copy);
     let elements = elements_of(Vec::from_slice(rt.alloc(), &[7u16])?);
     are_given_up(&rt, elements, Mode::Abort);
+    Ok(())
+}
+
+#[test]
+fn what_a_release_left_is_discarded(rt: HostRuntime) -> Result<(), Fail> {
+    let elements = elements_of(Vec::from_slice(rt.alloc(), &[7u16, 65_535])?);
+    assert!(rt; discard_left(Ok(Some(elements))) == Ok(()));
+    assert!(rt; discard_left::<u16>(Ok(None)) == Ok(()));
+    let elements = elements_of(Vec::from_slice(rt.alloc(), &[7u16])?);
+    assert!(rt; discard_left(Err((elements, Fault::Barred))) == Err(Fault::Barred));
     Ok(())
 }

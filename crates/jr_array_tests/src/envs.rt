@@ -50,8 +50,11 @@ pub(crate) fn leaves(rt: &impl Abort, room: Room<LAST>, passes: Vec<Pass>, wante
 }
 
 /// Checks that a call was refused so.
-pub(crate) fn refuses<A: Drop>(rt: &impl Abort, answer: Result<A, Fault>, fault: Fault) {
-    assert!(rt; answer.err() == Some(fault));
+pub(crate) fn refuses<A>(rt: &impl Abort, answer: Result<A, Fault>, fault: Fault) {
+    match answer {
+        Ok(_) => panic!(rt; "a call is not refused"),
+        Err(refusal) => assert!(rt; refusal == fault),
+    }
 }
 
 /// Checks that the thread is outside the gate, and that its calls are made.

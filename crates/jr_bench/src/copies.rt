@@ -2,6 +2,7 @@
 
 use crate::calls::{Call, make_each};
 use crate::case::Env;
+use jr_elements::discard_left;
 use jr_env::NativeInterface;
 use jr_model::Mode;
 use jr_steps::Steps;
@@ -96,17 +97,18 @@ impl<S: Steps> Call<S, Env<S>> for Text {
 /// Copies all elements out, and back.
 fn copy_back<S: Steps>(env: &mut Env<S>, alloc: Global, array: Handle) -> Option<()> {
     let elements = env.get_array_elements::<i32>(alloc, array).ok()?;
-    env.release_array_elements(array, elements, Mode::Copy)
-        .ok()?;
-    Some(())
+    discard_left(env.release_array_elements(array, elements, Mode::Copy)).ok()
 }
 
 /// Copies all elements out, commits them, and gives them up.
 fn commit<S: Steps>(env: &mut Env<S>, alloc: Global, array: Handle) -> Option<()> {
     let elements = env.get_array_elements::<i32>(alloc, array).ok()?;
-    let kept = env
-        .release_array_elements(array, elements, Mode::Commit)
-        .ok()??;
-    env.release_array_elements(array, kept, Mode::Abort).ok()?;
-    Some(())
+    match env.release_array_elements(array, elements, Mode::Commit) {
+        Ok(Some(kept)) => discard_left(env.release_array_elements(array, kept, Mode::Abort)).ok(),
+        Ok(None) => None,
+        Err((elements, _)) => {
+            elements.discard();
+            None
+        }
+    }
 }

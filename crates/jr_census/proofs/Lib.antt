@@ -7,3 +7,4 @@ pub mod Foretold
 pub mod Dumped
 pub mod LocalsDumped
 pub mod Takes
+pub mod Lines

@@ -22,13 +22,13 @@ use Rattle.jr_steps.specs.declared.known.Holdings.{Holdings}
 use Rattle.jr_steps.specs.Knowing.{AreOf, Facts, Goes, Took, CanReopen, IsClosedNow, ShowsUsed}
 use Rattle.jr_steps.specs.Knowing.{anything, lets_go, standing_after, state_of, view}
 use Rattle.jr_steps.proofs.CollectorFacts.{tables_seen}
-use Rattle.jr_steps.proofs.StepFacts.{goes_stepped}
+use Rattle.jr_steps.proofs.StepFacts.{goes_did, goes_stepped}
 use Rattle.jr_compact.specs.Counting.{SawWithin, TakesWithin}
 use Rattle.jr_weak.specs.Counting.{marking_steps}
 use Rattle.jr_weak.specs.Marking.{IsMarkedNow}
 use Rattle.jr_weak.specs.Marks.{IsExactly}
-use Rattle.jr_weak.specs.Waiting.{ShutsAnnounced}
-use Rattle.jr_weak.proofs.AnnouncedCollects.{ShutFor, does_announced}
+use Rattle.jr_weak.specs.Waiting.{ShutsActByAct, ShutsAnnounced}
+use Rattle.jr_weak.proofs.AnnouncedCollects.{EndsWithin, ShutFor, act_by_act, does_announced}
 use Rattle.jr_weak.proofs.Collects.{same_back, sees_did, shut_tables}
 use Rattle.jr_census.specs.Dumps.{HasObjects, HasPlaces, HasPlacesOf, HasSlots, KeepsNumber}
 use Rattle.jr_census.specs.declared.taking.Census.{Census}
@@ -286,6 +286,23 @@ takes_announced facts most tells on outside sh rest = record {
   done = does_announced facts [] (λ c. most c + 2) (λ p q. IsTold p q tells) (λ j k. ToldFrom most tells j k) outside tt
       tt (told_for most tells on) sh rest;
 }
+
+-- up to the shut each operation is an act, and then come the loads and one that opens the gate
+one_more : (j k l most : ℕ) → k ≤ j + most → l ≡ k + 1 → l ≤ j + (most + 1)
+one_more j k l most a b = omega arith
+
+told_ends : (most : Config → ℕ) (tells : Config → ℕ → State → Type 0) (j k : Known) → ToldFrom most tells j k
+    → EndsWithin (λ c. most c + 1) j k
+told_ends most tells j k rest = (
+  ([], did_then [] (Gate Reopen ∷ []) (sees_did rest.seen.sees) (goes_did rest.opened)),
+  one_more j.taken (rest.opening).taken k.taken (most j.config) rest.seen.within (rest.opened).taken,
+)
+
+pub takes_act_by_act : {S : Type 0} (facts : S → Facts) {a d z : S} {tries : ℕ} (most : Config → ℕ)
+    (tells : Config → ℕ → State → Type 0) → ShutsAnnounced facts a d tries → TellsOnce facts most tells d z
+    → ShutsActByAct facts a z tries (λ c. most c + 1)
+takes_act_by_act facts most tells sh rest =
+    act_by_act facts (λ c. most c + 1) (λ j k. ToldFrom most tells j k) (told_ends most tells) sh rest
 
 -- what is kept of tables is kept of the same ones
 pub dump_on : (noted : List SlotParts) (locals : List LocalParts) (headers : List (Option HeaderParts)) (words : List ℕ)

@@ -2,4 +2,5 @@ pub mod Counts
 pub mod Dumps
 pub mod Taking
 pub mod Laws
+pub mod Printed
 pub mod Telling

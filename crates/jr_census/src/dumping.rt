@@ -1,12 +1,13 @@
 //! A dump: what each slot, each local place and each object of a room has at one step, to be looked at once the gate is open again.
-ghost use Rattle.std.specs.Prelude.{◌≡◌, ◌≤◌, ◌*◌, ℕ, [], ◌∷◌, length, IsOk, IfOk, IfErr, OnErr};
+ghost use Rattle.std.specs.Prelude.{◌≡◌, ◌≤◌, ◌+◌, ◌*◌, ℕ, [], ◌∷◌, length, IsOk, IfOk, IfErr, OnErr};
 ghost use Rattle.jr_word.specs.declared.fault.Fault.TheVariants.{Busy};
 ghost use Rattle.jr_model.specs.declared.event.Role.TheVariants.{Outside};
 ghost use Rattle.jr_model.specs.declared.event.Act.TheVariants.{ShutBusy};
 ghost use Rattle.jr_steps.specs.Knowing.{anything, keeps, CanReopen, IsLone, MayKnow, Took};
 ghost use Rattle.jr_gate.specs.Stays.{IsOwnCollection};
 ghost use Rattle.jr_weak.specs.Collecting.{GivesUp};
-ghost use Rattle.jr_census.specs.Taking.{NotesOnce, TakesDump, TakesDumpAnnounced};
+ghost use Rattle.jr_weak.specs.Waiting.{ShutsActByAct};
+ghost use Rattle.jr_census.specs.Taking.{NotesOnce, TakesDump, TakesDumpAnnounced, noting_steps};
 
 use crate::dump::{note_locals, note_objects, note_slots};
 use jr_gate::{Shut, shut_gate};
@@ -84,6 +85,7 @@ pub fn take_dump_announced<S: Steps>(
     ensures headers { length headers.new ≡ length headers.old }
     ensures words { length words.new ≡ length words.old }
     ensures ok { IfOk result (λ _. TakesDumpAnnounced S.facts steps.old steps.new tries slots.new locals.new headers.new words.new) }
+    ensures counted { IfOk result (λ _. ShutsActByAct S.facts steps.old steps.new tries (λ c. noting_steps c + 1)) }
     ensures err { IfErr result (λ e. GivesUp S.facts steps.old steps.new tries e) }
     ensures kept_slots { OnErr result (slots.new ≡ slots.old) }
     ensures kept_locals { OnErr result (locals.new ≡ locals.old) }

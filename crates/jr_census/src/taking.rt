@@ -1,5 +1,5 @@
 //! A census as a whole.
-ghost use Rattle.std.specs.Prelude.{◌≡◌, ◌≤◌, ℕ, [], ◌∷◌, IsOk, IfOk, IfErr, OnErr};
+ghost use Rattle.std.specs.Prelude.{◌≡◌, ◌≤◌, ◌+◌, ℕ, [], ◌∷◌, IsOk, IfOk, IfErr, OnErr};
 ghost use Rattle.jr_word.specs.declared.fault.Fault.TheVariants.{Busy};
 ghost use Rattle.jr_model.specs.declared.event.Role.TheVariants.{Outside};
 ghost use Rattle.jr_model.specs.declared.event.Act.TheVariants.{ShutBusy};
@@ -7,7 +7,8 @@ ghost use Rattle.jr_steps.specs.Knowing.{anything, keeps, CanReopen, IsLone, May
 ghost use Rattle.jr_gate.specs.Stays.{IsOwnCollection};
 ghost use Rattle.jr_weak.specs.Collecting.{GivesUp};
 ghost use Rattle.jr_weak.specs.Markers.{room_of};
-ghost use Rattle.jr_census.specs.Taking.{CountsOnce, TakesCensus, TakesCensusAnnounced};
+ghost use Rattle.jr_weak.specs.Waiting.{ShutsActByAct};
+ghost use Rattle.jr_census.specs.Taking.{CountsOnce, TakesCensus, TakesCensusAnnounced, counting_steps};
 
 use crate::locals::count_locals;
 use crate::objects::{Objects, count_objects};
@@ -78,6 +79,7 @@ pub fn take_census_announced<S: Steps>(
     requires tries { 1 ≤ tries }
     ensures room { room_of marker.new ≡ room_of marker.old }
     ensures ok { IfOk result (λ x. TakesCensusAnnounced S.facts steps.old steps.new tries x) }
+    ensures counted { IfOk result (λ _. ShutsActByAct S.facts steps.old steps.new tries (λ c. counting_steps c + 1)) }
     ensures err { IfErr result (λ e. GivesUp S.facts steps.old steps.new tries e) }
     ensures kept { OnErr result (marker.new ≡ marker.old) }
     ensures alone { IsLone (S.facts steps.old).stands → IsOk result }

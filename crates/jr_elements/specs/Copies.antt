@@ -20,6 +20,11 @@ abbrev pub copy_steps : {A : Type 0} → ℕ → Result A Fault → ℕ
 copy_steps n (Ok x) = n
 copy_steps n (Err e) = 0
 
+-- what a release was answered, without the elements that it left or handed back
+abbrev pub without_elements : {A : Type 0} → Result (Option A) (A × Fault) → Result (Unit {0}) Fault
+without_elements (Ok left) = Ok tt
+without_elements (Err refused) = Err refused.1
+
 -- what a release by mode leaves with the caller
 abbrev pub kept : {A : Type 0} → Mode → A → Option A
 kept Commit x = Some x

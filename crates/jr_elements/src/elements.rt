@@ -1,13 +1,13 @@
 //! Copied elements, a list of their own.
 
 ghost use Rattle.std.specs.Prelude.{◌≡◌, ◌<◌, ◌^◌, length};
+ghost use Rattle.jr_elements.specs.Copies.{without_elements};
 
 use jr_model::Mode;
 use jr_word::{Elem, Fault};
 use std::marker::Model;
 
-/// The elements of an array, copied: a list of their own, of which the room knows nothing, and in which nobody else writes. A contract sees the list.
-#[derive(Drop)]
+/// The elements of an array, copied: a list of their own, of which the room knows nothing, and in which nobody else writes. A contract sees the list. A copy can't be let go, so that no write to it is lost in silence: it is released, or discarded.
 pub struct Elements<E: Elem> {
     items: Vec<E>,
 }
@@ -28,6 +28,27 @@ pub fn elements_of<E: Elem>(items: Vec<E>) -> Elements<E>
     ensures { result ≡ items.items }
 {
     Elements { items }
+}
+
+/// Discards what a release left, or handed back: where it was refused, nothing was written, and what was written to the elements is lost.
+///
+/// # Errors
+///
+/// That of the release.
+pub fn discard_left<E: Elem>(
+    released: Result<Option<Elements<E>>, (Elements<E>, Fault)>,
+) -> Result<(), Fault>
+    ensures { result ≡ without_elements released }
+{
+    match released {
+        Ok(Some(left)) => left.discard(),
+        Ok(None) => {}
+        Err((left, fault)) => {
+            left.discard();
+            return Err(fault);
+        }
+    }
+    Ok(())
 }
 
 impl<E: Elem> Elements<E> {
@@ -104,6 +125,11 @@ impl<E: Elem> Elements<E> {
         &mut self.items
     }
 
+    /// Gives the elements up. Their memory is freed, and what was written to them is lost: no array has it but by a release before. It looks at nothing of the room, and is never refused.
+    pub fn discard(self) {
+        let Elements { items: _ } = self;
+    }
+
     /// What a release by mode leaves of the elements: themselves where the mode is to commit, and else nothing.
     pub fn kept(self, mode: Mode) -> Option<Elements<E>>
         ensures { result ≡ kept mode self }
@@ -111,6 +137,7 @@ impl<E: Elem> Elements<E> {
         if mode.keeps_elements() {
             Some(self)
         } else {
+            self.discard();
             None
         }
     }

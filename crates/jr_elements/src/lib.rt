@@ -6,5 +6,5 @@ mod elements;
 mod texts;
 
 pub use copying::{put_back, read_all};
-pub use elements::{Elements, elements_of};
+pub use elements::{Elements, discard_left, elements_of};
 pub use texts::{text_of, utf16_of};

@@ -1,8 +1,9 @@
 -- An announced collection of an env is the machine's, and leaves the thread ready, as does one that got no turn.
-use Rattle.std.proofs.Common.{◌≡◌, inl, inr, ◌≤◌, ◌+◌, ℕ, Bool, List, [], ◌∷◌, ◌++◌, map, length}
+use Rattle.std.proofs.Common.{◌≡◌, ◌≢◌, inl, inr, ◌≤◌, ◌+◌, ℕ, Bool, List, [], ◌∷◌, ◌++◌, map, length}
 use Rattle.std.proofs.Common.{Result, Ok, Err, IfOk, IfErr, refl, sym, ap, subst, ◌∙◌, arith}
 use Rattle.std.proofs.Math.Bridge.{le_prop}
 use Rattle.std.proofs.Math.Logic.{∥∥₁_elim}
+use Rattle.jr_word.specs.declared.config.Config.{Config}
 use Rattle.jr_word.specs.declared.fault.Fault.{Fault}
 use Rattle.jr_word.specs.declared.fault.Fault.TheVariants.{Busy, Moved}
 use Rattle.jr_model.specs.declared.event.Role.TheVariants.{Outside}
@@ -29,9 +30,12 @@ use Rattle.jr_weak.specs.Collecting.{CollectsAnnounced, GivesUp, MakesAnnouncedC
 use Rattle.jr_weak.specs.Collecting.{announced_steps, closed_at_look}
 use Rattle.jr_weak.specs.Counting.{collection_steps}
 use Rattle.jr_weak.specs.Collecting.{closed_at_exchange, moved_at_exchange, taken_back}
+use Rattle.jr_weak.specs.Waiting.{ShutsActByAct}
 use Rattle.jr_env.specs.Collections.{IsNoTurn, announced_collection}
 use Rattle.jr_env.specs.Deeds.{DoesDeed, DoesOutside}
+use Rattle.jr_env.specs.OpenStays.{Leaves}
 use Rattle.jr_env.specs.Works.{EndsStay}
+use Rattle.jr_env.proofs.EndedStays.{leaves}
 use Rattle.jr_env.proofs.FrameCalls.{does_from}
 use Rattle.jr_env.proofs.WholeCollections.{AllSpare, collection_spares, made_deed, ready_after}
 
@@ -269,3 +273,15 @@ pub no_turn : {S A : Type 0} (facts : S → Facts) (a b : S) (tries : ℕ) (answ
     → MayKnow facts a anything → IfErr answer (λ e. GivesUp facts a b tries e) → IfErr answer IsNoTurn
 no_turn facts a b tries (Ok x) may z = tt
 no_turn facts a b tries (Err e) may z = no_turn_why facts a b tries e may z
+
+-- UP TO THE SHUT EACH OPERATION IS AN ACT, from where the thread stood outside, or from behind its exit
+pub counts_from : {S A : Type 0} (facts : S → Facts) {o a : S} (b : S) {r t : Table} (tries : ℕ) (most : Config → ℕ)
+    (answer : Result A Fault) → EndsStay facts o a r t → IfOk answer (λ _. ShutsActByAct facts a b tries most)
+    → IfOk answer (λ _. ((facts o).stands.role ≡ Outside → ShutsActByAct facts o b tries most)
+    × ((facts o).stands.role ≢ Outside
+    → (mid : S) × Leaves facts o mid r.frames × ShutsActByAct facts mid b tries most))
+counts_from facts {o} {a} b {r} tries most (Ok x) ends ok = (
+  (λ out. subst (λ s. ShutsActByAct facts s b tries most) (ends.same out) ok),
+  (λ inside. (a, leaves facts o a r.frames (ends.left inside), ok)),
+)
+counts_from facts b tries most (Err e) ends ok = tt

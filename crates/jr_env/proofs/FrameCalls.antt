@@ -10,10 +10,11 @@ use Rattle.jr_model.specs.declared.event.Role.{Role}
 use Rattle.jr_model.specs.declared.frames.LocalRef.{LocalRef}
 use Rattle.jr_model.specs.declared.frames.TheConstants.{FRAMES}
 use Rattle.jr_model.specs.History.{PassView}
-use Rattle.jr_model.specs.Frames.{Frames, joined, object_where, pushed, free_places}
+use Rattle.jr_model.specs.Frames.{Frames, object_where, pushed, free_places}
 use Rattle.jr_model.specs.Refusals.{Grounds}
 use Rattle.jr_model.specs.Calls.{Call, Ran, refuse_if}
 use Rattle.jr_model.specs.References.{ensure_local_capacity, push_local_frame}
+use Rattle.jr_model.proofs.Agreement.{joined_push}
 use Rattle.jr_model.proofs.Stays.{did_nothing}
 use Rattle.jr_model.proofs.Windows.{window_nothing}
 use Rattle.jr_steps.specs.declared.known.Known.{Known}
@@ -48,12 +49,11 @@ fewer_frames : (n : ℕ) → n < FRAMES → nat_le FRAMES n ≡ false
 fewer_frames n l = grind (arith, nat_tests)
 
 -- an empty frame changes no reference
-joined_pushed : (fs : List (List LocalRef)) → joined (fs ++ [] ∷ []) ≡ joined fs
-joined_pushed [] = refl
-joined_pushed (x ∷ xs) = ap (λ l. x ++ l) (joined_pushed xs)
-
 holds_pushed : (f : Frames) (k : Known) → Holds f k → Holds (pushed f) k
-holds_pushed f k m p = m p ∙ sym (ap (object_where (λ r. r.handle.index == p)) (joined_pushed f.frames))
+holds_pushed f k m = record {
+  locals = λ p. m.locals p ∙ sym (ap (object_where (λ r. r.handle.index == p)) (joined_push f.frames));
+  given = m.given;
+}
 
 module _ {S : Type 0} {facts : S → Facts} where
   -- an empty frame more leaves a thread as ready

@@ -2,6 +2,7 @@
 use Rattle.std.proofs.Common.{◌≡◌, ◌<◌, ◌≤◌, ◌-◌, ◌+◌, ℕ, suc, Bool, true, false, Result, Ok, Err, refl, ◌∙◌, subst}
 use Rattle.std.proofs.Common.{arith}
 use Rattle.jr_word.specs.declared.fault.Fault.{Fault}
+use Rattle.jr_word.specs.declared.fault.Fault.TheVariants as fault
 use Rattle.jr_model.specs.Frames.{Frames}
 use Rattle.jr_steps.specs.Knowing.{Facts}
 use Rattle.jr_gate.specs.Performing.{ThreadState}
@@ -31,6 +32,12 @@ module _ {M A : Type 0} {one : M → Result A Fault → M → Type 0} {waits : B
       → MadeAgain waits one (n - k) old answer new
   tries_the_last {old} {new} {answer} n k l o = let e : 0 ≡ n - k = omega arith in
       subst (λ m. MadeAgain waits one m old answer new) e (the_last o)
+
+-- a refusal lacks room whatever its call answers where it is not refused
+pub lacks_alike : (A B : Type 0) (e : Fault) → lacks_room {A = A} (Err e) ≡ lacks_room {A = B} (Err e)
+lacks_alike A B (fault.SpaceFull u) = refl
+lacks_alike A B fault.ObjectsFull = refl
+lacks_alike A B _ = refl
 
 -- an answer in another form is worth another try where it is
 pub worth_formed : {A B : Type 0} (waits : Bool) (form : A → B) (answer : Result A Fault)
@@ -87,17 +94,23 @@ module _ {S : Type 0} {facts : S → Facts} where
           → DoesOutside facts a b f g (MadeCollecting (made_again waits n deed) collects) answer
       was_served n d is = does_more (λ p q t. served t is) d
 
-      pub was_collected : {a b c d : S} {f g h i : Frames} {once answer : Result A Fault} (n : ℕ) (x : C)
-          → DoesOutside facts a b f g (made_again waits n deed) once → lacks_room once ≡ true
+      pub was_refused : {a b : S} {f g : Frames} (n : ℕ) (e : Fault)
+          → DoesOutside facts a b f g (made_again waits n deed) (Err e) → lacks_room {A = Unit {0}} (Err e) ≡ false
+          → DoesOutside facts a b f g (MadeCollecting (made_again waits n deed) collects) (Err e)
+      was_refused n e d is = was_served n d (lacks_alike A (Unit {0}) e ∙ is)
+
+      pub was_collected : {a b c d : S} {f g h i : Frames} {answer : Result A Fault} (n : ℕ) (x : C) (e : Fault)
+          → DoesOutside facts a b f g (made_again waits n deed) (Err e) → lacks_room {A = Unit {0}} (Err e) ≡ true
           → DoesOutside facts b c g h collects (Ok x) → DoesOutside facts c d h i (made_again waits n deed) answer
           → DoesOutside facts a d f i (MadeCollecting (made_again waits n deed) collects) answer
-      was_collected {once = once} {answer = answer} n x first is between second =
-          does_next (λ p m q t rest. collected t is rest.1 rest.2) first
+      was_collected {answer = answer} n x e first is between second =
+          does_next (λ p m q t rest. collected t (lacks_alike A (Unit {0}) e ∙ is) rest.1 rest.2) first
           (does_next {both = λ p r q. (m : ThreadState) × collects p (Ok x) m × made_again waits n deed m r q}
           (λ p m q c t. (m, c, t)) between second)
 
-      pub was_kept_out : {a b c : S} {f g h : Frames} {once : Result A Fault} (n : ℕ) (e : Fault)
-          → DoesOutside facts a b f g (made_again waits n deed) once → lacks_room once ≡ true
-          → DoesOutside facts b c g h collects (Err e)
+      pub was_kept_out : {a b c : S} {f g h : Frames} (n : ℕ) (e lack : Fault)
+          → DoesOutside facts a b f g (made_again waits n deed) (Err lack)
+          → lacks_room {A = Unit {0}} (Err lack) ≡ true → DoesOutside facts b c g h collects (Err e)
           → DoesOutside facts a c f h (MadeCollecting (made_again waits n deed) collects) (Err e)
-      was_kept_out n e first is between = does_next (λ p m q t c. kept_out t is c) first between
+      was_kept_out n e lack first is between =
+          does_next (λ p m q t c. kept_out t (lacks_alike A (Unit {0}) lack ∙ is) c) first between

@@ -35,7 +35,7 @@ use Rattle.jr_frames.specs.Ready.{StandsReady}
 use Rattle.jr_frames.proofs.RoomFor.{room_at, room_ran, full_ran as none_ran}
 use Rattle.jr_frames.proofs.Resolution.{stays}
 use Rattle.jr_gate.proofs.SameRoom.{as_before, still_before}
-use Rattle.jr_frames.proofs.FramesAgree.{holds_did, holds_put}
+use Rattle.jr_frames.proofs.FramesAgree.{holds_did, holds_added}
 use Rattle.jr_gate.proofs.Spending.{Spending, made_of, spending, spend_first, spend_step, spend_acts, spend_more}
 
 module _ (c : Config) (last t : ℕ) where
@@ -174,7 +174,7 @@ module _ {S : Type 0} {facts : S → Facts} {a b : S} (same : (facts b).stands �
                   here),
               (
                 subst (λ z. LearnsMade kind place n z k y.0) (sym there) (y.3 ∙ x.3.0.1),
-                holds_put x.0 y.0 t.frames g h.index (Some o) d only
+                holds_added x.0 y.0 t.frames g h o d added_is only
                     (holds_did k x.0 t.frames z.acts z.did acts.spares m.0),
               ),
             );

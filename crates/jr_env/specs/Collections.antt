@@ -1,5 +1,6 @@
 -- What a collection that an env makes did.
 use Rattle.std.specs.Prelude.{◌≡◌, ◌≢◌, ◌≤◌, ◌+◌, ℕ, Ok, Err, List, length}
+use Rattle.jr_word.specs.declared.config.Config.{Config}
 use Rattle.jr_word.specs.declared.fault.Fault.{Fault}
 use Rattle.jr_word.specs.declared.fault.Fault.TheVariants.{Busy, Moved}
 use Rattle.jr_model.specs.State.{Handle}
@@ -13,10 +14,13 @@ use Rattle.jr_gate.specs.Performing.{ThreadState, IsMade}
 use Rattle.jr_weak.specs.declared.collecting.Collected.{Collected}
 use Rattle.jr_weak.specs.Collecting.{AfterTries, CollectsAnnounced, WasGivenUp, announced_steps}
 use Rattle.jr_weak.specs.Counting.{collection_steps}
+use Rattle.jr_weak.specs.Waiting.{ShutsActByAct}
 use Rattle.jr_weak.specs.declared.marker.Marker.{Marker}
 use Rattle.jr_weak.specs.Markers.{room_of}
 use Rattle.jr_env.specs.declared.env.Env.{Env}
 use Rattle.jr_env.specs.Deeds.{Deed}
+use Rattle.jr_env.specs.Envs.{IsOutside}
+use Rattle.jr_env.specs.OpenStays.{BehindExit}
 
 -- A COLLECTION WAS MADE: that of this call of the machine, which clears and drops so many, all that was to be in
 -- the state at its shut, and leaves so many words used. It takes no more operations than these. The frames and the
@@ -72,6 +76,13 @@ abbrev pub IsNoTurn : Fault → Type 0
 IsNoTurn (Busy n) = 1 ≤ n
 IsNoTurn (Moved looked found) = looked ≢ found
 IsNoTurn _ = ⊥
+
+-- UP TO ITS SHUT AN ANNOUNCED CALL TOOK ONE OPERATION FOR EACH ACT, and no other,
+-- from where the thread stood outside, or from behind the exit from a stay that a region left
+abbrev pub CallShutsActByAct : {S : Type 0} {G : Ghosts S} → Env S G → Env S G → ℕ → (Config → ℕ) → Type 0
+CallShutsActByAct {G = G} old new tries most =
+    (IsOutside old → ShutsActByAct G.facts old.held.steps new.held.steps tries most)
+    × BehindExit old.held (λ mid. ShutsActByAct G.facts mid new.held.steps tries most)
 
 -- the marker fits the env's room: it has marks for as many objects as the room may have
 abbrev pub FitsRoom : {S : Type 0} {G : Ghosts S} → Marker → Env S G → Type 0

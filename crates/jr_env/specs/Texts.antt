@@ -1,5 +1,5 @@
 -- What the calls did that make a string of a text, and read one as a text.
-use Rattle.std.specs.Prelude.{◌≡◌, ◌⊎◌, true, List, ℕ, Option, Some, None, Result, Ok, Err, String}
+use Rattle.std.specs.Prelude.{◌≡◌, ◌⊎◌, ◌≤◌, true, length, List, ℕ, Option, Some, None, Result, Ok, Err, String}
 use Rattle.std.specs.Char.Utf16.{has_unpaired_surrogate}
 use Rattle.std.specs.Global.{Global}
 use Rattle.std.specs.String.{string_bytes, IsUtf16Of}
@@ -19,16 +19,17 @@ text_in (Ok None) = Ok None
 text_in (Err e) = Err e
 
 -- A STRING OF THE TEXT WAS MADE, with this answer: a string of the units that spell it;
--- or the memory for these was refused, and nothing was done
+-- or the memory for these was refused, where the text isn't empty, and nothing was done
 abbrev pub MakesText : {S : Type 0} {G : Ghosts S} → Env S G → Env S G → List ℕ → Result Handle Fault → Type 0
-MakesText old new text answer = ((answer ≡ Err Memory) × (new ≡ old))
+MakesText old new text answer = ((answer ≡ Err Memory) × (1 ≤ length text) × (new ≡ old))
     ⊎ ((units : List ℕ) × IsUtf16Of units text × Does old new (whole (for_new_string units)) answer)
 
--- the answer is a text that units spell, none where they spell none, or a refusal of memory for it
+-- the answer is a text that units spell, none where they spell none,
+-- or a refusal of memory for it, where there are units
 abbrev pub SpellsText : List ℕ → Result (Option (List ℕ)) Fault → Type 0
 SpellsText units (Ok (Some text)) = IsUtf16Of units text
 SpellsText units (Ok None) = has_unpaired_surrogate units ≡ true
-SpellsText units (Err e) = e ≡ Memory
+SpellsText units (Err e) = (e ≡ Memory) × (1 ≤ length units)
 
 -- what came of the units decides the answer: their refusal is the answer's
 abbrev pub IsReadAsText : Result (List ℕ) Fault → Result (Option (List ℕ)) Fault → Type 0

@@ -22,17 +22,28 @@ pub enum Unreleased<T, E> {
     NotReleased(T, E, Fault),
 }
 
-impl<T: Drop, E: Drop> Unreleased<T, E> {
+impl<T: Drop, E: Elem> Unreleased<T, Elements<E>> {
     ghost use Rattle.std.specs.Prelude.{◌≡◌};
     ghost use Rattle.jr_env.specs.Scopes.{refusal_of_copy};
 
-    /// The refusal alone: of the copy, or of the release, at its last try.
+    /// The refusal alone: of the copy, or of the release, at its last try. Elements that were left are discarded.
     pub fn fault(self) -> Fault
         ensures { result ≡ refusal_of_copy self }
     {
         match self {
-            Unreleased::NotCopied(fault) | Unreleased::NotReleased(_, _, fault) => fault,
+            Unreleased::NotCopied(fault) => fault,
+            Unreleased::NotReleased(_, elements, fault) => {
+                elements.discard();
+                fault
+            }
         }
+    }
+}
+
+/// Discards what a release kept of the elements, which is written back.
+fn discard_kept<E: Elem>(kept: Option<Elements<E>>) {
+    if let Some(elements) = kept {
+        elements.discard();
     }
 }
 
@@ -73,7 +84,10 @@ pub fn with_array_elements<S: Steps, E: Elem, T: Drop, F: FnOnce(&mut [E]) -> T>
     };
     let answer = body(elements.as_mut_slice());
     match env.retry_release(array, elements, mode, patience) {
-        Ok(_) => Ok(answer),
+        Ok(left) => {
+            discard_kept(left);
+            Ok(answer)
+        }
         Err((elements, fault)) => Err(Unreleased::NotReleased(answer, elements, fault)),
     }
 }

@@ -27,7 +27,7 @@ pub trait NativeCall<S: Steps> {
     ghost use Rattle.jr_env.specs.Works.{Serves};
 
     /// What it answers.
-    type Answer: Drop;
+    type Answer;
 
     ghost request: { Self → Request Self.Answer };
 

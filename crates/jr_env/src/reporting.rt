@@ -36,7 +36,7 @@ fn no_reference(explanation: Explanation) -> &'static str {
         Explanation::Outside => "lies outside the room",
         Explanation::Foreign => "is a local handle of another thread",
         Explanation::OtherKind => "has the serial of a reference of the other kind",
-        Explanation::Gone => "is the handle of a reference that was deleted",
+        Explanation::Gone => "has the serial of a reference that was deleted",
         Explanation::NotGiven => "was not given yet",
         Explanation::Standing { .. } => "is a reference",
     }

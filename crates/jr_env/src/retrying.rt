@@ -81,9 +81,12 @@ impl<S: Steps> Env<S> {
         if !self.has_marker(marker) {
             return Err(Fault::Size);
         }
-        let answer = self.retry(call, patience);
-        if !is_short_of_room(&answer) {
-            return answer;
+        let fault = match self.retry(call, patience) {
+            Ok(made) => return Ok(made),
+            Err(fault) => fault,
+        };
+        if !is_short_of_room::<()>(&Err(fault)) {
+            return Err(fault);
         }
         match Env::collect(self, marker) {
             Ok(_) => self.retry(call, patience),

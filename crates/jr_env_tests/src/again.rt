@@ -116,4 +116,5 @@ fn a_closure_is_called_again(rt: HostRuntime) {
     is_called(&rt, few.waiting_for_room(), 1, full, Ok(2), 2);
     let stale = Fault::Stale;
     is_called(&rt, few.without_yields(), 9, stale, Err(stale), 1);
+    assert!(rt; Patience::LONG.more == 4_194_304);
 }

@@ -50,7 +50,17 @@ fn taken<R: Wait, Q: Site>(
     None
 }
 
-/// Sends an array, and takes over the one that the neighbour sent: its length.
+/// Learns a note of its own, which is pinned, and which no other thread has.
+fn learns_pinned<Q: Site, S: StepsIn<Q>>(env: &mut Env<S>) -> Result<(), Fault> {
+    let pinned = env.pin();
+    if env.learn_pinned(&pinned) {
+        Ok(())
+    } else {
+        Err(Fault::Turns)
+    }
+}
+
+/// Sends an array, and takes over the one that the neighbour sent: its length. It learns the note that came with it, and a pinned one.
 fn hands_on<R: Wait, Q: Site, S: StepsIn<Q>>(
     rt: &R,
     thread: u8,
@@ -70,6 +80,7 @@ fn hands_on<R: Wait, Q: Site, S: StepsIn<Q>>(
         return Err(Fault::Memory);
     };
     env.learn(note);
+    learns_pinned(env)?;
     takes_over(env, sent.shared)
 }
 

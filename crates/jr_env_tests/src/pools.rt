@@ -33,11 +33,11 @@ const AT_THE_END: Summary = Summary {
     used: 21,
 };
 
-/// What stands behind threads that shared nothing: an object that nothing reaches.
+/// What stands behind two threads that shared nothing: an object of each, that nothing reaches.
 const BEHIND_ALL: Summary = Summary {
     globals: 0,
     weaks: 0,
-    live: 1,
+    live: 2,
     used: 0,
 };
 
@@ -120,10 +120,32 @@ fn has_neither<S: Steps>(env: &mut Env<S>, word: Handle) -> Result<bool, Fault> 
     Ok(code == 0 && is_refused(popped, Some(Fault::NoFrame)))
 }
 
-/// Whether a handle of an earlier thread is no reference of the next one, and that has no frame to pop.
+/// Makes local references until each place has one: E20 where one is left.
+fn fills_each_place<S: Steps>(env: &mut Env<S>) -> Result<(), Fault> {
+    let object = env.new_plain()?;
+    for _ in 1..TWO.locals {
+        env.new_local_ref(object)?;
+    }
+    let one_more = env.new_local_ref(object);
+    if is_refused(one_more, Some(Fault::LocalsFull)) {
+        Ok(())
+    } else {
+        Err(Fault::Turns)
+    }
+}
+
+/// Whether a word is no reference, also once its place has another one.
+fn stays_gone<S: Steps>(env: &mut Env<S>, word: Handle) -> Result<bool, Fault> {
+    let before = has_neither(env, word)?;
+    fills_each_place(env)?;
+    let behind = has_neither(env, word)?;
+    Ok(before && behind)
+}
+
+/// Whether a handle of an earlier thread is no reference of the next one, also once that has made another at its place, and that has no frame to pop.
 fn finds_nothing(pool: &EnvPool, local: Handle) -> Result<bool, Fault> {
     let mut attached = attached(pool)?;
-    let found = has_neither(&mut *attached.env, local);
+    let found = stays_gone(&mut *attached.env, local);
     detach(attached)?;
     found
 }

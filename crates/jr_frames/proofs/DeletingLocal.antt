@@ -20,7 +20,7 @@ use Rattle.jr_frames.specs.Table.{IsOnly}
 use Rattle.jr_frames.specs.OverSteps.{Calls}
 use Rattle.jr_gate.proofs.Spending.{made_of, spend_step}
 use Rattle.jr_gate.proofs.SameRoom.{as_before}
-use Rattle.jr_frames.proofs.FramesAgree.{holds_put}
+use Rattle.jr_frames.proofs.FramesAgree.{holds_dropped}
 use Rattle.jr_frames.proofs.Reading.{ran_refused, ran_passed, ran_local}
 use Rattle.jr_frames.proofs.Resolution.{stays}
 
@@ -61,7 +61,7 @@ module _ {S : Type 0} {facts : S → Facts} where
           y.1,
           made_of (spend_step u (λ n i. refl) k s tt f g) (local_ran c t h e e' e''
               (ran_then {next = λ _. drop_local h} (Some o) (looked_ran h (Some o) e is (fits a k s).legal) dropped)),
-          (y.3, holds_put k y.0 f g h.index None d only m),
+          (y.3, holds_dropped k y.0 f g h.index d only (ap (λ (x : Frames). x.given) gone) m),
         );
   }
 

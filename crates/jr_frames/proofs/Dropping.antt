@@ -1,5 +1,5 @@
 -- Local references are taken out of frames, one by one, for whatever was known.
-use Rattle.std.proofs.Common.{◌≡◌, ◌==◌, ◌<◌, ◌≤◌, ⊎_elim, ℕ, Bool, true, false, cond, Option, Some}
+use Rattle.std.proofs.Common.{◌≡◌, ◌==◌, ◌<◌, ◌≤◌, ⊎_elim, ℕ, Bool, true, false, cond, Option, Some, slice_index}
 use Rattle.std.proofs.Common.{None, IsSome, List, [], ◌∷◌, ◌++◌, Ok, refl, sym, ap, subst, ◌∙◌, arith}
 use Rattle.std.proofs.lemmas.Bool.{cases_lt}
 use mathlib.Core.Logic.{∥∥₁_elim}
@@ -28,7 +28,7 @@ use Rattle.jr_frames.specs.Dropping.{dropping, Drops}
 use Rattle.jr_frames.specs.Ready.{StandsReady, KeepsOwner}
 use Rattle.jr_frames.specs.OverSteps.{Calls}
 use Rattle.jr_frames.proofs.StillReady.{ready_called}
-use Rattle.jr_frames.proofs.FramesAgree.{holds_put}
+use Rattle.jr_frames.proofs.FramesAgree.{holds_dropped}
 
 -- an object that is present stays so in a stay
 optional_stays : (o : Option ℕ) (k k' : Known) (p : ℕ) → Did (view k) (view k') (LocalDrop p ∷ [])
@@ -84,6 +84,13 @@ place_low : (c : ℕ) (l : ℕ → Option ℕ) (p : ℕ) (z : Option ℕ) → ((
 place_low c l p None low e some = absurd cc
 place_low c l p (Some o) low e some = low o e
 
+-- frames with the same references, whose places have given as many handles, hold as well
+same_hold : (k : Known) (g h : Frames) → all_refs h ≡ all_refs g → h.given ≡ g.given → Holds g k → Holds h k
+same_hold k g h same given m = record {
+  locals = λ q. m.locals q ∙ sym (ap (object_where (λ r. r.handle.index == q)) same);
+  given = λ q. ap (λ l. slice_index l q) given ∙ m.given q;
+}
+
 module _ {S : Type 0} {facts : S → Facts} (fits : AreOf facts) where
   -- a reference that stands is at a place of the thread's
   pub standing_place : {a : S} {t : Table} → StandsReady facts Within a t → (h : Handle) → IsSome (object_of t.frames h)
@@ -97,7 +104,7 @@ module _ {S : Type 0} {facts : S → Facts} (fits : AreOf facts) where
           let i = fits a k s in
           subst (λ (c : Config). h.index < c.locals) i.config
           (place_low k.config.locals ((state_of k).locals k.thread) h.index (object_at t.frames h.index)
-          (λ o e. ((in_room k.config k.last k.seen i.legal).locals k.thread h.index o e).1) (m h.index)
+          (λ o e. ((in_room k.config k.last k.seen i.legal).locals k.thread h.index o e).1) (m.locals h.index)
           (at_place h (all_refs t.frames) some))
 
       beyond : (facts a).stands.config.locals ≤ h.index → ⊥
@@ -125,9 +132,9 @@ module _ {S : Type 0} {facts : S → Facts} (fits : AreOf facts) where
   }
 
   pub drops_one : {a b : S} {f g : Frames} (h : Handle) → (facts a).stands.role ≡ Within
-      → Took facts a b (LocalDrop h.index ∷ []) (HasOptional None) keeps → IsOnly f h.index None g
+      → Took facts a b (LocalDrop h.index ∷ []) (HasOptional None) keeps → IsOnly f h.index None g → g.given ≡ f.given
       → Drops facts a b f g (dropping (LocalDrop h.index ∷ []))
-  drops_one {a} {b} {f} {g} h within u only o = record {
+  drops_one {a} {b} {f} {g} h within u only same o = record {
     stands_is = as_before _ u.stands_is;
     ran = λ k s m.
         let y = u.goes k s tt in
@@ -144,7 +151,7 @@ module _ {S : Type 0} {facts : S → Facts} (fits : AreOf facts) where
           }),
           (
             y.3,
-            holds_put k y.0 f g h.index None d only m.0,
+            holds_dropped k y.0 f g h.index d only same m.0,
             optional_stays o k y.0 h.index d ((fits a k s).role ∙ within) m.1,
           ),
         );
@@ -152,8 +159,8 @@ module _ {S : Type 0} {facts : S → Facts} (fits : AreOf facts) where
 
   -- what was dropped is what the call drops, and it leaves frames with the same references
   pub drops_as : {a b : S} {f g h : Frames} {acts : List Act} {call : Call (Unit {0})} → call f acts (Ok tt) h
-      → all_refs h ≡ all_refs g → Drops facts a b f g (dropping acts) → Drops facts a b f h call
-  drops_as {a} {b} {f} {g} {h} is same p o = record {
+      → all_refs h ≡ all_refs g → h.given ≡ g.given → Drops facts a b f g (dropping acts) → Drops facts a b f h call
+  drops_as {a} {b} {f} {g} {h} is same given p o = record {
     stands_is = (p o).stands_is;
     ran = λ k s m.
         let x = (p o).ran k s m in
@@ -161,7 +168,7 @@ module _ {S : Type 0} {facts : S → Facts} (fits : AreOf facts) where
           x.0,
           x.1,
           made_of (spend_first (spending x.2) none) (dropped_as is x.2.ran),
-          (x.3.0, (λ q. x.3.1 q ∙ sym (ap (object_where (λ r. r.handle.index == q)) same)), x.3.2),
+          (x.3.0, same_hold x.0 g h same given x.3.1, x.3.2),
         );
   }
 

@@ -118,8 +118,9 @@ module _ {S : Type 0} {facts : S → Facts} (fits : AreOf facts) where
 
   -- the work as a whole
   pub frees : {a b : S} {f g h : Frames} → Drops facts a b f g (dropping (drop_all (all_refs f))) → all_refs g ≡ []
-      → h ≡ freed f → Drops facts a b f h freeing
-  frees {f = f} p none is = drops_as fits (refl, refl, is) (ap all_refs is ∙ sym none) p
+      → g.given ≡ f.given → h ≡ freed f → Drops facts a b f h freeing
+  frees {f = f} p none given is = drops_as fits (refl, refl, is) (ap all_refs is ∙ sym none)
+      (ap (λ (x : Frames). x.given) is ∙ sym given) p
 
 -- EMPTY FRAMES are taken away
 pub record IsFreed (before after : Table) : Type 0 where

@@ -71,5 +71,5 @@ module _ {S : Type 0} {facts : S → Facts} (fits : AreOf facts) where
     -- and then the frame itself
     pub takes_frame : Drops facts a b t.frames v.frames take_frame
     takes_frame = subst (λ (x : Table). Drops facts a b t.frames x.frames take_frame) (sym is)
-        (drops_as fits (pop_ends t.frames u.frames so.acts so.popping empty) (joined_before u.frames.frames empty)
+        (drops_as fits (pop_ends t.frames u.frames so.acts so.popping empty) (joined_before u.frames.frames empty) refl
         so.drops)

@@ -23,7 +23,7 @@ use Rattle.jr_frames.specs.Ready.{StandsReady}
 use Rattle.jr_gate.proofs.SameRoom.{nothing_changed, as_before, still_before, but_fresh}
 use Rattle.jr_frames.proofs.StillReady.{same_owner, ready_called}
 use Rattle.jr_gate.proofs.Spending.{made_of, spending, spend_first, spend_step, spend_none}
-use Rattle.jr_frames.proofs.FramesAgree.{holds_put}
+use Rattle.jr_frames.proofs.FramesAgree.{holds_added}
 use Rattle.jr_frames.proofs.RoomFor.{room_at, room_ran, full_ran}
 
 local_ran : (c : Config) (last t : ℕ) {p q : PassView} {f g : Frames} (h : Handle) (o : ℕ)
@@ -102,7 +102,7 @@ module _ {S : Type 0} {facts : S → Facts} where
               y.1,
               made_of (spend_step u (λ n i. refl) k v m.1 t.frames g) (room_ran s.config s.last s.thread t.frames
                   (room_at h r next) (ran_give (λ x. Some x) h (local_ran s.config s.last s.thread h o d here))),
-              (y.3, holds_put k y.0 t.frames g h.index (Some o) d only m.0),
+              (y.3, holds_added k y.0 t.frames g h o d added_is only m.0),
             );
       })
 

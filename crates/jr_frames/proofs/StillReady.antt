@@ -1,5 +1,6 @@
 -- A thread and its frames go on standing ready.
-use Rattle.std.proofs.Common.{◌≡◌, ℕ, Option, Bool, Ok, true, false, List, [], ◌∷◌, Result, length, refl, sym, ap, ◌∙◌}
+use Rattle.std.proofs.Common.{◌≡◌, ℕ, Option, Bool, Ok, true, false, List, [], ◌∷◌, Result, length}
+use Rattle.std.proofs.Common.{refl, sym, ap, subst, ◌∙◌}
 use Rattle.std.proofs.Math.Logic.{∥∥₁_elim}
 use Rattle.std.proofs.Props.{props}
 use Rattle.std.proofs.lemmas.List.{length-replicate}
@@ -19,10 +20,10 @@ use Rattle.jr_model.specs.Calls.{Call, Ran}
 use Rattle.jr_model.specs.Parts.{leave}
 use Rattle.jr_model.proofs.Runs.{ran_act}
 use Rattle.jr_model.proofs.Windows.{stepped_last}
-use Rattle.jr_model.proofs.Agreement.{spares_places}
+use Rattle.jr_model.proofs.Agreement.{fresh_agree, spares_places}
 use Rattle.jr_steps.specs.declared.known.Known.{Known}
 use Rattle.jr_steps.specs.Knowing.{Facts, Leads, Standing, view, fresh_after, fresh_from, anything, keeps, lets_go}
-use Rattle.jr_steps.specs.Knowing.{Holds, HasNoLocals, MayKnow, Took, Spent}
+use Rattle.jr_steps.specs.Knowing.{AreOf, Holds, MayKnow, Took, Spent}
 use Rattle.jr_steps.proofs.StepFacts.{goes_did, goes_stepped}
 use Rattle.jr_gate.specs.Performing.{Performed, IsAsBefore, IsMade, thread_state}
 use Rattle.jr_gate.proofs.Spending.{KeepsHint, made_of, spend_step}
@@ -80,18 +81,22 @@ module _ {S : Type 0} {facts : S → Facts} where
   ready_called r o p = ready_after {so = keeps} r o p
 
   -- a thread whose pass was fresh, and is spent
-  pub ready_new : {a b : S} (t : Table) → Spent facts a b → t ≡ fresh_table (facts b).stands
-      → (facts a).stands.role ≡ Outside → ((k : Known) → (facts a).knows k → HasNoLocals k) → MayKnow facts a anything
+  pub ready_new : {a b : S} (t : Table) → AreOf facts → Spent facts a b → t ≡ fresh_table (facts b).stands
+      → (facts a).stands.role ≡ Outside → (facts a).stands.fresh ≡ true → MayKnow facts a anything
       → StandsReady facts Outside b t
-  ready_new {b = b} t spent is out unused some = record {
+  ready_new {a} {b} t fits spent is out fresh some = record {
     role_is = ap (λ (s : Standing). s.role) spent.stands_is ∙ out;
     spent = ap (λ (s : Standing). s.fresh) spent.stands_is;
     own = record {
       owner = ap (λ (u : Table). u.thread) is;
       last = ap (λ (u : Table). u.last) is;
       places = ap (λ (u : Table). length u.frames.given) is ∙ length-replicate (facts b).stands.config.locals 0;
-      agrees = ∥∥₁_map some (λ k.
-          (k.0, (spent.same k.0).0 k.1, λ p. unused k.0 k.1 p ∙ sym (ap (λ (u : Table). object_at u.frames p) is)));
+      agrees = ∥∥₁_map some (λ k. (
+        k.0,
+        ((spent.same k.0).0 k.1).0,
+        subst (λ (u : Table). Holds u.frames k.0) (sym is)
+            (fresh_agree (facts b).stands.config.locals k.0.thread k.0.seen ((fits a k.0 k.1).unused fresh)),
+      ));
     };
   }
 

@@ -44,12 +44,10 @@ has_moved : {looked found : ℕ} {j k l : Known} → looked ≢ found → Goes j
     → ShowsGate (open_with looked) k → ShowsGate (open_with found) l → GateHasMoved j.seen (view l) looked found
 has_moved {looked} {found} {j} {k} {l} other g h first last = record {
   other = other;
-  before = k.seen;
-  to = (goes_did h).begins;
   looked_at = record {
     moment = k.seen;
     from = (goes_did g).begins;
-    to = prefix_self k.seen;
+    to = (goes_did h).begins;
     met = subst (λ (c : Config). IsOpenWith c looked (state k.seen)) (sym h.config) (is_open looked k first);
   };
   later = record { moment = l.seen; from = (goes_did h).begins; to = prefix_self l.seen; met = is_open found l last };

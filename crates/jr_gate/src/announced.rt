@@ -25,7 +25,7 @@ impl Announced {
     ///
     /// # Errors
     ///
-    /// E14 with how many other threads are inside or knocking at that one step, at least 1, and the announcement.
+    /// E14 with how many other threads are inside or knocking at that one step, at least 1, and the announcement. Who they are the law `announcers_count_who_is_inside` of `jr_model` says of the refused shut.
     ///
     /// Nothing has changed then: the announcement stands.
     ///
@@ -62,7 +62,7 @@ impl Announced {
     }
 }
 
-/// Announces that the gate will be shut for a collection. The thread has to stand outside. From then on nobody is let in, and who is inside may go on, nest levels of its critical region, and leave. The announcement is the steps' own, by the number of the thread and the role of the steps. Over one thread, and over plain words, it is never refused.
+/// Announces that the gate will be shut for a collection. The thread has to stand outside. From then on nobody is let in, and who is inside may go on, nest levels of its critical region, and leave (the laws `nobody_enters_an_announced_gate` and `announced_gates_only_empty` of `jr_model`, of every history that these calls leave). The announcement is the steps' own, by the number of the thread and the role of the steps. Over one thread, and over plain words, it is never refused.
 ///
 /// # Errors
 ///

@@ -98,7 +98,7 @@ module _ {S : Type 0} {facts : S → Facts} {a b : S} (fits : AreOf facts) (insi
           did = d;
           is = full n u some;
           window = window_act (ReserveFull n u) d tt tt;
-          grounds = tt;
+          grounds = (n, tt);
           shows = (g.3.1, g.2.taken);
         },
       ))

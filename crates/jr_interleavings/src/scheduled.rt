@@ -276,8 +276,6 @@ impl<'r, 'a, R: Wait, S: Steps> Steps for Scheduled<'r, 'a, R, S> {
 
     ghost some_known = { λ s. S.some_known s.steps };
 
-    ghost unused = { λ s k f h. S.unused s.steps k f h };
-
     ghost in_space = { λ s k h. S.in_space s.steps k h };
 
     ghost limits = { λ s. S.limits s.steps };

@@ -1,7 +1,7 @@
 -- Frames stay sound, and go on agreeing with the locals of their thread.
 use Rattle.std.proofs.Common.{◌≡◌, ◌≢◌, ◌<◌, ◌≤◌, ℕ, suc, lit≤, ◌==◌, ◌||◌, Bool, true, false, not}
 use Rattle.std.proofs.Common.{cond, Option, Some, None, IsSome, List, [], ◌∷◌, ◌++◌, map, length}
-use Rattle.std.proofs.Common.{nat_le, slice_index, slice_set, get_or-set_same, get_or-set_other}
+use Rattle.std.proofs.Common.{nat_le, replicate, zero, slice_index, slice_set, get_or-set_same, get_or-set_other}
 use Rattle.std.proofs.Common.{◌+◌, nat_eq, refl, sym, ap, subst, ◌∙◌, arith, append_assoc}
 use Rattle.std.proofs.lemmas.List.{append-nil, length-append, length-map}
 use Rattle.std.proofs.lemmas.List.Elements.{filter-append}
@@ -11,10 +11,11 @@ use Rattle.jr_model.specs.declared.event.Act.TheVariants.{LocalPut, LocalDrop}
 use Rattle.jr_model.specs.declared.frames.LocalRef.{LocalRef}
 use Rattle.jr_model.specs.declared.frames.TheConstants.{FRAMES}
 use Rattle.jr_model.specs.Maps.{update}
-use Rattle.jr_model.specs.State.{Handle, same_handle, State}
+use Rattle.jr_model.specs.State.{Handle, same_handle, State, opening}
 use Rattle.jr_model.specs.Steps.{act_after, after}
 use Rattle.jr_model.specs.History.{History, state_from, state, mine, PassView, Did}
 use Rattle.jr_model.specs.Frames.{Frames, Agree, HaveOwnPlaces, AreSound, IsNewest, IsAdded, IsMove}
+use Rattle.jr_model.specs.Frames.{fresh_frames, stored_at}
 use Rattle.jr_model.specs.Frames.{pushes, adds, deletes, pops, frees, all_refs, without_local}
 use Rattle.jr_model.specs.Frames.{drop_all, frames_before, freed, is_held, joined, last_frame}
 use Rattle.jr_model.specs.Frames.{object_at, object_of, object_where, popped, pushed, with_last}
@@ -89,13 +90,68 @@ pub all_spared : (l : ℕ → Option ℕ) (acts : List Act) → AllByRecursion (
 all_spared l [] h = refl
 all_spared l (a ∷ acts) h = ap (λ k. places_from k acts) (places_spared l a h.0) ∙ all_spared l acts h.1
 
+-- WHAT A THREAD EVER STORED AT A PLACE
+
+pub stored_append : (p : ℕ) (xs ys : List Act) → stored_at p (xs ++ ys) ≡ stored_at p xs + stored_at p ys
+stored_append p [] ys = omega arith
+stored_append p (LocalPut q o ∷ xs) ys = let rest = stored_append p xs ys in omega arith
+stored_append p (_ ∷ xs) ys = stored_append p xs ys
+
+pub stored_did : {old new : PassView} (p : ℕ) (acts : List Act) → Did old new acts
+    → stored_at p (mine new.seen new.thread) ≡ stored_at p (mine old.seen old.thread) + stored_at p acts
+stored_did {old} {new} p acts d =
+    ap (λ t. stored_at p (mine new.seen t)) d.thread
+    ∙ (ap (stored_at p) d.own ∙ stored_append p (mine old.seen old.thread) acts)
+
+pub stored_spared : (p : ℕ) (acts : List Act) → AllByRecursion (λ a. spares_places a ≡ true) acts → stored_at p acts ≡ 0
+stored_spared p [] h = refl
+stored_spared p (LocalPut q o ∷ acts) h = absurd (let no = h.0 in cc)
+stored_spared p (_ ∷ acts) h = stored_spared p acts h.1
+
+-- a place at which nothing stood, and nothing was stored, is empty
+pub nothing_stored : (l : ℕ → Option ℕ) (p : ℕ) (acts : List Act) → stored_at p acts ≡ 0 → l p ≡ None
+    → places_from l acts p ≡ None
+nothing_stored l p [] none e = e
+nothing_stored l p (LocalPut q o ∷ acts) none e =
+    go (q == p) refl (nothing_stored (update nat_eq l q (Some o)) p acts)
+  where
+    go : (b : Bool) → (q == p) ≡ b → (stored_at p acts ≡ 0 → update nat_eq l q (Some o) p ≡ None
+        → places_from (update nat_eq l q (Some o)) acts p ≡ None)
+        → places_from (update nat_eq l q (Some o)) acts p ≡ None
+    go true is rest = absurd (let one : ◌≡◌ {A = ℕ} (cond (q == p) 1 0) 1 = ap (λ b. cond b 1 0) is in omega arith)
+    go false is rest =
+        let zero : ◌≡◌ {A = ℕ} (cond (q == p) 1 0) 0 = ap (λ b. cond b 1 0) is in
+        rest (omega arith) (ap (λ b. cond b (Some o) (l p)) is ∙ e)
+nothing_stored l p (LocalDrop q ∷ acts) none e = nothing_stored (update nat_eq l q None) p acts none (go (q == p))
+  where
+    go : (b : Bool) → cond b None (l p) ≡ None
+    go true = refl
+    go false = e
+nothing_stored l p (_ ∷ acts) none e = nothing_stored l p acts none e
+
 -- acts that spare the places keep the agreement
 pub agree_spared : {old new : PassView} (f : Frames) (acts : List Act) → Did old new acts
-    → AllByRecursion (λ a. spares_places a ≡ true) acts → Agree old.thread f (state old.seen)
-    → Agree new.thread f (state new.seen)
-agree_spared {old} f acts d h agree p =
-    ap (λ (l : ℕ → Option ℕ). l p) (places_did acts d ∙ all_spared ((state old.seen).locals old.thread) acts h)
-    ∙ agree p
+    → AllByRecursion (λ a. spares_places a ≡ true) acts → Agree old.thread f old.seen → Agree new.thread f new.seen
+agree_spared {old} f acts d h agree = record {
+  locals = λ p. ap (λ (l : ℕ → Option ℕ). l p) (places_did acts d
+      ∙ all_spared ((state old.seen).locals old.thread) acts h) ∙ agree.locals p;
+  given = λ p. let is = stored_did p acts d in let none = stored_spared p acts h in let was = agree.given p in
+      omega arith;
+}
+
+-- fresh frames agree with what happened as long as the thread has stored no local reference
+pub fresh_agree : (n t : ℕ) (es : History) → ((p : ℕ) → stored_at p (mine es t) ≡ 0) → Agree t (fresh_frames n) es
+fresh_agree n t es none = record {
+  locals = λ p. ap (λ (l : ℕ → Option ℕ). l p) (places_are_own opening es t)
+      ∙ nothing_stored (opening.locals t) p (mine es t) (none p) refl;
+  given = λ p. given_none n p ∙ sym (none p);
+}
+  where
+    given_none : (m q : ℕ) → slice_index (replicate m 0) q ≡ 0
+    given_none zero zero = refl
+    given_none zero (suc q) = refl
+    given_none (suc m) zero = refl
+    given_none (suc m) (suc q) = given_none m q
 
 -- REFERENCES AT PLACES
 
@@ -526,7 +582,51 @@ module _ (last thread : ℕ) where
   moved_at f g acts s (pops b) l agree p = popped_at f s l agree p
   moved_at f g acts s frees l agree p = freed_at f s l agree p
 
+  drops_store_none : (p : ℕ) (rs : List LocalRef) → stored_at p (drop_all rs) ≡ 0
+  drops_store_none p [] = refl
+  drops_store_none p (r ∷ rs) = drops_store_none p rs
+
+  -- a reference that goes to the frames counts at its place
+  pub added_given : (f g : Frames) (r : LocalRef) → IsAdded last thread f r g → (p : ℕ)
+      → slice_index g.given p ≡ slice_index f.given p + stored_at p (LocalPut r.handle.index r.object ∷ [])
+  added_given f g r a p = ap (λ (x : Frames). slice_index x.given p) a.new_is ∙ go (r.handle.index == p) refl
+    where
+      serial : r.handle.serial ≡ slice_index f.given r.handle.index
+      serial = ap (λ (h : Handle). h.serial) a.handle
+
+      go : (b : Bool) → (r.handle.index == p) ≡ b
+          → slice_index (slice_set f.given r.handle.index (r.handle.serial + 1)) p
+          ≡ slice_index f.given p + (cond (r.handle.index == p) 1 0 + 0)
+      go true is =
+          let one : ◌≡◌ {A = ℕ} (cond (r.handle.index == p) 1 0) 1 = ap (λ b. cond b 1 0) is in
+          let same : r.handle.index ≡ p = eq_true r.handle.index p is in
+          let here : slice_index (slice_set f.given r.handle.index (r.handle.serial + 1)) p ≡ r.handle.serial + 1 =
+          ap (slice_index (slice_set f.given r.handle.index (r.handle.serial + 1))) (sym same)
+          ∙ get_or-set_same f.given r.handle.index (r.handle.serial + 1) 0 a.place in
+          let was : r.handle.serial ≡ slice_index f.given p = serial ∙ ap (slice_index f.given) same in
+          omega arith
+      go false is =
+          let none : ◌≡◌ {A = ℕ} (cond (r.handle.index == p) 1 0) 0 = ap (λ b. cond b 1 0) is in
+          let here : slice_index (slice_set f.given r.handle.index (r.handle.serial + 1)) p ≡ slice_index f.given p =
+          get_or-set_other f.given r.handle.index p (r.handle.serial + 1) 0
+          (λ z. eq_false r.handle.index p is (sym z)) in
+          omega arith
+
+  moved_given : (f g : Frames) (acts : List Act) → IsMove last thread f acts g → (p : ℕ)
+      → slice_index g.given p ≡ slice_index f.given p + stored_at p acts
+  moved_given f g acts (pushes b) p = omega arith
+  moved_given f g acts (adds r a) p = added_given f g r a p
+  moved_given f g acts (deletes h stands) p = omega arith
+  moved_given f g acts (pops b) p = let none = drops_store_none p (last_frame f.frames) in omega arith
+  moved_given f g acts frees p = let none = drops_store_none p (all_refs f) in omega arith
+
 pub frames_stay_agreed : FramesStayAgreed
-frames_stay_agreed old new f g acts s agree m d p =
-    ap (λ (l : ℕ → Option ℕ). l p) (places_did acts d)
-    ∙ moved_at old.last old.thread f g acts s m ((state old.seen).locals old.thread) agree p
+frames_stay_agreed old new f g acts s agree m d = record {
+  locals = λ p. ap (λ (l : ℕ → Option ℕ). l p) (places_did acts d)
+      ∙ moved_at old.last old.thread f g acts s m ((state old.seen).locals old.thread) agree.locals p;
+  given = λ p.
+      let is = stored_did p acts d in
+      let more = moved_given old.last old.thread f g acts m p in
+      let was = agree.given p in
+      omega arith;
+}

@@ -1,17 +1,20 @@
 -- A local handle that stands no more never stands again.
-use Rattle.std.proofs.Common.{◌≡◌, ◌<◌, ◌+◌, ℕ, Bool, true, false, not, cond, Option, Some, None, IsSome}
+use Rattle.std.proofs.Common.{◌≡◌, ◌+◌, ℕ, Bool, true, false, not, cond, Option, Some, None, IsSome}
 use Rattle.std.proofs.Common.{List, [], ◌∷◌, ◌++◌, slice_index, refl, sym, ap, subst, ◌∙◌, arith}
 use Rattle.std.specs.List.{filter, AllByRecursion}
 use Rattle.jr_model.specs.declared.event.Act.{Act}
 use Rattle.jr_model.specs.declared.frames.LocalRef.{LocalRef}
 use Rattle.jr_model.specs.State.{Handle, same_handle}
 use Rattle.jr_model.specs.Frames.{Frames, IsMove, pushes, adds, deletes, pops, frees, LeadsTo, stays, goes_on, all_refs}
-use Rattle.jr_model.specs.Frames.{is_held, frames_before, joined, last_frame, object_of, object_where, with_last}
-use Rattle.jr_model.specs.Laws.{GoneStaysGone, TakenIsGone}
+use Rattle.jr_model.specs.Frames.{is_held, frames_before, joined, last_frame, object_of, object_where, stored_at}
+use Rattle.jr_model.specs.Frames.{with_last}
+use Rattle.jr_model.specs.History.{state}
+use Rattle.jr_model.specs.Laws.{GoneStaysGone, EmptiedStaysGone, TakenIsGone}
 use Rattle.jr_model.proofs.Updates.{handle_true}
 use Rattle.jr_model.proofs.Locals.{IsPast, past_later, past_not_new}
 use Rattle.jr_model.proofs.Agreement.{cut_last, joined_before, joined_filter, joined_last}
 use Rattle.jr_model.proofs.Agreement.{joined_push, not_both, object_last, other_than, standing_held}
+use Rattle.jr_model.proofs.Agreement.{handle_is_at_place, nothing_stored, places_did, stored_did}
 
 -- the reference has the handle
 abbrev pub has : Handle → LocalRef → Bool
@@ -65,20 +68,18 @@ absent_unheld h xs free = go (object_where (has h) xs) refl
     go (Some o) e = let held : is_held xs h.index ≡ true = standing_held h xs (subst (λ x. IsSome x) (sym e) refl) in
         absurd cc
 
--- the place of a handle that stands has given it
-past_standing : (given : List ℕ) (h : Handle) (xs : List LocalRef)
+-- a handle that stands is the last that its place has given
+newest_standing : (given : List ℕ) (h : Handle) (xs : List LocalRef)
     → AllByRecursion (λ r. slice_index given r.handle.index ≡ r.handle.serial + 1) xs → IsSome (object_where (has h) xs)
-    → h.serial < slice_index given h.index
-past_standing given h [] all stands = absurd cc
-past_standing given h (x ∷ xs) all stands = go (same_handle x.handle h) refl stands (past_standing given h xs all.1)
+    → slice_index given h.index ≡ h.serial + 1
+newest_standing given h [] all stands = absurd cc
+newest_standing given h (x ∷ xs) all stands = go (same_handle x.handle h) refl stands (newest_standing given h xs all.1)
   where
     go : (b : Bool) → same_handle x.handle h ≡ b → IsSome (cond b (Some x.object) (object_where (has h) xs))
-        → (IsSome (object_where (has h) xs) → h.serial < slice_index given h.index)
-        → h.serial < slice_index given h.index
+        → (IsSome (object_where (has h) xs) → slice_index given h.index ≡ h.serial + 1)
+        → slice_index given h.index ≡ h.serial + 1
     go true is s rest =
-        let newest : slice_index given h.index ≡ h.serial + 1 =
-        subst (λ (k : Handle). slice_index given k.index ≡ k.serial + 1) (handle_true x.handle h is) all.0 in
-        omega arith
+        subst (λ (k : Handle). slice_index given k.index ≡ k.serial + 1) (handle_true x.handle h is) all.0
     go false is s rest = rest s
 
 module _ (last thread : ℕ) where
@@ -104,7 +105,34 @@ module _ (last thread : ℕ) where
 
   pub gone_stays_gone : GoneStaysGone last thread
   gone_stays_gone f g later h sound stands l none m =
-      absent_later h g m (past_later last thread h f l (past_standing f.given h (all_refs f) sound.newest stands)) none
+      let is = newest_standing f.given h (all_refs f) sound.newest stands in
+      absent_later h g m (past_later last thread h f l (omega arith)) none
+
+pub emptied_stays_gone : EmptiedStaysGone
+emptied_stays_gone old mid new f g h first then_done sound agree stood d empty d' sound' agree' =
+    go (object_of g h) refl
+  where
+    -- where it stands again nothing was stored at its place since
+    none : IsSome (object_of g h) → stored_at h.index then_done ≡ 0
+    none stands =
+        let before = newest_standing f.given h (all_refs f) sound.newest stood in
+        let now = newest_standing g.given h (all_refs g) sound'.newest stands in
+        let was = agree.given h.index in
+        let is = agree'.given h.index in
+        let more = stored_did h.index first d in
+        let still_more = stored_did h.index then_done d' in
+        omega arith
+
+    go : (x : Option ℕ) → object_of g h ≡ x → object_of g h ≡ None
+    go None e = e
+    go (Some o) e =
+        let here : (state new.seen).locals new.thread h.index ≡ Some o =
+        agree'.locals h.index ∙ handle_is_at_place g h o sound' e in
+        let gone : (state new.seen).locals new.thread h.index ≡ None =
+        ap (λ (l : ℕ → Option ℕ). l h.index) (places_did then_done d')
+        ∙ nothing_stored ((state mid.seen).locals mid.thread) h.index then_done
+        (none (subst (λ x. IsSome x) (sym e) refl)) empty in
+        absurd cc
 
 pub taken_is_gone : TakenIsGone
 taken_is_gone f h sound = (

@@ -71,9 +71,10 @@ module _ (old new : PassView) (f g : Frames) where
   probed_act call r i l =
       let w = r.grounds i (subst (λ c. i < c.slots) (sym r.did.config) l) in
       let among =
-      seen_among (Probe i w.found) w.before w.since (prefix_trans old.seen r.begun w.before r.window.from w.own)
-      (subst (λ t. new.seen ≡ w.before ++ by t (Probe i w.found) ∷ w.since) r.did.thread w.probed) r.acts r.did in
-      (among.0, among.1, w.found, among.2)
+      seen_among (Probe i w.found) w.probed.before w.probed.since
+      (prefix_trans old.seen r.begun w.probed.before r.window.from w.probed.from)
+      (subst (λ t. new.seen ≡ w.probed.before ++ by t (Probe i w.found) ∷ w.probed.since) r.did.thread w.probed.taken)
+      r.acts r.did in (among.0, among.1, w.found, among.2)
 
 pub refused_in_its_stay : RefusedInItsStay
 refused_in_its_stay old new f g k a r = refused_inside old new f g _ r

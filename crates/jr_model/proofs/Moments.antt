@@ -5,15 +5,15 @@ use Rattle.std.proofs.lemmas.List.{append-nil}
 use mathlib.Core.List.{IsPrefix}
 use Rattle.jr_word.specs.declared.config.Config.{Config}
 use Rattle.jr_word.specs.declared.fault.Fault.{Fault}
-use Rattle.jr_word.specs.declared.fault.Fault.TheVariants.{RowFull, ObjectsFull, Raced, Moved}
+use Rattle.jr_word.specs.declared.fault.Fault.TheVariants.{RowFull, SpaceFull, ObjectsFull, Raced, Moved}
 use Rattle.jr_model.specs.declared.event.Event.{Event}
 use Rattle.jr_model.specs.declared.event.Act.{Act}
 use Rattle.jr_model.specs.declared.event.Act.TheVariants.{Probe, ReserveLost}
-use Rattle.jr_model.specs.State.{State, IsPresent, IsOccupied}
+use Rattle.jr_model.specs.State.{State, EachPresent, IsOccupied}
 use Rattle.jr_model.specs.Steps.{Needs}
 use Rattle.jr_model.specs.History.{History, by, state, IsLegal, mine, PassView, Did}
-use Rattle.jr_model.specs.Refusals.{Sometime, WasOccupied, ObjectsWereFull}
-use Rattle.jr_model.specs.Refusals.{LostSpace, IsOpenWith, GateHasMoved, Grounds}
+use Rattle.jr_model.specs.Refusals.{Sometime, WasTaken, WasOccupied, LostSpace}
+use Rattle.jr_model.specs.Refusals.{IsOpenWith, GateHasMoved, Grounds}
 use Rattle.jr_model.proofs.Updates.{eq_true}
 use Rattle.jr_model.proofs.Histories.{legal_append, state_push}
 use Rattle.jr_model.proofs.Stays.{mine_did}
@@ -105,29 +105,49 @@ one_act a d = first_done a [] d
 pub before_new : {old new : PassView} {a : Act} (o : OneAct old new a) → IsPrefix o.before new.seen
 before_new {old} {a} o = (by old.thread a ∷ o.since, sym o.parts)
 
+-- what an act needs, of the thread and the room as they are named later
+needs_of : {c d : Config} {l m t u : ℕ} (s : State) (a : Act) → d ≡ c → m ≡ l → u ≡ t → Needs c l s (by t a)
+    → Needs d m s (by u a)
+needs_of {c} {d} {l} {m} {t} {u} s a p q r n = subst (λ z. Needs z m s (by u a)) (sym p)
+    (subst (λ z. Needs c z s (by u a)) (sym q) (subst (λ z. Needs c l s (by z a)) (sym r) n))
+
+-- one of the acts that were done was taken
+pub taken : {old new : PassView} (a : Act) {acts : List Act} → Did old new acts → OneAct old new a
+    → WasTaken old.seen new a
+taken {new} a d o = record {
+  before = o.before;
+  since = o.since;
+  taken = subst (λ t. new.seen ≡ o.before ++ by t a ∷ o.since) (sym d.thread) o.parts;
+  from = o.from;
+  needs = needs_of (state o.before) a d.config d.last d.thread o.needs;
+}
+
+pub took_one : {old new : PassView} (a : Act) → Did old new (a ∷ []) → WasTaken old.seen new a
+took_one a d = taken a d (one_act a d)
+
 -- a probe changes nothing
 probed_state : (before : History) (t i : ℕ) (found : Bool) → state (before ++ by t (Probe i found) ∷ []) ≡ state before
 probed_state before t i found = state_push before (by t (Probe i found))
 
+-- behind an act there is all that was seen
+pub behind_act : {seen : History} (before since : History) (e : Event) → seen ≡ before ++ e ∷ since
+    → IsPrefix (before ++ e ∷ []) seen
+behind_act before since e is = (since, append_assoc before (e ∷ []) since ∙ sym is)
+
 -- a probe that found the index occupied
 pub probed_occupied : {old new : PassView} (i : ℕ) → Did old new (Probe i true ∷ []) → WasOccupied old.seen new i
-probed_occupied {old} {new} i d =
-    let o = one_act (Probe i true) d in
-    let parts = subst (λ t. new.seen ≡ o.before ++ by t (Probe i true) ∷ o.since) (sym d.thread) o.parts in
-    let here = o.before ++ by new.thread (Probe i true) ∷ [] in
-    let met : IsOccupied old.last (state here) i =
-    subst (λ s. IsOccupied old.last s i) (sym (probed_state o.before new.thread i true)) (o.needs.1.1.0 refl) in
+probed_occupied {new} i d =
+    let w = took_one (Probe i true) d in
+    let here = w.before ++ by new.thread (Probe i true) ∷ [] in
     record {
       found = true;
-      before = o.before;
-      since = o.since;
-      probed = parts;
-      own = o.from;
+      probed = w;
       occupied = record {
         moment = here;
         from = prefix_self here;
-        to = (o.since, append_assoc o.before (by new.thread (Probe i true) ∷ []) o.since ∙ sym parts);
-        met = subst (λ l. IsOccupied l (state here) i) (sym d.last) met;
+        to = behind_act w.before w.since (by new.thread (Probe i true)) w.taken;
+        met = subst (λ s. IsOccupied new.last s i) (sym (probed_state w.before new.thread i true))
+            (w.needs.1.1.0 refl);
       };
     }
 
@@ -135,85 +155,86 @@ probed_occupied {old} {new} i d =
 pub raced : (old : History) {mid new : PassView} (n looked found : ℕ) → Sometime (λ s. s.used ≡ looked) old mid.seen
     → Did mid new (ReserveLost n looked found ∷ []) → looked + n ≤ new.config.words → LostSpace n old new looked found
 raced old {mid} {new} n looked found m d room =
-    let o = one_act (ReserveLost n looked found) d in
+    let w = took_one (ReserveLost n looked found) d in
     record {
-      before = o.before;
-      since = o.since;
-      lost = subst (λ u. new.seen ≡ o.before ++ by u (ReserveLost n looked found) ∷ o.since) (sym d.thread) o.parts;
       room = room;
-      looked_at = sometime_wider (prefix_self old) o.from m;
-      found_then = (o.needs.1.1, o.needs.1.2);
+      lost = record {
+        before = w.before;
+        since = w.since;
+        taken = w.taken;
+        from = prefix_trans old mid.seen w.before (prefix_trans old m.moment mid.seen m.from m.to) w.from;
+        needs = w.needs;
+      };
+      looked_at = sometime_wider (prefix_self old) w.from m;
     }
 
-module _ {r s : PassView} (acts : List Act) (d : Did r s acts) where
-  -- an event that was seen is seen later
-  seen_later : (before since : History) (a : Act) → r.seen ≡ before ++ by r.thread a ∷ since
-      → s.seen ≡ before ++ by s.thread a ∷ (since ++ d.begins.0)
-  seen_later before since a e = subst (λ t. s.seen ≡ before ++ by t a ∷ (since ++ d.begins.0)) (sym d.thread)
-      (sym d.begins.1 ∙ (ap (λ z. z ++ d.begins.0) e ∙ append_assoc before (by r.thread a ∷ since) d.begins.0))
+-- an act that was taken in a part of a call was taken in the call
+pub took_wider : {begun first : History} {r s : PassView} (a : Act) (acts : List Act) → Did r s acts
+    → IsPrefix first begun → WasTaken begun r a → WasTaken first s a
+took_wider {begun} {first} {r} {s} a acts d earlier w = record {
+  before = w.before;
+  since = w.since ++ d.begins.0;
+  taken = subst (λ t. s.seen ≡ w.before ++ by t a ∷ (w.since ++ d.begins.0)) (sym d.thread)
+      (sym d.begins.1
+      ∙ (ap (λ z. z ++ d.begins.0) w.taken ∙ append_assoc w.before (by r.thread a ∷ w.since) d.begins.0));
+  from = prefix_trans first begun w.before earlier w.from;
+  needs = needs_of (state w.before) a d.config d.last d.thread w.needs;
+}
 
 module _ {begun first : History} (earlier : IsPrefix first begun) {r s : PassView} (acts : List Act)
     (d : Did r s acts) where
   -- an index that was probed and occupied in a part of a call was so in the call
   pub occupied_wider : (i : ℕ) → WasOccupied begun r i → WasOccupied first s i
+  unfolding took_wider
   occupied_wider i w = record {
     found = w.found;
-    before = w.before;
-    since = w.since ++ d.begins.0;
-    probed = seen_later acts d w.before w.since (Probe i w.found) w.probed;
-    own = prefix_trans first begun w.before earlier w.own;
-    occupied = subst (λ t. Sometime (λ z. IsOccupied s.last z i) (w.before ++ by t (Probe i w.found) ∷ []) s.seen)
+    probed = took_wider (Probe i w.found) acts d earlier w.probed;
+    occupied =
+        subst (λ t. Sometime (λ z. IsOccupied s.last z i) (w.probed.before ++ by t (Probe i w.found) ∷ []) s.seen)
         (sym d.thread)
-        (subst (λ n. Sometime (λ z. IsOccupied n z i) (w.before ++ by r.thread (Probe i w.found) ∷ []) s.seen)
+        (subst (λ n. Sometime (λ z. IsOccupied n z i) (w.probed.before ++ by r.thread (Probe i w.found) ∷ []) s.seen)
         (sym d.last) (sometime_wider (prefix_self _) d.begins w.occupied));
   }
 
-  objects_wider : ObjectsWereFull begun r → ObjectsWereFull first s
-  objects_wider w = subst (λ (c : Config). Sometime (λ z. (o : ℕ) → 1 ≤ o → o ≤ c.objects → IsPresent z o) first s.seen)
-      (sym d.config) (sometime_wider earlier d.begins w)
+  objects_wider : Sometime (EachPresent r.config) begun r.seen → Sometime (EachPresent s.config) first s.seen
+  objects_wider w = subst (λ (c : Config). Sometime (EachPresent c) first s.seen) (sym d.config)
+      (sometime_wider earlier d.begins w)
 
   lost_wider : (n l f : ℕ) → LostSpace n begun r l f → LostSpace n first s l f
+  unfolding took_wider
   lost_wider n l f w = record {
-    before = w.before;
-    since = w.since ++ d.begins.0;
-    lost = seen_later acts d w.before w.since (ReserveLost n l f) w.lost;
     room = subst (λ (c : Config). l + n ≤ c.words) (sym d.config) w.room;
-    looked_at = sometime_wider earlier (prefix_self w.before) w.looked_at;
-    found_then = w.found_then;
+    lost = took_wider (ReserveLost n l f) acts d earlier w.lost;
+    looked_at = sometime_wider earlier (prefix_self w.lost.before) w.looked_at;
   }
 
   moved_wider : (l f : ℕ) → GateHasMoved begun r l f → GateHasMoved first s l f
   moved_wider l f w = record {
     other = w.other;
-    before = w.before;
-    to = prefix_trans w.before r.seen s.seen w.to d.begins;
-    looked_at = subst (λ (c : Config). Sometime (IsOpenWith c l) first w.before) (sym d.config)
-        (sometime_wider earlier (prefix_self w.before) w.looked_at);
-    later = subst (λ (c : Config). Sometime (IsOpenWith c f) w.before s.seen) (sym d.config)
-        (sometime_wider (prefix_self w.before) d.begins w.later);
+    looked_at = record {
+      moment = w.looked_at.moment;
+      from = prefix_trans first begun w.looked_at.moment earlier w.looked_at.from;
+      to = prefix_trans w.looked_at.moment r.seen s.seen w.looked_at.to d.begins;
+      met = subst (λ (c : Config). IsOpenWith c l (state w.looked_at.moment)) (sym d.config) w.looked_at.met;
+    };
+    later = subst (λ (c : Config). Sometime (IsOpenWith c f) w.looked_at.moment s.seen) (sym d.config)
+        (sometime_wider (prefix_self w.looked_at.moment) d.begins w.later);
   }
 
 -- an index that was occupied at some moment after the call had probed it
 pub probed_then : {old mid new : PassView} (i : ℕ) (found : Bool) (acts : List Act) → Did old mid (Probe i found ∷ [])
     → Did mid new acts → Sometime (λ s. IsOccupied mid.last s i) mid.seen new.seen → WasOccupied old.seen new i
+unfolding took_wider took_one
 probed_then {old} {mid} {new} i found acts d e m =
-    let o = one_act (Probe i found) d in
-    let seen : mid.seen ≡ o.before ++ by mid.thread (Probe i found) ∷ o.since =
-    subst (λ t. mid.seen ≡ o.before ++ by t (Probe i found) ∷ o.since) (sym d.thread) o.parts in
-    let here = o.before ++ by mid.thread (Probe i found) ∷ [] in
-    let begins : IsPrefix here mid.seen =
-    (o.since, append_assoc o.before (by mid.thread (Probe i found) ∷ []) o.since ∙ sym seen) in
-    let later : Sometime (λ s. IsOccupied new.last s i) here new.seen =
-    subst (λ n. Sometime (λ s. IsOccupied n s i) here new.seen) (sym e.last)
-    (sometime_wider begins (prefix_self new.seen) m) in
+    let w = took_one (Probe i found) d in
+    let here = w.before ++ by mid.thread (Probe i found) ∷ [] in
+    let later = sometime_wider (behind_act w.before w.since (by mid.thread (Probe i found)) w.taken)
+    (prefix_self new.seen) m in
     record {
       found = found;
-      before = o.before;
-      since = o.since ++ e.begins.0;
-      probed = seen_later acts e o.before o.since (Probe i found) seen;
-      own = o.from;
-      occupied = subst (λ t. Sometime (λ s. IsOccupied new.last s i) (o.before ++ by t (Probe i found) ∷ []) new.seen)
-          (sym e.thread) later;
+      probed = took_wider (Probe i found) acts e (prefix_self old.seen) w;
+      occupied = subst (λ t. Sometime (λ s. IsOccupied new.last s i) (w.before ++ by t (Probe i found) ∷ []) new.seen)
+          (sym e.thread) (subst (λ n. Sometime (λ s. IsOccupied n s i) here new.seen) (sym e.last) later);
     }
 
 module _ (begun first : History) (earlier : IsPrefix first begun) {r s : PassView} (acts : List Act)
@@ -223,6 +244,7 @@ module _ (begun first : History) (earlier : IsPrefix first begun) {r s : PassVie
   grounds_wider RowFull g =
       λ i l. occupied_wider earlier acts d i (g i (subst (λ (c : Config). i < c.slots) d.config l))
   grounds_wider ObjectsFull g = objects_wider earlier acts d g
+  grounds_wider (SpaceFull u) g = g
   grounds_wider (Raced l f) g = (g.0, lost_wider earlier acts d g.0 l f g.1)
   grounds_wider (Moved l f) g = moved_wider earlier acts d l f g
   grounds_wider _ g = tt

@@ -9,6 +9,7 @@ use Rattle.jr_model.specs.declared.frames.LocalRef.{LocalRef}
 use Rattle.jr_model.specs.declared.frames.TheConstants.{FRAMES}
 use Rattle.jr_model.specs.Maps.{count_below}
 use Rattle.jr_model.specs.State.{Handle, same_handle, State}
+use Rattle.jr_model.specs.History.{History, state, mine}
 
 -- the frames of a thread
 pub record Frames : Type 0 where
@@ -97,8 +98,20 @@ abbrev pub freed : Frames → Frames
 freed f = record f { frames = [] ∷ [] }
 
 -- the locals of the thread are the places and objects of all its frames
-abbrev pub Agree : ℕ → Frames → State → Type 0
-Agree thread f s = (p : ℕ) → s.locals thread p ≡ object_at f p
+abbrev pub AreTheLocals : ℕ → Frames → State → Type 0
+AreTheLocals thread f s = (p : ℕ) → s.locals thread p ≡ object_at f p
+
+-- how many local references the acts stored at the place
+abbrev pub stored_at : ℕ → List Act → ℕ
+stored_at p [] = 0
+stored_at p (LocalPut q o ∷ acts) = cond (q == p) 1 0 + stored_at p acts
+stored_at p (_ ∷ acts) = stored_at p acts
+
+-- THE FRAMES AGREE WITH WHAT HAPPENED: their references are the thread's locals, and each
+-- place has given as many handles as the thread ever stored local references there
+pub record Agree (thread : ℕ) (f : Frames) (es : History) : Type 0 where
+  pub locals : AreTheLocals thread f (state es)
+  pub given : (p : ℕ) → slice_index f.given p ≡ stored_at p (mine es thread)
 
 -- no two of the references are at one place
 abbrev pub HaveOwnPlaces : List LocalRef → Type 0

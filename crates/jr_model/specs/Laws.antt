@@ -136,6 +136,14 @@ abbrev pub GoneStaysGone : ℕ → ℕ → Type 0
 GoneStaysGone last thread = (f g later : Frames) (h : Handle) → AreSound f → IsSome (object_of f h)
     → LeadsTo last thread f g → object_of g h ≡ None → LeadsTo last thread g later → object_of later h ≡ None
 
+-- nor does one that stood, and at whose place nothing stood later, wherever the thread's frames came from
+-- since: at each of the three moments a thread's frames agree with what happened
+abbrev pub EmptiedStaysGone : Type 0
+EmptiedStaysGone = (old mid new : PassView) (f g : Frames) (h : Handle) (first then_done : List Act)
+    → AreSound f → Agree old.thread f old.seen → IsSome (object_of f h) → Did old mid first
+    → (state mid.seen).locals mid.thread h.index ≡ None → Did mid new then_done → AreSound g
+    → Agree new.thread g new.seen → object_of g h ≡ None
+
 -- a handle stands no more once it is deleted, once the last
 -- frame is popped where it stood there, and once all are freed
 abbrev pub TakenIsGone : Type 0
@@ -152,11 +160,11 @@ FreshAreSound = (locals : ℕ) → AreSound (fresh_frames locals)
 abbrev pub FramesStaySound : ℕ → ℕ → Type 0
 FramesStaySound last thread = (f g : Frames) (acts : List Act) → AreSound f → IsMove last thread f acts g → AreSound g
 
--- and they go on agreeing with the locals of the thread, whatever the other threads do in between
+-- and they go on agreeing with what happened, whatever the other threads do in between
 abbrev pub FramesStayAgreed : Type 0
 FramesStayAgreed =
-    (old new : PassView) (f g : Frames) (acts : List Act) → AreSound f → Agree old.thread f (state old.seen)
-    → IsMove old.last old.thread f acts g → Did old new acts → Agree new.thread g (state new.seen)
+    (old new : PassView) (f g : Frames) (acts : List Act) → AreSound f → Agree old.thread f old.seen
+    → IsMove old.last old.thread f acts g → Did old new acts → Agree new.thread g new.seen
 
 -- in sound frames a handle that stands is the one at its place
 abbrev pub HandleIsAtPlace : Type 0

@@ -27,6 +27,7 @@ ghost use Rattle.jr_model.specs.Laws.{
   LengthsFit,
   GivenOnce,
   GoneStaysGone,
+  EmptiedStaysGone,
   TakenIsGone,
   FreshAreSound,
   CollectionIsExact,
@@ -111,13 +112,14 @@ pub fn local_handles_are_given_once()
     ensures { (last thread : ℕ) → GivenOnce last thread }
 {}
 
-/// A local handle that was deleted, or popped or freed with its frame, never stands again.
+/// A local handle that was deleted, or popped or freed with its frame, never stands again: whatever the thread does with its frames, and wherever its frames came from since, as long as they agree with what happened.
 pub fn no_dropped_local_handle_returns()
     ensures gone { (last thread : ℕ) → GoneStaysGone last thread }
+    ensures ever { EmptiedStaysGone }
     ensures taken { TakenIsGone }
 {}
 
-/// A thread's frames are sound at the beginning and stay so, agree with its locals in the machine, and a handle that stands is the one at its place.
+/// A thread's frames are sound at the beginning and stay so, agree with what the thread did, and a handle that stands is the one at its place.
 pub fn frames_agree_with_the_machine()
     ensures fresh { FreshAreSound }
     ensures sound { (last thread : ℕ) → FramesStaySound last thread }

@@ -127,9 +127,11 @@ fn copies_elements<S: Steps>(
 ) -> Result<(), Fail> {
     let elements = stay.get_array_elements::<i32>(alloc, array)?;
     assert!(rt; elements.length() == 3);
-    let released = stay.release_array_elements(array, elements, Mode::Copy);
-    assert!(rt; released.is_ok());
-    Ok(())
+    match stay.release_array_elements(array, elements, Mode::Copy) {
+        Ok(None) => Ok(()),
+        Ok(Some(_left)) => panic!(rt; "a release keeps elements"),
+        Err((_left, _)) => panic!(rt; "a release is refused"),
+    }
 }
 
 /// Copies the units of a string in a stay.

@@ -47,7 +47,7 @@ own_of log k t (p ∷ ps) later o s = ⊎_elim
     s
 
 -- where no thread of the room acted, nothing happened
-nobody_acted : (c : Config) (last : ℕ) (s : State) (es : History) → IsLegalFrom c last s es
+pub nobody_acted : (c : Config) (last : ℕ) (s : State) (es : History) → IsLegalFrom c last s es
     → ((t : ℕ) → t < c.threads → mine es t ≡ []) → es ≡ []
 nobody_acted c last s [] legal none = refl
 nobody_acted c last s (e ∷ es) legal none =

@@ -12,10 +12,10 @@ use Rattle.jr_rule.specs.declared.room.Room.{Room}
 use Rattle.jr_rule.specs.declared.owned_cells.OwnedCells.{OwnedCells}
 use Rattle.jr_rule.specs.declared.row.RoomCells.{RoomCells}
 use Rattle.jr_rule.specs.Cells.{HasStepped, InRole, IsStanding, Sight}
-use Rattle.jr_rule.specs.CellLaws.{seat_sound}
+use Rattle.jr_rule.specs.CellLaws.{some_of}
 use Rattle.jr_rule.specs.Passes.{Holder, facts_of}
 use Rattle.jr_rule.specs.Rule.{LookedBy, LooksBy, stepping_pass}
-use Rattle.jr_rule.specs.Sights.{sight_of_seat, IsSeatOf}
+use Rattle.jr_rule.specs.Sights.{sight_of_seat}
 use Rattle.jr_rule.specs.OwnedSites.{IsOwnedIn}
 use Rattle.jr_rule.specs.Sites.{IsAtThread, IsSeatedIn}
 use Rattle.jr_rule.proofs.SeatStepped.{seat_stepped, seat_went}
@@ -53,9 +53,8 @@ module _ {acts : List Act} (h : Holder) (x : RoomCells) (table : x.seat.table_id
   left = leaves reads (λ k. same_role) (λ k. same_fresh)
 
   -- the thread stands as it must
-  pub look_stands : {row : TableId} {c : Config} {last : ℕ} → IsSeatOf row c last x.seat.table_id x.seat.me x.thread
-      → IsStanding before h.role h.fresh h.hint → IsStanding behind h.role h.fresh h.hint
-  look_stands at s = standing_next stepped left refl (seat_sound at) s (may_any before refl s)
+  pub look_stands : IsStanding before h.role h.fresh h.hint → IsStanding behind h.role h.fresh h.hint
+  look_stands s = standing_next stepped left refl s (some_of before h.role h.fresh h.hint s)
 
   -- the step was taken
   pub look_took : Took facts_of h (record h { seat = x.seat; thread = x.thread }) acts anything keeps

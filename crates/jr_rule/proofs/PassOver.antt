@@ -9,20 +9,31 @@ use Rattle.jr_model.specs.declared.event.Role.{Role}
 use Rattle.jr_model.specs.declared.event.Act.{Act}
 use Rattle.jr_model.specs.History.{IsLegal, role_of}
 use Rattle.jr_steps.specs.declared.known.Known.{Known}
-use Rattle.jr_steps.specs.Knowing.{HasNoLocals, Standing, Took, view}
+use Rattle.jr_steps.specs.Knowing.{HasStoredNone, Standing, Took, view}
 use Rattle.jr_rule.specs.Cells.{IsStanding}
 use Rattle.jr_rule.specs.Sights.{sight_of_seat, IsSeatOf}
 use Rattle.jr_rule.specs.declared.pass.Pass.{Pass}
 use Rattle.jr_rule.specs.declared.row.Row.{Row}
-use Rattle.jr_rule.specs.Passes.{Holder, facts_of, holder_of, standing_of, IsAt}
+use Rattle.jr_rule.specs.Passes.{Holder, facts_of, holder_of, known_of, standing_of, IsAt, IsOpened}
 use Rattle.jr_rule.specs.Rule.{SeatState, IsHeld, stepping_pass}
 
 pub standing_of_held : {id : TableId} {m : SeatState} {thread : ℕ} {role : Role} {fresh : Bool} {hint : ℕ}
     → IsHeld m thread role fresh hint → IsStanding (sight_of_seat id m) role fresh hint
 standing_of_held {m = m} h = record {
-  some = ∥∥₁_map h.legal (λ l.
-      (stepping_pass m, (refl, record { config = refl; last = refl; thread = refl; role = h.role_is; legal = l })));
-  unused = λ f k s. subst HasNoLocals (sym s.is) (h.unused f);
+  some = ∥∥₁_map h.legal (λ l. (
+    stepping_pass m,
+    (
+      refl,
+      record {
+        config = refl;
+        last = refl;
+        thread = refl;
+        role = h.role_is;
+        legal = l;
+        unused = h.unused;
+      },
+    ),
+  ));
   below = h.below;
 }
 
@@ -40,11 +51,18 @@ held_of_standing {m = m} {thread} {role} {fresh} {hint} a s =
       sized = a.sized;
       row = below;
       few = omega arith;
-      unused = λ f p. ∥∥₁_elim s.some (hlevel props) (λ k. s.unused f (stepping_pass m)
-          (record { is = refl; config = refl; last = refl; thread = refl }) p);
+      unused = λ f p. ∥∥₁_elim s.some (hlevel props) (λ k. subst HasStoredNone (k.1).0 ((k.1).1.unused f) p);
       space = a.space;
       below = s.below;
     }
+
+-- who sits at a seat that is as it was stands as before
+pub standing_same : {id id' : TableId} {m m' : SeatState} {role : Role} {fresh : Bool} {hint : ℕ}
+    → id' ≡ id → m' ≡ m → IsStanding (sight_of_seat id m) role fresh hint
+    → IsStanding (sight_of_seat id' m') role fresh hint
+standing_same {role = role} {fresh} {hint} table same =
+    subst (λ (x : TableId × SeatState). IsStanding (sight_of_seat x.0 x.1) role fresh hint)
+    (λ i. (sym table i, sym same i))
 
 -- a pass that stands in the same room is one of the row's own
 pub still_of : (r : Row) (p q : Pass) → (standing_of q).room ≡ (standing_of p).room
@@ -68,3 +86,17 @@ pub stays_of : (r : Row) (p q : Pass) {acts : List Act} {met : Known → Type 0}
     → Took facts_of (holder_of p) (holder_of q) acts met shows → IsAt r p → IsAt r q
 stays_of r p q t at = still_of r p q (ap (λ (s : Standing). s.room) t.stands_is)
     (ap (λ (s : Standing). s.config) t.stands_is) (ap (λ (s : Standing). s.last) t.stands_is) at
+
+-- a pass that was opened knows what it shows
+pub opened_knows : (r : Row) (p : Pass) → IsOpened r p → (facts_of (holder_of p)).knows (known_of p)
+opened_knows r p o = (
+  refl,
+  record {
+    config = refl;
+    last = refl;
+    thread = refl;
+    role = p.held.role_is;
+    legal = subst (λ (k : Known). IsLegal k.config k.last k.seen) (sym o.knows) tt;
+    unused = p.held.unused;
+  },
+)

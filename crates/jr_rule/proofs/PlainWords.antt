@@ -16,13 +16,12 @@ use Rattle.jr_rule.proofs.LegalSteps.{then, LegalStep}
 use Rattle.std.proofs.lemmas.List.{append-nil}
 use Rattle.jr_word.specs.declared.config.Config.{Config}
 use Rattle.jr_model.proofs.Moments.{prefix_self}
-use Rattle.jr_rule.specs.Cells.{IsOwed, IsAmong, StepsTo, HasStepped, AreSoundWords, IsStanding, stands_at}
+use Rattle.jr_rule.specs.Cells.{IsOwed, IsAmong, StepsTo, HasStepped, IsStanding, stands_at}
 use Rattle.jr_rule.specs.Image.{IsImage}
 use Rattle.jr_rule.specs.Rule.{IsFound, IsSized, known_at}
 use Rattle.jr_rule.proofs.HoldingsInSpace.{holdings_in_space}
 use Rattle.jr_model.specs.declared.event.Role.TheVariants.{Outside}
 use Rattle.jr_steps.specs.Knowing.{state_of, IsOf}
-use Rattle.jr_rule.specs.CellLaws.{among_of}
 use Rattle.jr_rule.specs.RowHistories.{IsHistoryOf, HasHistory}
 
 -- what thread 0 holds
@@ -120,14 +119,22 @@ module _ (c : Config) (last : ℕ) (words : List ℕ) where
   module _ (nothing : Depicts words (unseen c last)) where
     nothing_known : Depicts words (unseen c last)
         × IsOf (stands_at (sight_of_words c last words) Outside true) (unseen c last)
-    nothing_known = (nothing, record { config = refl; last = refl; thread = refl; role = refl; legal = tt })
+    nothing_known = (
+      nothing,
+      record {
+        config = refl;
+        last = refl;
+        thread = refl;
+        role = refl;
+        legal = tt;
+        unused = λ f p. refl;
+      },
+    )
 
-    pub opened_standing : AreSoundWords (sight_of_words c last words) → 0 < c.slots
+    pub opened_standing : 0 < c.slots
         → IsStanding (sight_of_words c last words) Outside true 0
-    opened_standing sound some = record {
+    opened_standing some = record {
       some = ∣ (unseen c last, nothing_known) ∣₁;
-      unused = λ f k s. sound.locals (unseen c last) k
-          (among_of (sight_of_words c last words) Outside true (unseen c last) nothing_known) s (λ p. refl);
       below = some;
     }
 

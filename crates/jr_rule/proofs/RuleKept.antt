@@ -1,4 +1,6 @@
--- A step of a pass keeps the rule, where it owes nothing more.
+-- A step of a pass keeps the rule, where it owes nothing more; and what the rule says of the row's history.
+pub mod OneHistory
+pub mod Operations
 use Rattle.std.proofs.Common.{◌≡◌, ◌≢◌, ⊎_elim, ◌+◌, ◌≤◌, ℕ, zero, suc, cond, List, [], ◌∷◌, ◌++◌, map}
 use Rattle.std.proofs.Common.{get_or, slice_set, refl, sym, ap, subst, ◌∙◌, arith, eq-eqb, ne_eqb}
 use Rattle.std.proofs.lemmas.List.{append-nil}
@@ -53,7 +55,7 @@ one_here t k e = ap (λ b. cond b 1 0) (eq-eqb k.thread t e)
 
 -- ACTS OF ONE THREAD AT THE END OF A HISTORY
 
-mine_none : (t u : ℕ) (acts : List Act) → t ≢ u → mine (map (by t) acts) u ≡ []
+pub mine_none : (t u : ℕ) (acts : List Act) → t ≢ u → mine (map (by t) acts) u ≡ []
 mine_none t u [] ne = refl
 mine_none t u (a ∷ acts) ne =
     ap (λ b. cond b (a ∷ mine (map (by t) acts) u) (mine (map (by t) acts) u)) (ne_eqb t u ne) ∙ mine_none t u acts ne

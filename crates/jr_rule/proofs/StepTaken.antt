@@ -20,19 +20,19 @@ use Rattle.jr_model.specs.History.{by, IsLegal, role_of, role_from, state}
 use Rattle.jr_model.proofs.Stays.{role_did}
 use Rattle.jr_word.specs.declared.header.HeaderParts.{HeaderParts}
 use Rattle.jr_model.specs.declared.event.Role.TheVariants.{Within}
-use Rattle.jr_steps.specs.Knowing.{Took, TookWith, Goes, view, anything, fresh_from, HasNoLocals, IsOf, Standing}
+use Rattle.jr_steps.specs.Knowing.{Took, TookWith, Goes, view, anything, fresh_from, HasStoredNone, IsOf, Standing}
 use Rattle.jr_steps.specs.Knowing.{KnowsHeader, MayKnow, ReadsInTurn, SawPart}
 use Rattle.jr_steps.proofs.StepFacts.{goes_did}
 use Rattle.jr_rule.specs.declared.cells.Cells.{Ghosts}
 use Rattle.jr_rule.specs.declared.over.StepsOver.{StepsOver}
-use Rattle.jr_rule.specs.Cells.{Sight, IsAmong, AreItsActs, AreSoundWords, May}
+use Rattle.jr_rule.specs.Cells.{Sight, IsAmong, AreItsActs, May}
 use Rattle.jr_rule.specs.Cells.{IsOwed, HasStepped, InRole, IsStanding, stands_at}
 use Rattle.jr_rule.specs.CellLaws.{among_of}
 use Rattle.jr_rule.specs.Over.{facts_over as facts}
 use Rattle.jr_rule.specs.Parts.{facts_within}
 use Rattle.std.specs.List.{AllByRecursion}
 use Rattle.jr_model.specs.declared.event.Act.TheVariants.{LocalPut, LocalDrop, Read}
-use Rattle.jr_model.proofs.Agreement.{spares_places, places_did, all_spared}
+use Rattle.jr_model.proofs.Agreement.{spares_places, stored_did, stored_spared}
 
 -- who is fresh afterwards was so, and has stored no local
 fresh_spares : (f : Bool) (acts : List Act) → fresh_from f acts ≡ true
@@ -42,12 +42,14 @@ fresh_spares f (LocalPut p o ∷ acts) e = let r = (fresh_spares _ acts e).0 in 
 fresh_spares f (LocalDrop p ∷ acts) e = let r = (fresh_spares _ acts e).0 in absurd cc
 fresh_spares f (_ ∷ acts) e = let r = fresh_spares f acts e in (r.0, (refl, r.1))
 
-pub no_locals_next : (k k' : Known) (acts : List Act) (f : Bool) → Goes k acts k' → fresh_from f acts ≡ true
-    → (f ≡ true → HasNoLocals k) → HasNoLocals k'
-no_locals_next k k' acts f g e none p =
+pub none_stored_next : (k k' : Known) (acts : List Act) (f : Bool) → Goes k acts k' → fresh_from f acts ≡ true
+    → (f ≡ true → HasStoredNone k) → HasStoredNone k'
+none_stored_next k k' acts f g e none p =
     let r = fresh_spares f acts e in
-    let d = goes_did g in
-    ap (λ l. l p) (places_did acts d ∙ all_spared ((state k.seen).locals k.thread) acts r.1) ∙ none r.0 p
+    let is = stored_did p acts (goes_did g) in
+    let more = stored_spared p acts r.1 in
+    let was = none r.0 p in
+    omega arith
 
 module _ (k : Known) (told : ℕ → List Act → Known → Type 0) {i j : ℕ} (at : i ≡ j) where
   pub load_at : Owes k i (λ n. n) told → Owes k j (λ n. n) told
@@ -118,19 +120,24 @@ module _ {z z' : Sight} {r : Role} {met : Known → Type 0} {told : Known → �
     (t : HasStepped z z' (InRole r met) told n) (left : Leaves z r met told n role role' fresh fresh')
     (is : role ≡ r) where
   -- something is known of the new
-  known_next : (k : Known) (h : IsAmong z k) (e : role_of (view k) ≡ r) (m : met k)
-      → z'.knows (t.makes k h (e, m)).new × IsOf (stands_at z' role' fresh') (t.makes k h (e, m)).new
-  known_next k h e m =
-      let u = t.makes k h (e, m) in (
+  known_next : (k : Known) (h : z.knows k × IsOf (stands_at z role fresh) k) (m : met k)
+      → z'.knows (t.makes k (among_of z role fresh k h) (h.1.role ∙ is, m)).new
+      × IsOf (stands_at z' role' fresh') (t.makes k (among_of z role fresh k h) (h.1.role ∙ is, m)).new
+  known_next k h m =
+      let e = h.1.role ∙ is in
+      let s = among_of z role fresh k h in
+      let u = t.makes k s (e, m) in
+      let leaves = left.left k u.new u.acts s e m u.says in (
         u.is.is,
         record {
           config = u.is.config;
           last = u.is.last;
           thread = u.is.thread;
           role = role_did u.acts (goes_did u.goes)
-              ∙ (ap (λ x. role_from x u.acts) (e ∙ sym is) ∙ sym (left.left k u.new u.acts h e m u.says).0);
+              ∙ (ap (λ x. role_from x u.acts) h.1.role ∙ sym leaves.0);
           legal = subst (λ (y : Config × ℕ). IsLegal y.0 y.1 (u.new).seen)
               (λ i. (sym u.goes.config i, sym u.goes.last i)) u.goes.legal;
+          unused = λ f. none_stored_next k u.new u.acts fresh u.goes (sym leaves.1 ∙ f) h.1.unused;
         },
       )
 
@@ -154,18 +161,14 @@ module _ {z z' : Sight} {r : Role} {met : Known → Type 0} {told : Known → �
         legal = g.legal;
         taken = g.taken;
       } in
-      (u.new, known_next k s e m, here, read.1)
+      (u.new, known_next k h m, here, read.1)
 
   -- SO THE THREAD STANDS as it must
-  pub standing_next : AreSoundWords z' → {hint : ℕ} → IsStanding z role fresh hint → May z (InRole r met)
-      → IsStanding z' role' fresh' hint
-  standing_next sound {hint} s may = record {
-    some = ∥∥₁_map may (λ k. ((t.makes k.0 k.1 k.2).new, known_next k.0 k.1 k.2.0 k.2.1));
-    unused = λ f k' h' p. ∥∥₁_elim may (hlevel props) (λ k.
-        let u = t.makes k.0 k.1 k.2 in
-        let none = no_locals_next k.0 u.new u.acts fresh u.goes
-        (sym (left.left k.0 u.new u.acts k.1 k.2.0 k.2.1 u.says).1 ∙ f) (λ e. s.unused e k.0 k.1) in
-        sound.locals u.new k' u.is h' none p);
+  pub standing_next : {hint : ℕ} → IsStanding z role fresh hint
+      → ∥ ((k : Known) × (z.knows k × IsOf (stands_at z role fresh) k) × met k) ∥₁ → IsStanding z' role' fresh' hint
+  standing_next {hint} s may = record {
+    some = ∥∥₁_map may (λ k.
+        ((t.makes k.0 (among_of z role fresh k.0 k.1) (k.1.1.role ∙ is, k.2)).new, known_next k.0 k.1 k.2));
     below = subst (λ (c : Config). hint < c.slots) (ap (λ (x : Standing). x.config) (sym t.first)) s.below;
   }
 
@@ -187,13 +190,11 @@ module _ {C P : Type 0} {G : Ghosts C P} (s : StepsOver C P G) {r : Role} {met :
     owing place owes = owed place known_in owes
 
     -- and leaves them at words where they are, standing as they must
-    pub stood : {x : C} {n : ℕ} {role : Role} {fresh : Bool}
-        → ((x : C) (place : P) → G.are_at x place → AreSoundWords (G.sight x)) → G.are_at x s.place
+    pub stood : {x : C} {n : ℕ} {role : Role} {fresh : Bool} → G.are_at x s.place
         → HasStepped (G.sight s.cells) (G.sight x) (InRole r met) told n
         → Leaves (G.sight s.cells) r met told n s.role role s.fresh fresh
         → record { at : G.are_at x s.place; stands : IsStanding (G.sight x) role fresh s.hint }
-    stood {x} sound there step left =
-        record { at = there; stands = standing_next step left is (sound x s.place there) s.stands known_in }
+    stood there step left = record { at = there; stands = standing_next step left is s.stands may }
 
 module _ {C P : Type 0} {G : Ghosts C P} (old new : StepsOver C P G) {r : Role} {met : Known → Type 0}
     {told : Known → ℕ → List Act → Known → Type 0} {n : ℕ} {shows : Known → Known → Type 0}
@@ -218,7 +219,7 @@ module _ {C P : Type 0} {G : Ghosts C P} (old new : StepsOver C P G) {r : Role} 
       → new.role ≡ role_from old.role acts → new.fresh ≡ fresh_from old.fresh acts → Took facts old new acts met shows
   took acts reads role_is fresh_is = took_with reads role_is fresh_is (λ k. refl) (λ k. refl)
 
--- what may be known does not depend on whether the pass is fresh
+-- what may be known of a fresh pass may be known once it is spent
 pub standing_spent : {z : Sight} {role : Role} {fresh : Bool} {hint : ℕ} → IsStanding z role fresh hint
     → IsStanding z role false hint
 standing_spent s = record {
@@ -232,10 +233,10 @@ standing_spent s = record {
         thread = k.1.1.thread;
         role = k.1.1.role;
         legal = k.1.1.legal;
+        unused = λ f. absurd cc;
       },
     ),
   ));
-  unused = λ f. absurd cc;
   below = s.below;
 }
 
@@ -247,25 +248,26 @@ its_acts reads k k' done h m t = (reads.read k k' done h m.0 m.1 t).0
 
 -- WHAT A THREAD WITHIN KNOWS of the words it knows of them, whether it is fresh or not
 stands_so : (z : Sight) {r r' : Role} {f f' : Bool} → r ≡ r' → (k : Known) → IsOf (stands_at z r f) k
-    → IsOf (stands_at z r' f') k
-stands_so z same k is = record {
+    → (f' ≡ true → HasStoredNone k) → IsOf (stands_at z r' f') k
+stands_so z same k is none = record {
   config = is.config;
   last = is.last;
   thread = is.thread;
   role = is.role ∙ same;
   legal = is.legal;
+  unused = none;
 }
 
 pub known_within : (z : Sight) {role : Role} {fresh : Bool} {met : Known → Type 0} → role ≡ Within
     → ∥ ((k : Known) × (z.knows k × IsOf (stands_at z role fresh) k) × met k) ∥₁
     → ∥ ((k : Known) × (z.knows k × IsOf (stands_at z Within false) k) × met k) ∥₁
-known_within z is may = ∥∥₁_map may (λ k. (k.0, (k.1.0, stands_so z is k.0 k.1.1), k.2))
+known_within z is may = ∥∥₁_map may (λ k. (k.0, (k.1.0, stands_so z is k.0 k.1.1 (λ f. absurd cc)), k.2))
 
--- who has no local reference has none behind elements that were read
-none_read : (o i : ℕ) (vs : List ℕ) (k k' : Known) → ReadsInTurn o i vs k k' → HasNoLocals k → HasNoLocals k'
-none_read o i [] k k' r none = subst HasNoLocals (sym r) none
+-- who has stored no local reference has stored none behind elements that were read
+none_read : (o i : ℕ) (vs : List ℕ) (k k' : Known) → ReadsInTurn o i vs k k' → HasStoredNone k → HasStoredNone k'
+none_read o i [] k k' r none = subst HasStoredNone (sym r) none
 none_read o i (v ∷ vs) k k' r none =
-    none_read o (i + 1) vs r.0 k' r.3 (no_locals_next k r.0 (Read o i v ∷ []) true r.1 refl (λ e. none))
+    none_read o (i + 1) vs r.0 k' r.3 (none_stored_next k r.0 (Read o i v ∷ []) true r.1 refl (λ e. none))
 
 -- A PART THAT WAS READ of the words was read by the steps over them
 module _ {C P : Type 0} {G : Ghosts C P} {V : Type 0} (old new : StepsOver C P G) (is : old.role ≡ Within)
@@ -279,23 +281,22 @@ module _ {C P : Type 0} {G : Ghosts C P} {V : Type 0} (old new : StepsOver C P G
     stands_is = λ i. record (t.stands_is i) { role = role_is i; fresh = fresh_is i };
     hint_is = hint_is;
     leads = λ k s m.
-        let x = t.leads k (s.0, stands_so (G.sight old.cells) is k s.1) m in
-        (x.0, (x.1.0, stands_so (G.sight new.cells) (sym is ∙ sym role_is) x.0 x.1.1), x.2, x.3);
+        let x = t.leads k (s.0, stands_so (G.sight old.cells) is k s.1 (λ f. absurd cc)) m in
+        let none = λ (f : new.fresh ≡ true).
+        none_read o start t.words k x.0 x.2 (s.1.unused (sym fresh_is ∙ f)) in
+        (x.0, (x.1.0, stands_so (G.sight new.cells) (sym is ∙ sym role_is) x.0 x.1.1 none), x.2, x.3);
   }
 
 -- and the thread stands as it must
 pub part_standing : {C V : Type 0} (sight : C → Sight) {a b : C} {o start : ℕ} {h : HeaderParts} {taken : ℕ → V}
-    {values : List V} → SawPart (facts_within sight) a b o h start taken values → AreSoundWords (sight b)
+    {values : List V} → SawPart (facts_within sight) a b o h start taken values
     → {role : Role} {fresh : Bool} {hint : ℕ} → role ≡ Within → IsStanding (sight a) role fresh hint
     → ∥ ((k : Known) × ((sight a).knows k × IsOf (stands_at (sight a) role fresh) k) × KnowsHeader o h k) ∥₁
     → IsStanding (sight b) role fresh hint
-part_standing sight {a} {b} {o} {start} t sound {role} {fresh} {hint} is s may = record {
+part_standing sight {a} {b} {o} {start} t {role} {fresh} {hint} is s may = record {
   some = ∥∥₁_map may (λ k.
-      let x = t.leads k.0 (k.1.0, stands_so (sight a) is k.0 k.1.1) k.2 in
-      (x.0, (x.1.0, stands_so (sight b) (sym is) x.0 x.1.1)));
-  unused = λ f k' among p. ∥∥₁_elim may (hlevel props) (λ k.
-      let x = t.leads k.0 (k.1.0, stands_so (sight a) is k.0 k.1.1) k.2 in
-      let none = none_read o start t.words k.0 x.0 x.2 (s.unused f k.0 (among_of (sight a) role fresh k.0 k.1)) in
-      sound.locals x.0 k' (among_of (sight b) Within false x.0 x.1) among none p);
+      let x = t.leads k.0 (k.1.0, stands_so (sight a) is k.0 k.1.1 (λ f. absurd cc)) k.2 in
+      let none = λ (f : fresh ≡ true). none_read o start t.words k.0 x.0 x.2 (k.1.1.unused f) in
+      (x.0, (x.1.0, stands_so (sight b) (sym is) x.0 x.1.1 none)));
   below = subst (λ (c : Config). hint < c.slots) (ap (λ (x : Standing). x.config) (sym t.stands_is)) s.below;
 }

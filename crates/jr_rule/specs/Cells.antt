@@ -1,13 +1,13 @@
 -- WORDS THAT ONE THREAD STEPS ON, whoever keeps them:
 -- what is known of them, what a kind of step owes there, and what it tells.
-use Rattle.std.specs.Prelude.{◌≡◌, ◌<◌, ℕ, Bool, true, None, List}
+use Rattle.std.specs.Prelude.{◌≡◌, ◌<◌, ℕ, Bool, None, List}
 use Rattle.jr_word.specs.Config.{row_words}
 use Rattle.jr_model.specs.declared.event.Act.{Act}
 use Rattle.jr_model.specs.declared.event.Role.{Role}
 use Rattle.jr_model.specs.History.{role_of}
 use Rattle.jr_steps.specs.declared.known.Known.{Known}
 use Rattle.jr_steps.specs.Holdings.{InSpace}
-use Rattle.jr_steps.specs.Knowing.{Facts, Standing, IsOf, DidAll, Goes, HasNoLocals, view}
+use Rattle.jr_steps.specs.Knowing.{Facts, Standing, IsOf, DidAll, Goes, view}
 use Rattle.jr_rule.specs.Rule.{IsSized, Owes}
 
 -- WHAT IS KNOWN OF THE WORDS: how the thread that steps on them stood at first, outside and
@@ -23,14 +23,12 @@ pub record IsAmong (z : Sight) (k : Known) : Type 0 where
   pub last : k.last ≡ z.first.last
   pub thread : k.thread ≡ z.first.thread
 
--- what always holds of the words: their sizes fit, the thread is one of the room's,
--- what it holds lies in the space, whatever it may know agrees on whether it has a
--- local reference, and where the words are of no room it did all of that itself
+-- what always holds of the words: their sizes fit, the thread is one of the room's, what it
+-- holds lies in the space, and where the words are of no room it did all that it knows itself
 pub record AreSoundWords (z : Sight) : Type 0 where
   pub sized : IsSized z.first.config z.first.last
   pub row : z.first.thread < z.first.config.threads
   pub space : (k : Known) → IsAmong z k → InSpace k.config k.holdings
-  pub locals : (k k' : Known) → IsAmong z k → IsAmong z k' → HasNoLocals k → HasNoLocals k'
   pub lone : z.first.room ≡ None → (k : Known) → IsAmong z k → DidAll k
 
 -- something that may be known meets the condition
@@ -83,9 +81,7 @@ abbrev pub facts_at : Sight → Role → Bool → ℕ → Facts
 facts_at z role fresh hint =
     record { stands = stands_at z role fresh; knows = λ k. z.knows k × IsOf (stands_at z role fresh) k; hint = hint }
 
--- what always holds of it:
--- it knows something, has no local reference while it is fresh, and its hint is one of the room's slots
+-- what always holds of it: it knows something, and its hint is one of the room's slots
 pub record IsStanding (z : Sight) (role : Role) (fresh : Bool) (hint : ℕ) : Type 0 where
   pub some : ∥ ((k : Known) × (facts_at z role fresh hint).knows k) ∥₁
-  pub unused : fresh ≡ true → (k : Known) → IsAmong z k → HasNoLocals k
   pub below : hint < z.first.config.slots

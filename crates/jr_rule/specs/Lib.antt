@@ -12,6 +12,7 @@ pub mod OwnedLaws
 pub mod Notes
 pub mod Over
 pub mod Parts
+pub mod History
 pub mod Slots
 pub mod RowHistories
 pub mod Parting

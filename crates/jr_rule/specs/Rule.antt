@@ -21,7 +21,7 @@ use Rattle.jr_rule.specs.declared.rule.Sizes.{Sizes}
 use Rattle.jr_steps.specs.declared.known.Holdings.{Holdings}
 use Rattle.jr_steps.specs.Holdings.{InSpace, empty, hold}
 use Rattle.jr_rule.specs.Image.{IsImage}
-use Rattle.jr_steps.specs.Knowing.{Goes, ShowsGate, view, keeps, HasNoLocals, state_of}
+use Rattle.jr_steps.specs.Knowing.{Goes, ShowsGate, view, keeps, HasStoredNone, state_of}
 
 abbrev pub sizes : Config → ℕ → Sizes
 sizes c last = record { config = c; last = last }
@@ -131,7 +131,7 @@ pub record IsHeld (m : SeatState) (thread : ℕ) (role : Role) (fresh : Bool) (h
   pub sized : IsSized (stepping_pass m).config (stepping_pass m).last
   pub row : thread < (stepping_pass m).config.threads
   pub few : thread < 64
-  pub unused : fresh ≡ true → HasNoLocals (stepping_pass m)
+  pub unused : fresh ≡ true → HasStoredNone (stepping_pass m)
   pub space : InSpace (stepping_pass m).config (stepping_pass m).holdings
   pub below : hint < (stepping_pass m).config.slots
 

@@ -5,6 +5,7 @@ mod cells;
 mod closing;
 mod closing_all;
 mod in_room;
+mod laws;
 mod note;
 mod of_site;
 mod over;
@@ -33,6 +34,7 @@ pub use jr_model::{Role, Summary};
 pub use jr_steps::{
     GateLoad, Holdings, Known, KnownHeader, Move, OwnRange, SlotLoad, Steps, TopLoad,
 };
+pub use laws::{histories_go_by_operations, rooms_have_one_history, steps_tell_of_operations};
 pub use note::Note;
 pub use of_site::OfSite;
 pub use over::StepsOver;

@@ -480,8 +480,6 @@ impl<C: Parts<P>, P: Copy> Steps for StepsOver<C, P> {
 
     ghost some_known = { λ s. some_of (C.sight s.cells) s.role s.fresh s.hint s.stands };
 
-    ghost unused = { λ s k f h. s.stands.unused f k (among_of (C.sight s.cells) s.role s.fresh k h) };
-
     ghost in_space = { λ s k h. (C.sound s.cells s.place s.at).space k (among_of (C.sight s.cells) s.role s.fresh k h) };
 
     ghost limits = { λ s. (C.sound s.cells s.place s.at).sized.limits };

@@ -15,6 +15,7 @@ use Rattle.jr_model.specs.declared.summary.Summary.{Summary}
 use Rattle.jr_model.specs.State.{summary}
 use Rattle.jr_model.specs.History.{History, state, mine, IsLegal, Did}
 use Rattle.jr_model.specs.Frames.{fresh_frames}
+use Rattle.jr_model.proofs.Agreement.{fresh_agree}
 use Rattle.jr_model.proofs.Moments.{prefix_trans}
 use Rattle.jr_syntax.specs.declared.command.Command.{Command}
 use Rattle.jr_syntax.specs.declared.thread.ThreadPart.{ThreadPart}
@@ -22,6 +23,7 @@ use Rattle.jr_syntax.specs.declared.script.Script.{Script}
 use Rattle.jr_steps.specs.declared.known.Known.{Known}
 use Rattle.jr_rule.specs.declared.pass.Pass.{Pass}
 use Rattle.jr_rule.specs.declared.row.Row.{Row}
+use Rattle.jr_rule.proofs.PassOver.{opened_knows}
 use Rattle.jr_steps.specs.Holdings.{empty}
 use Rattle.jr_steps.specs.Knowing.{Standing, view, Holds}
 use Rattle.jr_rule.specs.Rule.{known}
@@ -44,19 +46,6 @@ use Rattle.jr_scripts.specs.AllRuns.{IsPartOf, ArePartsOf, text_of_parts, IsRunO
 use Rattle.jr_scripts.proofs.OneOfAll.{pass_still}
 use Rattle.jr_scripts.proofs.Speaking.{carried}
 use Rattle.jr_scripts.specs.Jobs.{HasRun, HasSaid, IsToldBy, account_in, IsFor, IsJobOf, AreJobsOf, IsDone, AreTold}
-
--- a pass that was opened knows what it shows
-opened_knows : (r : Row) (p : Pass) → IsOpened r p → (facts_of (holder_of p)).knows (known_of p)
-opened_knows r p o = (
-  refl,
-  record {
-    config = refl;
-    last = refl;
-    thread = refl;
-    role = p.held.role_is;
-    legal = subst (λ (k : Known). IsLegal k.config k.last k.seen) (sym o.knows) tt;
-  },
-)
 
 -- what a thread did since its pass was opened
 record Played (board : List ℕ → Option (ℕ × History)) (rank : List ℕ → ℕ) (turns last : ℕ) (c : Config) (t first : ℕ)
@@ -92,8 +81,8 @@ played board rank turns last c r p q first commands answer lines config_is last_
     (running_to_end (said board rank) turns first commands lines) a) done
     (subst (λ f. DoesDeed facts_of x.spent (holder_of q) f x.frames
     (running_to_end (said board rank) turns first commands lines) answer) fresh x.ran) in
-    let holds0 : Holds (fresh_frames c.locals) k0 = λ place. refl in
-    let y = ran.did (known_of p) (((x.spends).same (known_of p)).0 (opened_knows r p o))
+    let holds0 : Holds (fresh_frames c.locals) k0 = fresh_agree c.locals t [] (λ place. refl) in
+    let y = ran.did (known_of p) (((x.spends).same (known_of p)).0 (opened_knows r p o)).0
     (subst (Holds (fresh_frames c.locals)) (sym knows0) holds0) in
     let is : y.0 ≡ known_of q = (y.1).0 in
     let s = ran.stands_is in

@@ -87,13 +87,12 @@ open_still c n s e is = subst (λ a. IsOpenWith c n s → IsOpenWith c n (act_af
 never_moved : (old new begun : History) (begins : IsPrefix old new) (p : PassView) (looked found : ℕ) → p.seen ≡ new
     → AllByRecursion (λ e. e.act ≡ Meet) begins.0 → IsPrefix old begun → GateHasMoved begun p looked found → ⊥
 never_moved old new begun begins p looked found is all from m =
-    let to : IsPrefix m.before new = subst (λ h. IsPrefix m.before h) is m.to in
     let first = still_so (λ e. e.act ≡ Meet) (IsOpenWith p.config looked) (open_still p.config looked) old begun new
-    begins all from (sometime_wider (prefix_self begun) to m.looked_at) in
-    let since = prefix_trans old m.looked_at.moment m.before
-    (prefix_trans old begun m.looked_at.moment from m.looked_at.from) m.looked_at.to in
-    let last = still_so (λ e. e.act ≡ Meet) (IsOpenWith p.config found) (open_still p.config found) old m.before new
-    begins all since (subst (λ h. Sometime (IsOpenWith p.config found) m.before h) is m.later) in
+    begins all from (subst (λ h. Sometime (IsOpenWith p.config looked) begun h) is m.looked_at) in
+    let at = m.looked_at.moment in
+    let since = prefix_trans old begun at from m.looked_at.from in
+    let last = still_so (λ e. e.act ≡ Meet) (IsOpenWith p.config found) (open_still p.config found) old at new
+    begins all since (subst (λ h. Sometime (IsOpenWith p.config found) at h) is m.later) in
     m.other (sym first.1 ∙ last.1)
 
 module _ (tries : ℕ) (old new : PassView) (f g : Frames) (alone : IsAlone new) where

@@ -15,7 +15,7 @@ use Rattle.jr_model.specs.Steps.{after}
 use Rattle.jr_model.specs.History.{History, by, state, Did, PassView}
 use Rattle.jr_model.specs.Frames.{Frames}
 use Rattle.jr_model.specs.Calls.{Call, Ran}
-use Rattle.jr_model.specs.Refusals.{LostSpace, ObjectsWereFull, RowWasFull}
+use Rattle.jr_model.specs.Refusals.{Sometime, LostSpace, RowWasFull}
 use Rattle.jr_model.specs.RefusedCalls.{is_harmless, may_precede}
 use Rattle.jr_model.proofs.Exactly.{append_all}
 use Rattle.jr_model.proofs.Lawful.{IsLawful}
@@ -107,19 +107,17 @@ never_lost : (old begun : History) (new : PassView) (looked found : ℕ) (begins
     → AllByRecursion (λ e. is_harmless e.act ≡ true) begins.0 → IsPrefix old begun
     → ((n : ℕ) × LostSpace n begun new looked found) → ⊥
 never_lost old begun new looked found begins all from w =
-    let l = w.1 in
-    let m = l.looked_at in
+    let l = w.1.lost in
     let e : Event = by new.thread (ReserveLost w.0 looked found) in
-    let front : IsPrefix old l.before =
-    prefix_trans old begun l.before from (prefix_trans begun m.moment l.before m.from m.to) in
+    let front : IsPrefix old l.before = prefix_trans old begun l.before from l.from in
     let cut : old ++ (front.0 ++ e ∷ l.since) ≡ old ++ begins.0 = sym (append_assoc old front.0 (e ∷ l.since))
-    ∙ (ap (λ es. es ++ e ∷ l.since) front.1 ∙ (sym l.lost ∙ sym begins.1)) in
+    ∙ (ap (λ es. es ++ e ∷ l.since) front.1 ∙ (sym l.taken ∙ sym begins.1)) in
     let same : begins.0 ≡ front.0 ++ e ∷ l.since = sym (append_cancel old (front.0 ++ e ∷ l.since) begins.0 cut) in
     let before = all_front (λ (x : Event). is_harmless x.act ≡ true) front.0 (e ∷ l.since)
     (subst (AllByRecursion (λ (x : Event). is_harmless x.act ≡ true)) same all) in
     let used = still_so (λ x. is_harmless x.act ≡ true) (λ s. s.used ≡ looked) (λ s x h is. used_stays s x h ∙ is) old
-    begun l.before front before from m in
-    l.found_then.1 (l.found_then.0 ∙ used)
+    begun l.before front before from w.1.looked_at in
+    l.needs.1.2 (l.needs.1.1 ∙ used)
 
 there : (P : Event → Type 0) (front rest es : History) (e : Event) → es ≡ front ++ e ∷ rest → AllByRecursion P es
     → P e
@@ -148,12 +146,13 @@ module _ {A : Type 0} {asked : Purpose} {last thread : ℕ} {call : Call A} (law
       let w = grounds i small in
       still_so (λ e. is_harmless e.act ≡ true) (λ s. IsOccupied new.last s i) (λ s e. stays_occupied new.last i s e)
       old.seen _ new.seen r.did.begins (refused_since RowFull r)
-      (prefix_trans old.seen w.before _ (prefix_trans old.seen r.begun w.before r.window.from w.own) (_, refl))
+      (prefix_trans old.seen w.probed.before _
+      (prefix_trans old.seen r.begun w.probed.before r.window.from w.probed.from) (_, refl))
       w.occupied
 
   objects_are_full : Ran old new f g call (Err ObjectsFull) → EachPresent new.config (state new.seen)
   objects_are_full r =
-      let grounds : ObjectsWereFull r.begun new = r.grounds in
+      let grounds : Sometime (EachPresent new.config) r.begun new.seen = r.grounds in
       still_so (λ e. may_precede ObjectsFull e.act ≡ true) (EachPresent new.config)
       (λ s e h all o least most. stays_present ObjectsFull o s e h (all o least most)) old.seen r.begun new.seen
       r.did.begins (refused_since ObjectsFull r) r.window.from grounds
@@ -165,10 +164,10 @@ module _ {A : Type 0} {asked : Purpose} {last thread : ℕ} {call : Call A} (law
       (refused_since (Raced looked found) r) r.window.from r.grounds
   fault_alone silent Barred r =
       let w = truly lawful old new f g Barred r in
-      (event_is Barred r w.before w.since (by old.thread (Gate Knock)) w.took).enters refl
+      (event_is Barred r w.before w.since (by new.thread (Gate Knock)) w.taken).enters refl
   fault_alone silent (Busy n) r =
       let w = truly lawful old new f g (Busy n) r in
-      (event_is (Busy n) r w.before w.since (by old.thread (ShutBusy n)) w.took).shuts n refl
+      (event_is (Busy n) r w.before w.since (by new.thread (ShutBusy n)) w.taken).shuts n refl
   fault_alone silent (Moved looked found) r =
       let announces = (lawful.fails f g r.acts (Moved looked found) r.is).shown.2 in
       let bad = sym silent ∙ announces in absurd cc

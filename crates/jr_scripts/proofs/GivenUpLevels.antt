@@ -1,5 +1,5 @@
 -- An element of a level is read, and the last level is given up.
-use Rattle.std.proofs.Common.{◌≡◌, ◌≤◌, ◌+◌, ℕ, zero, suc, ℤ, [], ◌∷◌, length}
+use Rattle.std.proofs.Common.{◌≡◌, ◌≤◌, ◌+◌, ℕ, zero, suc, ℤ, List, [], ◌∷◌, length}
 use Rattle.std.proofs.Common.{Some, None, Ok, Err, sym, ap, subst, ◌∙◌, arith}
 use Rattle.std.proofs.lemmas.List.{length-append, length-map}
 use Rattle.jr_word.specs.declared.fault.Fault.{Fault}
@@ -13,12 +13,12 @@ use Rattle.jr_gate.specs.Performing.{ThreadState}
 use Rattle.jr_frames.specs.Table.{Table}
 use Rattle.jr_critical.specs.declared.level.Level.{Level}
 use Rattle.jr_critical.specs.declared.levels.Levels.{Levels}
-use Rattle.jr_critical.specs.Levels.{GivesUpLast, KnowsLevels, LeavesBefore, Reaches, Stand, objects_of}
+use Rattle.jr_critical.specs.Levels.{GivesUpAll, GivesUpLast, KnowsLevels, LeavesBefore, Reaches, Stand, objects_of}
 use Rattle.jr_env.specs.Deeds.{CarriedOut, done}
 use Rattle.jr_env.proofs.Carrying.{did_refused, did_reply}
 use Rattle.jr_scripts.specs.declared.reply.Reply.TheVariants as replies
 use Rattle.jr_scripts.specs.Numbers.{number_of_word}
-use Rattle.jr_scripts.specs.RegionCommands.{HoldsAfter, giving_up, reading_as}
+use Rattle.jr_scripts.specs.RegionCommands.{HoldsAfter, giving_up, giving_up_all, reading_as}
 use Rattle.jr_scripts.proofs.Within.{did_reach}
 
 held_after : (n : ℕ) (m : ThreadState) → m.held ≡ empty → HoldsAfter n m
@@ -47,6 +47,19 @@ module _ {S : Type 0} (facts : S → Facts) (a b : S) (f g : Frames) (v : Levels
         stands_is = u.stands_is;
         did = λ k s m. let x = u.ran k s m in (x.0, x.1, x.3.1, (x.2, held_after (length (objects_of v)) _ x.3.0));
       })
+
+  pub did_end_all : 1 ≤ length (objects_of v) → GivesUpAll facts a b f v
+      → CarriedOut facts a b f g Outside (KnowsLevels v f) (Holds g) (giving_up_all (objects_of v)) (Ok tt)
+  did_end_all some u = subst (λ h. CarriedOut facts a b f h Outside (KnowsLevels v f) (Holds h)
+      (giving_up_all (objects_of v)) (Ok tt)) (sym same) (go (objects_of v) some)
+    where
+      go : (os : List ℕ) → 1 ≤ length os
+          → CarriedOut facts a b f f Outside (KnowsLevels v f) (Holds f) (giving_up_all os) (Ok tt)
+      go [] few = absurd (omega arith)
+      go (o ∷ os) few = record {
+        stands_is = u.stands_is;
+        did = λ k s m. let x = u.ran k s m in (x.0, x.1, x.3.1, (x.2, x.3.0));
+      }
 
   pub did_give_back : (w : Levels) → LeavesBefore v (Some w) → 1 ≤ length (objects_of w)
       → GivesUpLast facts a b f v (Some w)

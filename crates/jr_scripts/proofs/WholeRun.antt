@@ -1,11 +1,12 @@
 -- A script of one thread, from the opening state to the last line.
-use Rattle.std.proofs.Common.{◌≡◌, ℕ, false, List, ◌++◌, Result, Ok, refl, sym, ap, subst, ◌∙◌}
+use Rattle.std.proofs.Common.{◌≡◌, ℕ, false, List, [], ◌++◌, Result, Ok, refl, sym, ap, subst, ◌∙◌}
 use Rattle.jr_word.specs.declared.config.Config.{Config}
 use Rattle.jr_word.specs.declared.fault.Fault.{Fault}
 use Rattle.jr_model.specs.declared.summary.Summary.{Summary}
 use Rattle.jr_model.specs.State.{summary}
 use Rattle.jr_model.specs.History.{IsLegal, state}
 use Rattle.jr_model.specs.Frames.{Frames, fresh_frames}
+use Rattle.jr_model.proofs.Agreement.{fresh_agree}
 use Rattle.jr_syntax.specs.declared.command.Command.{Command}
 use Rattle.jr_syntax.specs.declared.thread.ThreadPart.{ThreadPart}
 use Rattle.jr_steps.specs.declared.known.Known.{Known}
@@ -36,7 +37,7 @@ same_view c last k config_is last_is thread_is =
 
 -- no local reference stands at the opening
 pub opening_holds : (c : Config) (last : ℕ) → Holds (fresh_frames c.locals) (unseen c last)
-opening_holds c last p = refl
+opening_holds c last = fresh_agree c.locals 0 [] (λ p. refl)
 
 module _ {S : Type 0} {facts : S → Facts} (fits : AreOf facts) where
   pub is_run : {old new : S} {f g : Frames} (turns last : ℕ) (c : Config) (part : ThreadPart) (lines whole : List ℕ)
@@ -108,13 +109,20 @@ plain_run {P} {G} {old} {new} {f} {g} {commands} turns c part lines whole v made
     let known : (plain_facts made).knows (unseen c 4294967295)
     = (
       opened.nothing,
-      record { config = sym opened.sizes; last = refl; thread = refl; role = sym opened.role_is; legal = tt },
+      record {
+        config = sym opened.sizes;
+        last = refl;
+        thread = refl;
+        role = sym opened.role_is;
+        legal = tt;
+        unused = λ f p. refl;
+      },
     ) in
     let stands = spent.stands_is in
     let Leads : List Command → Result (Unit {0}) Fault → Type 0
     = λ cs r. DoesDeed plain_facts old new f g (running_to_end said_alone turns 3 cs lines) r in
     is_run (λ s k h. h.1) turns 4294967295 c part lines whole v one (ap (λ (s : Standing). s.config) stands
     ∙ opened.sizes) refl refl (ap (λ (s : Standing). s.fresh) stands) (spent.hint_is ∙ opened.hint_is)
-    ((spent.same (unseen c 4294967295)).0 known) (fresh ∙ ap (λ d. fresh_frames d.locals) opened.sizes)
+    ((spent.same (unseen c 4294967295)).0 known).0 (fresh ∙ ap (λ d. fresh_frames d.locals) opened.sizes)
     (subst (λ cs. Leads cs (Ok tt)) these (subst (Leads commands) good ran)) (λ k h. tells k
     (among_of (sight_of_words new.cells.config 4294967295 new.cells.words.items) new.role new.fresh k h)) whole_is

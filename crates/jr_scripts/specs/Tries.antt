@@ -21,10 +21,10 @@ abbrev pub CalledInTurns : {F E T : Type 0} → Mut F (MutBor E × Unit {0}) (Re
     → F × E → Result T Fault → F × E → Type 0
 CalledInTurns g turns = Tried (λ old answer new. CalledAtMut g old.0 old.1 answer new.0 new.1) turns
 
--- the patience for so many turns: a turn, and as many tries more as there are turns behind it;
--- and where there is none the turns ran out
+-- the patience for so many turns: a turn, and as many tries more as there are turns behind it,
+-- none for want of room, and no yield between them; and where there is no turn the turns ran out
 abbrev pub IsPatienceFor : ℕ → Result Patience Fault → Type 0
-IsPatienceFor turns (Ok p) = (turns ≡ suc p.more) × (p.waits_for_room ≡ false)
+IsPatienceFor turns (Ok p) = (turns ≡ suc p.more) × (p.waits_for_room ≡ false) × (p.yields ≡ false)
 IsPatienceFor turns (Err e) = (turns ≡ 0) × (e ≡ fault.Turns)
 
 -- the refusal of a call that is made no more: the turns ran out where it would be made again

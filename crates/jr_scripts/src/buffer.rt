@@ -9,7 +9,6 @@ use jr_word::Fault;
 use std::marker::Model;
 
 /// Copied elements of an array of numbers.
-#[derive(Drop)]
 pub enum CopiedElements {
     /// Booleans.
     Boolean(Elements<bool>),
@@ -25,11 +24,16 @@ pub enum CopiedElements {
     Long(Elements<i64>),
 }
 
-/// Copied elements. A contract sees their kind and their words.
-#[derive(Drop)]
+/// Copied elements. A contract sees their kind and their words. They may be let go, and are discarded then: a script loses a buffer where it sets its name anew, and at its thread's end.
 pub struct Buffer {
     /// The elements.
     pub elements: CopiedElements,
+}
+
+impl Drop for Buffer {
+    fn drop(self) {
+        self.into_elements().discard();
+    }
 }
 
 impl Model for Buffer {
@@ -59,6 +63,18 @@ fn put_at<E: Number>(elements: &mut Elements<E>, index: u32, number: i64) -> Res
 }
 
 impl CopiedElements {
+    /// Gives the elements up, and writes nothing back.
+    fn discard(self) {
+        match self {
+            CopiedElements::Boolean(elements) => elements.discard(),
+            CopiedElements::Byte(elements) => elements.discard(),
+            CopiedElements::Char(elements) => elements.discard(),
+            CopiedElements::Short(elements) => elements.discard(),
+            CopiedElements::Int(elements) => elements.discard(),
+            CopiedElements::Long(elements) => elements.discard(),
+        }
+    }
+
     /// Makes a number the element at an index.
     fn put(&mut self, index: u32, number: i64) -> Result<(), Fault>
         ensures ok { OnOk result (with_number (copied_in self.old) index number ≡ Ok (copied_in self.new)) }
@@ -76,6 +92,14 @@ impl CopiedElements {
 }
 
 impl Buffer {
+    /// The elements, which can't be let go.
+    pub(crate) fn into_elements(self) -> CopiedElements
+        ensures { copied_in result ≡ self }
+    {
+        let Buffer { elements } = self;
+        elements
+    }
+
     /// The number at an index.
     ///
     /// # Errors

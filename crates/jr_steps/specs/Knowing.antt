@@ -17,7 +17,7 @@ use Rattle.jr_model.specs.declared.event.Found.{Found}
 use Rattle.jr_model.specs.State.{Handle, State, Contents, IsPresent, IsOccupied, IsClosed, IsWord, AreWords}
 use Rattle.jr_model.specs.History.{History, by, state, IsLegal, mine, PassView, role_of, role_from}
 use Rattle.jr_model.specs.Refusals.{Sometime}
-use Rattle.jr_model.specs.Frames.{Frames, Agree}
+use Rattle.jr_model.specs.Frames.{Frames, Agree, stored_at}
 use Rattle.jr_steps.specs.declared.known.Known.{Known}
 use Rattle.jr_word.specs.declared.header.HeaderParts.{HeaderParts}
 use Rattle.jr_word.specs.declared.kind.Kind.{Kind}
@@ -69,13 +69,18 @@ standing_after s acts = record {
   fresh = fresh_from s.fresh acts;
 }
 
--- what is known is of this room and thread, and its history is legal
+-- the thread never stored a local reference
+abbrev pub HasStoredNone : Known → Type 0
+HasStoredNone k = (p : ℕ) → stored_at p (mine k.seen k.thread) ≡ 0
+
+-- what is known is of this room and thread, its history is legal, and in it a fresh pass has stored no local reference
 pub record IsOf (s : Standing) (k : Known) : Type 0 where
   pub config : k.config ≡ s.config
   pub last : k.last ≡ s.last
   pub thread : k.thread ≡ s.thread
   pub role : role_of (view k) ≡ s.role
   pub legal : IsLegal k.config k.last k.seen
+  pub unused : s.fresh ≡ true → HasStoredNone k
 
 -- WHAT A STEP makes of what was known: what others did in between, and then the acts of the step, one or none;
 -- and it is one step more
@@ -244,13 +249,9 @@ abbrev pub LostClaim : ℕ → Result (Unit {0}) SlotParts → Known → Known �
 LostClaim i (Ok _) k k' = Unit {0}
 LostClaim i (Err found) k k' = Sometime (λ s. IsOccupied k.last s i) k.seen k'.seen × ShowsSlot i found k'
 
--- the thread has no local reference
-abbrev pub HasNoLocals : Known → Type 0
-HasNoLocals k = (p : ℕ) → (state_of k).locals k.thread p ≡ None
-
--- the frames are those of the thread's locals
+-- the frames agree with what was seen
 abbrev pub Holds : Frames → Known → Type 0
-Holds f k = Agree k.thread f (state_of k)
+Holds f k = Agree k.thread f k.seen
 
 -- the thread itself did all that was seen
 abbrev pub DidAll : Known → Type 0
@@ -307,11 +308,13 @@ module _ {S : Type 0} (facts : S → Facts) where
   abbrev pub Saw : S → S → (Known → Type 0) → (Known → Known → Type 0) → Type 0
   Saw old new met shows = Went old new (facts old).stands met Sees shows
 
-  -- the pass is not fresh any more, and nothing else changed
+  -- the pass is not fresh any more, and nothing else changed: what was known is that of
+  -- what is known in which the thread has stored no local reference, if the pass was fresh
   pub record Spent (old new : S) : Type 0 where
     pub stands_is : (facts new).stands ≡ record ((facts old).stands) { fresh = false }
     pub hint_is : (facts new).hint ≡ (facts old).hint
-    pub same : (k : Known) → (facts old).knows k ↔ (facts new).knows k
+    pub same : (k : Known)
+        → (facts old).knows k ↔ (facts new).knows k × ((facts old).stands.fresh ≡ true → HasStoredNone k)
 
   -- the next search for a free slot begins at this index, and nothing else changed
   pub record Hinted (old new : S) (index : ℕ) : Type 0 where

@@ -9,7 +9,7 @@ ghost use Rattle.jr_model.specs.declared.event.GateAct.TheVariants.{Cancel, Reop
 ghost use Rattle.jr_steps.specs.Collecting.{ShowsLocal, ShowsElement, IsThere, CanWipe, CanDrop, ShowsDropped, CanMove, ShowsMoved, placed, CanPlace, ShowsPlaced, CanSettle};
 ghost use Rattle.jr_model.specs.declared.event.Role.TheVariants.{Outside, Within, Knocking, Announcing, Collecting};
 ghost use Rattle.jr_steps.specs.Acts.{act_of_entry, act_of_exit, act_of_bar, act_of_announcement, act_of_gate_load, GateLoadFits, act_of_slot_load, SlotLoadFits, act_of_claim, act_of_free, act_of_put, acts_of_publication, acts_of_top_load, act_of_reservation, found_of, handle_of};
-ghost use Rattle.jr_steps.specs.Knowing.{anything, DidAll, KnowsHeader, HasWord, IsWordNow, IsFilled, words_for, ShowsHeader, ShowsPublished, ShowsUsed, WasUsed, ShowsRange, ShowsWord, TookWith, HasObject, HasOptional, HasLooked, HasNoLocals, CanReopen, ShowsAnnounced, ShowsBarred, IsFreeSlot, ShowsGate, ShowsSlot, LostClaim, MayKnow, SawPart, Took, Spent, Hinted, keeps, lets_go};
+ghost use Rattle.jr_steps.specs.Knowing.{anything, DidAll, KnowsHeader, HasWord, IsWordNow, IsFilled, words_for, ShowsHeader, ShowsPublished, ShowsUsed, WasUsed, ShowsRange, ShowsWord, TookWith, HasObject, HasOptional, HasLooked, CanReopen, ShowsAnnounced, ShowsBarred, IsFreeSlot, ShowsGate, ShowsSlot, LostClaim, MayKnow, SawPart, Took, Spent, Hinted, keeps, lets_go};
 
 use crate::loads::{GateLoad, SlotLoad, TopLoad};
 use jr_model::Role;
@@ -261,16 +261,13 @@ pub trait Steps {
         requires can { MayKnow facts self.old (CanSettle used) }
         ensures { Took facts self.old self.new (Settle used ∷ []) (CanSettle used) keeps };
 
-    /// What is known is legal, and of this thread.
+    /// What is known is legal, of this thread, and of a fresh pass that it has stored no local reference.
     ghost fits: { (s : Self) (k : Known) → (facts s).knows k → IsOf (facts s).stands k };
 
     /// Over plain words the thread itself did all that it has seen: nobody else does anything there, whatever steps and calls it makes.
     ghost lone: { (s : Self) (k : Known) → (facts s).stands.room ≡ None → (facts s).knows k → DidAll k };
 
     ghost some_known: { (s : Self) → MayKnow facts s anything };
-
-    /// A fresh pass has no local reference.
-    ghost unused: { (s : Self) (k : Known) → (facts s).stands.fresh ≡ true → (facts s).knows k → HasNoLocals k };
 
     /// What the pass holds lies in the space.
     ghost in_space: { (s : Self) (k : Known) → (facts s).knows k → InSpace k.config k.holdings };

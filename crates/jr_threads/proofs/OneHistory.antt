@@ -13,6 +13,7 @@ use Rattle.jr_model.specs.declared.summary.Summary.{Summary}
 use Rattle.jr_model.specs.State.{not_outside, summary}
 use Rattle.jr_model.specs.History.{History, Did, IsLegal, mine, state}
 use Rattle.jr_model.specs.Frames.{fresh_frames}
+use Rattle.jr_model.proofs.Agreement.{fresh_agree}
 use Rattle.jr_model.proofs.Moments.{prefix_trans}
 use Rattle.jr_steps.specs.declared.known.Known.{Known}
 use Rattle.jr_steps.specs.Holdings.{empty}
@@ -24,24 +25,12 @@ use Rattle.jr_rule.specs.declared.row.Row.{Row}
 use Rattle.jr_rule.specs.Rule.{known, stepping_pass}
 use Rattle.jr_rule.specs.Passes.{Holder, facts_of, holder_of, known_of, numbers_below}
 use Rattle.jr_rule.specs.Passes.{standing_of, AreOpened, ClosesAll, EndsAll, IsOpened, IsSeenIn}
+use Rattle.jr_rule.proofs.PassOver.{opened_knows}
 use Rattle.jr_env.specs.Deeds.{Deed, DoesDeed}
 use Rattle.jr_threads.specs.declared.native.Ended.{Ended}
 use Rattle.jr_threads.specs.Parts.{closing, start_moment, DidWithPass, IsThreadPart, RanTogether, ComesOfDeed}
 use Rattle.jr_threads.specs.Sites.{answers_in, passes_in, ThreadRan, ThreadsRan, IsBack}
 use Rattle.jr_threads.proofs.Passes.{numbers_long, passes_long}
-
--- a pass that was opened knows what it shows
-opened_knows : (r : Row) (p : Pass) → IsOpened r p → (facts_of (holder_of p)).knows (known_of p)
-opened_knows r p o = (
-  refl,
-  record {
-    config = refl;
-    last = refl;
-    thread = refl;
-    role = p.held.role_is;
-    legal = subst (λ (k : Known). IsLegal k.config k.last k.seen) (sym o.knows) tt;
-  },
-)
 
 -- what a thread did since its pass was opened
 pub since : {A : Type 0} (deed : Deed A) (r : Row) (p : Pass) (now : Holder) (x : A) → IsOpened r p
@@ -56,8 +45,8 @@ since deed r p now x o h =
     let spent : (facts_of h.spent).stands ≡ record (standing_of p) { fresh = false } = (h.spends).stands_is in
     let did : DoesDeed facts_of h.spent now (fresh_frames r.config.locals) h.frames deed (Ok x) =
     subst (λ f. DoesDeed facts_of h.spent now f h.frames deed (Ok x)) fresh h.did in
-    let holds0 : Holds (fresh_frames r.config.locals) k0 = λ place. refl in
-    let y = did.did (known_of p) (((h.spends).same (known_of p)).0 (opened_knows r p o))
+    let holds0 : Holds (fresh_frames r.config.locals) k0 = fresh_agree r.config.locals t [] (λ place. refl) in
+    let y = did.did (known_of p) (((h.spends).same (known_of p)).0 (opened_knows r p o)).0
     (subst (Holds (fresh_frames r.config.locals)) (sym knows0) holds0) in
     let is : y.0 ≡ known_now = y.1.0 in
     let s = did.stands_is in

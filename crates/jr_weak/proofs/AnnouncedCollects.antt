@@ -24,11 +24,11 @@ use Rattle.jr_steps.proofs.StepFacts.{goes_did, goes_stepped}
 use Rattle.jr_gate.specs.Acting.{ActedTo}
 use Rattle.jr_gate.specs.Announcing.{AnnouncesInTwo, WasNotAnnounced}
 use Rattle.jr_compact.specs.Counting.{TakesWithin}
-use Rattle.jr_weak.specs.Counting.{collection_steps}
+use Rattle.jr_weak.specs.Counting.{collection_steps, sweeping_steps}
 use Rattle.jr_weak.specs.Collecting.{CollectsFrom, Finishes, GivesUp, MakesAnnouncedCollection, WentAnnounced}
 use Rattle.jr_weak.specs.Collecting.{closed_at_look, shut_acts}
 use Rattle.jr_weak.specs.Collecting.{closed_at_exchange, moved_at_exchange, taken_back}
-use Rattle.jr_weak.specs.Waiting.{CancelsAfter, ShutsAfter, ShutsAnnounced}
+use Rattle.jr_weak.specs.Waiting.{CancelsAfter, ShutsActByAct, ShutsAfter, ShutsAnnounced}
 use Rattle.jr_weak.proofs.Collects.{collects_since, within_since}
 use Rattle.jr_weak.proofs.Tries.{one_more}
 
@@ -213,7 +213,69 @@ does_announced facts {a} acts most does rest outside cancels reopens since sh th
           );
     }
 
+-- one operation for each act up to the shut, and the shut
+shut_takes : (refused : List ℕ) (j k l m : Known) → Takes 2 j k → Takes (length refused) k l → Takes 1 l m
+    → Takes (length (announcing_acts refused) + 1) j m
+shut_takes refused j k l m a b one = let until = announcing_takes refused j k l a b in omega (arith, until, one)
+
+-- what comes behind the shut takes no more operations than these, and opens the gate by its last act
+abbrev pub EndsWithin : (Config → ℕ) → Known → Known → Type 0
+EndsWithin most j k =
+    ((acts : List Act) × Did (view j) (view k) (acts ++ Gate Reopen ∷ [])) × TakesWithin (most j.config) j k
+
+-- UP TO THE SHUT EACH OPERATION IS AN ACT, whatever is done behind it
+pub act_by_act : {S : Type 0} (facts : S → Facts) {a d z : S} {tries : ℕ} (most : Config → ℕ)
+    (rest : Known → Known → Type 0) → ((j k : Known) → rest j k → EndsWithin most j k) → ShutsAnnounced facts a d tries
+    → Went facts d z (standing_after (facts d).stands (Gate Reopen ∷ [])) CanReopen rest lets_go
+    → ShutsActByAct facts a z tries most
+act_by_act facts {d = d} most rest ends sh then' =
+    let refused = sh.after.refused in
+    record {
+      refused = refused;
+      few = sh.after.few;
+      shutting = d;
+      shut = record {
+        stands_is = sh.after.shut.stands_is ∙ ap (λ s. standing_after s (Gate Shut ∷ []))
+            (sh.after.waited.went.stands_is ∙ sh.announced.stands_is);
+        hint_is = sh.after.shut.hint_is ∙ (sh.after.waited.went.hint_is ∙ sh.announced.hint_is);
+        leads = λ k s m.
+            let kb = sh.announced.leads k s tt in
+            let kc = sh.after.waited.went.leads kb.0 kb.1 tt in
+            let kd = sh.after.shut.goes kc.0 kc.1 tt in
+            let waiting : Did (view k) (view kc.0) (announcing_acts refused) =
+            did_then (Meet ∷ Gate Announce ∷ []) (map ShutBusy refused) kb.2 kc.2 in (
+              kd.0,
+              kd.1,
+              did_then (announcing_acts refused) (Gate Shut ∷ []) waiting (goes_did kd.2),
+              (
+                (kd.3.0, ap (λ (g : Holdings). g.moving) kd.3.1),
+                shut_takes refused k kb.0 kc.0 kd.0 kb.3.0.0.1 kc.3.1 (kd.2).taken,
+              ),
+            );
+      };
+      rest = record {
+        stands_is = then'.stands_is;
+        hint_is = then'.hint_is;
+        leads = λ k s can.
+            let y = then'.leads k s can in
+            let e = ends k y.0 y.2 in
+            (y.0, y.1, e.0, e.1);
+      };
+    }
+
 -- A COLLECTION
+pub collects_act_by_act : {S : Type 0} (facts : S → Facts) {a d z : S} {tries cleared_count dropped_count used : ℕ}
+    → ShutsAnnounced facts a d tries → Finishes facts d z cleared_count dropped_count used
+    → ShutsActByAct facts a z tries (λ c. sweeping_steps c + 1)
+collects_act_by_act facts {used = used} sh rest =
+    act_by_act facts (λ c. sweeping_steps c + 1) (λ j k. CollectsFrom j k rest.cleared rest.dropped used) (λ j k from. (
+      (
+        sweeping_acts rest.cleared rest.dropped used,
+        did_then (sweeping_acts rest.cleared rest.dropped used) (Gate Reopen ∷ []) from.swept (goes_did from.opened),
+      ),
+      from.taken,
+    )) sh rest.went
+
 collected_for : (cleared : List Handle) (dropped : List ℕ) (used : ℕ) (k k1 k' : Known) → Goes k (Gate Shut ∷ []) k1
     → CollectsFrom k1 k' cleared dropped used
     → ShutFor (sweeping_acts cleared dropped used) (collection_steps k.config)

@@ -1,5 +1,5 @@
 //! A whole collection.
-ghost use Rattle.std.specs.Prelude.{◌≡◌, ◌≤◌, ℕ, [], ◌∷◌, IsOk, IfOk, IfErr, OnErr};
+ghost use Rattle.std.specs.Prelude.{◌≡◌, ◌≤◌, ◌+◌, ℕ, [], ◌∷◌, IsOk, IfOk, IfErr, OnErr};
 ghost use Rattle.jr_word.specs.declared.fault.Fault.TheVariants.{Busy};
 ghost use Rattle.jr_model.specs.declared.event.Role.TheVariants.{Outside};
 ghost use Rattle.jr_model.specs.declared.event.Act.TheVariants.{ShutBusy};
@@ -7,6 +7,8 @@ ghost use Rattle.jr_steps.specs.Knowing.{anything, keeps, CanReopen, IsLone, May
 ghost use Rattle.jr_gate.specs.Stays.{IsOwnCollection};
 ghost use Rattle.jr_weak.specs.Markers.{room_of};
 ghost use Rattle.jr_weak.specs.Collecting.{Finishes, GivesUp, MakesAnnouncedCollection, MakesCollection};
+ghost use Rattle.jr_weak.specs.Counting.{sweeping_steps};
+ghost use Rattle.jr_weak.specs.Waiting.{ShutsActByAct};
 
 use crate::marker::Marker;
 use crate::waiting::shut_announced;
@@ -70,6 +72,7 @@ pub fn collect_announced<S: Steps>(
     requires tries { 1 ≤ tries }
     ensures room { room_of marker.new ≡ room_of marker.old }
     ensures ok { IfOk result (λ c. MakesAnnouncedCollection S.facts steps.old steps.new tries c.cleared c.dropped c.used) }
+    ensures counted { IfOk result (λ _. ShutsActByAct S.facts steps.old steps.new tries (λ c. sweeping_steps c + 1)) }
     ensures err { IfErr result (λ e. GivesUp S.facts steps.old steps.new tries e) }
     ensures kept { OnErr result (marker.new ≡ marker.old) }
     ensures alone { IsLone (S.facts steps.old).stands → IsOk result }

@@ -75,7 +75,7 @@ pub extern "C" fn luthrady_set_long_array_region(
 ///
 /// # Errors
 ///
-/// E21 where the thread was detached; else those of the same call of `Env`. The slice is as it was then.
+/// E21 where the thread was detached; else those of the same call of `Env`.
 #[unsafe(no_mangle)]
 pub extern "C" fn luthrady_get_byte_array_region(
     env: &mut EnvHandle,
@@ -92,7 +92,7 @@ pub extern "C" fn luthrady_get_byte_array_region(
 ///
 /// # Errors
 ///
-/// E21 where the thread was detached; else those of the same call of `Env`. The slice is as it was then.
+/// E21 where the thread was detached; else those of the same call of `Env`.
 #[unsafe(no_mangle)]
 pub extern "C" fn luthrady_get_int_array_region(
     env: &mut EnvHandle,
@@ -109,7 +109,7 @@ pub extern "C" fn luthrady_get_int_array_region(
 ///
 /// # Errors
 ///
-/// E21 where the thread was detached; else those of the same call of `Env`. The slice is as it was then.
+/// E21 where the thread was detached; else those of the same call of `Env`.
 #[unsafe(no_mangle)]
 pub extern "C" fn luthrady_get_long_array_region(
     env: &mut EnvHandle,

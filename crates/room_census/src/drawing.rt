@@ -1,5 +1,6 @@
 //! A dump as a drawing for Graphviz.
 use crate::dump::Dump;
+use jr_census::kind_name;
 use jr_word::{Handle, HandleParts, HeaderParts, Kind, LocalParts, RefKind, SlotParts};
 use std::io;
 use std::io::Write;
@@ -111,7 +112,7 @@ fn draw_object<W: Write>(
     header: HeaderParts,
     is_reached: bool,
 ) -> io::Result<()> {
-    let (kind, length) = (name_of(header.kind), header.length);
+    let (kind, length) = (kind_name(header.kind), header.length);
     let grey = if is_reached {
         ""
     } else {
@@ -143,19 +144,4 @@ fn draw_elements<W: Write>(
         }
     }
     Ok(())
-}
-
-/// A kind by its name.
-fn name_of(kind: Kind) -> &'static str {
-    match kind {
-        Kind::Plain => "plain",
-        Kind::Boolean => "boolean[]",
-        Kind::Byte => "byte[]",
-        Kind::Char => "char[]",
-        Kind::Short => "short[]",
-        Kind::Int => "int[]",
-        Kind::Long => "long[]",
-        Kind::Objects => "Object[]",
-        Kind::Text => "String",
-    }
 }

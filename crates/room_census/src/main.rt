@@ -7,7 +7,7 @@ mod leak;
 
 use crate::drawing::draw;
 use crate::dump::Dump;
-use crate::leak::leak;
+use crate::leak::{keep_some, leak};
 use jr_env::Env;
 use jr_rule::{Room, RoomSteps, Steps};
 use jr_word::{Config, Fault, LAST_SERIAL};
@@ -18,9 +18,9 @@ use thiserror::Error;
 
 /// The sizes of the room.
 const SIZES: Config = Config {
-    threads: 1,
+    threads: 2,
     slots: 8,
-    objects: 5,
+    objects: 11,
     words: 64,
     locals: 16,
 };
@@ -40,10 +40,12 @@ fn main(rt: HostRuntime) -> Result<(), Trouble> {
     tell(rt.alloc(), &mut io::writer(&rt))
 }
 
-/// Makes a room, leaks in it, and tells what stands.
+/// Makes a room of two threads, of which one keeps some objects and the other leaks, and tells what stands.
 fn tell<W: Write + Drop>(alloc: Global, out: &mut W) -> Result<(), Trouble> {
     let (room, mut passes) = Room::<LAST_SERIAL>::open(alloc, SIZES)?;
-    let pass = passes.remove(0);
+    let (other, pass) = (passes.remove(1), passes.remove(0));
+    let mut keeper = Env::new(RoomSteps::new(&room, other)).map_err(|refused| refused.1)?;
+    keep_some(&mut keeper)?;
     let mut env = Env::new(RoomSteps::new(&room, pass)).map_err(|refused| refused.1)?;
     tell_by(alloc, &mut env, out)
 }
@@ -54,8 +56,8 @@ fn tell_by<S: Steps, W: Write>(
     env: &mut Env<S>,
     out: &mut W,
 ) -> Result<(), Trouble> {
-    leak(env)?;
     let mut marker = env.marker(alloc)?;
+    leak(env, &mut marker)?;
     let census = env.census(&mut marker)?;
     writeln!(out, "{census}")?;
     let dump = Dump::of(alloc, env)?;

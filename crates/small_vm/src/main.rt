@@ -93,14 +93,20 @@ fn print_done<R: Print>(rt: &R, done: Done) -> io::Result<()> {
         Done::Loaded(units) => {
             println!(rt; "the loader named {SYMBOLS} symbols, by {units} units")
         }
-        Done::Worked(found) => {
-            let (units, sum) = (found.units, found.sum);
-            println!(rt; "the worker read {units} units\nthe sum of its numbers is {sum}")
-        }
+        Done::Worked(found) => print_totals(rt, found),
         Done::Collected(cleared) => {
             print_count(rt, "weak references of the cache that are cleared", cleared)
         }
     }
+}
+
+/// Prints what the worker read.
+fn print_totals<R: Print>(rt: &R, found: Totals) -> io::Result<()> {
+    let (entries, units, numbers) = (found.entries, found.units, found.numbers);
+    println!(rt; "the worker read {entries} entries, {units} units and {numbers} numbers")?;
+    print_count(rt, "the hash of the list of names", found.hash)?;
+    let (first, last) = (found.first, found.last);
+    println!(rt; "the sum of the first two numbers of each is {first}, and of the last two {last}")
 }
 
 /// Prints what stood as the room was closed.

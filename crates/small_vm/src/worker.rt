@@ -3,7 +3,8 @@
 use crate::symbol_table::SymbolTable;
 use crate::{PATIENCE, SYMBOLS};
 use jr::calls::{
-    DeleteGlobalRef, FreeLocals, GetObjectArrayElement, GetStringChars, NewWeakGlobalRef,
+    DeleteGlobalRef, FreeLocals, GetArrayLength, GetObjectArrayElement, GetStringChars,
+    NewWeakGlobalRef,
 };
 use jr::{Env, Fault, Handle, NativeCall, Steps, with_local_frame};
 use std::alloc::Global;
@@ -11,10 +12,42 @@ use std::alloc::Global;
 /// What the worker read.
 #[derive(Clone, Copy)]
 pub(crate) struct Totals {
-    /// How many units of names.
+    /// How many entries the symbols have.
+    pub(crate) entries: u32,
+    /// How many units their names have.
     pub(crate) units: usize,
-    /// The sum of the numbers.
-    pub(crate) sum: i64,
+    /// How many numbers they have.
+    pub(crate) numbers: u32,
+    /// The hash of the list of the names, as Java has it.
+    pub(crate) hash: u32,
+    /// The sum of the first two numbers of each.
+    pub(crate) first: i64,
+    /// The sum of the last two numbers of each.
+    pub(crate) last: i64,
+}
+
+impl Totals {
+    /// Nothing yet.
+    const NONE: Totals = Totals {
+        entries: 0,
+        units: 0,
+        numbers: 0,
+        hash: 1,
+        first: 0,
+        last: 0,
+    };
+
+    /// These, and what a symbol behind them has.
+    fn with(self, one: Totals) -> Totals {
+        Totals {
+            entries: self.entries.wrapping_add(one.entries),
+            units: self.units.wrapping_add(one.units),
+            numbers: self.numbers.wrapping_add(one.numbers),
+            hash: self.hash.wrapping_mul(31).wrapping_add(one.hash),
+            first: self.first.wrapping_add(one.first),
+            last: self.last.wrapping_add(one.last),
+        }
+    }
 }
 
 /// Works through all symbols.
@@ -36,16 +69,14 @@ fn work_all<S: Steps>(
     env: &mut Env<S>,
     table: &SymbolTable,
 ) -> Result<Totals, Fault> {
-    let mut found = Totals { units: 0, sum: 0 };
+    let mut found = Totals::NONE;
     for symbol in 0..SYMBOLS {
         let shared = table.wait(symbol)?;
         let worked = with_local_frame(env, 8, PATIENCE, |env| {
             work(alloc, env, table, symbol, shared)
         })
         .map_err(|unscoped| unscoped.fault())?;
-        let one = worked?;
-        found.units = found.units.wrapping_add(one.units);
-        found.sum = found.sum.wrapping_add(one.sum);
+        found = found.with(worked?);
         env.retry(DeleteGlobalRef(shared), PATIENCE)?;
     }
     Ok(found)
@@ -62,19 +93,32 @@ fn work<S: Steps>(
     let string = made(env, GetObjectArrayElement(shared, 0))?;
     let numbers = made(env, GetObjectArrayElement(shared, 1))?;
     let units = env.retry(GetStringChars { alloc, string }, PATIENCE)?;
-    let sum = added(env, numbers)?;
-    table.keep(symbol, made(env, NewWeakGlobalRef(numbers))?);
-    Ok(Totals {
+    let found = Totals {
+        entries: env.retry(GetArrayLength(shared), PATIENCE)?,
         units: units.len(),
-        sum,
-    })
+        numbers: env.retry(GetArrayLength(numbers), PATIENCE)?,
+        hash: hash_of(&units),
+        first: added(env, numbers, [0, 1])?,
+        last: added(env, numbers, [2, 3])?,
+    };
+    table.keep(symbol, made(env, NewWeakGlobalRef(numbers))?);
+    Ok(found)
 }
 
-/// The sum of an array's first numbers, in a critical region.
-fn added<S: Steps>(env: &mut Env<S>, numbers: Handle) -> Result<i64, Fault> {
+/// The hash of a name, as Java's `String.hashCode` has it.
+fn hash_of(name: &[u16]) -> u32 {
+    let mut hash = 0u32;
+    for unit in name {
+        hash = hash.wrapping_mul(31).wrapping_add(u32::from(*unit));
+    }
+    hash
+}
+
+/// The sum of two of an array's numbers, in a critical region.
+fn added<S: Steps>(env: &mut Env<S>, numbers: Handle, at: [u32; 2]) -> Result<i64, Fault> {
     let mut region = env.retry_array_critical(numbers, PATIENCE)?;
-    let first = region.get::<i32>(0, 0);
-    let second = region.get::<i32>(0, 1);
+    let first = region.get::<i32>(0, at[0]);
+    let second = region.get::<i32>(0, at[1]);
     region.release_all();
     Ok(i64::from(first?).wrapping_add(i64::from(second?)))
 }

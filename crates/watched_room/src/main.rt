@@ -8,14 +8,17 @@ mod native;
 use crate::counts::Counts;
 use crate::lines::Lines;
 use crate::native::native_code;
-use jr::{Checked, Config, Env, Fault, LAST_SERIAL, Patience, Room, RoomSteps, Steps};
+use jr::{
+    Checked, Config, Env, Fault, Handle, LAST_SERIAL, NativeInterface, Patience, Room, RoomSteps,
+    Steps,
+};
 use std::io;
-use std::io::Write;
+use std::io::{Cursor, Write};
 use thiserror::Error;
 
 /// The sizes of the room.
 const SIZES: Config = Config {
-    threads: 1,
+    threads: 2,
     slots: 8,
     objects: 8,
     words: 64,
@@ -36,30 +39,50 @@ pub enum Trouble {
 fn main(rt: HostRuntime) -> Result<(), Trouble> {
     let alloc = rt.alloc();
     let (room, mut passes) = Room::<LAST_SERIAL>::open(alloc, SIZES)?;
-    let pass = passes.remove(0);
+    let (pass, other) = (passes.remove(1), passes.remove(0));
+    let mut owner = Env::new(RoomSteps::new(&room, other)).map_err(|refused| refused.1)?;
+    let foreign = owner.new_plain()?;
     let mut env = Env::new(RoomSteps::new(&room, pass)).map_err(|refused| refused.1)?;
-    write_lines(&mut env, io::writer(&rt))?;
-    write_counts(&mut env, &mut io::writer(&rt))?;
+    write_lines(&mut env, foreign, io::writer(&rt))?;
+    write_counts(&mut env, foreign, &mut io::writer(&rt))?;
+    let is_told = tells_of_no_room(&mut env, foreign);
+    println!(rt; "it is told that a line has no room in 64 bytes: {is_told}")?;
     Ok(())
 }
 
 /// Lets native code call an env, and writes each refusal at once.
-fn write_lines<S: Steps, W: Write + Drop>(env: &mut Env<S>, out: W) -> Result<(), Trouble> {
+fn write_lines<S: Steps, W: Write + Drop>(
+    env: &mut Env<S>,
+    foreign: Handle,
+    out: W,
+) -> Result<(), Trouble> {
     let mut checked = Checked::new(env, Lines::to(out));
-    native_code(&mut checked)?;
+    native_code(&mut checked, foreign)?;
     let (_env, lines) = checked.into_parts();
     lines.end()?;
     Ok(())
 }
 
 /// Lets native code make the same calls in one stay, and writes how often each was refused.
-fn write_counts<S: Steps, W: Write>(env: &mut Env<S>, out: &mut W) -> Result<(), Trouble> {
+fn write_counts<S: Steps, W: Write>(
+    env: &mut Env<S>,
+    foreign: Handle,
+    out: &mut W,
+) -> Result<(), Trouble> {
     let mut stay = env.retry_stay(Patience::LONG)?;
     let mut checked = Checked::new(&mut stay, Counts::none());
-    let called = native_code(&mut checked);
+    let called = native_code(&mut checked, foreign);
     let (_stay, counts) = checked.into_parts();
     stay.end();
     called?;
     counts.write(out)?;
     Ok(())
+}
+
+/// Whether a watcher tells that it could not write, where its writer has no room for a line.
+fn tells_of_no_room<S: Steps>(env: &mut Env<S>, foreign: Handle) -> bool {
+    match write_lines(env, foreign, Cursor::new([0u8; 64])) {
+        Err(Trouble::Output(_)) => true,
+        _ => false,
+    }
 }

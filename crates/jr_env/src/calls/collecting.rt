@@ -7,11 +7,12 @@ use jr_word::Fault;
 use std::alloc::Global;
 
 impl<S: Steps> Env<S> {
-    ghost use Rattle.std.specs.Prelude.{◌≡◌, ◌↔◌, ◌≤◌, ℕ, Err, IsOk, IfOk, IfErr, OnErr, IsTrue};
+    ghost use Rattle.std.specs.Prelude.{◌≡◌, ◌↔◌, ◌≤◌, ◌+◌, ℕ, Err, IsOk, IfOk, IfErr, OnErr, IsTrue};
     ghost use Rattle.jr_word.specs.declared.fault.Fault.TheVariants.{Busy, Memory, Size};
+    ghost use Rattle.jr_weak.specs.Counting.{sweeping_steps};
     ghost use Rattle.jr_weak.specs.Marks.{IsMarked};
     ghost use Rattle.jr_weak.specs.Markers.{marks_of, room_of};
-    ghost use Rattle.jr_env.specs.Collections.{FitsRoom, IsNoTurn, announced_collection, collection};
+    ghost use Rattle.jr_env.specs.Collections.{CallShutsActByAct, FitsRoom, IsNoTurn, announced_collection, collection};
     ghost use Rattle.jr_env.specs.Envs.{Does};
 
     /// A marker for the collections of the env's room, in which nothing is marked. It takes all the memory that they need, and fits each env of a room with as many objects.
@@ -76,6 +77,7 @@ impl<S: Steps> Env<S> {
     pub fn collect_announced(&mut self, marker: &mut Marker, tries: u32) -> Result<Collected, Fault>
         requires { 1 ≤ tries }
         ensures call { FitsRoom marker.old self.old → Does self.old self.new (announced_collection tries) result }
+        ensures counted { IfOk result (λ _. CallShutsActByAct self.old self.new tries (λ c. sweeping_steps c + 1)) }
         ensures size { (result ≡ Err Size) ↔ ¬ (FitsRoom marker.old self.old) }
         ensures same { ¬ (FitsRoom marker.old self.old) → self.new ≡ self.old }
         ensures room { room_of marker.new ≡ room_of marker.old }

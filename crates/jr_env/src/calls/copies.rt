@@ -45,6 +45,7 @@ impl<S: Steps> Env<S> {
     {
         if !mode.copies_back() {
             outside(&mut self.held);
+            elements.discard();
             return Ok(None);
         }
         let call = CopyBack {
@@ -81,6 +82,7 @@ impl<S: Steps> Env<S> {
     {
         if !mode.copies_back() {
             outside(&mut self.held);
+            elements.discard();
             return Ok(None);
         }
         let call = CopyBack {

@@ -7,10 +7,11 @@ use jr_weak::Marker;
 use jr_word::{Fault, HeaderParts, LocalParts, SlotParts};
 
 impl<S: Steps> Env<S> {
-    ghost use Rattle.std.specs.Prelude.{◌≡◌, ◌↔◌, ◌≤◌, ◌*◌, ℕ, length, Err, IsOk, IfErr, OnErr};
+    ghost use Rattle.std.specs.Prelude.{◌≡◌, ◌↔◌, ◌≤◌, ◌+◌, ◌*◌, ℕ, length, Err, IsOk, IfOk, IfErr, OnErr};
     ghost use Rattle.jr_word.specs.declared.fault.Fault.TheVariants.{Busy, Size};
     ghost use Rattle.jr_weak.specs.Markers.{room_of};
-    ghost use Rattle.jr_env.specs.Collections.{FitsRoom, IsNoTurn};
+    ghost use Rattle.jr_census.specs.Taking.{counting_steps, noting_steps};
+    ghost use Rattle.jr_env.specs.Collections.{CallShutsActByAct, FitsRoom, IsNoTurn};
     ghost use Rattle.jr_env.specs.Censuses.{announced_census, announced_dump, census, dump};
     ghost use Rattle.jr_env.specs.Envs.{Does};
 
@@ -56,6 +57,7 @@ impl<S: Steps> Env<S> {
     pub fn census_announced(&mut self, marker: &mut Marker, tries: u32) -> Result<Census, Fault>
         requires { 1 ≤ tries }
         ensures call { FitsRoom marker.old self.old → Does self.old self.new (announced_census tries) result }
+        ensures counted { IfOk result (λ _. CallShutsActByAct self.old self.new tries (λ c. counting_steps c + 1)) }
         ensures size { (result ≡ Err Size) ↔ ¬ (FitsRoom marker.old self.old) }
         ensures same { ¬ (FitsRoom marker.old self.old) → self.new ≡ self.old }
         ensures room { room_of marker.new ≡ room_of marker.old }
@@ -135,6 +137,7 @@ impl<S: Steps> Env<S> {
         requires headers { length headers.old ≡ (S.facts self.old.held.steps).stands.config.objects }
         requires words { length words.old ≡ (S.facts self.old.held.steps).stands.config.words }
         ensures call { Does self.old self.new (announced_dump tries slots.new locals.new headers.new words.new) result }
+        ensures counted { IfOk result (λ _. CallShutsActByAct self.old self.new tries (λ c. noting_steps c + 1)) }
         ensures slots { length slots.new ≡ length slots.old }
         ensures locals { length locals.new ≡ length locals.old }
         ensures headers { length headers.new ≡ length headers.old }

@@ -35,6 +35,7 @@ impl<S: Steps> Stay<'_, S> {
         ensures err { IfErr result (λ refused. refused.0 ≡ elements) }
     {
         if !mode.copies_back() {
+            elements.discard();
             return Ok(None);
         }
         let call = CopyBack {

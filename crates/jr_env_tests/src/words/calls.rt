@@ -6,6 +6,7 @@ use jr_model::Mode;
 use jr_steps::Steps;
 use jr_word::{Fault, Handle, RefKind};
 use std::alloc::{AllocError, Global};
+use std::mem;
 use std::process::Abort;
 
 /// A call that takes a reference.
@@ -115,12 +116,28 @@ pub(crate) const OF_TWO: [Call; 2] = [
 ];
 
 /// What calls are made with beside their words.
-#[derive(Drop)]
 pub(crate) struct Given {
     /// An array, by which a region is opened.
     pub(crate) base: Handle,
     /// Two ints, which were copied in another room.
     pub(crate) ints: Option<Elements<i32>>,
+}
+
+impl Given {
+    /// Keeps these ints in the place of those before, which are discarded.
+    fn keep(&mut self, ints: Option<Elements<i32>>) {
+        if let Some(before) = mem::replace(&mut self.ints, ints) {
+            before.discard();
+        }
+    }
+
+    /// Discards the ints.
+    pub(crate) fn discard(self) {
+        let Given { base: _, ints } = self;
+        if let Some(ints) = ints {
+            ints.discard();
+        }
+    }
 }
 
 /// What they are.
@@ -148,7 +165,7 @@ pub(crate) fn refused_by<S: Steps>(
         Call::Delete(kind) => deletion_refused(env, kind, word),
         Call::Of(call) => reference_refused(env, call, word, other),
         Call::Object(call) => object_refused(env, call, word, other),
-        Call::Copy(OfCopy::Ints) => env.get_array_elements::<i32>(alloc, word).err(),
+        Call::Copy(OfCopy::Ints) => copy_refused(env, alloc, word),
         Call::Copy(OfCopy::Chars) => env.get_string_chars(alloc, word).err(),
         Call::Copy(OfCopy::Release(mode)) => release_refused(rt, alloc, env, given, word, mode),
         Call::Critical(call) => region_refused(rt, env, call, given.base, word),
@@ -210,6 +227,17 @@ fn are_kept(rt: &impl Abort, ints: &Elements<i32>) {
     assert!(rt; ints.as_slice() == INTS.as_slice());
 }
 
+/// With what a copy of ints is refused. One that is made is discarded.
+fn copy_refused<S: Steps>(env: &mut Env<S>, alloc: Global, word: Handle) -> Option<Fault> {
+    match env.get_array_elements::<i32>(alloc, word) {
+        Ok(copy) => {
+            copy.discard();
+            None
+        }
+        Err(fault) => Some(fault),
+    }
+}
+
 /// What a release leaves of the elements is kept. Where nothing is left, others like them are given in next.
 fn release_refused<S: Steps>(
     rt: &impl Abort,
@@ -224,12 +252,12 @@ fn release_refused<S: Steps>(
     };
     match env.release_array_elements(word, ints, mode) {
         Ok(left) => {
-            given.ints = left;
+            given.keep(left);
             None
         }
         Err((left, fault)) => {
             are_kept(rt, &left);
-            given.ints = Some(left);
+            given.keep(Some(left));
             Some(fault)
         }
     }

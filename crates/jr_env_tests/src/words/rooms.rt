@@ -414,7 +414,9 @@ fn tries_all<S: Steps + Drop>(
     let mut words = Vec::new(alloc);
     let mut given = given_by_another(alloc, &mut words)?;
     let (env, foreign) = (&mut env, &mut foreign);
-    tries(rt, alloc, env, foreign, &mut given, &mut words, is_full)
+    let tried = tries(rt, alloc, env, foreign, &mut given, &mut words, is_full);
+    given.discard();
+    tried
 }
 
 /// Tries the words in a room, and checks what is left in it.

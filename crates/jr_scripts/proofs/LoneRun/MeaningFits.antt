@@ -16,7 +16,7 @@ use Rattle.jr_model.specs.Maps.{count_below, sum_below}
 use Rattle.jr_model.specs.State.{Handle, Contents, is_there, same_kind}
 use Rattle.jr_model.specs.Steps.{IsInRow}
 use Rattle.jr_model.specs.Checks.{is_local, is_objects}
-use Rattle.jr_model.specs.Frames.{Agree, Frames, AreSound, all_refs, free_places, is_held, object_of}
+use Rattle.jr_model.specs.Frames.{AreTheLocals, Frames, AreSound, all_refs, free_places, is_held, object_of}
 use Rattle.jr_model.specs.Calls.{Call, ◌>>=◌, ◌>>◌, decided, done, entered, refuse, refuse_if}
 use Rattle.jr_model.proofs.Counts.{bit}
 use Rattle.jr_model.proofs.Locals.{IsPast}
@@ -254,7 +254,7 @@ pub record Fits (c : Config) (last k : ℕ) (P : Pairing) (w : World) (m : Momen
   pub objects : ObjectsFit c P.object w.objects m.state.objects
   pub used : m.state.used ≡ w.used
   pub space : w.used ≤ c.words
-  pub agree : Agree 0 m.frames m.state
+  pub agree : AreTheLocals 0 m.frames m.state
 
 pub gone_fits : {c : Config} {last k : ℕ} {P : Pairing} {w : World} (m : Moment) (t : ℕ) (a : GateAct)
     → Fits c last k P w m → Fits c last k P w (gone c last t m a)

@@ -15,7 +15,7 @@ use Rattle.jr_model.specs.declared.frames.LocalRef.{LocalRef}
 use Rattle.jr_model.specs.declared.frames.TheConstants.{FRAMES}
 use Rattle.jr_model.specs.State.{Handle, State, same_handle, same_kind}
 use Rattle.jr_model.specs.Steps.{act_after}
-use Rattle.jr_model.specs.Frames.{Agree, Frames, all_refs, drop_all, frames_before, free_places, is_held, joined}
+use Rattle.jr_model.specs.Frames.{AreTheLocals, Frames, all_refs, drop_all, frames_before, free_places, is_held, joined}
 use Rattle.jr_model.specs.Frames.{last_frame}
 use Rattle.jr_model.specs.Frames.{object_of, object_where, popped, pushed}
 use Rattle.jr_model.specs.History.{by, state_from}
@@ -338,9 +338,9 @@ module _ (c : Config) (last k : ℕ) where
 
     agreed : (m n : Moment) → Fits c last (suc k) P w m
         → n.state ≡ state_from m.state (map (by 0) (drop_all (last_frame m.frames.frames)))
-        → n.frames ≡ popped m.frames → Agree 0 n.frames n.state
-    agreed m n f state_is frames_are = subst (λ g. Agree 0 g n.state) (sym frames_are)
-        (subst (Agree 0 (popped m.frames)) (sym state_is) (λ p. ap (λ (l : ℕ → Option ℕ). l p)
+        → n.frames ≡ popped m.frames → AreTheLocals 0 n.frames n.state
+    agreed m n f state_is frames_are = subst (λ g. AreTheLocals 0 g n.state) (sym frames_are)
+        (subst (AreTheLocals 0 (popped m.frames)) (sym state_is) (λ p. ap (λ (l : ℕ → Option ℕ). l p)
         (places_then m.state (last_frame m.frames.frames))
         ∙ popped_at m.frames f.locals.sound (m.state.locals 0) f.agree p))
 

@@ -212,8 +212,7 @@ fn release_buffer<S: Steps>(
     ensures call { WasDone env.old env.new (answered_by (λ _. replies.Done) (tried turns (release_array_elements buffer.kind array.0 buffer.words mode))) result.answer }
     ensures left { result.left ≡ left_by mode result.answer (Holds buffer) }
 {
-    let Buffer { elements } = buffer;
-    match elements {
+    match buffer.into_elements() {
         CopiedElements::Boolean(elements) => {
             let (left, answer) = release_elements(env, turns, array, elements, mode);
             with_left(left.map(CopiedElements::Boolean), answer)

@@ -6,7 +6,7 @@ use Rattle.jr_env.proofs.copying.with_array_elements.Goals as goal
 pub returns-in-Ok-retry_release-clause-done : goal.returns-in-Ok-retry_release-clause-done
 returns-in-Ok-retry_release-clause-done g c = (
   refill (length c.in-Ok.elements) c.in-Ok.elements c.body-answer.new.arg2,
-  c.in-Ok-retry_release.field-0,
+  c.in-Ok-retry_release.left,
   (
     c.retry.new.self,
     c.in-Ok.elements,
@@ -18,8 +18,8 @@ returns-in-Ok-retry_release-clause-done g c = (
   ),
 )
 
-pub returns-clause-refused : goal.returns-clause-refused
-returns-clause-refused g c =
+pub returns-in-Err-retry_release-clause-refused : goal.returns-in-Err-retry_release-clause-refused
+returns-in-Err-retry_release-clause-refused g c =
     let same = c.in-Err-retry_release.ensures.err in (
       c.retry.new.self,
       c.in-Ok.elements,

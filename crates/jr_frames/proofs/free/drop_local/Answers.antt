@@ -1,3 +1,5 @@
+use Rattle.std.proofs.Common.{ap}
+use Rattle.jr_model.specs.Frames.{Frames}
 use Rattle.jr_frames.proofs.Dropping.{standing_place, drops_one}
 use Rattle.jr_frames.proofs.free.drop_local.Goals as goal
 
@@ -10,3 +12,4 @@ put_local-requires-clause-object g c = g.met.S.Steps.some_known c.args.steps.now
 pub returns-clause-call : goal.returns-clause-call
 returns-clause-call g c =
     drops_one g.met.S.Steps.fits c.args.handle c.requires.ready.role_is c.put_local.ensures c.delete.ensures.only
+    (ap (λ (f : Frames). f.given) c.delete.ensures.deleted)

@@ -5,7 +5,8 @@ use Rattle.jr_frames.proofs.free.free_all.Goals as goal
 
 pub returns-clause-call : goal.returns-clause-call
 returns-clause-call g c =
-    frees g.met.S.Steps.fits c.empty_frames.ensures.call c.empty_frames.ensures.none (c.take_empty_frames.ensures.freed
+    frees g.met.S.Steps.fits c.empty_frames.ensures.call c.empty_frames.ensures.none c.empty_frames.ensures.given
+    (c.take_empty_frames.ensures.freed
     ∙ ap (λ given. record { frames = [] ∷ []; given = given }) c.empty_frames.ensures.given)
 
 pub returns-clause-same : goal.returns-clause-same

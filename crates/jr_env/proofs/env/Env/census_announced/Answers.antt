@@ -1,7 +1,7 @@
-use Rattle.std.proofs.Common.{inr, ap, ◌∙◌}
+use Rattle.std.proofs.Common.{◌+◌, inr, ap, ◌∙◌}
 use Rattle.jr_word.specs.declared.config.Config.{Config}
 use Rattle.jr_census.specs.Taking.{IsCensusOf, counting_steps}
-use Rattle.jr_env.proofs.AnnouncedCollections.{no_turn}
+use Rattle.jr_env.proofs.AnnouncedCollections.{counts_from, no_turn}
 use Rattle.jr_env.proofs.EndedStays.{can_call}
 use Rattle.jr_env.proofs.WholeCensuses.{told_announced}
 use Rattle.jr_env.proofs.env.Env.census_announced.Goals as goal
@@ -39,3 +39,9 @@ returns-clause-refused g c fits =
 pub returns-clause-alone : goal.returns-clause-alone
 returns-clause-alone g c fits one =
     c.take_census_announced.ensures.alone (inr (ap (λ (z : Config). z.threads) c.outside.ensures.config ∙ one))
+
+pub returns-clause-counted : goal.returns-clause-counted
+returns-clause-counted g c =
+    let x = c.take_census_announced in
+    counts_from g.S.Steps.facts x.new.steps c.args.tries (λ k. counting_steps k + 1) x.result
+    c.outside.ensures x.ensures.counted

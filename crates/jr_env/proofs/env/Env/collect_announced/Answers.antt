@@ -1,6 +1,7 @@
-use Rattle.std.proofs.Common.{inr, ap, ◌∙◌}
+use Rattle.std.proofs.Common.{◌+◌, inr, ap, ◌∙◌}
 use Rattle.jr_word.specs.declared.config.Config.{Config}
-use Rattle.jr_env.proofs.AnnouncedCollections.{collected_announced, no_turn}
+use Rattle.jr_weak.specs.Counting.{sweeping_steps}
+use Rattle.jr_env.proofs.AnnouncedCollections.{collected_announced, counts_from, no_turn}
 use Rattle.jr_env.proofs.EndedStays.{can_call}
 use Rattle.jr_env.proofs.env.Env.collect_announced.Goals as goal
 
@@ -34,3 +35,9 @@ returns-clause-refused g c fits =
 pub returns-clause-alone : goal.returns-clause-alone
 returns-clause-alone g c fits one =
     c.collect_announced.ensures.alone (inr (ap (λ (z : Config). z.threads) c.outside.ensures.config ∙ one))
+
+pub returns-clause-counted : goal.returns-clause-counted
+returns-clause-counted g c =
+    let x = c.collect_announced in
+    counts_from g.S.Steps.facts x.new.steps c.args.tries (λ k. sweeping_steps k + 1) x.result
+    c.outside.ensures x.ensures.counted

@@ -12,8 +12,8 @@ invariant_of-held g c =
     cc in
     let fresh = c.fresh.ensures in
     record {
-      own = (ready_new c.new-frames.result c.spend.ensures is c.requires
-          (λ k m. g.met.S.Steps.unused steps k (search rules) m) (g.met.S.Steps.some_known steps)).own;
+      own = (ready_new c.new-frames.result g.met.S.Steps.fits c.spend.ensures is c.requires (search rules)
+          (g.met.S.Steps.some_known steps)).own;
     }
 
 pub invariant_of-result : goal.invariant_of-result
@@ -24,6 +24,6 @@ invariant_of-result g c =
     cc in
     let fresh = c.fresh.ensures in
     record {
-      ready = can_call (ready_new c.new-frames.result c.spend.ensures is c.requires
-          (λ k m. g.met.S.Steps.unused steps k (search rules) m) (g.met.S.Steps.some_known steps));
+      ready = can_call (ready_new c.new-frames.result g.met.S.Steps.fits c.spend.ensures is c.requires (search rules)
+          (g.met.S.Steps.some_known steps));
     }

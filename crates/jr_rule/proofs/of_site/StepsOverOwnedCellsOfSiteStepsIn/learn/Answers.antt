@@ -11,7 +11,7 @@ invariant_of-self g c =
     record {
       at = owned_next s.at (subst (IsSeatedIn c.learn.new.self) is c.learn.ensures.there) c.learn.ensures.same.1;
       stands = look_stands (owner_over s) c.learn.new.self c.learn.ensures.same.1 c.learn.ensures.looked refl refl
-          c.learn.ensures.there s.stands;
+          s.stands;
     }
 
 pub returns-clause-step : goal.returns-clause-step

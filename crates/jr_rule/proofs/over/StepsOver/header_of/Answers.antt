@@ -19,7 +19,7 @@ load-found-requires-clause-owed g c =
     few)
 
 pub invariant_of-self : goal.invariant_of-self
-invariant_of-self g c = let s = c.args.self.now in stood s refl (known_any s) g.met.C.Cells.sound
+invariant_of-self g c = let s = c.args.self.now in stood s refl (known_any s)
     c.load-found.ensures.there c.load-found.ensures.step (header_look_leaves c.args.object)
 
 pub of_word-requires : goal.of_word-requires

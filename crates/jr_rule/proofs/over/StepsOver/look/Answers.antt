@@ -13,7 +13,7 @@ load-found-requires-clause-owed g c =
     sees_gate k c.args.name (subst (λ r. GateLoadFits r c.args.name) (sym role) c.requires))
 
 pub invariant_of-self : goal.invariant_of-self
-invariant_of-self g c = let s = c.args.self.now in stood s refl (known_any s) g.met.C.Cells.sound
+invariant_of-self g c = let s = c.args.self.now in stood s refl (known_any s)
     c.load-found.ensures.there c.load-found.ensures.step (look_leaves c.args.name)
 
 pub unwrap-requires : goal.unwrap-requires

@@ -18,7 +18,7 @@ exchange-found-requires-clause-owed g c =
     (announces_shut k c.args.looked (search rules) role))
 
 pub invariant_of-self : goal.invariant_of-self
-invariant_of-self g c = let s = c.args.self.now in stood s c.requires (known_any s) g.met.C.Cells.sound
+invariant_of-self g c = let s = c.args.self.now in stood s c.requires (known_any s)
     c.exchange-found.ensures.there c.exchange-found.ensures.step (lost_leaves c.args.looked (λ e. c.if-found-open.true
     (e ∙ sym (open_is c.pack-open.ensures))))
 
@@ -42,7 +42,7 @@ returns-then-found-open-clause-seen g c =
     c.args.looked (λ e. c.if-found-open.true (e ∙ sym (open_is c.pack-open.ensures)))))
 
 pub invariant_of-self-2 : goal.invariant_of-self-2
-invariant_of-self-2 g c = let s = c.args.self.now in stood s c.requires (known_any s) g.met.C.Cells.sound
+invariant_of-self-2 g c = let s = c.args.self.now in stood s c.requires (known_any s)
     c.exchange-found.ensures.there c.exchange-found.ensures.step (leaves (announced c.args.looked (c.if-found-open.false
     ∙ open_is c.pack-open.ensures)) (λ k. refl) (λ k. refl))
 

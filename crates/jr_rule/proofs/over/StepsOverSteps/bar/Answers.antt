@@ -11,7 +11,7 @@ exchange-found-requires-clause-owed g c = let s = c.args.self.now in owing s c.r
     k among role m. shuts k Open (inl refl) role)
 
 pub invariant_of-self : goal.invariant_of-self
-invariant_of-self g c = let s = c.args.self.now in stood s c.requires (known_any s) g.met.C.Cells.sound
+invariant_of-self g c = let s = c.args.self.now in stood s c.requires (known_any s)
     c.exchange-found.ensures.there c.exchange-found.ensures.step (busy_leaves Open Outside c.if-found-ne0.true)
 
 pub unwrap-requires : goal.unwrap-requires
@@ -29,7 +29,7 @@ returns-then-found-ne0-clause-seen g c = let s = c.args.self.now in c.exchange-f
     (bar_lost _ c.parts.ensures.complete _ c.unwrap.ensures Open Outside c.if-found-ne0.true _ c.all_counted.ensures))
 
 pub invariant_of-self-2 : goal.invariant_of-self-2
-invariant_of-self-2 g c = let s = c.args.self.now in stood s c.requires (known_any s) g.met.C.Cells.sound
+invariant_of-self-2 g c = let s = c.args.self.now in stood s c.requires (known_any s)
     c.exchange-found.ensures.there c.exchange-found.ensures.step (leaves (barred Open Outside c.if-found-ne0.false) (λ
     k. refl) (λ k. refl))
 

@@ -11,7 +11,7 @@ exchange-found-requires-clause-owed g c = let s = c.args.self.now in owing s c.r
     k among role m. shuts k Announced (inr refl) role)
 
 pub invariant_of-self : goal.invariant_of-self
-invariant_of-self g c = let s = c.args.self.now in stood s c.requires (known_any s) g.met.C.Cells.sound
+invariant_of-self g c = let s = c.args.self.now in stood s c.requires (known_any s)
     c.exchange-found.ensures.there c.exchange-found.ensures.step (busy_leaves Announced Announcing
     c.if-found-ne-ANNOUNCED.true)
 
@@ -31,7 +31,7 @@ returns-then-found-ne-ANNOUNCED-clause-seen g c = let s = c.args.self.now in
     Announcing c.if-found-ne-ANNOUNCED.true _ c.from.ensures))
 
 pub invariant_of-self-2 : goal.invariant_of-self-2
-invariant_of-self-2 g c = let s = c.args.self.now in stood s c.requires (known_any s) g.met.C.Cells.sound
+invariant_of-self-2 g c = let s = c.args.self.now in stood s c.requires (known_any s)
     c.exchange-found.ensures.there c.exchange-found.ensures.step (leaves (barred Announced Announcing
     c.if-found-ne-ANNOUNCED.false) (λ k. refl) (λ k. refl))
 

@@ -9,7 +9,7 @@ take-requires-clause-owed g c = let s = c.args.self.now in
     owing s c.requires (known_any s) (search rules) (λ k among role m. takes_back k role)
 
 pub invariant_of-self : goal.invariant_of-self
-invariant_of-self g c = let s = c.args.self.now in stood s c.requires (known_any s) g.met.C.Cells.sound
+invariant_of-self g c = let s = c.args.self.now in stood s c.requires (known_any s)
     c.take.ensures.there c.take.ensures.step (leaves cancelled (λ k. refl) (λ k. refl))
 
 pub returns-clause-step : goal.returns-clause-step

@@ -31,7 +31,7 @@ exchange-found-requires-clause-owed g c =
     c.reference.ensures (∥∥₁_elim m (hlevel props) (λ q. q.0))))
 
 pub invariant_of-self : goal.invariant_of-self
-invariant_of-self g c = let s = c.args.self.now in stood s c.requires.role c.requires.looked g.met.C.Cells.sound
+invariant_of-self g c = let s = c.args.self.now in stood s c.requires.role c.requires.looked
     c.exchange-found.ensures.there c.exchange-found.ensures.step (claim_leaves c.args.index c.args.serial c.args.kind
     c.args.object)
 

@@ -25,7 +25,7 @@ invariant_of-self g c =
     let o = c.args.object in
     let h = c.args.header in
     let n = c.exchange-found.result in
-    stood s c.requires.role c.requires.filled g.met.C.Cells.sound c.exchange-found.ensures.there
+    stood s c.requires.role c.requires.filled c.exchange-found.ensures.there
     c.exchange-found.ensures.step (leaves (publishing o h)
     (λ k. publishing_role o h.kind (words_for h k) (n == 0) s.role)
     (λ k. publishing_fresh o h.kind (words_for h k) (n == 0) s.fresh))

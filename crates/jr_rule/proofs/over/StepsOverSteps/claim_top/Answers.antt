@@ -15,7 +15,7 @@ exchange-found-requires-clause-owed g c =
     (claims_top k role u n (subst (λ (x : Config). u + n ≤ x.words) (sym among.config) c.requires.room)))
 
 pub invariant_of-self : goal.invariant_of-self
-invariant_of-self g c = let s = c.args.self.now in stood s c.requires.role c.requires.looked g.met.C.Cells.sound
+invariant_of-self g c = let s = c.args.self.now in stood s c.requires.role c.requires.looked
     c.exchange-found.ensures.there c.exchange-found.ensures.step (reserve_leaves c.args.looked c.args.more)
 
 pub unwrap-requires : goal.unwrap-requires

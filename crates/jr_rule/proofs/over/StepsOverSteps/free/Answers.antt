@@ -38,7 +38,7 @@ invariant_of-self g c =
     let h = c.args.handle in
     let n = c.exchange-found.result in
     let x = c.pack-looked.result.0 in
-    stood s c.requires.role c.requires.looked g.met.C.Cells.sound c.exchange-found.ensures.there
+    stood s c.requires.role c.requires.looked c.exchange-found.ensures.there
     c.exchange-found.ensures.step
     (leaves (freeing h c.args.object x) (λ k. freeing_role h (n == x) s.role) (λ k. freeing_fresh h (n == x) s.fresh))
 

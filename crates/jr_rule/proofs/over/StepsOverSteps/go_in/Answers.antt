@@ -16,7 +16,7 @@ invariant_of-self g c =
     let s = c.args.self.now in
     let left = leaves (entry _ true c.is_closed.ensures c.if-is_closed.true)
     (λ k. ap (λ r. role_after r (act_of_entry false)) (sym c.requires)) (λ k. entered_fresh false s.fresh) in
-    stood s c.requires (known_any s) g.met.C.Cells.sound c.add-found.ensures.there c.add-found.ensures.step left
+    stood s c.requires (known_any s) c.add-found.ensures.there c.add-found.ensures.step left
 
 pub returns-then-is_closed-clause-step : goal.returns-then-is_closed-clause-step
 returns-then-is_closed-clause-step g c =
@@ -34,7 +34,7 @@ invariant_of-self-else-is_closed g c =
     let s = c.args.self.now in
     let left = leaves (entry _ false c.is_closed.ensures c.if-is_closed.false)
     (λ k. ap (λ r. role_after r (act_of_entry true)) (sym c.requires)) (λ k. entered_fresh true s.fresh) in
-    stood s c.requires (known_any s) g.met.C.Cells.sound c.add-found.ensures.there c.add-found.ensures.step left
+    stood s c.requires (known_any s) c.add-found.ensures.there c.add-found.ensures.step left
 
 pub returns-clause-step : goal.returns-clause-step
 returns-clause-step g c =

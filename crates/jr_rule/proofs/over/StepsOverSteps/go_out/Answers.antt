@@ -17,7 +17,7 @@ pub invariant_of-self : goal.invariant_of-self
 invariant_of-self g c =
     let s = c.args.self.now in
     let left = leaves (exit s.role) (λ k. left_role s.role c.requires) (λ k. left_fresh s.role s.fresh) in
-    stood s refl (known_any s) g.met.C.Cells.sound c.take.ensures.there c.take.ensures.step left
+    stood s refl (known_any s) c.take.ensures.there c.take.ensures.step left
 
 pub returns-clause-step : goal.returns-clause-step
 returns-clause-step g c = let s = c.args.self.now in

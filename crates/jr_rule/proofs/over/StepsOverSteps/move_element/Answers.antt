@@ -21,7 +21,7 @@ store-requires-clause-owed g c =
     c.requires.index (move_is k c.args.object c.args.header c.args.place c.args.index c.args.word m))
 
 pub invariant_of-self : goal.invariant_of-self
-invariant_of-self g c = let s = c.args.self.now in stood s c.requires.role c.requires.can g.met.C.Cells.sound
+invariant_of-self g c = let s = c.args.self.now in stood s c.requires.role c.requires.can
     c.store.ensures.there c.store.ensures.step (leaves (plainly (λ k k' done t. t)) (λ k. refl) (λ k. refl))
 
 pub returns : goal.returns

@@ -37,7 +37,7 @@ store-requires-clause-owed g c =
     (subst (λ (z : Config). i < z.locals) (sym among.config) c.requires.place) (optional_is o k m)))
 
 pub invariant_of-self : goal.invariant_of-self
-invariant_of-self g c = let s = c.args.self.now in stood s c.requires.role c.requires.object g.met.C.Cells.sound
+invariant_of-self g c = let s = c.args.self.now in stood s c.requires.role c.requires.object
     c.store.ensures.there c.store.ensures.step (leaves (putting c.args.place c.args.object) (λ k. putting_role
     c.args.place c.args.object s.role) (λ k. putting_spends c.args.place c.args.object s.fresh))
 

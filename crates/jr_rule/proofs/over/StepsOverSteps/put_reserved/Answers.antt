@@ -22,7 +22,7 @@ store-requires-clause-owed g c =
     puts_own k role c.args.place c.args.index c.args.word (∥∥₁_elim m (hlevel props) (λ q. q)))
 
 pub invariant_of-self : goal.invariant_of-self
-invariant_of-self g c = let s = c.args.self.now in stood s c.requires.role c.requires.own g.met.C.Cells.sound
+invariant_of-self g c = let s = c.args.self.now in stood s c.requires.role c.requires.own
     c.store.ensures.there c.store.ensures.step (leaves (plainly (λ k k' done t. t)) (λ k. refl) (λ k. refl))
 
 pub returns : goal.returns

@@ -21,7 +21,7 @@ load-requires-clause-owed g c =
     (there_is k c.args.object c.args.header c.args.index m))
 
 pub invariant_of-self : goal.invariant_of-self
-invariant_of-self g c = let s = c.args.self.now in stood s c.requires.role c.requires.there g.met.C.Cells.sound
+invariant_of-self g c = let s = c.args.self.now in stood s c.requires.role c.requires.there
     c.load.ensures.there c.load.ensures.step (leaves (element_scan c.args.object c.args.index) (λ k. refl) (λ k. refl))
 
 pub returns : goal.returns

@@ -21,7 +21,7 @@ load-found-requires-clause-owed g c =
     c.requires.thread) (subst (λ (x : Config). i < x.locals) (sym among.config) c.requires.place)))
 
 pub invariant_of-self : goal.invariant_of-self
-invariant_of-self g c = let s = c.args.self.now in stood s c.requires.role (known_any s) g.met.C.Cells.sound
+invariant_of-self g c = let s = c.args.self.now in stood s c.requires.role (known_any s)
     c.load-found.ensures.there c.load-found.ensures.step (local_scan_leaves c.args.thread c.args.place)
 
 pub unwrap-requires : goal.unwrap-requires

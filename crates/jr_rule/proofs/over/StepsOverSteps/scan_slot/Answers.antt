@@ -15,7 +15,7 @@ load-found-requires-clause-owed g c =
     (scans_slot k role i (subst (λ (z : Config). i < z.slots) (sym among.config) c.requires.row)))
 
 pub invariant_of-self : goal.invariant_of-self
-invariant_of-self g c = let s = c.args.self.now in stood s c.requires.role (known_any s) g.met.C.Cells.sound
+invariant_of-self g c = let s = c.args.self.now in stood s c.requires.role (known_any s)
     c.load-found.ensures.there c.load-found.ensures.step (slot_scan_leaves c.args.index)
 
 pub of_word-requires : goal.of_word-requires

@@ -9,7 +9,7 @@ load-found-requires-clause-owed g c = let s = c.args.self.now in
     owing s c.requires (known_any s) (search rules) (λ k among role m. scans_top k role)
 
 pub invariant_of-self : goal.invariant_of-self
-invariant_of-self g c = let s = c.args.self.now in stood s c.requires (known_any s) g.met.C.Cells.sound
+invariant_of-self g c = let s = c.args.self.now in stood s c.requires (known_any s)
     c.load-found.ensures.there c.load-found.ensures.step top_scan_leaves
 
 pub unwrap-requires : goal.unwrap-requires

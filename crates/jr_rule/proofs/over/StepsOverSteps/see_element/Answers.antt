@@ -23,7 +23,7 @@ load-requires-clause-owed g c =
     sees_element k role c.args.object c.args.header (∥∥₁_elim m (hlevel props) (λ q. q)) c.args.index c.requires.index)
 
 pub invariant_of-self : goal.invariant_of-self
-invariant_of-self g c = let s = c.args.self.now in stood s c.requires.role c.requires.known g.met.C.Cells.sound
+invariant_of-self g c = let s = c.args.self.now in stood s c.requires.role c.requires.known
     c.load.ensures.there c.load.ensures.step (leaves (plainly (λ k k' done t. t)) (λ k. refl) (λ k. refl))
 
 pub returns : goal.returns

@@ -12,8 +12,7 @@ invariant_of-self g c =
     let t = c.load_part.ensures in
     record {
       at = t.there;
-      stands = part_standing g.C.Cells.sight t.steps (g.met.C.Cells.sound c.load_part.new.self s.place t.there)
-          c.requires.role s.stands c.requires.known;
+      stands = part_standing g.C.Cells.sight t.steps c.requires.role s.stands c.requires.known;
     }
 
 pub returns-clause-steps : goal.returns-clause-steps

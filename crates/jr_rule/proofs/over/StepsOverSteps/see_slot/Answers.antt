@@ -16,7 +16,7 @@ load-found-requires-clause-owed g c =
     (subst (λ (z : Config). i < z.slots) (sym among.config) c.requires.row) c.requires.fits))
 
 pub invariant_of-self : goal.invariant_of-self
-invariant_of-self g c = let s = c.args.self.now in stood s c.requires.role (known_any s) g.met.C.Cells.sound
+invariant_of-self g c = let s = c.args.self.now in stood s c.requires.role (known_any s)
     c.load-found.ensures.there c.load-found.ensures.step (slot_look_leaves c.args.index c.args.name)
 
 pub of_word-requires : goal.of_word-requires

@@ -10,7 +10,7 @@ load-found-requires-clause-owed g c = let s = c.args.self.now in owing s c.requi
     among role m. sees_top k role c.args.name)
 
 pub invariant_of-self : goal.invariant_of-self
-invariant_of-self g c = let s = c.args.self.now in stood s c.requires (known_any s) g.met.C.Cells.sound
+invariant_of-self g c = let s = c.args.self.now in stood s c.requires (known_any s)
     c.load-found.ensures.there c.load-found.ensures.step (top_look_leaves c.args.name)
 
 pub unwrap-requires : goal.unwrap-requires

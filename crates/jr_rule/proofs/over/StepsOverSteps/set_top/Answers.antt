@@ -12,7 +12,7 @@ store-requires-clause-owed g c =
     (settles_top k role c.args.used (below_is c.args.used k m)))
 
 pub invariant_of-self : goal.invariant_of-self
-invariant_of-self g c = let s = c.args.self.now in stood s c.requires.role c.requires.can g.met.C.Cells.sound
+invariant_of-self g c = let s = c.args.self.now in stood s c.requires.role c.requires.can
     c.store.ensures.there c.store.ensures.step (leaves (plainly (λ k k' done t. t)) (λ k. refl) (λ k. refl))
 
 pub returns : goal.returns

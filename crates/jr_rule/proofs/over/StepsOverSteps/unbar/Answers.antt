@@ -14,7 +14,7 @@ take-requires-clause-owed g c =
     reopens k role (∥∥₁_elim m (hlevel props) (λ q. q.1)) (∥∥₁_map m (λ q. q.0)))
 
 pub invariant_of-self : goal.invariant_of-self
-invariant_of-self g c = let s = c.args.self.now in stood s c.requires.role c.requires.closed g.met.C.Cells.sound
+invariant_of-self g c = let s = c.args.self.now in stood s c.requires.role c.requires.closed
     c.take.ensures.there c.take.ensures.step (leaves reopening (λ k. refl) (λ k. refl))
 
 pub returns-clause-step : goal.returns-clause-step

@@ -21,7 +21,7 @@ exchange-requires-clause-owed g c =
     c.requires.row) (wipe_is k i c.args.serial c.args.object m)))
 
 pub invariant_of-self : goal.invariant_of-self
-invariant_of-self g c = let s = c.args.self.now in stood s c.requires.role c.requires.can g.met.C.Cells.sound
+invariant_of-self g c = let s = c.args.self.now in stood s c.requires.role c.requires.can
     c.exchange.ensures.there c.exchange.ensures.step (leaves (plainly (λ k k' done t. t)) (λ k. refl) (λ k. refl))
 
 pub returns-clause-step : goal.returns-clause-step

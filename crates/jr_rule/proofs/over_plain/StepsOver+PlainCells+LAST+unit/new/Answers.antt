@@ -1,6 +1,4 @@
-use Rattle.std.proofs.Common.{◌≡◌, ◌<◌, ◌∙◌, rules, true, arith}
-use Rattle.jr_word.specs.Config.{in_limits, IsLimited}
-use Rattle.jr_rule.specs.CellLaws.{words_sound}
+use Rattle.std.proofs.Common.{◌<◌, ◌∙◌, rules}
 use Rattle.jr_rule.proofs.PlainWords.{opened_standing, opened_alone}
 use Rattle.jr_rule.proofs.Zeros.{all_zero, zeros_wide, depicts_unseen}
 use Rattle.jr_rule.proofs.over_plain.StepsOver+PlainCells+LAST+unit.new.Goals as goal
@@ -9,14 +7,12 @@ pub invariant_of-result : goal.invariant_of-result
 invariant_of-result g c =
     let words = c.in-Ok.words.items in
     let items = c.in-Ok.ensures.items_if_clones_equal (λ y e. e) in
-    let limits : in_limits c.args.config ≡ true = search rules in
-    let limited : IsLimited c.args.config = search rules in
     let some : 0 < c.args.config.slots = search rules in
     record {
       at = tt;
       stands = opened_standing c.args.config g.row.LAST words (depicts_unseen c.args.config g.row.LAST words
           (all_zero words c.row_words.result items) (zeros_wide words c.row_words.result items ∙ c.row_words.ensures))
-          (words_sound c.args.config g.row.LAST words limits limited (omega arith)) some;
+          some;
     }
 
 pub returns-clause-opened : goal.returns-clause-opened

@@ -9,7 +9,7 @@ invariant_of-self g c =
     record {
       at = c.learn.ensures.there;
       stands = look_stands (holder_over s) c.learn.new.self c.learn.ensures.same.1 c.learn.ensures.looked refl refl
-          c.learn.ensures.there s.stands;
+          s.stands;
     }
 
 pub returns-clause-step : goal.returns-clause-step

@@ -9,7 +9,7 @@ invariant_of-self g c =
     record {
       at = c.meet-seat.ensures.there;
       stands = look_stands (holder_over s) c.meet-seat.new.self c.meet-seat.ensures.same.1 c.meet-seat.ensures.looked
-          refl refl c.meet-seat.ensures.there s.stands;
+          refl refl s.stands;
     }
 
 pub returns-clause-step : goal.returns-clause-step

@@ -68,7 +68,7 @@ invariant_of-pass-in-Err g c =
     let at = seat_next told h.room (seat_of c.args.self.row p c.requires.pass) in
     record {
       held = held_of_standing at
-          (look_stands (holder_of p) x h.room (h.counts.found, told) refl refl at (standing_of_held p.held));
+          (look_stands (holder_of p) x h.room (h.counts.found, told) refl refl (standing_of_held p.held));
     }
 
 pub returns-in-Err-clause-err : goal.returns-in-Err-clause-err

@@ -11,7 +11,7 @@ use Rattle.jr_scripts.proofs.commands.copies.release_buffer.Goals as goal
 pub returns-in-Boolean-clause-call : goal.returns-in-Boolean-clause-call
 returns-in-Boolean-clause-call g c =
     let is : copied_as kinds.Boolean bool_word c.in-Boolean.elements ≡ c.args.buffer =
-    ap copied_in (sym c.in-Boolean.is) ∙ c.buffer.view_is in
+    ap copied_in (sym c.in-Boolean.is) ∙ c.into_elements.ensures in
     does_release_of c.args.turns c.args.array.0 c.args.mode (copied_as kinds.Boolean bool_word c.in-Boolean.elements)
     c.args.buffer
     c.release_elements-left.result.1 c.with_left.result.answer is c.with_left.ensures.answer
@@ -20,7 +20,7 @@ returns-in-Boolean-clause-call g c =
 pub returns-in-Boolean-clause-left : goal.returns-in-Boolean-clause-left
 returns-in-Boolean-clause-left g c =
     let is : copied_as kinds.Boolean bool_word c.in-Boolean.elements ≡ c.args.buffer =
-    ap copied_in (sym c.in-Boolean.is) ∙ c.buffer.view_is in
+    ap copied_in (sym c.in-Boolean.is) ∙ c.into_elements.ensures in
     c.with_left.ensures.left
     ∙ (left_mapped kinds.Boolean bool_word (λ vs. elements.Boolean vs) (λ vs. refl) c.args.mode
     c.release_elements-left.result.1 c.in-Boolean.elements c.release_elements-left.result.0 c.map.result c.args.buffer
@@ -30,7 +30,7 @@ returns-in-Boolean-clause-left g c =
 pub returns-in-Byte-clause-call : goal.returns-in-Byte-clause-call
 returns-in-Byte-clause-call g c =
     let is : copied_as kinds.Byte (signed_word w8) c.in-Byte.elements ≡ c.args.buffer =
-    ap copied_in (sym c.in-Byte.is) ∙ c.buffer.view_is in
+    ap copied_in (sym c.in-Byte.is) ∙ c.into_elements.ensures in
     does_release_of c.args.turns c.args.array.0 c.args.mode (copied_as kinds.Byte (signed_word w8) c.in-Byte.elements)
     c.args.buffer
     c.release_elements-left-in-Byte.result.1 c.with_left-in-Byte.result.answer is c.with_left-in-Byte.ensures.answer
@@ -39,7 +39,7 @@ returns-in-Byte-clause-call g c =
 pub returns-in-Byte-clause-left : goal.returns-in-Byte-clause-left
 returns-in-Byte-clause-left g c =
     let is : copied_as kinds.Byte (signed_word w8) c.in-Byte.elements ≡ c.args.buffer =
-    ap copied_in (sym c.in-Byte.is) ∙ c.buffer.view_is in
+    ap copied_in (sym c.in-Byte.is) ∙ c.into_elements.ensures in
     c.with_left-in-Byte.ensures.left
     ∙ (left_mapped kinds.Byte (signed_word w8) (λ vs. elements.Byte vs) (λ vs. refl) c.args.mode
     c.release_elements-left-in-Byte.result.1 c.in-Byte.elements c.release_elements-left-in-Byte.result.0
@@ -49,7 +49,7 @@ returns-in-Byte-clause-left g c =
 pub returns-in-Char-clause-call : goal.returns-in-Char-clause-call
 returns-in-Char-clause-call g c =
     let is : copied_as kinds.Char (λ unit. unit) c.in-Char.elements ≡ c.args.buffer =
-    ap copied_in (sym c.in-Char.is) ∙ c.buffer.view_is in
+    ap copied_in (sym c.in-Char.is) ∙ c.into_elements.ensures in
     does_release_of c.args.turns c.args.array.0 c.args.mode (copied_as kinds.Char (λ unit. unit) c.in-Char.elements)
     c.args.buffer
     c.release_elements-left-in-Char.result.1 c.with_left-in-Char.result.answer is c.with_left-in-Char.ensures.answer
@@ -58,7 +58,7 @@ returns-in-Char-clause-call g c =
 pub returns-in-Char-clause-left : goal.returns-in-Char-clause-left
 returns-in-Char-clause-left g c =
     let is : copied_as kinds.Char (λ unit. unit) c.in-Char.elements ≡ c.args.buffer =
-    ap copied_in (sym c.in-Char.is) ∙ c.buffer.view_is in
+    ap copied_in (sym c.in-Char.is) ∙ c.into_elements.ensures in
     c.with_left-in-Char.ensures.left
     ∙ (left_mapped kinds.Char (λ unit. unit) (λ vs. elements.Char vs) (λ vs. refl) c.args.mode
     c.release_elements-left-in-Char.result.1 c.in-Char.elements c.release_elements-left-in-Char.result.0
@@ -68,7 +68,7 @@ returns-in-Char-clause-left g c =
 pub returns-in-Short-clause-call : goal.returns-in-Short-clause-call
 returns-in-Short-clause-call g c =
     let is : copied_as kinds.Short (signed_word w16) c.in-Short.elements ≡ c.args.buffer =
-    ap copied_in (sym c.in-Short.is) ∙ c.buffer.view_is in
+    ap copied_in (sym c.in-Short.is) ∙ c.into_elements.ensures in
     does_release_of c.args.turns c.args.array.0 c.args.mode
     (copied_as kinds.Short (signed_word w16) c.in-Short.elements)
     c.args.buffer c.release_elements-left-in-Short.result.1 c.with_left-in-Short.result.answer is
@@ -77,7 +77,7 @@ returns-in-Short-clause-call g c =
 pub returns-in-Short-clause-left : goal.returns-in-Short-clause-left
 returns-in-Short-clause-left g c =
     let is : copied_as kinds.Short (signed_word w16) c.in-Short.elements ≡ c.args.buffer =
-    ap copied_in (sym c.in-Short.is) ∙ c.buffer.view_is in
+    ap copied_in (sym c.in-Short.is) ∙ c.into_elements.ensures in
     c.with_left-in-Short.ensures.left
     ∙ (left_mapped kinds.Short (signed_word w16) (λ vs. elements.Short vs) (λ vs. refl) c.args.mode
     c.release_elements-left-in-Short.result.1 c.in-Short.elements c.release_elements-left-in-Short.result.0
@@ -87,7 +87,7 @@ returns-in-Short-clause-left g c =
 pub returns-in-Int-clause-call : goal.returns-in-Int-clause-call
 returns-in-Int-clause-call g c =
     let is : copied_as kinds.Int (signed_word w32) c.in-Int.elements ≡ c.args.buffer =
-    ap copied_in (sym c.in-Int.is) ∙ c.buffer.view_is in
+    ap copied_in (sym c.in-Int.is) ∙ c.into_elements.ensures in
     does_release_of c.args.turns c.args.array.0 c.args.mode (copied_as kinds.Int (signed_word w32) c.in-Int.elements)
     c.args.buffer
     c.release_elements-left-in-Int.result.1 c.with_left-in-Int.result.answer is c.with_left-in-Int.ensures.answer
@@ -96,7 +96,7 @@ returns-in-Int-clause-call g c =
 pub returns-in-Int-clause-left : goal.returns-in-Int-clause-left
 returns-in-Int-clause-left g c =
     let is : copied_as kinds.Int (signed_word w32) c.in-Int.elements ≡ c.args.buffer =
-    ap copied_in (sym c.in-Int.is) ∙ c.buffer.view_is in
+    ap copied_in (sym c.in-Int.is) ∙ c.into_elements.ensures in
     c.with_left-in-Int.ensures.left
     ∙ (left_mapped kinds.Int (signed_word w32) (λ vs. elements.Int vs) (λ vs. refl) c.args.mode
     c.release_elements-left-in-Int.result.1 c.in-Int.elements c.release_elements-left-in-Int.result.0
@@ -106,7 +106,7 @@ returns-in-Int-clause-left g c =
 pub returns-in-Long-clause-call : goal.returns-in-Long-clause-call
 returns-in-Long-clause-call g c =
     let is : copied_as kinds.Long (signed_word w64) c.in-Long.elements ≡ c.args.buffer =
-    ap copied_in (sym c.in-Long.is) ∙ c.buffer.view_is in
+    ap copied_in (sym c.in-Long.is) ∙ c.into_elements.ensures in
     does_release_of c.args.turns c.args.array.0 c.args.mode (copied_as kinds.Long (signed_word w64) c.in-Long.elements)
     c.args.buffer
     c.release_elements-left-in-Long.result.1 c.with_left-in-Long.result.answer is c.with_left-in-Long.ensures.answer
@@ -115,7 +115,7 @@ returns-in-Long-clause-call g c =
 pub returns-in-Long-clause-left : goal.returns-in-Long-clause-left
 returns-in-Long-clause-left g c =
     let is : copied_as kinds.Long (signed_word w64) c.in-Long.elements ≡ c.args.buffer =
-    ap copied_in (sym c.in-Long.is) ∙ c.buffer.view_is in
+    ap copied_in (sym c.in-Long.is) ∙ c.into_elements.ensures in
     c.with_left-in-Long.ensures.left
     ∙ (left_mapped kinds.Long (signed_word w64) (λ vs. elements.Long vs) (λ vs. refl) c.args.mode
     c.release_elements-left-in-Long.result.1 c.in-Long.elements c.release_elements-left-in-Long.result.0
