@@ -6,3 +6,4 @@ mod CommandCount
 mod FoundRequest
 mod HexWord
 mod Widened
+mod Meant

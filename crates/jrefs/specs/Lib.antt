@@ -4,3 +4,4 @@ pub mod Check
 pub mod Describe
 pub mod Request
 pub mod Act
+pub mod Meant

@@ -5,6 +5,7 @@ ghost use Rattle.std.specs.Io.KnownBytes.{Keeps};
 ghost use Rattle.jr_syntax.specs.Faults.{first_fault};
 ghost use Rattle.jrefs.specs.Act.{IsOutput, IsOutputFor, Stops, Prevents, Answers, AnswersWords, LeavesWritten, Fails, ReadsAtMost};
 ghost use Rattle.jrefs.specs.Describe.{Describes, SaysWidened};
+ghost use Rattle.jrefs.specs.Meant.{WritesWhatIsMeant};
 ghost use Rattle.jrefs.specs.Request.{Asks, AskNothing, AsksOfScript, asked_for};
 ghost use Rattle.jrefs.specs.declared.request.Request.{Request as AnyRequest};
 ghost use Rattle.jrefs.specs.declared.request.Request.TheVariants.{Word, Widen};
@@ -47,6 +48,8 @@ pub(crate) fn act<'a, T: Threads + Wait, R: Read + Drop, W: Write + Drop, F: Wri
     ensures faulty { (r : AnyRequest) → Asks r (map (λ w. w.now) words.entry.now) → AsksOfScript r
         → IfSome (R.remaining reader.old) (λ text. IsSome (first_fault text)
         → (result ≡ 1) ⊎ (result ≡ 3) ⊎ ((result ≡ 4) × Keeps (W.contents writer.old) (W.contents writer.new))) }
+    // A script of one thread is answered by the text that it means: all of it, nothing where memory was refused, or a beginning where a device failed.
+    ensures means { WritesWhatIsMeant (map (λ w. w.now) words.entry.now) (R.remaining reader.old) (W.contents writer.old) (W.contents writer.new) result }
     // No more is read than a script may have, and one byte.
     ensures reads { ReadsAtMost 65537 (R.remaining reader.old) (R.remaining reader.new) }
     // A word is described, or widened, without reading.
