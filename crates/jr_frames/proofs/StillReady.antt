@@ -13,7 +13,7 @@ use Rattle.jr_model.specs.declared.event.Act.{Act}
 use Rattle.jr_model.specs.declared.event.Act.TheVariants.{Gate, LocalPut, LocalDrop}
 use Rattle.jr_model.specs.declared.event.GateAct.TheVariants.{Enter, Leave}
 use Rattle.jr_model.specs.State.{State}
-use Rattle.jr_model.specs.Frames.{Frames, fresh_frames, object_at}
+use Rattle.jr_model.specs.Frames.{Frames, fresh_frames}
 use Rattle.jr_model.specs.History.{PassView, role_after}
 use Rattle.jr_model.specs.Windows.{Stepped}
 use Rattle.jr_model.specs.Calls.{Call, Ran}
