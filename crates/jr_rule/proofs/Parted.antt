@@ -24,7 +24,7 @@ use Rattle.jr_rule.specs.declared.row.Row.{Row}
 use Rattle.jr_rule.specs.Passes.{gathered, joints_of, known_of, stands_of, HasEachPass, HasPass, IsAt, IsSeenIn}
 use Rattle.jr_rule.specs.Passes.{PassStands}
 use Rattle.jr_rule.specs.Sights.{IsSeatOf}
-use Rattle.jr_rule.specs.Rule.{counting, crowd_of, first_alone, joints_at, others_of, stepping_pass, together, total}
+use Rattle.jr_rule.specs.Rule.{counting, crowd_of, first_alone, joints_at, others_of, stepping_pass, together}
 use Rattle.jr_rule.specs.Parting.{no_seat}
 use Rattle.jr_rule.specs.Rule.{view_at, without_first, AreBeginnings}
 use Rattle.jr_rule.specs.Rule.{CountedBy, HasCounted, EachFits, IsAlone, IsCrowd, IsSeated, LookedBy, SeatState, Tells}
@@ -66,7 +66,8 @@ module _ (p : Pass) (s rest : SeatState) (joined : s ≡ (together p.seat.me.0 r
   pub still_crowd : IsCrowd rest → IsCrowd s
   still_crowd crowd = crowd_more crowd ∙ (λ i. (view_at (sym joints_more i) (sym passes_more i) [], []))
 
-  gathered_more : (xs init : List Pass) → xs ≡ init ++ p ∷ [] → gathered init + joints_at s ≡ gathered xs + joints_at rest
+  gathered_more : (xs init : List Pass) → xs ≡ init ++ p ∷ []
+      → gathered init + joints_at s ≡ gathered xs + joints_at rest
   gathered_more xs init is =
       let sum : gathered xs ≡ gathered init + (joints_of p + 1 + 0) =
       ap gathered is ∙ total_append (λ (q : Pass). joints_of q + 1) init (p ∷ []) in
@@ -135,7 +136,8 @@ module _ (brought : ℕ) (first rest m' : SeatState) (ks : List Known) (count : 
   pub others_are : others_of m'.0.passes ≡ ks ++ rest.0.passes
   others_are = ap (λ (z : SeatState). others_of z.0.passes) counted_is
 
-  parted_is : (a : SeatState) → a ≡ (first_alone m'.0, m'.1) → a ≡ (view_at (all_joints + 1) ((c.tells).new ∷ []) [], [])
+  parted_is : (a : SeatState) → a ≡ (first_alone m'.0, m'.1)
+      → a ≡ (view_at (all_joints + 1) ((c.tells).new ∷ []) [], [])
   parted_is a parted = parted ∙ ap (λ (z : SeatState). (first_alone z.0, z.1)) counted_is
 
   -- and it has the count of all, with the parting

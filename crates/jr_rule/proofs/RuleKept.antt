@@ -223,8 +223,9 @@ module _ (joints : ℕ) (c : Config) (last slots id : ℕ) (k : Known) (ks ns : 
       )
 
 -- the same of a seat that is known by an equation. It is told of g of the number found
-pub plays : (c : Config) (last slots id : ℕ) (m : SeatState) (k : Known) (ks : List Known) {ns : List Known} {joints : ℕ}
-    → m ≡ (view_at joints (k ∷ ks) ns, []) → (i : ℕ) (f g : ℕ → ℕ) (told : Known → ℕ → List Act → Known → Type 0)
+pub plays : (c : Config) (last slots id : ℕ) (m : SeatState) (k : Known) (ks : List Known) {ns : List Known}
+    {joints : ℕ} → m ≡ (view_at joints (k ∷ ks) ns, []) → (i : ℕ) (f g : ℕ → ℕ)
+    (told : Known → ℕ → List Act → Known → Type 0)
     → Owes (stepping_pass m) i f (λ n. told (stepping_pass m) (g n))
     → Allows (Kept last c) slots id m i f (λ n m'. Tells told m (g n) m')
 plays c last slots id m k ks {ns} {joints} is i f g told =

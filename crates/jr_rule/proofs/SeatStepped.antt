@@ -13,7 +13,8 @@ use Rattle.jr_steps.specs.Holdings.{InSpace}
 use Rattle.jr_steps.specs.Knowing.{Goes}
 use Rattle.jr_rule.specs.Cells.{IsOwed, HasStepped, May, WentBy}
 use Rattle.jr_rule.specs.Sights.{sight_of_seat, IsSeatOf}
-use Rattle.jr_rule.specs.Rule.{SeatState, IsSeated, IsAlone, IsSized, Owes, Tells, counting, joints_at, stepping_pass, others_of, view_at}
+use Rattle.jr_rule.specs.Rule.{SeatState, IsSeated, IsAlone, IsSized, Owes, Tells, counting, joints_at, stepping_pass}
+use Rattle.jr_rule.specs.Rule.{others_of, view_at}
 
 -- who sits alone is seated
 pub seated : (m : SeatState) → IsAlone m → IsSeated m

@@ -15,8 +15,9 @@ use Rattle.jr_rule.specs.declared.rule.View.{View}
 use Rattle.jr_steps.specs.declared.known.Holdings.{Holdings}
 use Rattle.jr_steps.specs.Holdings.{empty}
 use Rattle.jr_rule.specs.Image.{IsImage}
-use Rattle.jr_rule.specs.Rule.{known, note_of, once_more, view_at, view_of, AreBeginnings, IsSized, EachFits, total, is_of}
-use Rattle.jr_rule.specs.Rule.{passes_of, Kept, newcomers, SeatState, first_alone, without_first, together, spent}
+use Rattle.jr_rule.specs.Rule.{known, note_of, once_more, view_at, view_of, AreBeginnings, IsSized, EachFits, total}
+use Rattle.jr_rule.specs.Rule.{is_of, passes_of, Kept, newcomers, SeatState, first_alone, without_first, together}
+use Rattle.jr_rule.specs.Rule.{spent}
 use Rattle.jr_rule.proofs.RuleKept.{total_append, total_at}
 
 each_append : (c : Config) (last : ℕ) (log : History) (held : ℕ → Holdings) (ks ls : List Known)

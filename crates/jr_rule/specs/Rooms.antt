@@ -41,8 +41,8 @@ abbrev pub AreInOneRoom : {P Q : Type 0} {G : Ghosts RoomCells P} {H : Ghosts Ro
     → StepsOver RoomCells Q H → Type 0
 AreInOneRoom s t = (facts_of (holder_over s)).stands.room ≡ (facts_of (holder_over t)).stands.room
 
--- THE STEPS ARE AS THEY WERE, but for their count of joins and partings: in the same room, of the same thread, which stands
--- as it did, knows what it knew, and begins its next search where it would have
+-- THE STEPS ARE AS THEY WERE, but for their count of joins and partings: in the same room, of the same
+-- thread, which stands as it did, knows what it knew, and begins its next search where it would have
 pub record AreAsBefore {P : Type 0} {G : Ghosts RoomCells P} (old new : StepsOver RoomCells P G) : Type 0 where
   pub place : new.place ≡ old.place
   pub room : new.cells.seat.table_id ≡ old.cells.seat.table_id

@@ -73,7 +73,7 @@ impl<'a, const LAST: u32> StepsOver<RoomCells, &'a Room<LAST>> {
     ///
     /// # Operations
     ///
-    /// One, a load of the gate. The passes join for it and part again, each by a load of the gate: the count of joins and partings of these steps goes up by two, and by what the other pass had. That one begins anew at 0.
+    /// One, a load of the gate. The passes join for it and part again, each by a load of the gate: the thread's count of joins and partings goes up by two, and by what the other pass had. That one begins anew at 0.
     pub fn meet(&mut self, other: Pass) -> Pass
         requires { IsOfRoom self.old.place.now other }
         ensures room { self.new.place ≡ self.old.place }
@@ -104,7 +104,7 @@ impl<'a, const LAST: u32> StepsOver<RoomCells, &'a Room<LAST>> {
     ///
     /// # Operations
     ///
-    /// None on a word of the room's. The note leaves the thread's seat by a load of the gate, which counts as one parting.
+    /// A load of the gate, by which the note leaves the thread's seat: it counts as one parting, and as no step.
     pub fn note(&mut self) -> Note
         ensures same { AreAsBefore self.old self.new }
         ensures room { IsNoteThere self.new result }
@@ -121,7 +121,7 @@ impl<'a, const LAST: u32> StepsOver<RoomCells, &'a Room<LAST>> {
     ///
     /// # Operations
     ///
-    /// One, a load of the gate. The note joins the thread's seat for it, by a load of the gate that counts as one join. The count of these steps goes up by what the note had, too.
+    /// One, a load of the gate. The note joins the thread's seat for it, by a load of the gate that counts as one join. The thread's count of joins and partings goes up by what the note had, too.
     pub fn learn(&mut self, note: Note)
         requires { IsNoteThere self.old note }
         ensures room { self.new.place ≡ self.old.place }
@@ -138,7 +138,7 @@ impl<'a, const LAST: u32> StepsOver<RoomCells, &'a Room<LAST>> {
     ///
     /// # Operations
     ///
-    /// None on a word of the room's. The note leaves the thread's seat by a load of the gate, which counts as one parting. It comes to rest by an exchange of a word of its own, which no clause counts.
+    /// A load of the gate, by which the note leaves the thread's seat: it counts as one parting, and as no step. The note comes to rest by an exchange of a word of its own, which no clause counts.
     pub fn pin(&mut self) -> PinnedNote
         ensures same { AreAsBefore self.old self.new }
         ensures room { IsPinnedThere self.new result }
@@ -173,7 +173,7 @@ impl<'a, const LAST: u32> StepsOver<RoomCells, &'a Room<LAST>> {
     ///
     /// # Operations
     ///
-    /// One, a load of the gate. The other's pass leaves its seat for it, the passes join, and they part again, each by a load of the gate: the count of joins and partings of these steps goes up by three, and by what the other steps had. Those begin anew at 0.
+    /// One, a load of the gate. The other's pass leaves its seat for it, the passes join, and they part again, each by a load of the gate: the thread's count of joins and partings goes up by three, and by what the other had. That one begins anew at 0.
     pub fn meet_steps(&mut self, other: &mut RoomSteps<'_, LAST>)
         requires { AreInOneRoom self.old other.old }
         ensures room { self.new.place ≡ self.old.place }

@@ -24,7 +24,7 @@ pub trait StepsIn<Q: Site>: Steps {
     ///
     /// # Operations
     ///
-    /// None on a word of the room's. The note leaves the thread's seat by a load of the gate, which counts as one parting.
+    /// A load of the gate, by which the note leaves the thread's seat: it counts as one parting, and as no step.
     fn note(&mut self) -> NoteOf<Q>
         ensures same { IsUnchanged Self.facts self.old self.new }
         ensures note { HasSeenJust Self.facts self.old (seen_by_note result.note) }
@@ -36,7 +36,7 @@ pub trait StepsIn<Q: Site>: Steps {
     ///
     /// # Operations
     ///
-    /// One, a load of the gate. The note joins the thread's seat for it, by a load of the gate that counts as one join. The count of these steps goes up by what the note had, too.
+    /// One, a load of the gate. The note joins the thread's seat for it, by a load of the gate that counts as one join. The thread's count of joins and partings goes up by what the note had, too.
     fn learn(&mut self, note: Note)
         requires { IsNoteOf Q.room note }
         ensures step { Took Self.facts self.old self.new [] anything keeps }
