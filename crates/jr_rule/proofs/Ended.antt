@@ -15,7 +15,7 @@ use Rattle.jr_model.proofs.KeptLaws.{lawful}
 use Rattle.jr_steps.specs.declared.known.Known.{Known}
 use Rattle.jr_steps.specs.declared.known.Holdings.{Holdings}
 use Rattle.jr_rule.specs.Passes.{SumsUp, EndsAll, IsSeenIn, HasEachPass, HasNoOthers}
-use Rattle.jr_rule.specs.Rule.{view_of, sizes, EachFits, Row, Kept}
+use Rattle.jr_rule.specs.Rule.{view_at, sizes, EachFits, Row, Kept}
 use Rattle.jr_rule.specs.RowHistories.{IsHistoryOf, HasHistory}
 
 pub read_at : (xs : List ℕ) (i x : ℕ) → get_elem? xs i ≡ some x → get_or xs i 0 ≡ x
@@ -45,8 +45,8 @@ no_others c last s (e ∷ es) ks legal each = (each e.thread (legal.0).0, no_oth
 
 -- THE END: the history of the rule, whose image the words are, begins with what each of the passes has seen
 pub ends_all : (c : Config) (last : ℕ) (key : Sizes) (r : Row) (words : List ℕ) (j : ℕ) (v : View) (k : Known)
-    (ks : List Known) (s : Summary) → key ≡ sizes c last → Kept key.last key.config r → r.words ≡ words
-    → get_elem? r.views j ≡ some v → v ≡ view_of (k ∷ ks) → k.config ≡ c → k.last ≡ last
+    (ks : List Known) (s : Summary) {n : ℕ} → key ≡ sizes c last → Kept key.last key.config r → r.words ≡ words
+    → get_elem? r.views j ≡ some v → v ≡ view_at n (k ∷ ks) [] → k.config ≡ c → k.last ≡ last
     → ((n : ℕ) (log : History) → IsHistoryOf c words n log → s ≡ summary c n (state log)) → EndsAll k ks s
 ends_all c last key r words j v k ks s is kept same at all room serial counted =
     go (subst (λ (z : Sizes). Kept z.last z.config r) is kept)

@@ -1,16 +1,16 @@
 -- Two passes at one seat, while they meet.
-use Rattle.std.proofs.Common.{◌≡◌, ℕ, List, [], ◌∷◌, sym, ap, subst, ◌∙◌}
+use Rattle.std.proofs.Common.{◌≡◌, ◌+◌, ℕ, List, [], ◌∷◌, sym, ap, subst, ◌∙◌, arith}
 use mathlib.Core.List.{IsPrefix}
 use Rattle.jr_model.specs.declared.event.Act.{Act}
 use Rattle.jr_steps.specs.declared.known.Known.{Known}
 use Rattle.jr_steps.specs.Holdings.{InSpace}
-use Rattle.jr_rule.specs.Rule.{view_of as seats, view_with, AreBeginnings, EachFits, SeatState, stepping_pass}
+use Rattle.jr_rule.specs.Rule.{counting, joints_at, view_at, AreBeginnings, EachFits, SeatState, stepping_pass}
 use Rattle.jr_rule.specs.Rule.{noted_pass, others_of, Tells, IsAlone, IsNote, IsSeated, together, first_alone}
 use Rattle.jr_rule.proofs.Seats.{joined_is}
 
 module _ (a b m : SeatState) (alone : IsAlone a) (other : IsAlone b) (joined : m ≡ (together a.0 b.0, a.1)) where
   -- the seat that was joined has both passes
-  pub both : m ≡ (seats (stepping_pass a ∷ stepping_pass b ∷ []), [])
+  pub both : m ≡ (view_at (joints_at a + joints_at b + 1) (stepping_pass a ∷ stepping_pass b ∷ []) [], [])
   both = joined_is m a b (stepping_pass a) (stepping_pass b) alone other joined
 
   pub acting_both : stepping_pass m ≡ stepping_pass a
@@ -20,22 +20,27 @@ module _ (a b m : SeatState) (alone : IsAlone a) (other : IsAlone b) (joined : m
   others_both = ap (λ (z : SeatState). others_of z.0.passes) both
 
   pub seated_both : IsSeated m
-  seated_both = both ∙ (λ i. (seats (sym acting_both i ∷ sym others_both i), []))
+  seated_both = both ∙ (λ i. (view_at (ap joints_at (sym both) i) (sym acting_both i ∷ sym others_both i) [], []))
 
   module _ {told : Known → ℕ → List Act → Known → Type 0} (n : ℕ) (m' : SeatState) (s : Tells told m n m')
       (first : SeatState) (parted : first ≡ (first_alone m'.0, m'.1)) where
     -- after the look the first pass sits alone again, and was told what the look told
-    pub first_is : first ≡ (seats (s.new ∷ []), [])
-    first_is = parted
-        ∙ (ap (λ (z : SeatState). (first_alone z.0, z.1)) s.is ∙ ap (λ (z : SeatState). (seats (s.new ∷ []), z.1)) both)
+    pub first_is : first ≡ (view_at (joints_at m + 1) (s.new ∷ []) [], [])
+    first_is = parted ∙ (ap (λ (z : SeatState). (first_alone z.0, z.1)) s.is
+        ∙ ap (λ (z : SeatState). (view_at (joints_at m + 1) (s.new ∷ []) [], z.1)) both)
+
+    -- it has what both counted, and the join and the parting
+    pub met_twice : joints_at first ≡ joints_at a + joints_at b + 2
+    met_twice = let n = ap joints_at first_is in let j = ap joints_at both in omega arith
 
     -- as if it had looked alone
-    pub told_alone : Tells told a n first
+    pub told_alone : Tells told (counting (joints_at first) a) n first
     told_alone = record {
       acts = s.acts;
       new = s.new;
       is = first_is ∙ (λ i. (
-        seats (s.new ∷ ap (λ (z : SeatState). others_of z.0.passes) (sym alone) i),
+        view_at (ap joints_at (sym first_is) i)
+            (s.new ∷ ap (λ (z : SeatState). others_of z.0.passes) (sym alone) i) [],
         ap (λ (z : SeatState). z.1) (sym alone) i,
       ));
       goes = subst (λ k. Rattle.jr_steps.specs.Knowing.Goes k s.acts s.new) acting_both s.goes;
@@ -50,7 +55,7 @@ module _ (a b m : SeatState) (alone : IsAlone a) (other : IsAlone b) (joined : m
 -- A pass that learns what a note says, while it has it
 module _ (a b m : SeatState) (alone : IsAlone a) (note : IsNote b) (joined : m ≡ (together a.0 b.0, a.1)) where
   -- the seat that was joined has the pass and the note
-  pub with_note : m ≡ (view_with (stepping_pass a ∷ []) (noted_pass b ∷ []), [])
+  pub with_note : m ≡ (view_at (joints_at a + joints_at b + 1) (stepping_pass a ∷ []) (noted_pass b ∷ []), [])
   with_note = joined ∙ ap (λ (z : SeatState × SeatState). (together z.0.0 z.1.0, z.0.1)) (λ i. (alone i, note i))
 
   acting_noted : stepping_pass m ≡ stepping_pass a
@@ -61,3 +66,27 @@ module _ (a b m : SeatState) (alone : IsAlone a) (note : IsNote b) (joined : m �
     pub learned : IsPrefix (noted_pass b).seen (stepping_pass m').seen
     learned = subst (λ (k : Known). IsPrefix (noted_pass b).seen k.seen) (sym (ap stepping_pass s.is))
         (subst (λ ns. AreBeginnings (s.new).seen ns) (ap (λ (z : SeatState). z.0.notes) with_note) s.noted).0
+
+    -- it has what both counted, and the join
+    pub learned_once : joints_at m' ≡ joints_at a + joints_at b + 1
+    learned_once = ap joints_at s.is ∙ ap joints_at with_note
+
+    -- as if it had looked alone
+    pub told_noted : Tells told (counting (joints_at m') a) n m'
+    told_noted = record {
+      acts = s.acts;
+      new = s.new;
+      is = s.is ∙ (λ i. (
+        view_at (ap joints_at (sym s.is) i)
+            (s.new ∷ (ap (λ (z : SeatState). others_of z.0.passes) with_note
+            ∙ ap (λ (z : SeatState). others_of z.0.passes) (sym alone)) i) [],
+        (ap (λ (z : SeatState). z.1) with_note ∙ ap (λ (z : SeatState). z.1) (sym alone)) i,
+      ));
+      goes = subst (λ k. Rattle.jr_steps.specs.Knowing.Goes k s.acts s.new) acting_noted s.goes;
+      says = subst (λ k. told k n s.acts s.new) acting_noted s.says;
+      space = subst (λ (k : Known). InSpace k.config (s.new).holdings) acting_noted s.space;
+      held = s.held;
+      others = subst (λ ks. EachFits (stepping_pass a).config (stepping_pass a).last (s.new).seen s.held ks)
+          (sym (ap (λ (z : SeatState). others_of z.0.passes) alone)) tt;
+      noted = subst (λ ns. AreBeginnings (s.new).seen ns) (sym (ap (λ (z : SeatState). z.0.notes) alone)) tt;
+    }

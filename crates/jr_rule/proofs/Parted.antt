@@ -1,5 +1,5 @@
 -- Passes that close their room together: their seats come together, look at the gate, and part.
-use Rattle.std.proofs.Common.{◌≡◌, ◌≤◌, ◌<◌, ⊎_elim, ℕ, not, Option, Some, IfSome, option_to_list}
+use Rattle.std.proofs.Common.{◌≡◌, ◌+◌, ◌≤◌, ◌<◌, ⊎_elim, ℕ, not, Option, Some, IfSome, option_to_list}
 use Rattle.std.proofs.Common.{List, [], ◌∷◌, ◌++◌, map, sym, ap, subst, ◌∙◌, arith, append_assoc}
 use Rattle.std.proofs.lemmas.List.{append-nil}
 use Rattle.std.specs.List.{All, AllByRecursion}
@@ -21,39 +21,69 @@ use Rattle.jr_steps.specs.Knowing.{Goes, state_of}
 use Rattle.jr_steps.proofs.StepFacts.{goes_did}
 use Rattle.jr_rule.specs.declared.pass.Pass.{Pass}
 use Rattle.jr_rule.specs.declared.row.Row.{Row}
-use Rattle.jr_rule.specs.Passes.{known_of, stands_of, HasEachPass, HasPass, IsAt, IsSeenIn, PassStands}
+use Rattle.jr_rule.specs.Passes.{gathered, joints_of, known_of, stands_of, HasEachPass, HasPass, IsAt, IsSeenIn}
+use Rattle.jr_rule.specs.Passes.{PassStands}
 use Rattle.jr_rule.specs.Sights.{IsSeatOf}
-use Rattle.jr_rule.specs.Rule.{crowd_of, first_alone, others_of, stepping_pass, together, view_of, AreBeginnings}
+use Rattle.jr_rule.specs.Rule.{counting, crowd_of, first_alone, joints_at, others_of, stepping_pass, together}
+use Rattle.jr_rule.specs.Parting.{no_seat}
+use Rattle.jr_rule.specs.Rule.{view_at, without_first, AreBeginnings}
 use Rattle.jr_rule.specs.Rule.{CountedBy, HasCounted, EachFits, IsAlone, IsCrowd, IsSeated, LookedBy, SeatState, Tells}
 use Rattle.jr_rule.proofs.Ended.{seen_in}
 use Rattle.jr_rule.proofs.GateSteps.{counted_after}
+use Rattle.jr_rule.proofs.RuleKept.{total_append}
 
 -- A PASS AND A CROWD AT ONE SEAT
 
-pub beside_is : (a b m : SeatState) → IsAlone a → IsCrowd b → m ≡ (together a.0 b.0, a.1) → m ≡ crowd_of a [] b
+pub beside_is : (a b m : SeatState) → IsAlone a → IsCrowd b → m ≡ (together a.0 b.0, a.1) → m ≡ crowd_of 0 a [] b
 beside_is a b m alone crowd e =
-    e ∙ ap (λ (z : SeatState × SeatState). (together z.0.0 z.1.0, z.0.1)) (λ i. (alone i, crowd i))
+    let n : joints_at a + joints_at b + 1 ≡ joints_at a + (0 + joints_at b) + 1 = omega arith in
+    e ∙ (ap (λ (z : SeatState × SeatState). (together z.0.0 z.1.0, z.0.1)) (λ i. (alone i, crowd i))
+    ∙ (λ i. (view_at (n i) (stepping_pass a ∷ b.0.passes) [], [])))
+
+-- a pass that others come to, of whose seat an empty one was cut
+pub crowd_cut : (m a b : SeatState) (n : ℕ) (ks : List Known) → IsAlone m → a ≡ (first_alone m.0, m.1)
+    → b ≡ (without_first m.0, []) → crowd_of n a ks b ≡ crowd_of (n + 1) m ks no_seat
+crowd_cut m a b n ks alone first none =
+    let count : joints_at m + 1 + (n + 0) + 1 ≡ joints_at m + (n + 1 + 0) + 1 = omega arith in
+    ap (λ (z : SeatState × SeatState). crowd_of n z.0 ks z.1) (λ i. (first i, none i)) ∙ (λ i. (
+      view_at (count i) (stepping_pass m ∷ (ks ++ ap (λ (z : SeatState). others_of z.0.passes) alone i)) [],
+      [],
+    ))
 
 -- the seat of one pass more
 module _ (p : Pass) (s rest : SeatState) (joined : s ≡ (together p.seat.me.0 rest.0, p.seat.me.1)) where
-  passes_more : s.0.passes ≡ known_of p ∷ rest.0.passes
+  pub passes_more : s.0.passes ≡ known_of p ∷ rest.0.passes
   passes_more =
       ap (λ (z : SeatState). z.0.passes) joined ∙ ap (λ (z : SeatState). z.0.passes ++ rest.0.passes) p.held.alone
 
-  pub crowd_more : IsCrowd rest → s ≡ (view_of (known_of p ∷ rest.0.passes), [])
+  joints_more : joints_at s ≡ joints_of p + joints_at rest + 1
+  joints_more = ap joints_at joined
+
+  pub crowd_more : IsCrowd rest → s ≡ (view_at (joints_of p + joints_at rest + 1) (known_of p ∷ rest.0.passes) [], [])
   crowd_more crowd =
       joined ∙ ap (λ (z : SeatState × SeatState). (together z.0.0 z.1.0, z.0.1)) (λ i. (p.held.alone i, crowd i))
 
   pub still_crowd : IsCrowd rest → IsCrowd s
-  still_crowd crowd = crowd_more crowd ∙ (λ i. (view_of (sym passes_more i), []))
+  still_crowd crowd = crowd_more crowd ∙ (λ i. (view_at (sym joints_more i) (sym passes_more i) [], []))
 
-  pub same_crowd : (first : SeatState) (xs init : List Pass) → xs ≡ init ++ p ∷ []
-      → crowd_of first (map known_of init) s ≡ crowd_of first (map known_of xs) rest
-  same_crowd first xs init is = ap (λ l. (view_of (stepping_pass first ∷ l), []))
-      (ap (λ l. map known_of init ++ l) passes_more
-      ∙ (sym (append_assoc (map known_of init) (known_of p ∷ []) rest.0.passes)
-      ∙ (ap (λ l. l ++ rest.0.passes) (sym (map-append known_of init (p ∷ [])))
-      ∙ ap (λ l. map known_of l ++ rest.0.passes) (sym is))))
+  gathered_more : (xs init : List Pass) → xs ≡ init ++ p ∷ []
+      → gathered init + joints_at s ≡ gathered xs + joints_at rest
+  gathered_more xs init is =
+      let sum : gathered xs ≡ gathered init + (joints_of p + 1 + 0) =
+      ap gathered is ∙ total_append (λ (q : Pass). joints_of q + 1) init (p ∷ []) in
+      let j : joints_at s ≡ joints_of p + joints_at rest + 1 = joints_more in omega arith
+
+  pub same_crowd : (first : SeatState) (xs init : List Pass) → xs ≡ init ++ p ∷ [] → crowd_of (gathered init) first
+      (map known_of init) s ≡ crowd_of (gathered xs) first (map known_of xs) rest
+  same_crowd first xs init is = ap
+      (λ (z : ℕ × List Known). (view_at (joints_at first + z.0 + 1) (stepping_pass first ∷ z.1) [], []))
+      (λ i. (gathered_more xs init is i, same_passes i))
+    where
+      same_passes : map known_of init ++ s.0.passes ≡ map known_of xs ++ rest.0.passes
+      same_passes = ap (λ l. map known_of init ++ l) passes_more
+          ∙ (sym (append_assoc (map known_of init) (known_of p ∷ []) rest.0.passes)
+          ∙ (ap (λ l. l ++ rest.0.passes) (sym (map-append known_of init (p ∷ [])))
+          ∙ ap (λ l. map known_of l ++ rest.0.passes) (sym is)))
 
 pub more_stand : (xs ys zs : List Pass) (p q : Pass) → xs ≡ ys ++ p ∷ [] → map stands_of zs ≡ map stands_of ys
     → stands_of q ≡ stands_of p → map stands_of (zs ++ q ∷ []) ≡ map stands_of xs
@@ -81,9 +111,13 @@ counts_so m c m' n count q e t same is =
           ∙ (counted_after s.0 t.goes s.4 ∙ ap (λ (k : Known). not_outside k.config (state_of k)) new));
     }
 
-module _ (first rest m' : SeatState) (ks : List Known) (count : ℕ)
-    (c : HasCounted (crowd_of first ks rest) m' count) where
-  pub counted_is : m' ≡ (view_of ((c.tells).new ∷ (ks ++ rest.0.passes)), [])
+module _ (brought : ℕ) (first rest m' : SeatState) (ks : List Known) (count : ℕ)
+    (c : HasCounted (crowd_of brought first ks rest) m' count) where
+  -- what they count together
+  abbrev all_joints : ℕ
+  all_joints = joints_at first + (brought + joints_at rest) + 1
+
+  pub counted_is : m' ≡ (view_at all_joints ((c.tells).new ∷ (ks ++ rest.0.passes)) [], [])
   counted_is = c.tells.is
 
   -- what the first pass knows then
@@ -96,22 +130,32 @@ module _ (first rest m' : SeatState) (ks : List Known) (count : ℕ)
 
   pub counted_seated : IsSeated m'
   counted_seated =
-      counted_is ∙ sym (ap (λ (z : SeatState). (view_of (stepping_pass z ∷ others_of z.0.passes), [])) counted_is)
+      counted_is
+      ∙ sym (ap (λ (z : SeatState). (view_at (joints_at z) (stepping_pass z ∷ others_of z.0.passes) [], [])) counted_is)
 
   pub others_are : others_of m'.0.passes ≡ ks ++ rest.0.passes
   others_are = ap (λ (z : SeatState). others_of z.0.passes) counted_is
 
+  parted_is : (a : SeatState) → a ≡ (first_alone m'.0, m'.1)
+      → a ≡ (view_at (all_joints + 1) ((c.tells).new ∷ []) [], [])
+  parted_is a parted = parted ∙ ap (λ (z : SeatState). (first_alone z.0, z.1)) counted_is
+
+  -- and it has the count of all, with the parting
+  pub parted_joints : (a : SeatState) → a ≡ (first_alone m'.0, m'.1) → joints_at a ≡ all_joints + 1
+  parted_joints a parted = ap joints_at (parted_is a parted)
+
   -- alone again, the first pass has looked
   pub looked_alone : IsAlone first → (a : SeatState) → a ≡ (first_alone m'.0, m'.1)
-      → Tells (LookedBy (Meet ∷ [])) first c.found a
+      → Tells (LookedBy (Meet ∷ [])) (counting (joints_at a) first) c.found a
   looked_alone alone a parted =
-      let t = c.tells in record {
+      let t = c.tells in
+      let is = parted_is a parted in record {
         acts = t.acts;
         new = t.new;
-        is = parted ∙ (ap (λ (z : SeatState). (first_alone z.0, z.1)) counted_is ∙ (λ i. (
-          view_of (t.new ∷ ap (λ (z : SeatState). others_of z.0.passes) (sym alone) i),
+        is = is ∙ (λ i. (
+          view_at (ap joints_at (sym is) i) (t.new ∷ ap (λ (z : SeatState). others_of z.0.passes) (sym alone) i) [],
           ap (λ (z : SeatState). z.1) (sym alone) i,
-        )));
+        ));
         goes = t.goes;
         says = (t.says.3, t.says.5);
         space = t.space;
@@ -190,3 +234,7 @@ seat_of r p at = record {
 
 pub some_not_none : (n : ℕ) → 1 ≤ n → n ≡ 0 → ⊥
 some_not_none n some none = absurd (omega arith)
+
+-- the two partings and the join of all that come together
+pub and_three : (a b n : ℕ) → b ≡ a + (n + 1 + 0) + 1 + 1 → b ≡ a + n + 3
+and_three a b n e = omega arith

@@ -1,5 +1,5 @@
 -- The steps of a pass stand as it does, and a pass that is handed out as they do; and it stays in its room.
-use Rattle.std.proofs.Common.{◌≡◌, ◌<◌, ℕ, Bool, Some, List, refl, sym, ap, subst, ◌∙◌, arith}
+use Rattle.std.proofs.Common.{◌≡◌, ◌<◌, ℕ, Bool, Some, List, [], ◌∷◌, refl, sym, ap, subst, ◌∙◌, arith}
 use Rattle.std.proofs.Math.Logic.{∥∥₁_elim}
 use Rattle.std.proofs.Props.{props}
 use mathlib.Core.Logic.{∥∥₁_map}
@@ -15,7 +15,7 @@ use Rattle.jr_rule.specs.Sights.{sight_of_seat, IsSeatOf}
 use Rattle.jr_rule.specs.declared.pass.Pass.{Pass}
 use Rattle.jr_rule.specs.declared.row.Row.{Row}
 use Rattle.jr_rule.specs.Passes.{Holder, facts_of, holder_of, known_of, standing_of, IsAt, IsOpened}
-use Rattle.jr_rule.specs.Rule.{SeatState, IsHeld, stepping_pass}
+use Rattle.jr_rule.specs.Rule.{SeatState, IsHeld, stepping_pass, view_of}
 
 pub standing_of_held : {id : TableId} {m : SeatState} {thread : ℕ} {role : Role} {fresh : Bool} {hint : ℕ}
     → IsHeld m thread role fresh hint → IsStanding (sight_of_seat id m) role fresh hint
@@ -56,12 +56,12 @@ held_of_standing {m = m} {thread} {role} {fresh} {hint} a s =
       below = s.below;
     }
 
--- who sits at a seat that is as it was stands as before
-pub standing_same : {id id' : TableId} {m m' : SeatState} {role : Role} {fresh : Bool} {hint : ℕ}
-    → id' ≡ id → m' ≡ m → IsStanding (sight_of_seat id m) role fresh hint
+-- who sits at a seat whose first pass is as it was stands as before, however often the seat was joined and cut
+pub standing_same : {id id' : TableId} (m m' : SeatState) {role : Role} {fresh : Bool} {hint : ℕ} → id' ≡ id
+    → stepping_pass m' ≡ stepping_pass m → IsStanding (sight_of_seat id m) role fresh hint
     → IsStanding (sight_of_seat id' m') role fresh hint
-standing_same {role = role} {fresh} {hint} table same =
-    subst (λ (x : TableId × SeatState). IsStanding (sight_of_seat x.0 x.1) role fresh hint)
+standing_same m m' {role} {fresh} {hint} table same =
+    subst (λ (x : TableId × Known). IsStanding (sight_of_seat x.0 (view_of (x.1 ∷ []), [])) role fresh hint)
     (λ i. (sym table i, sym same i))
 
 -- a pass that stands in the same room is one of the row's own

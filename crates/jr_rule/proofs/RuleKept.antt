@@ -22,7 +22,7 @@ use Rattle.jr_rule.specs.Image.{IsImage}
 use Rattle.jr_rule.proofs.HoldingsInSpace.{holdings_in_space}
 use Rattle.jr_rule.proofs.Spaces.{hold_here, hold_else}
 use Rattle.jr_steps.specs.Knowing.{Goes}
-use Rattle.jr_rule.specs.Rule.{view_of, view_with, AreBeginnings, Fits, EachFits, total, is_of}
+use Rattle.jr_rule.specs.Rule.{view_at, view_of, AreBeginnings, Fits, EachFits, total, is_of}
 use Rattle.jr_rule.specs.Rule.{passes_of, Row, Kept, SeatState, stepping_pass, Tells, known_at, Owes}
 
 -- COUNTS OF A LIST
@@ -121,34 +121,34 @@ noted_on log more [] noted = tt
 noted_on log more (n ∷ ns) noted =
     (prefix_trans n.seen log (log ++ more) noted.0 (more, refl), noted_on log more ns noted.1)
 
-module _ (c : Config) (last : ℕ) where
+module _ (joints : ℕ) (c : Config) (last : ℕ) where
   -- the passes of other views, and the others of this one, are of other threads
   apart : (r : Row) (kept : Kept last c r) (id : ℕ) (k : Known) (ks ns : List Known)
-      → get_elem? r.views id ≡ some (view_with (k ∷ ks) ns)
+      → get_elem? r.views id ≡ some (view_at joints (k ∷ ks) ns)
       → (total (is_of k.thread) ks ≡ 0) × ((j : ℕ) (v : View) → j ≢ id → get_elem? r.views j ≡ some v
       → total (is_of k.thread) v.passes ≡ 0)
   apart r kept id k ks ns at =
       let f : View → ℕ = passes_of k.thread in
       let own = one_here k.thread k refl in
-      let most = kept.once k.thread ((kept.each id (view_with (k ∷ ks) ns) at).0).row in
-      let all = total_above f r.views id (view_with (k ∷ ks) ns) at in (
+      let most = kept.once k.thread ((kept.each id (view_at joints (k ∷ ks) ns) at).0).row in
+      let all = total_above f r.views id (view_at joints (k ∷ ks) ns) at in (
         omega arith,
         λ j v other there.
             let gone : View = view_of [] in
-            let rest = total_at f r.views id (view_with (k ∷ ks) ns) gone at in
+            let rest = total_at f r.views id (view_at joints (k ∷ ks) ns) gone at in
             let still = at_else r.views id j gone other ∙ there in
             let bound = total_above f (slice_set r.views id gone) j v still in omega arith,
       )
 
   -- the acts go to the end of the longest history
   adds : (r : Row) (kept : Kept last c r) (id : ℕ) (k : Known) (ks ns : List Known)
-      → get_elem? r.views id ≡ some (view_with (k ∷ ks) ns) → (i n : ℕ) (acts : List Act) (g : Holdings)
+      → get_elem? r.views id ≡ some (view_at joints (k ∷ ks) ns) → (i n : ℕ) (acts : List Act) (g : Holdings)
       → IsLegal c last (kept.log ++ map (by k.thread) acts)
       → IsImage c last (slice_set r.words i n) (state (kept.log ++ map (by k.thread) acts)) (hold kept.held k.thread g)
-      → Kept last c (stepped r i n id [] (view_of (known_at k kept.log acts g ∷ ks)) keeps)
+      → Kept last c (stepped r i n id [] (view_at joints (known_at k kept.log acts g ∷ ks) []) keeps)
   adds r kept id k ks ns at i n acts g legal image =
-      let w : View = view_of (known_at k kept.log acts g ∷ ks) in
-      let fit = kept.each id (view_with (k ∷ ks) ns) at in
+      let w : View = view_at joints (known_at k kept.log acts g ∷ ks) [] in
+      let fit = kept.each id (view_at joints (k ∷ ks) ns) at in
       let far = apart r kept id k ks ns at in
       let t : ℕ = k.thread in record {
         log = kept.log ++ map (by t) acts;
@@ -171,27 +171,27 @@ module _ (c : Config) (last : ℕ) where
             (λ (q : (j ≢ id) × (get_elem? r.views j ≡ some v)).
             noted_on kept.log (map (by t) acts) v.notes (kept.noted j v q.1))
             (at_set r.views id j w v there);
-        once = λ u h. let same = total_at (passes_of u) r.views id (view_with (k ∷ ks) ns) w at in
+        once = λ u h. let same = total_at (passes_of u) r.views id (view_at joints (k ∷ ks) ns) w at in
             let most = kept.once u h in omega arith;
       }
 
 -- WHAT A STEP OWES IS ENOUGH for the row to take it, whoever else steps in between
-module _ (c : Config) (last slots id : ℕ) (k : Known) (ks ns : List Known) (i : ℕ) (f g : ℕ → ℕ)
+module _ (joints : ℕ) (c : Config) (last slots id : ℕ) (k : Known) (ks ns : List Known) (i : ℕ) (f g : ℕ → ℕ)
     (told : Known → ℕ → List Act → Known → Type 0) (owes : Owes k i f (λ n. told k (g n))) where
-  here : (r : Row) → Kept k.last k.config r → get_elem? r.views id ≡ some (view_with (k ∷ ks) ns)
+  here : (r : Row) → Kept k.last k.config r → get_elem? r.views id ≡ some (view_at joints (k ∷ ks) ns)
       → (w : View) × (a : Taking (Unit {0})) × Valid r.homes [] a
       × Kept k.last k.config (stepped r i (f (get_or r.words i 0)) id [] w a)
-      × Tells told (view_with (k ∷ ks) ns, []) (g (get_or r.words i 0)) (w, carried_after {S = Unit {0}} [] a)
+      × Tells told (view_at joints (k ∷ ks) ns, []) (g (get_or r.words i 0)) (w, carried_after {S = Unit {0}} [] a)
   here r kept at =
       let n : ℕ = get_or r.words i 0 in
-      let fit = kept.each id (view_with (k ∷ ks) ns) at in
+      let fit = kept.each id (view_at joints (k ∷ ks) ns) at in
       let made = owes kept.log r.words kept.held
       (record { fits = fit.0; legal = kept.legal; sized = kept.sized; image = kept.image }) in
-      let far = apart k.config k.last r kept id k ks ns at in (
-        view_of (known_at k kept.log made.acts made.holdings ∷ ks),
+      let far = apart joints k.config k.last r kept id k ks ns at in (
+        view_at joints (known_at k kept.log made.acts made.holdings ∷ ks) [],
         keeps,
         tt,
-        adds k.config k.last r kept id k ks ns at i (f n) made.acts made.holdings made.legal made.image,
+        adds joints k.config k.last r kept id k ks ns at i (f n) made.acts made.holdings made.legal made.image,
         record {
           acts = made.acts;
           new = known_at k kept.log made.acts made.holdings;
@@ -203,14 +203,14 @@ module _ (c : Config) (last slots id : ℕ) (k : Known) (ks ns : List Known) (i 
               made.holdings (hold_here kept.held k.thread made.holdings);
           held = hold kept.held k.thread made.holdings;
           others = others_fit k.config k.last kept.log kept.held k.thread made.acts made.holdings ks far.0 fit.1;
-          noted = noted_on kept.log (map (by k.thread) made.acts) ns (kept.noted id (view_with (k ∷ ks) ns) at);
+          noted = noted_on kept.log (map (by k.thread) made.acts) ns (kept.noted id (view_at joints (k ∷ ks) ns) at);
         },
       )
 
-  plays_first : Allows (Kept last c) slots id (view_with (k ∷ ks) ns, []) i f (λ n m'.
-      Tells told (view_with (k ∷ ks) ns, []) (g n) m')
+  plays_first : Allows (Kept last c) slots id (view_at joints (k ∷ ks) ns, []) i f (λ n m'.
+      Tells told (view_at joints (k ∷ ks) ns, []) (g n) m')
   plays_first r kept l at small =
-      let fit = (kept.each id (view_with (k ∷ ks) ns) at).0 in
+      let fit = (kept.each id (view_at joints (k ∷ ks) ns) at).0 in
       let p =
       here r (subst (λ (z : Config × ℕ). Kept z.1 z.0 r) (λ j. (sym fit.same_config j, sym fit.same_last j)) kept)
       at in (
@@ -224,10 +224,11 @@ module _ (c : Config) (last slots id : ℕ) (k : Known) (ks ns : List Known) (i 
 
 -- the same of a seat that is known by an equation. It is told of g of the number found
 pub plays : (c : Config) (last slots id : ℕ) (m : SeatState) (k : Known) (ks : List Known) {ns : List Known}
-    → m ≡ (view_with (k ∷ ks) ns, []) → (i : ℕ) (f g : ℕ → ℕ) (told : Known → ℕ → List Act → Known → Type 0)
+    {joints : ℕ} → m ≡ (view_at joints (k ∷ ks) ns, []) → (i : ℕ) (f g : ℕ → ℕ)
+    (told : Known → ℕ → List Act → Known → Type 0)
     → Owes (stepping_pass m) i f (λ n. told (stepping_pass m) (g n))
     → Allows (Kept last c) slots id m i f (λ n m'. Tells told m (g n) m')
-plays c last slots id m k ks {ns} is i f g told =
+plays c last slots id m k ks {ns} {joints} is i f g told =
     subst (λ (z : SeatState). Owes (stepping_pass z) i f (λ n. told (stepping_pass z) (g n))
     → Allows (Kept last c) slots id z i f (λ n m'. Tells told z (g n) m')) (sym is)
-    (λ owes. plays_first c last slots id k ks ns i f g told owes)
+    (λ owes. plays_first joints c last slots id k ks ns i f g told owes)

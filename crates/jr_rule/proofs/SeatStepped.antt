@@ -13,12 +13,30 @@ use Rattle.jr_steps.specs.Holdings.{InSpace}
 use Rattle.jr_steps.specs.Knowing.{Goes}
 use Rattle.jr_rule.specs.Cells.{IsOwed, HasStepped, May, WentBy}
 use Rattle.jr_rule.specs.Sights.{sight_of_seat, IsSeatOf}
-use Rattle.jr_rule.specs.Rule.{SeatState, IsSeated, IsAlone, IsSized, Owes, Tells, stepping_pass, others_of, view_of}
+use Rattle.jr_rule.specs.Rule.{SeatState, IsSeated, IsAlone, IsSized, Owes, Tells, counting, joints_at, stepping_pass}
+use Rattle.jr_rule.specs.Rule.{others_of, view_at}
 
 -- who sits alone is seated
 pub seated : (m : SeatState) → IsAlone m → IsSeated m
 seated m alone =
-    alone ∙ (λ i. (view_of (stepping_pass m ∷ others_of (sym (ap (λ (z : SeatState). z.0) alone) i).passes), []))
+    alone ∙ (λ i. (
+      view_at (joints_at m) (stepping_pass m ∷ others_of (sym (ap (λ (z : SeatState). z.0) alone) i).passes) [],
+      [],
+    ))
+
+-- with another count it sits there as before
+pub counted_seat : {row id : TableId} {c : Config} {last thread n : ℕ} {m : SeatState}
+    → IsSeatOf row c last id m thread → IsSeatOf row c last id (counting n m) thread
+counted_seat {n = n} s = record {
+  table = s.table;
+  config = s.config;
+  last = s.last;
+  alone = ap (counting n) s.alone;
+  thread_is = s.thread_is;
+  sized = s.sized;
+  below = s.below;
+  space = s.space;
+}
 
 -- a place of the words is one of the row's
 pub place_here : {row id : TableId} {c : Config} {last thread : ℕ} {m : SeatState} → IsSeatOf row c last id m thread
@@ -37,6 +55,10 @@ module _ {told : Known → ℕ → List Act → Known → Type 0} {m m' : SeatSt
   new_is : t.new ≡ stepping_pass m'
   new_is = sym (ap stepping_pass t.is)
 
+  -- a step neither joins nor cuts
+  pub same_joints : joints_at m ≡ joints_at m'
+  same_joints = sym (ap joints_at t.is)
+
   same_config : (stepping_pass m').config ≡ (stepping_pass m).config
   same_config = ap (λ (k : Known). k.config) (sym new_is) ∙ t.goes.config
 
@@ -54,7 +76,7 @@ module _ {told : Known → ℕ → List Act → Known → Type 0} {m m' : SeatSt
     config = same_config ∙ s.config;
     last = same_last ∙ s.last;
     alone = t.is ∙ (λ i. (
-      view_of (new_is i ∷ ap (λ (z : SeatState). others_of z.0.passes) s.alone i),
+      view_at (same_joints i) (new_is i ∷ ap (λ (z : SeatState). others_of z.0.passes) s.alone i) [],
       ap (λ (z : SeatState). z.1) s.alone i,
     ));
     thread_is = same_thread ∙ s.thread_is;

@@ -15,8 +15,9 @@ use Rattle.jr_rule.specs.declared.rule.View.{View}
 use Rattle.jr_steps.specs.declared.known.Holdings.{Holdings}
 use Rattle.jr_steps.specs.Holdings.{empty}
 use Rattle.jr_rule.specs.Image.{IsImage}
-use Rattle.jr_rule.specs.Rule.{known, note_of, view_of, view_with, AreBeginnings, IsSized, EachFits, total, is_of}
-use Rattle.jr_rule.specs.Rule.{passes_of, Kept, newcomers, SeatState, first_alone, without_first, together, spent}
+use Rattle.jr_rule.specs.Rule.{known, note_of, once_more, view_at, view_of, AreBeginnings, IsSized, EachFits, total}
+use Rattle.jr_rule.specs.Rule.{is_of, passes_of, Kept, newcomers, SeatState, first_alone, without_first, together}
+use Rattle.jr_rule.specs.Rule.{spent}
 use Rattle.jr_rule.proofs.RuleKept.{total_append, total_at}
 
 each_append : (c : Config) (last : ℕ) (log : History) (held : ℕ → Holdings) (ks ls : List Known)
@@ -68,29 +69,30 @@ module _ (c : Config) (last : ℕ) where
         let most = kept.once t h in omega arith;
   }
 
-  pub deals : (id : ℕ) (v : View) (k : Known) (ks : List Known) → v ≡ view_of (k ∷ ks)
+  pub deals : (id : ℕ) (v : View) (k : Known) (ks : List Known) {n : ℕ} → v ≡ view_at n (k ∷ ks) []
       → Splits (Kept last c) id v (without_first v) (first_alone v)
-  deals id v k ks is = subst (λ (w : View). Splits (Kept last c) id w (without_first w) (first_alone w)) (sym is)
-      (cuts id (view_of (k ∷ ks)) (view_of ks) (view_of (k ∷ [])) (λ log held fit. (fit.1, (fit.0, tt)))
+  deals id v k ks {n} is = subst (λ (w : View). Splits (Kept last c) id w (without_first w) (first_alone w)) (sym is)
+      (cuts id (view_at n (k ∷ ks) []) (view_of ks) (view_at (n + 1) (k ∷ []) []) (λ log held fit. (fit.1, (fit.0, tt)))
       (λ log held fit noted. (tt, tt)) (λ t. omega arith))
 
-  pub parts : (id : ℕ) (v : View) (k : Known) (ks : List Known) → v ≡ view_of (k ∷ ks)
+  pub parts : (id : ℕ) (v : View) (k : Known) (ks : List Known) {n : ℕ} → v ≡ view_at n (k ∷ ks) []
       → Splits (Kept last c) id v (first_alone v) (without_first v)
-  parts id v k ks is = subst (λ (w : View). Splits (Kept last c) id w (first_alone w) (without_first w)) (sym is)
-      (cuts id (view_of (k ∷ ks)) (view_of (k ∷ [])) (view_of ks) (λ log held fit. ((fit.0, tt), fit.1))
+  parts id v k ks {n} is = subst (λ (w : View). Splits (Kept last c) id w (first_alone w) (without_first w)) (sym is)
+      (cuts id (view_at n (k ∷ ks) []) (view_at (n + 1) (k ∷ []) []) (view_of ks) (λ log held fit. ((fit.0, tt), fit.1))
       (λ log held fit noted. (tt, tt)) (λ t. omega arith))
 
   -- a note of what the first of a seat's passes has seen leaves it
-  pub jots : (id : ℕ) (v : View) (k : Known) (ks : List Known) → v ≡ view_of (k ∷ ks)
-      → Splits (Kept last c) id v v (note_of v)
-  jots id v k ks is = subst (λ (w : View). Splits (Kept last c) id w w (note_of w)) (sym is)
-      (cuts id (view_of (k ∷ ks)) (view_of (k ∷ ks)) (note_of (view_of (k ∷ ks))) (λ log held fit. (fit, tt))
+  pub jots : (id : ℕ) (v : View) (k : Known) (ks : List Known) {n : ℕ} → v ≡ view_at n (k ∷ ks) []
+      → Splits (Kept last c) id v (once_more v) (note_of v)
+  jots id v k ks {n} is = subst (λ (w : View). Splits (Kept last c) id w (once_more w) (note_of w)) (sym is)
+      (cuts id (view_at n (k ∷ ks) []) (view_at (n + 1) (k ∷ ks) []) (view_at 0 [] (k ∷ [])) (λ log held fit. (fit, tt))
       (λ log held fit noted. (tt, ((fit.0).begins, tt))) (λ t. omega arith))
 
   -- a copy of a seat's notes leaves it, where it has no pass
-  pub copies : (id : ℕ) (v : View) (ns : List Known) → v ≡ view_with [] ns → Splits (Kept last c) id v v v
-  copies id v ns is = subst (λ (w : View). Splits (Kept last c) id w w w) (sym is)
-      (cuts id (view_with [] ns) (view_with [] ns) (view_with [] ns) (λ log held fit. (fit, fit))
+  pub copies : (id : ℕ) (v : View) (ns : List Known) {n : ℕ} → v ≡ view_at n [] ns
+      → Splits (Kept last c) id v v (once_more v)
+  copies id v ns {n} is = subst (λ (w : View). Splits (Kept last c) id w w (once_more w)) (sym is)
+      (cuts id (view_at n [] ns) (view_at n [] ns) (view_at (n + 1) [] ns) (λ log held fit. (fit, fit))
       (λ log held fit noted. (noted, noted)) (λ t. refl))
 
   pub gathers : (id : ℕ) (v : View) (other : ℕ) (w : View) → Joins (Kept last c) id v other w (together v w) spent
@@ -194,6 +196,6 @@ module _ (c : Config) (last : ℕ) where
       ∙ ap (λ (k : ℕ). (view_of (known c last t [] empty 0 ∷ newcomers c last n k), [])) next)
 
 -- the seat of two passes that were joined
-pub joined_is : (m v w : SeatState) (k l : Known) → v ≡ (view_of (k ∷ []), []) → w ≡ (view_of (l ∷ []), [])
-    → m ≡ (together v.0 w.0, v.1) → m ≡ (view_of (k ∷ l ∷ []), [])
+pub joined_is : (m v w : SeatState) (k l : Known) {n o : ℕ} → v ≡ (view_at n (k ∷ []) [], [])
+    → w ≡ (view_at o (l ∷ []) [], []) → m ≡ (together v.0 w.0, v.1) → m ≡ (view_at (n + o + 1) (k ∷ l ∷ []) [], [])
 joined_is m v w k l a b e = e ∙ ap (λ (z : SeatState × SeatState). (together z.0.0 z.1.0, z.0.1)) (λ i. (a i, b i))

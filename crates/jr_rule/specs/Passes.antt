@@ -1,5 +1,5 @@
 -- What a pass shows, and what a room gives.
-use Rattle.std.specs.Prelude.{◌≡◌, ◌⊎◌, ◌<◌, ℕ, zero, suc, Bool, true, List, [], ◌∷◌, ◌++◌, map}
+use Rattle.std.specs.Prelude.{◌≡◌, ◌⊎◌, ◌+◌, ◌<◌, ℕ, zero, suc, Bool, true, List, [], ◌∷◌, ◌++◌, map}
 use Rattle.std.specs.List.{All, AllByRecursion}
 use mathlib.Core.List.{IsPrefix}
 use Rattle.atomic_table.specs.declared.shared.Seat.{Seat}
@@ -20,11 +20,19 @@ use Rattle.jr_steps.specs.Holdings.{empty}
 use Rattle.jr_rule.specs.declared.rule.View.{View}
 use Rattle.jr_rule.specs.Cells.{facts_at}
 use Rattle.jr_rule.specs.Sights.{sight_of_seat}
-use Rattle.jr_rule.specs.Rule.{known, stepping_pass}
+use Rattle.jr_rule.specs.Rule.{joints_at, known, stepping_pass, total}
 
 -- what a pass knows: its room and thread, and what it has seen
 abbrev pub known_of : Pass → Known
 known_of p = stepping_pass p.seat.me
+
+-- the count of joins and partings of seats that a pass has
+abbrev pub joints_of : Pass → ℕ
+joints_of p = joints_at p.seat.me
+
+-- what passes bring that come together: the count that each has, and its join
+abbrev pub gathered : List Pass → ℕ
+gathered ps = total (λ p. joints_of p + 1) ps
 
 -- WHAT A PASS IS MADE OF: a seat, the thread, and how it stands
 pub record Holder : Type 0 where
@@ -50,13 +58,14 @@ pub record IsAt (r : Row) (p : Pass) : Type 0 where
   pub config : (known_of p).config ≡ r.config
   pub last : (known_of p).last ≡ r.last
 
--- a pass of the row, as it was opened
+-- a pass of the row, as it was opened: it left the first seat by one parting
 pub record IsOpened (r : Row) (p : Pass) : Type 0 where
   pub row : IsAt r p
   pub knows : known_of p ≡ known r.config r.last p.thread [] empty 0
   pub role : p.role ≡ Outside
   pub fresh : p.fresh ≡ true
   pub hint : p.hint ≡ 0
+  pub dealt : joints_of p ≡ 1
 
 abbrev pub numbers_below : ℕ → List ℕ
 numbers_below zero = []

@@ -30,13 +30,13 @@ abbrev pub known : Config → ℕ → ℕ → History → Holdings → ℕ → K
 known c last t seen holdings taken =
     record { config = c; last = last; thread = t; seen = seen; holdings = holdings; taken = taken }
 
--- what a seat stands for that has these passes, and these notes
-abbrev pub view_with : List Known → List Known → View
-view_with ks ns = record { passes = ks; notes = ns }
+-- what a seat stands for that has the count of so many joins and partings, these passes, and these notes
+abbrev pub view_at : ℕ → List Known → List Known → View
+view_at n ks ns = record { passes = ks; notes = ns; joints = n }
 
--- that has no note
+-- that has no note, and no count yet
 abbrev pub view_of : List Known → View
-view_of ks = view_with ks []
+view_of ks = view_at 0 ks []
 
 -- the sizes of a room, and its last serial
 pub record IsSized (c : Config) (last : ℕ) : Type 0 where
@@ -113,13 +113,17 @@ stepping_pass m = first_of m.0.passes
 
 -- ---- for the crate's own functions
 
+-- the count of joins and partings that a seat has
+abbrev pub joints_at : SeatState → ℕ
+joints_at m = m.0.joints
+
 -- a seat of one pass
 abbrev pub IsAlone : SeatState → Type 0
-IsAlone m = m ≡ (view_of (stepping_pass m ∷ []), [])
+IsAlone m = m ≡ (view_at (joints_at m) (stepping_pass m ∷ []) [], [])
 
 -- the seat has a pass to step, and no slots
 abbrev pub IsSeated : SeatState → Type 0
-IsSeated m = m ≡ (view_of (stepping_pass m ∷ others_of m.0.passes), [])
+IsSeated m = m ≡ (view_at (joints_at m) (stepping_pass m ∷ others_of m.0.passes) [], [])
 
 -- WHAT A PASS HOLDS beside its seat:
 -- it sits alone, its thread, role and freshness are those of what it knows, and its hint is one of its room's slots
@@ -136,11 +140,11 @@ pub record IsHeld (m : SeatState) (thread : ℕ) (role : Role) (fresh : Bool) (h
   pub below : hint < (stepping_pass m).config.slots
 
 -- WHAT A STEP TELLS: its pass has then seen what it had, what others did since, and last the step's acts, none or one;
--- and this holds of the number that it found
+-- and this holds of the number that it found. It neither joins seats nor cuts one
 pub record Tells (told : Known → ℕ → List Act → Known → Type 0) (m : SeatState) (n : ℕ) (m' : SeatState) : Type 0 where
   pub acts : List Act
   pub new : Known
-  pub is : m' ≡ (view_of (new ∷ others_of m.0.passes), m.1)
+  pub is : m' ≡ (view_at (joints_at m) (new ∷ others_of m.0.passes) [], m.1)
   pub goes : Goes (stepping_pass m) acts new
   pub says : told (stepping_pass m) n acts new
   pub space : InSpace (stepping_pass m).config new.holdings
@@ -148,12 +152,17 @@ pub record Tells (told : Known → ℕ → List Act → Known → Type 0) (m : S
   pub others : EachFits (stepping_pass m).config (stepping_pass m).last new.seen held (others_of m.0.passes)
   pub noted : AreBeginnings new.seen m.0.notes
 
+-- the seat with another count
+abbrev pub counting : ℕ → SeatState → SeatState
+counting n m = (view_at n m.0.passes m.0.notes, m.1)
+
 -- a pass has looked at the gate by these acts, beside another that it meets or beside a note, and holds what it held
 abbrev pub LookedBy : List Act → Known → ℕ → List Act → Known → Type 0
 LookedBy acts k n done k' = (done ≡ acts) × keeps k k'
 
+-- (before the look and after it the seat may have been joined and cut)
 abbrev pub LooksBy : List Act → SeatState → SeatState → Type 0
-LooksBy acts m m' = (n : ℕ) × Tells (LookedBy acts) m n m'
+LooksBy acts m m' = (n : ℕ) × Tells (LookedBy acts) (counting (joints_at m') m) n m'
 
 -- a pass has looked at the gate beside others with which it closes its room, and holds what it held:
 -- it found the word of a gate that says this
@@ -169,22 +178,29 @@ pub record HasCounted (m m' : SeatState) (count : ℕ) : Type 0 where
 
 -- a seat has passes alone, without a note and without slots
 abbrev pub IsCrowd : SeatState → Type 0
-IsCrowd m = m ≡ (view_of m.0.passes, [])
+IsCrowd m = m ≡ (view_at (joints_at m) m.0.passes [], [])
 
--- the seat of a pass, of more passes, and of those of another seat
-abbrev pub crowd_of : SeatState → List Known → SeatState → SeatState
-crowd_of first ks rest = (view_of (stepping_pass first ∷ (ks ++ rest.0.passes)), [])
+-- the seat of a pass, of more passes, and of those of another seat;
+-- the more passes brought this count, and one more join was needed
+abbrev pub crowd_of : ℕ → SeatState → List Known → SeatState → SeatState
+crowd_of n first ks rest =
+    (view_at (joints_at first + (n + joints_at rest) + 1) (stepping_pass first ∷ (ks ++ rest.0.passes)) [], [])
 
--- HOW A SEAT IS CUT: the first pass alone, and the others
+-- HOW A SEAT IS CUT: the first pass alone, and the others. The count, with this
+-- parting, goes with the first pass, so that no count is lost while it is somebody's
 abbrev pub first_alone : View → View
-first_alone v = view_of (first_of v.passes ∷ [])
+first_alone v = view_at (v.joints + 1) (first_of v.passes ∷ []) []
 
 abbrev pub without_first : View → View
 without_first v = view_of (others_of v.passes)
 
--- a seat of no pass, with a note of what the first pass has seen
+-- a seat of no pass, with a note of what the first pass has seen, and without a count
 abbrev pub note_of : View → View
-note_of v = view_with [] (first_of v.passes ∷ [])
+note_of v = view_at 0 [] (first_of v.passes ∷ [])
+
+-- the same seat, with one parting more
+abbrev pub once_more : View → View
+once_more v = view_at (v.joints + 1) v.passes v.notes
 
 -- what the pass knew of which a seat has a note
 abbrev pub noted_pass : SeatState → Known
@@ -192,11 +208,12 @@ noted_pass m = first_of m.0.notes
 
 -- THE SEAT IS A NOTE'S: of one pass, with nothing beside
 abbrev pub IsNote : SeatState → Type 0
-IsNote m = m ≡ (view_with [] (noted_pass m ∷ []), [])
+IsNote m = m ≡ (view_at (joints_at m) [] (noted_pass m ∷ []), [])
 
--- HOW TWO SEATS ARE JOINED: one stands for the passes of both, with the notes of both, and the other for none
+-- HOW TWO SEATS ARE JOINED: one stands for the passes of both, with the notes of both,
+-- and with both their counts and this join; the other stands for none, without a count
 abbrev pub together : View → View → View
-together v w = view_with (v.passes ++ w.passes) (v.notes ++ w.notes)
+together v w = view_at (v.joints + w.joints + 1) (v.passes ++ w.passes) (v.notes ++ w.notes)
 
 abbrev pub spent : View
 spent = view_of []

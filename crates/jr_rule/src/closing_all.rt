@@ -32,7 +32,7 @@ impl<const LAST: u32> Room<LAST> {
     ///
     /// # Operations
     ///
-    /// One, the look at the gate. Beside it, and counted by no clause: a load of the gate for each other pass and two more, by which they come together, and where the room is not closed one for each other pass and one more, by which they part. Else no thread shares the words any more.
+    /// One, the look at the gate. Beside it a load of the gate for each other pass and two more, by which they come together, and where the room is not closed one for each other pass and one more, by which they part. Where it is not closed they are counted, as joins and partings: the first pass has the count of all then, and each other pass the one by which it left. Else no thread shares the words any more, and no pass is left that has a count.
     pub fn close_all(self, pass: Pass, others: Vec<Pass>) -> Result<Summary, AllLeft<LAST>>
         requires pass { IsOfRoom self pass }
         requires others { All (λ p. IsOfRoom self p) others.items }

@@ -1,9 +1,10 @@
 //! The words of an owner of a room that a type stands for: what its thread has seen is noted, and learned by another owner of that room.
-ghost use Rattle.std.specs.Prelude.{◌≡◌, [], true, false};
+ghost use Rattle.std.specs.Prelude.{◌≡◌, ◌+◌, [], true, false};
 ghost use Rattle.jr_steps.specs.Knowing.{Took, anything, keeps};
 ghost use Rattle.jr_rule.specs.Notes.{HasSeen, HasSeenJust, IsUnchanged};
 ghost use Rattle.jr_rule.specs.Over.{facts_over};
-ghost use Rattle.jr_rule.specs.Rooms.{seen_by_note, seen_by_pinned};
+ghost use Rattle.jr_rule.specs.OwnedSites.{joints_owned};
+ghost use Rattle.jr_rule.specs.Rooms.{joints_of_note, joints_of_pinned, seen_by_note, seen_by_pinned};
 ghost use Rattle.jr_rule.specs.Sites.{IsNoteOf, IsPinnedOf};
 
 use crate::cells::{Cells, StepKind};
@@ -111,9 +112,12 @@ impl<const LAST: u32, Q: Site> Parts<OfSite<Q>> for OwnedCells<LAST> {
 }
 
 impl<const LAST: u32, Q: Site> StepsIn<Q> for StepsOver<OwnedCells<LAST>, OfSite<Q>> {
+    ghost joints = { λ s. joints_owned s };
+
     fn note(&mut self) -> NoteOf<Q>
         ensures same { IsUnchanged facts_over self.old self.new }
         ensures note { HasSeenJust facts_over self.old (seen_by_note result.note) }
+        ensures counted { (joints_owned self.new ≡ joints_owned self.old + 1) × (joints_of_note result.note ≡ 0) }
     {
         let seat = self.cells.cells.note(&*self.cells.room);
         NoteOf {
@@ -126,6 +130,7 @@ impl<const LAST: u32, Q: Site> StepsIn<Q> for StepsOver<OwnedCells<LAST>, OfSite
         requires { IsNoteOf Q.room note }
         ensures step { Took facts_over self.old self.new [] anything keeps }
         ensures learned { HasSeen facts_over self.new (seen_by_note note) }
+        ensures counted { joints_owned self.new ≡ joints_owned self.old + joints_of_note note + 1 }
     {
         let Note { seat } = note;
         self.cells.cells.learn(&*self.cells.room, seat);
@@ -136,6 +141,7 @@ impl<const LAST: u32, Q: Site> StepsIn<Q> for StepsOver<OwnedCells<LAST>, OfSite
         ensures step { result ≡ true → Took facts_over self.old self.new [] anything keeps }
         ensures learned { result ≡ true → HasSeen facts_over self.new (seen_by_pinned pinned.now) }
         ensures busy { result ≡ false → IsUnchanged facts_over self.old self.new }
+        ensures counted { (result ≡ true → joints_owned self.new ≡ joints_owned self.old + joints_of_pinned pinned.now + 2) × (result ≡ false → joints_owned self.new ≡ joints_owned self.old) }
     {
         let Some(note) = pinned.copy(&*self.cells.room) else {
             return false;

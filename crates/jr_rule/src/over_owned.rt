@@ -7,14 +7,15 @@ use crate::pass::Pass;
 pub type OwnedSteps<const LAST: u32> = StepsOver<OwnedCells<LAST>, ()>;
 
 impl<const LAST: u32> StepsOver<OwnedCells<LAST>, ()> {
-    ghost use Rattle.std.specs.Prelude.{◌≡◌, [], ◌∷◌};
+    ghost use Rattle.std.specs.Prelude.{◌≡◌, ◌+◌, [], ◌∷◌};
     ghost use Rattle.std.specs.Arc.{arc_value};
     ghost use Rattle.jr_model.specs.declared.event.Act.TheVariants.{Meet};
     ghost use Rattle.jr_model.specs.History.{HasMet};
     ghost use Rattle.jr_steps.specs.Knowing.{view, anything, Took, keeps};
     ghost use Rattle.jr_rule.specs.Notes.{IsUnchanged};
     ghost use Rattle.jr_rule.specs.Over.{facts_over};
-    ghost use Rattle.jr_rule.specs.Passes.{known_of, IsSame};
+    ghost use Rattle.jr_rule.specs.OwnedSites.{joints_owned};
+    ghost use Rattle.jr_rule.specs.Passes.{joints_of, known_of, IsSame};
     ghost use Rattle.jr_rule.specs.Rooms.{IsOfRoom};
     ghost use Rattle.jr_rule.specs.Rule.{stepping_pass};
 
@@ -29,6 +30,7 @@ impl<const LAST: u32> StepsOver<OwnedCells<LAST>, ()> {
         ensures step { Took facts_over self.old self.new (Meet ∷ []) anything keeps }
         ensures met { HasMet (view (known_of other)) (view (stepping_pass self.new.cells.cells.seat.me)) }
         ensures other { IsOfRoom (arc_value self.old.cells.room) result × IsSame other result }
+        ensures counted { (joints_owned self.new ≡ joints_owned self.old + joints_of other + 2) × (joints_of result ≡ 0) }
     {
         let Pass {
             seat,
@@ -58,6 +60,7 @@ impl<const LAST: u32> StepsOver<OwnedCells<LAST>, ()> {
         ensures step { Took facts_over self.old self.new (Meet ∷ []) anything keeps }
         ensures met { HasMet (view (stepping_pass other.old.cells.cells.seat.me)) (view (stepping_pass self.new.cells.cells.seat.me)) }
         ensures other { IsUnchanged facts_over other.old other.new }
+        ensures counted { (joints_owned self.new ≡ joints_owned self.old + joints_owned other.old + 3) × (joints_owned other.new ≡ 0) }
     {
         self.cells
             .cells

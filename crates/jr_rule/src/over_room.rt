@@ -10,13 +10,13 @@ use crate::row::RoomCells;
 pub type RoomSteps<'a, const LAST: u32> = StepsOver<RoomCells, &'a Room<LAST>>;
 
 impl<'a, const LAST: u32> StepsOver<RoomCells, &'a Room<LAST>> {
-    ghost use Rattle.std.specs.Prelude.{◌≡◌, [], ◌∷◌, true, false};
+    ghost use Rattle.std.specs.Prelude.{◌≡◌, ◌+◌, [], ◌∷◌, true, false};
     ghost use Rattle.jr_model.specs.declared.event.Act.TheVariants.{Meet};
     ghost use Rattle.jr_model.specs.History.{HasMet};
     ghost use Rattle.jr_steps.specs.Knowing.{view, anything, Goes, Took, keeps};
-    ghost use Rattle.jr_rule.specs.Passes.{facts_of, holder_of, known_of, IsSame};
+    ghost use Rattle.jr_rule.specs.Passes.{facts_of, holder_of, joints_of, known_of, IsSame};
     ghost use Rattle.jr_rule.specs.Rule.{stepping_pass};
-    ghost use Rattle.jr_rule.specs.Rooms.{AreAsBefore, AreInOneRoom, IsNoteThere, IsOfRoom, IsPinnedThere, Learned, LearnedPinned, WasNoted, WasPinned, holder_over};
+    ghost use Rattle.jr_rule.specs.Rooms.{AreAsBefore, AreInOneRoom, IsNoteThere, IsOfRoom, IsPinnedThere, Learned, LearnedPinned, WasNoted, WasPinned, holder_over, joints_of_note, joints_of_pinned, joints_over};
 
     /// The steps of a pass in its own room. That the pass is one of the room's is a condition: it has no bytes that name its room.
     pub fn new(room: &'a Room<LAST>, pass: Pass) -> Self
@@ -73,7 +73,7 @@ impl<'a, const LAST: u32> StepsOver<RoomCells, &'a Room<LAST>> {
     ///
     /// # Operations
     ///
-    /// One, a load of the gate. The passes join for it and part again, each by a load of the gate that no clause counts.
+    /// One, a load of the gate. The passes join for it and part again, each by a load of the gate: the thread's count of joins and partings goes up by two, and by what the other pass had. That one begins anew at 0.
     pub fn meet(&mut self, other: Pass) -> Pass
         requires { IsOfRoom self.old.place.now other }
         ensures room { self.new.place ≡ self.old.place }
@@ -81,6 +81,7 @@ impl<'a, const LAST: u32> StepsOver<RoomCells, &'a Room<LAST>> {
         ensures seen { Goes (stepping_pass self.old.cells.seat.me) (Meet ∷ []) (stepping_pass self.new.cells.seat.me) }
         ensures met { HasMet (view (known_of other)) (view (stepping_pass self.new.cells.seat.me)) }
         ensures other { IsOfRoom self.old.place.now result × IsSame other result }
+        ensures counted { (joints_over self.new ≡ joints_over self.old + joints_of other + 2) × (joints_of result ≡ 0) }
     {
         let Pass {
             seat,
@@ -103,11 +104,12 @@ impl<'a, const LAST: u32> StepsOver<RoomCells, &'a Room<LAST>> {
     ///
     /// # Operations
     ///
-    /// None that a clause counts: the note leaves the thread's seat by a load of the gate.
+    /// A load of the gate, by which the note leaves the thread's seat: it counts as one parting, and as no step.
     pub fn note(&mut self) -> Note
         ensures same { AreAsBefore self.old self.new }
         ensures room { IsNoteThere self.new result }
         ensures note { WasNoted self.old result }
+        ensures counted { (joints_over self.new ≡ joints_over self.old + 1) × (joints_of_note result ≡ 0) }
     {
         let seat = self.cells.note(self.place);
         Note { seat }
@@ -119,13 +121,14 @@ impl<'a, const LAST: u32> StepsOver<RoomCells, &'a Room<LAST>> {
     ///
     /// # Operations
     ///
-    /// One, a load of the gate. The note joins the thread's seat for it, by a load of the gate that no clause counts.
+    /// One, a load of the gate. The note joins the thread's seat for it, by a load of the gate that counts as one join. The thread's count of joins and partings goes up by what the note had, too.
     pub fn learn(&mut self, note: Note)
         requires { IsNoteThere self.old note }
         ensures room { self.new.place ≡ self.old.place }
         ensures step { Took facts_of (holder_over self.old) (holder_over self.new) [] anything keeps }
         ensures seen { Goes (stepping_pass self.old.cells.seat.me) [] (stepping_pass self.new.cells.seat.me) }
         ensures learned { Learned note self.new }
+        ensures counted { joints_over self.new ≡ joints_over self.old + joints_of_note note + 1 }
     {
         let Note { seat } = note;
         self.cells.learn(self.place, seat);
@@ -135,11 +138,12 @@ impl<'a, const LAST: u32> StepsOver<RoomCells, &'a Room<LAST>> {
     ///
     /// # Operations
     ///
-    /// None that a clause counts: the note leaves the thread's seat by a load of the gate, and comes to rest by an exchange of a word of its own.
+    /// A load of the gate, by which the note leaves the thread's seat: it counts as one parting, and as no step. The note comes to rest by an exchange of a word of its own, which no clause counts.
     pub fn pin(&mut self) -> PinnedNote
         ensures same { AreAsBefore self.old self.new }
         ensures room { IsPinnedThere self.new result }
         ensures note { WasPinned self.old result }
+        ensures counted { (joints_over self.new ≡ joints_over self.old + 1) × (joints_of_pinned result ≡ 0) }
     {
         self.note().pin()
     }
@@ -148,7 +152,7 @@ impl<'a, const LAST: u32> StepsOver<RoomCells, &'a Room<LAST>> {
     ///
     /// # Operations
     ///
-    /// One where the answer is true, a load of the gate, and none where it is false. Beside it, and counted by no clause: an exchange of the note's own word, and where a copy rests there another one, and two loads of the gate, by which the copy leaves the note and joins the thread's seat.
+    /// One where the answer is true, a load of the gate, and none where it is false. Where it is true, the copy leaves the note and joins the thread's seat by two loads of the gate: they count as one parting and one join. No clause counts the exchanges of the note's own word: one, and where a copy rests there another one.
     pub fn learn_pinned(&mut self, pinned: &PinnedNote) -> bool
         requires { IsPinnedThere self.old pinned.now }
         ensures room { self.new.place ≡ self.old.place }
@@ -156,6 +160,7 @@ impl<'a, const LAST: u32> StepsOver<RoomCells, &'a Room<LAST>> {
         ensures seen { result ≡ true → Goes (stepping_pass self.old.cells.seat.me) [] (stepping_pass self.new.cells.seat.me) }
         ensures learned { result ≡ true → LearnedPinned pinned.now self.new }
         ensures busy { result ≡ false → AreAsBefore self.old self.new }
+        ensures counted { (result ≡ true → joints_over self.new ≡ joints_over self.old + joints_of_pinned pinned.now + 2) × (result ≡ false → joints_over self.new ≡ joints_over self.old) }
     {
         let Some(note) = pinned.copy(self.place) else {
             return false;
@@ -168,13 +173,14 @@ impl<'a, const LAST: u32> StepsOver<RoomCells, &'a Room<LAST>> {
     ///
     /// # Operations
     ///
-    /// One, a load of the gate. The other's pass leaves its seat for it, the passes join, and they part again, each by a load of the gate that no clause counts.
+    /// One, a load of the gate. The other's pass leaves its seat for it, the passes join, and they part again, each by a load of the gate: the thread's count of joins and partings goes up by three, and by what the other had. That one begins anew at 0.
     pub fn meet_steps(&mut self, other: &mut RoomSteps<'_, LAST>)
         requires { AreInOneRoom self.old other.old }
         ensures room { self.new.place ≡ self.old.place }
         ensures step { Took facts_of (holder_over self.old) (holder_over self.new) (Meet ∷ []) anything keeps }
         ensures met { HasMet (view (stepping_pass other.old.cells.seat.me)) (view (stepping_pass self.new.cells.seat.me)) }
         ensures other { AreAsBefore other.old other.new }
+        ensures counted { (joints_over self.new ≡ joints_over self.old + joints_over other.old + 3) × (joints_over other.new ≡ 0) }
     {
         self.cells.meet_cells(self.place, &mut other.cells);
     }

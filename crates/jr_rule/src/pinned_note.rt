@@ -1,6 +1,6 @@
 //! A note that several threads may learn: it stays where it is, and each of them takes a copy.
 ghost use Rattle.std.specs.Prelude.{◌≡◌, [], IfSome};
-ghost use Rattle.jr_rule.specs.Rule.{IsNote};
+ghost use Rattle.jr_rule.specs.Rule.{IsNote, once_more};
 
 use crate::note::Note;
 use crate::room::Room;
@@ -37,7 +37,7 @@ impl PinnedNote {
     /// A copy of the note, where nobody else is taking one at the moment.
     pub(crate) fn copy<const LAST: u32>(&self, room: &Room<LAST>) -> Option<Note>
         requires { self.now.perch.table_id ≡ room.now.row.table.shared.table_id }
-        ensures { IfSome result (λ n. (n.seat.table_id ≡ self.now.perch.table_id) × (n.seat.me ≡ (self.now.perch.view, []))) }
+        ensures { IfSome result (λ n. (n.seat.table_id ≡ self.now.perch.table_id) × (n.seat.me ≡ (once_more self.now.perch.view, []))) }
     {
         let (_, Some(mut seat)) = self.perch.take(TAKEN) else {
             return None;

@@ -30,13 +30,13 @@
 //! A COLLECTION: while the gate is shut, all other words are the collector's alone. It loads slots, local words, headers and elements, clears weak references to what nothing reaches, stores 0 in the headers of such objects, moves an object's elements down, from the first on, and then stores its header with the new place, sets the top to the sum of the lengths, and opens the gate. No thread knows a header from before: each was outside in between.
 //!
 //! What always holds of the words is `specs/Rule.antt`, with what each word says in `specs/Image.antt`; `docs/STEP.md` tells how one step is proved.
-ghost use Rattle.std.specs.Prelude.{◌≡◌, ◌<◌, [], ◌∷◌, IfOk, IfErr, true};
+ghost use Rattle.std.specs.Prelude.{◌≡◌, ◌+◌, ◌<◌, [], ◌∷◌, IfOk, IfErr, true};
 ghost use Rattle.jr_word.specs.Config.{in_limits, row_words};
 ghost use Rattle.jr_model.specs.declared.event.Role.TheVariants.{Outside};
 ghost use Rattle.jr_steps.specs.Holdings.{empty};
 ghost use Rattle.jr_rule.specs.Image.{header_at as place_of_header, element_at as place_of_element};
 ghost use Rattle.jr_rule.specs.Sights.{IsSeatOf};
-ghost use Rattle.jr_rule.specs.Rule.{crowd_of, HasCounted, IsAlone, IsCrowd, IsNote, IsSeated, IsSized, stepping_pass, sizes, known, view_of, newcomers, others_of};
+ghost use Rattle.jr_rule.specs.Rule.{crowd_of, HasCounted, IsAlone, IsCrowd, IsNote, IsSeated, IsSized, joints_at, once_more, stepping_pass, sizes, known, view_of, newcomers, others_of};
 
 use crate::cells::{Cells, StepKind};
 use crate::closing::ClosedWords;
@@ -73,7 +73,7 @@ pub struct Row {
 
 impl Row {
     ghost use Rattle.std.specs.Prelude.{map, vec_capacity, vec_len, All};
-    ghost use Rattle.jr_rule.specs.Passes.{AreOpened, IsOpened, IsAt, SumsUp, EndsAll, known_of};
+    ghost use Rattle.jr_rule.specs.Passes.{AreOpened, IsOpened, IsAt, SumsUp, EndsAll, gathered, known_of};
     ghost use Rattle.jr_rule.specs.Parting.{HaveParted, IsParted, no_seat};
 
     /// A row of zeros, with one pass a thread, from thread 0 upward.
@@ -131,12 +131,12 @@ impl Row {
         }
     }
 
-    /// A copy of what the seat of a note says, in a seat of its own.
+    /// A copy of what the seat of a note says, in a seat of its own, which has the count of this parting.
     pub(crate) fn copy(&self, note: &mut Seat<(), View>) -> Seat<(), View>
         requires room { note.old.table_id ≡ self.now.table.shared.table_id }
         requires note { IsNote note.old.me }
         ensures same { (note.new.table_id ≡ note.old.table_id) × (note.new.me ≡ note.old.me) }
-        ensures copy { (result.table_id ≡ note.old.table_id) × (result.me ≡ note.old.me) }
+        ensures copy { (result.table_id ≡ note.old.table_id) × (result.me ≡ (once_more note.old.me.0, [])) }
     {
         self.table.shared.split_seat::<Again>(note)
     }
@@ -186,7 +186,7 @@ impl Row {
         requires first { IsAlone first.old.me }
         requires rest { IsCrowd rest.me }
         ensures room { first.new.table_id ≡ first.old.table_id }
-        ensures counts { HasCounted (crowd_of first.old.me [] rest.me) first.new.me result }
+        ensures counts { HasCounted (crowd_of 0 first.old.me [] rest.me) first.new.me result }
     {
         let shared = &self.table.shared;
         shared.join_seat::<Gather>(first, rest);
@@ -203,7 +203,7 @@ impl Row {
         requires room { seat.table_id ≡ self.now.table.shared.table_id }
         requires first { IsAlone seat.me }
         requires others { All (λ p. IsAt self.now p) others.items }
-        ensures ok { IfOk result (λ s. (s.table_id ≡ seat.table_id) × HasCounted (crowd_of seat.me (map known_of others.items) no_seat) s.me 0) }
+        ensures ok { IfOk result (λ s. (s.table_id ≡ seat.table_id) × HasCounted (crowd_of (gathered others.items + 1) seat.me (map known_of others.items) no_seat) s.me 0) }
         ensures err { IfErr result (λ p. IsParted seat others.items p) }
     {
         let none = self.table.shared.split_seat::<LeaveFirst>(&mut seat);
@@ -222,7 +222,7 @@ impl Row {
         requires first { IsAlone first.me }
         requires rest { IsCrowd rest.me }
         requires others { All (λ p. IsAt self.now p) others.items }
-        ensures ok { IfOk result (λ s. (s.table_id ≡ first.table_id) × HasCounted (crowd_of first.me (map known_of others.items) rest.me) s.me 0) }
+        ensures ok { IfOk result (λ s. (s.table_id ≡ first.table_id) × HasCounted (crowd_of (gathered others.items) first.me (map known_of others.items) rest.me) s.me 0) }
         ensures err { IfErr result (λ p. HaveParted first rest others.items (vec_len others) (vec_capacity others) p) }
     {
         let shared = &self.table.shared;
@@ -305,7 +305,8 @@ impl RoomCells {
         ensures same { (self.new.thread ≡ self.old.thread) × (self.new.seat.table_id ≡ self.old.seat.table_id) }
         ensures looked { LooksBy (Meet ∷ []) self.old.seat.me self.new.seat.me }
         ensures met { HasMet (view (stepping_pass other.me)) (view (stepping_pass self.new.seat.me)) }
-        ensures other { (result.table_id ≡ other.table_id) × (result.me ≡ other.me) }
+        ensures other { (result.table_id ≡ other.table_id) × (result.me ≡ (view_of (stepping_pass other.me ∷ []), [])) }
+        ensures counted { joints_at self.new.seat.me ≡ joints_at self.old.seat.me + joints_at other.me + 2 }
     {
         let shared = &room.row.table.shared;
         shared.join_seat::<Gather>(&mut self.seat, other);
@@ -316,7 +317,7 @@ impl RoomCells {
     /// A note of what the seat's pass has seen, in a seat of its own.
     pub(crate) fn note<const LAST: u32>(&mut self, room: &Room<LAST>) -> Seat<(), View>
         requires there { IsSeatOf room.now.row.table.shared.table_id room.now.row.config room.now.row.last self.old.seat.table_id self.old.seat.me self.old.thread }
-        ensures same { (self.new.thread ≡ self.old.thread) × (self.new.seat.table_id ≡ self.old.seat.table_id) × (self.new.seat.me ≡ self.old.seat.me) }
+        ensures same { (self.new.thread ≡ self.old.thread) × (self.new.seat.table_id ≡ self.old.seat.table_id) × (self.new.seat.me ≡ (once_more self.old.seat.me.0, self.old.seat.me.1)) }
         ensures note { (result.table_id ≡ self.old.seat.table_id) × (result.me ≡ (note_of self.old.seat.me.0, [])) }
     {
         let shared = &room.row.table.shared;
@@ -332,6 +333,7 @@ impl RoomCells {
         ensures same { (self.new.thread ≡ self.old.thread) × (self.new.seat.table_id ≡ self.old.seat.table_id) }
         ensures looked { LooksBy [] self.old.seat.me self.new.seat.me }
         ensures learned { IsPrefix (noted_pass note.me).seen (stepping_pass self.new.seat.me).seen }
+        ensures counted { joints_at self.new.seat.me ≡ joints_at self.old.seat.me + joints_at note.me + 1 }
     {
         let shared = &room.row.table.shared;
         shared.join_seat::<Gather>(&mut self.seat, note);
@@ -347,7 +349,8 @@ impl RoomCells {
         ensures same { (self.new.thread ≡ self.old.thread) × (self.new.seat.table_id ≡ self.old.seat.table_id) }
         ensures looked { LooksBy (Meet ∷ []) self.old.seat.me self.new.seat.me }
         ensures met { HasMet (view (stepping_pass other.old.seat.me)) (view (stepping_pass self.new.seat.me)) }
-        ensures other { (other.new.thread ≡ other.old.thread) × (other.new.seat.table_id ≡ other.old.seat.table_id) × (other.new.seat.me ≡ other.old.seat.me) }
+        ensures other { (other.new.thread ≡ other.old.thread) × (other.new.seat.table_id ≡ other.old.seat.table_id) × (other.new.seat.me ≡ (view_of (stepping_pass other.old.seat.me ∷ []), [])) }
+        ensures counted { joints_at self.new.seat.me ≡ joints_at self.old.seat.me + joints_at other.old.seat.me + 3 }
     {
         let shared = &room.row.table.shared;
         let pass = shared.split_seat::<Deal>(&mut other.seat);

@@ -21,6 +21,8 @@ pub struct View {
     pub passes: LinkedList<Known>,
     /// What each of the passes knew of which it has a note.
     pub notes: LinkedList<Known>,
+    /// Of how many joins and partings of seats this one has the count.
+    pub joints: u64,
 }
 
 /// The rule of a row.
@@ -75,7 +77,7 @@ impl Play<(), View> for Counting {
     ghost then = { λ s m n m'. Tells CountedBy m n m' };
 }
 
-/// The first pass leaves the seat.
+/// The first pass leaves the seat, with its count.
 pub struct Deal;
 
 impl Split<View> for Deal {
@@ -86,7 +88,7 @@ impl Split<View> for Deal {
     ghost right = { first_alone };
 }
 
-/// All passes but the first leave the seat.
+/// All passes but the first leave the seat. Its count stays.
 pub struct LeaveFirst;
 
 impl Split<View> for LeaveFirst {
@@ -97,27 +99,29 @@ impl Split<View> for LeaveFirst {
     ghost right = { without_first };
 }
 
-/// A note of what the first pass has seen leaves the seat.
+/// A note of what the first pass has seen leaves the seat. The count stays.
 pub struct Jot;
 
 impl Split<View> for Jot {
-    ghost use Rattle.jr_rule.specs.Rule.{note_of};
+    ghost use Rattle.jr_rule.specs.Rule.{note_of, once_more};
 
-    ghost left = { λ v. v };
+    ghost left = { once_more };
 
     ghost right = { note_of };
 }
 
-/// A copy of the seat's notes leaves it. It has no pass.
+/// A copy of the seat's notes leaves it, with the count of this parting. The seat has no pass. It stays just as it was, since it rests on a perch again.
 pub struct Again;
 
 impl Split<View> for Again {
+    ghost use Rattle.jr_rule.specs.Rule.{once_more};
+
     ghost left = { λ v. v };
 
-    ghost right = { λ v. v };
+    ghost right = { once_more };
 }
 
-/// The passes of both seats, and their notes.
+/// The passes of both seats, their notes, and both their counts.
 pub struct Gather;
 
 impl Join<View> for Gather {

@@ -1,10 +1,10 @@
 //! One room, or one of its threads, by a type: so that a value says by its type which it is of.
-ghost use Rattle.std.specs.Prelude.{◌≡◌, ℕ, Option, None, [], true, false};
+ghost use Rattle.std.specs.Prelude.{◌≡◌, ◌+◌, ℕ, Option, None, [], true, false};
 ghost use Rattle.atomic_table.specs.Seated.{TableId};
 ghost use Rattle.jr_word.specs.declared.config.Config.{Config as SizesOfRoom};
 ghost use Rattle.jr_steps.specs.Knowing.{Took, anything, keeps};
 ghost use Rattle.jr_rule.specs.Passes.{facts_of};
-ghost use Rattle.jr_rule.specs.Rooms.{AreAsBefore, IsPinned, LearnedPinned, WasPinned, holder_over};
+ghost use Rattle.jr_rule.specs.Rooms.{AreAsBefore, IsPinned, LearnedPinned, WasPinned, holder_over, joints_of_pinned, joints_over};
 ghost use Rattle.jr_rule.specs.Sites.{no_sizes, IsNoteOf, IsPinnedOf};
 
 use crate::note::Note;
@@ -77,6 +77,7 @@ impl<Q: Site> PinnedNoteOf<Q> {
         requires { (facts_of (holder_over steps.old)).stands.room ≡ Q.room }
         ensures same { AreAsBefore steps.old steps.new }
         ensures pinned { WasPinned steps.old result.pinned }
+        ensures counted { (joints_over steps.new ≡ joints_over steps.old + 1) × (joints_of_pinned result.pinned ≡ 0) }
     {
         let pinned = steps.pin();
         PinnedNoteOf {
@@ -95,6 +96,7 @@ impl<Q: Site> PinnedNoteOf<Q> {
         ensures step { result ≡ true → Took facts_of (holder_over steps.old) (holder_over steps.new) [] anything keeps }
         ensures learned { result ≡ true → LearnedPinned self.now.pinned steps.new }
         ensures busy { result ≡ false → AreAsBefore steps.old steps.new }
+        ensures counted { (result ≡ true → joints_over steps.new ≡ joints_over steps.old + joints_of_pinned self.now.pinned + 2) × (result ≡ false → joints_over steps.new ≡ joints_over steps.old) }
     {
         steps.learn_pinned(&self.pinned)
     }

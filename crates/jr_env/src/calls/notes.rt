@@ -1,8 +1,8 @@
 //! What an env's thread had seen, noted and learned: in a room that a type stands for, so that a note is of that room by its type.
-ghost use Rattle.std.specs.Prelude.{◌≡◌, [], true, false};
+ghost use Rattle.std.specs.Prelude.{◌≡◌, ◌+◌, [], true, false};
 ghost use Rattle.jr_steps.specs.Knowing.{Took, anything, keeps};
 ghost use Rattle.jr_rule.specs.Notes.{HasSeen, HasSeenJust, IsUnchanged};
-ghost use Rattle.jr_rule.specs.Rooms.{seen_by_note, seen_by_pinned};
+ghost use Rattle.jr_rule.specs.Rooms.{joints_of_note, joints_of_pinned, seen_by_note, seen_by_pinned};
 
 use crate::env::Env;
 use jr_rule::{NoteOf, PinnedNoteOf, Site, StepsIn};
@@ -13,12 +13,13 @@ impl<S: Steps> Env<S> {
     ///
     /// # Operations
     ///
-    /// None that a clause counts: the note leaves the thread's seat by a load of the gate.
+    /// A load of the gate, by which the note leaves the thread's seat: it counts as one parting, and as no step.
     pub fn note<Q: Site>(&mut self) -> NoteOf<Q>
     where
         S: StepsIn<Q>,
         ensures same { IsUnchanged S.facts self.old.held.steps self.new.held.steps × (self.new.held.frames ≡ self.old.held.frames) × (self.new.numbers ≡ self.old.numbers) }
         ensures note { HasSeenJust S.facts self.old.held.steps (seen_by_note result.note) }
+        ensures counted { (S.joints self.new.held.steps ≡ S.joints self.old.held.steps + 1) × (joints_of_note result.note ≡ 0) }
     {
         let held = &mut self.held;
         held.steps.note()
@@ -30,12 +31,13 @@ impl<S: Steps> Env<S> {
     ///
     /// # Operations
     ///
-    /// One, a load of the gate. The note joins the thread's seat for it, by a load of the gate that no clause counts.
+    /// One, a load of the gate. The note joins the thread's seat for it, by a load of the gate that counts as one join. The thread's count of joins and partings goes up by what the note had, too.
     pub fn learn<Q: Site>(&mut self, note: NoteOf<Q>)
     where
         S: StepsIn<Q>,
         ensures step { Took S.facts self.old.held.steps self.new.held.steps [] anything keeps }
         ensures learned { HasSeen S.facts self.new.held.steps (seen_by_note note.note) }
+        ensures counted { S.joints self.new.held.steps ≡ S.joints self.old.held.steps + joints_of_note note.note + 1 }
         ensures frames { self.new.held.frames ≡ self.old.held.frames }
         ensures numbers { self.new.numbers ≡ self.old.numbers }
     {
@@ -47,12 +49,13 @@ impl<S: Steps> Env<S> {
     ///
     /// # Operations
     ///
-    /// None that a clause counts: the note leaves the thread's seat by a load of the gate, and comes to rest by an exchange of a word of its own.
+    /// A load of the gate, by which the note leaves the thread's seat: it counts as one parting, and as no step. The note comes to rest by an exchange of a word of its own, which no clause counts.
     pub fn pin<Q: Site>(&mut self) -> PinnedNoteOf<Q>
     where
         S: StepsIn<Q>,
         ensures same { IsUnchanged S.facts self.old.held.steps self.new.held.steps × (self.new.held.frames ≡ self.old.held.frames) × (self.new.numbers ≡ self.old.numbers) }
         ensures note { HasSeenJust S.facts self.old.held.steps (seen_by_pinned result.pinned) }
+        ensures counted { (S.joints self.new.held.steps ≡ S.joints self.old.held.steps + 1) × (joints_of_pinned result.pinned ≡ 0) }
     {
         let note: NoteOf<Q> = self.note();
         note.pin()
@@ -69,6 +72,7 @@ impl<S: Steps> Env<S> {
         ensures step { result ≡ true → Took S.facts self.old.held.steps self.new.held.steps [] anything keeps }
         ensures learned { result ≡ true → HasSeen S.facts self.new.held.steps (seen_by_pinned pinned.now.pinned) }
         ensures busy { result ≡ false → IsUnchanged S.facts self.old.held.steps self.new.held.steps }
+        ensures counted { (result ≡ true → S.joints self.new.held.steps ≡ S.joints self.old.held.steps + joints_of_pinned pinned.now.pinned + 2) × (result ≡ false → S.joints self.new.held.steps ≡ S.joints self.old.held.steps) }
         ensures frames { self.new.held.frames ≡ self.old.held.frames }
         ensures numbers { self.new.numbers ≡ self.old.numbers }
     {

@@ -1,5 +1,6 @@
-use Rattle.std.proofs.Common.{◌≡◌, refl, rules, subst}
+use Rattle.std.proofs.Common.{◌≡◌, ap, refl, rules, subst}
 use Rattle.std.specs.Arc.{arc_value}
+use Rattle.jr_rule.specs.Rule.{stepping_pass}
 use Rattle.jr_rule.specs.Sites.{IsSeatedIn}
 use Rattle.jr_rule.proofs.LookTaken.{look_stands, look_took, owner_over}
 use Rattle.jr_rule.proofs.PassOver.{standing_same}
@@ -22,5 +23,6 @@ returns-clause-step g c =
     record { stands_is = took.stands_is; hint_is = took.hint_is; goes = took.goes }
 
 pub invariant_of-other-clause-stands : goal.invariant_of-other-clause-stands
-invariant_of-other-clause-stands g c = standing_same c.meet_cells.ensures.other.1
-    c.meet_cells.ensures.other.2 c.args.other.now.stands
+invariant_of-other-clause-stands g c =
+    standing_same c.args.other.now.cells.cells.seat.me c.meet_cells.new.other.seat.me c.meet_cells.ensures.other.1
+    (ap stepping_pass c.meet_cells.ensures.other.2) c.args.other.now.stands

@@ -1,5 +1,6 @@
-use Rattle.std.proofs.Common.{refl}
+use Rattle.std.proofs.Common.{ap, refl}
 use Rattle.jr_rule.specs.Rooms.{holder_over}
+use Rattle.jr_rule.specs.Rule.{stepping_pass}
 use Rattle.jr_rule.proofs.LookTaken.{look_stands, look_took}
 use Rattle.jr_rule.proofs.PassOver.{standing_same}
 use Rattle.jr_rule.proofs.over_room.StepsOver+RoomCells+ref+Room+LAST.meet_steps.Goals as goal
@@ -18,5 +19,6 @@ returns-clause-step g c = look_took (holder_over c.args.self.now) c.meet_cells.n
     c.meet_cells.ensures.looked refl refl
 
 pub invariant_of-other-clause-stands : goal.invariant_of-other-clause-stands
-invariant_of-other-clause-stands g c = standing_same c.meet_cells.ensures.other.1
-    c.meet_cells.ensures.other.2 c.args.other.now.stands
+invariant_of-other-clause-stands g c =
+    standing_same c.args.other.now.cells.seat.me c.meet_cells.new.other.seat.me c.meet_cells.ensures.other.1
+    (ap stepping_pass c.meet_cells.ensures.other.2) c.args.other.now.stands
