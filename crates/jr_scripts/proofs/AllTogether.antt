@@ -23,11 +23,10 @@ use Rattle.jr_syntax.specs.declared.script.Script.{Script}
 use Rattle.jr_steps.specs.declared.known.Known.{Known}
 use Rattle.jr_rule.specs.declared.pass.Pass.{Pass}
 use Rattle.jr_rule.specs.declared.row.Row.{Row}
-use Rattle.jr_rule.proofs.PassOver.{opened_knows}
+use Rattle.jr_rule.proofs.PassOver.{opened_knows, still_of}
 use Rattle.jr_steps.specs.Holdings.{empty}
 use Rattle.jr_steps.specs.Knowing.{Standing, view, Holds}
 use Rattle.jr_rule.specs.Rule.{known}
-use Rattle.jr_rule.proofs.PassOver.{still_of}
 use Rattle.jr_rule.specs.Passes.{facts_of, holder_of, known_of, standing_of, IsAt, IsOpened}
 use Rattle.jr_rule.specs.Passes.{AreOpened, numbers_below, HasEachPass, HasPass, IsSeenIn, ClosesAll}
 use Rattle.jr_steps.proofs.StepFacts.{goes_did}
@@ -200,10 +199,6 @@ module _ (board : List ℕ → Option (ℕ × History)) (rank : List ℕ → ℕ
       → ArePartsOf board rank turns last c whole a line qs (lines_of xs)
   parts_of_others a n line [] [] [] [] ends text some are o jobs ran told seen = tt
   parts_of_others a n line [] [] [] (x ∷ xs) ends text some are o jobs ran told seen = absurd ran
-  parts_of_others a n line [] [] (j ∷ js) xs ends text some are o jobs ran told seen = absurd jobs
-  parts_of_others a n line [] (q ∷ qs) js xs ends text some are o jobs ran told seen = absurd jobs
-  parts_of_others a n line (p ∷ ps) [] js xs ends text some are o jobs ran told seen = absurd jobs
-  parts_of_others a n line (p ∷ ps) (q ∷ qs) [] xs ends text some are o jobs ran told seen = absurd jobs
   parts_of_others a n line (p ∷ ps) (q ∷ qs) (j ∷ js) [] ends text some are o jobs ran told seen = absurd ran
   parts_of_others a n line (p ∷ ps) (q ∷ qs) (j ∷ js) (x ∷ xs) [] text some are o jobs ran told seen = absurd told
   parts_of_others a zero line (p ∷ ps) (q ∷ qs) (j ∷ js) (x ∷ xs) (e ∷ ends) text some are o jobs ran told seen =
@@ -216,26 +211,20 @@ module _ (board : List ℕ → Option (ℕ × History)) (rank : List ℕ → ℕ
     parts_of_others (suc a) n (line + 1 + length q.commands) ps qs js xs ends told.2 (omega arith)
         (tail_is p.thread a _ _ are) o.1 jobs.1 ran.1 told.4 seen.1,
   )
+  parts_of_others a n line _ _ _ xs ends text some are o jobs ran told seen = absurd jobs
 
 text_told : {Q : Type 0} {G : Ghosts Q} (qs : List ThreadPart) (xs : List (ThreadRun Q G)) (ends : List Pass)
     (text : List ℕ) → AreTold qs xs ends text → text ≡ text_of_parts qs (lines_of xs)
 text_told [] [] [] text t = t
 text_told [] (x ∷ xs) [] text t = t
-text_told [] [] (e ∷ ends) text t = absurd t
-text_told [] (x ∷ xs) (e ∷ ends) text t = absurd t
-text_told (q ∷ qs) [] ends text t = absurd t
-text_told (q ∷ qs) (x ∷ xs) [] text t = absurd t
 text_told (q ∷ qs) (x ∷ xs) (e ∷ ends) text t =
     t.3 ∙ ap (λ l. heading q.name ++ x.text.items ++ l) (text_told qs xs ends t.2 t.4)
+text_told _ _ _ text t = absurd t
 
 -- the jobs can be done in the room
 jobs_for : (r : Row) (turns line : ℕ) (ps : List Pass) (qs : List ThreadPart) (js : List Job)
     → AllByRecursion (IsOpened r) ps → AreJobsOf turns line ps qs js → AllByRecursion (IsFor r) js
 jobs_for r turns line [] [] [] o jobs = tt
-jobs_for r turns line [] [] (j ∷ js) o jobs = absurd jobs
-jobs_for r turns line [] (q ∷ qs) js o jobs = absurd jobs
-jobs_for r turns line (p ∷ ps) [] js o jobs = absurd jobs
-jobs_for r turns line (p ∷ ps) (q ∷ qs) [] o jobs = absurd jobs
 jobs_for r turns line (p ∷ ps) (q ∷ qs) (j ∷ js) o jobs =
     let i = jobs.0 in
     let first = i.line_is in
@@ -244,6 +233,7 @@ jobs_for r turns line (p ∷ ps) (q ∷ qs) (j ∷ js) o jobs =
       record { opened = subst (IsOpened r) (sym i.pass) o.0; fits = omega arith },
       jobs_for r turns (line + 1 + length q.commands) ps qs js o.1 jobs.1,
     )
+jobs_for r turns line _ _ _ o jobs = absurd jobs
 
 pub all_for : (c : Config) (last : ℕ) (r : Row) (turns line : ℕ) (ps : List Pass) (qs : List ThreadPart) (js : List Job)
     → AreOpened c last r ps → AreJobsOf turns line ps qs js → All (IsFor r) js
@@ -255,9 +245,6 @@ ends_at : {Q : Type 0} {G : Ghosts Q} (r : Row) (qs : List ThreadPart) (js : Lis
     (ends : List Pass) (text : List ℕ) → AllByRecursion (IsFor r) js → AllZip HasRun js xs → AreTold qs xs ends text
     → AllByRecursion (IsAt r) ends
 ends_at r qs js xs [] text for ran told = tt
-ends_at r [] js [] (e ∷ ends) text for ran told = absurd told
-ends_at r [] js (x ∷ xs) (e ∷ ends) text for ran told = absurd told
-ends_at r (q ∷ qs) js [] (e ∷ ends) text for ran told = absurd told
 ends_at r (q ∷ qs) [] (x ∷ xs) (e ∷ ends) text for ran told = absurd ran
 ends_at r (q ∷ qs) (j ∷ js) (x ∷ xs) (e ∷ ends) text for ran told =
     let s = ((ran.0).ran).stands_is in
@@ -266,6 +253,7 @@ ends_at r (q ∷ qs) (j ∷ js) (x ∷ xs) (e ∷ ends) text for ran told =
           ∙ ap (λ (z : Standing). z.config) spent) (s.last ∙ ap (λ (z : Standing). z.last) spent) ((for.0).opened).row),
       ends_at r qs js xs ends told.2 for.1 ran.1 told.4,
     )
+ends_at r _ js _ (e ∷ ends) text for ran told = absurd told
 
 -- and stand outside, each of the thread whose pass was given
 ends_out : {Q : Type 0} {G : Ghosts Q} (r : Row) (turns line : ℕ) (ps : List Pass) (qs : List ThreadPart)
@@ -276,10 +264,6 @@ ends_out : {Q : Type 0} {G : Ghosts Q} (r : Row) (turns line : ℕ) (ps : List P
 ends_out r turns line [] [] [] xs [] text jobs for ran told = (tt, refl)
 ends_out r turns line [] [] [] [] (e ∷ ends) text jobs for ran told = absurd told
 ends_out r turns line [] [] [] (x ∷ xs) (e ∷ ends) text jobs for ran told = absurd told
-ends_out r turns line [] [] (j ∷ js) xs ends text jobs for ran told = absurd jobs
-ends_out r turns line [] (q ∷ qs) js xs ends text jobs for ran told = absurd jobs
-ends_out r turns line (p ∷ ps) [] js xs ends text jobs for ran told = absurd jobs
-ends_out r turns line (p ∷ ps) (q ∷ qs) [] xs ends text jobs for ran told = absurd jobs
 ends_out r turns line (p ∷ ps) (q ∷ qs) (j ∷ js) [] ends text jobs for ran told = absurd ran
 ends_out r turns line (p ∷ ps) (q ∷ qs) (j ∷ js) (x ∷ xs) [] text jobs for ran told = absurd told
 ends_out r turns line (p ∷ ps) (q ∷ qs) (j ∷ js) (x ∷ xs) (e ∷ ends) text jobs for ran told =
@@ -291,6 +275,7 @@ ends_out r turns line (p ∷ ps) (q ∷ qs) (j ∷ js) (x ∷ xs) (e ∷ ends) t
     let thread : (known_of e).thread ≡ p.thread = ap (λ (z : Pass). (known_of z).thread) (sym told.1) ∙ (s.thread
     ∙ (ap (λ (z : Standing). z.thread) spent ∙ (j.pass.held.thread_is ∙ ap (λ (z : Pass). z.thread) (jobs.0).pass))) in
     ((out, rest.0), (λ i. thread i ∷ rest.1 i))
+ends_out r turns line _ _ _ xs ends text jobs for ran told = absurd jobs
 
 -- passes of the threads of so many numbers from a on
 has_counted : (a n t : ℕ) → a ≤ t → t < a + n → (ks : List Known) → map (λ (k : Known). k.thread) ks ≡ counted a n
@@ -341,9 +326,6 @@ module _ (board : List ℕ → Option (ℕ × History)) (rank : List ℕ → ℕ
       × ArePartsOf board rank turns last c whole 0 2 qs (lines_of xs) × (s ≡ summary c last (state whole))
   all_parts n [] [] js [] e ends text s are o jobs ran told closes = absurd told
   all_parts n [] [] js (x ∷ xs) e ends text s are o jobs ran told closes = absurd told
-  all_parts n [] (q ∷ qs) js xs e ends text s are o jobs ran told closes = absurd jobs
-  all_parts n (p ∷ ps) [] js xs e ends text s are o jobs ran told closes = absurd jobs
-  all_parts n (p ∷ ps) (q ∷ qs) [] xs e ends text s are o jobs ran told closes = absurd jobs
   all_parts n (p ∷ ps) (q ∷ qs) (j ∷ js) [] e ends text s are o jobs ran told closes = absurd ran
   all_parts zero (p ∷ ps) (q ∷ qs) (j ∷ js) (x ∷ xs) e ends text s are o jobs ran told closes = absurd cc
   all_parts (suc n) (p ∷ ps) (q ∷ qs) (j ∷ js) (x ∷ xs) e ends text s are o jobs ran told closes =
@@ -365,19 +347,19 @@ module _ (board : List ℕ → Option (ℕ × History)) (rank : List ℕ → ℕ
         ),
         end.is ∙ ap (λ (z : Config × ℕ). summary z.0 z.1 (state end.whole)) (λ i. (met_config i, met_last i)),
       )
+  all_parts n _ _ _ xs e ends text s are o jobs ran told closes = absurd jobs
 
 -- what each thread's notes tell is what one board has
 pub all_said : {Q : Type 0} {G : Ghosts Q} (board : List ℕ → Option (ℕ × History)) (rank : List ℕ → ℕ) (js : List Job)
     (xs : List (ThreadRun Q G)) → AllZip HasRun js xs → AllByRecursion (IsToldBy board rank) xs
     → AllZip (HasSaid board rank) js xs
 all_said board rank [] [] ran told = tt
-all_said board rank [] (x ∷ xs) ran told = absurd ran
-all_said board rank (j ∷ js) [] ran told = absurd ran
 all_said board rank (j ∷ js) (x ∷ xs) ran told = (
   pass_still {u = said board rank} (carried (account_in x).posted _ (account_in x).heard _ _ _ (told.0).posted
       (told.0).heard (λ n v. tt)) j.turns j.first j.part.now.commands j.pass x.pass x.answer x.text.items ran.0,
   all_said board rank js xs ran.1 told.1,
 )
+all_said board rank _ _ ran told = absurd ran
 
 -- ALL TOGETHER
 pub together : {Q : Type 0} {G : Ghosts Q} (board : List ℕ → Option (ℕ × History)) (rank : List ℕ → ℕ) (turns last : ℕ)

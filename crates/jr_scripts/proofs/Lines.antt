@@ -31,21 +31,15 @@ passes_long c last r ps o =
 pub jobs_long : (turns line : ℕ) (ps : List Pass) (qs : List ThreadPart) (js : List Job) → AreJobsOf turns line ps qs js
     → length js ≡ length qs
 jobs_long turns line [] [] [] jobs = refl
-jobs_long turns line [] [] (j ∷ js) jobs = absurd jobs
-jobs_long turns line [] (q ∷ qs) js jobs = absurd jobs
-jobs_long turns line (p ∷ ps) [] js jobs = absurd jobs
-jobs_long turns line (p ∷ ps) (q ∷ qs) [] jobs = absurd jobs
 jobs_long turns line (p ∷ ps) (q ∷ qs) (j ∷ js) jobs =
     ap suc (jobs_long turns (line + 1 + length q.commands) ps qs js jobs.1)
+jobs_long turns line _ _ _ jobs = absurd jobs
 
 ends_long : {Q : Type 0} {G : Ghosts Q} (qs : List ThreadPart) (xs : List (ThreadRun Q G)) (ends : List Pass)
     (text : List ℕ) → AreTold qs xs ends text → length ends ≡ length qs
 ends_long [] xs [] text told = refl
-ends_long [] [] (e ∷ ends) text told = absurd told
-ends_long [] (x ∷ xs) (e ∷ ends) text told = absurd told
-ends_long (q ∷ qs) [] ends text told = absurd told
-ends_long (q ∷ qs) (x ∷ xs) [] text told = absurd told
 ends_long (q ∷ qs) (x ∷ xs) (e ∷ ends) text told = ap suc (ends_long qs xs ends told.2 told.4)
+ends_long _ _ _ text told = absurd told
 
 -- there is a first pass
 pub some_ends : {Q : Type 0} {G : Ghosts Q} (c : Config) (qs : List ThreadPart) (xs : List (ThreadRun Q G))

@@ -35,8 +35,7 @@ pub mod BufferCommands
 pub mod MeaningCommands
 pub mod EachCommand
 pub mod MeaningRun
-use Rattle.std.proofs.Common.{◌≡◌, ℕ, Option, List, [], ◌∷◌}
-use Rattle.std.proofs.Common.{◌++◌, length, refl, sym, ap, subst, ◌∙◌, arith}
+use Rattle.std.proofs.Common.{◌≡◌, ℕ, Option, List, [], ◌∷◌, ◌++◌, length, refl, sym, ap, subst, ◌∙◌, arith}
 use Rattle.std.proofs.lemmas.List.{append-nil}
 use Rattle.std.specs.List.{AllByRecursion}
 use Rattle.jr_word.specs.declared.config.Config.{Config}
@@ -64,9 +63,8 @@ use Rattle.jr_scripts.proofs.AloneHistories.{all_back, all_map, own_events}
 use Rattle.jr_scripts.proofs.LoneRun.MeaningRun.{meant}
 
 one_part : (ps : List ThreadPart) → length ps ≡ 1 → (p : ThreadPart) × (ps ≡ p ∷ [])
-one_part [] long = absurd (omega arith)
 one_part (p ∷ []) long = (p, refl)
-one_part (p ∷ q ∷ ps) long = absurd (omega arith)
+one_part _ long = absurd (omega arith)
 
 -- a look at the gate changes nothing
 meet_changes_nothing : (s : State) (e : Event) → e.act ≡ Meet → after s e ≡ s

@@ -1,6 +1,6 @@
 -- What was done where a thread stands in a region, how it came there, and what a command leaves there and outside.
 use Rattle.std.proofs.Common.{◌≡◌, ◌≤◌, ◌∷◌, [], ◌∙◌, ℕ, ℤ, List, Result, Ok, Err, length, subst, sym, ap, refl, arith}
-use Rattle.std.proofs.Common.{Bool, true, false, Option, Some, None, ◌≢◌}
+use Rattle.std.proofs.Common.{Bool, true, false, Option, Some, None}
 use Rattle.std.specs.Prelude.{IfErr, IfOk}
 use Rattle.jr_word.specs.declared.config.Config.{Config}
 use Rattle.jr_word.specs.declared.fault.Fault.{Fault}
@@ -28,18 +28,17 @@ use Rattle.jr_steps.specs.declared.steps.Steps.{Ghosts}
 use Rattle.jr_env.specs.declared.env.Env.{Env}
 use Rattle.jr_env.specs.Envs.{IsOutside, WasDone}
 use Rattle.jr_env.specs.Turns.{TriesToOpen}
-use Rattle.jr_env.specs.Deeds.{CarriedOut, Deed, decided, done, ◌>>=◌, ◌>>◌}
+use Rattle.jr_env.specs.Deeds.{CarriedOut, Deed, decided, done, ◌>>=◌, ◌>>◌, within_by}
 use Rattle.jr_env.proofs.MadeAgain.{worth_formed}
 use Rattle.jr_env.proofs.Carrying.{did_call, did_decided, did_decline, did_in_role, did_more, did_refused, did_reply}
-use Rattle.jr_env.proofs.Carrying.{did_both, did_then, own_call, role_kept, did_nowhere, does_nothing}
+use Rattle.jr_env.proofs.Carrying.{did_both, did_then, own_call, role_kept, did_nowhere}
 use Rattle.jr_syntax.specs.declared.verb.OpenLevel.{OpenLevel}
 use Rattle.jr_syntax.specs.declared.verb.OpenLevel.TheVariants as at
 use Rattle.jr_scripts.specs.declared.number.NumberKind.{NumberKind}
 use Rattle.jr_scripts.specs.declared.reply.Reply.{Reply}
 use Rattle.jr_scripts.specs.declared.reply.Reply.TheVariants as replies
-use Rattle.jr_scripts.specs.Advancing.{DidOpen, KnowsOpened, DidCommand, DidWith, StandsIn, StandsWith}
-use Rattle.jr_scripts.specs.Advancing.{answer_without_call, level_names, makes_no_call, objects_in, opened_over}
-use Rattle.jr_scripts.specs.Advancing.{place_with}
+use Rattle.jr_scripts.specs.Advancing.{DidOpen, KnowsOpened, DidCommand, DidWith, StandsIn, StandsWith, level_names}
+use Rattle.jr_scripts.specs.Advancing.{objects_in, opened_over, place_with}
 use Rattle.jr_scripts.specs.Tries.{Tried, answered, again, gave_up}
 use Rattle.jr_scripts.specs.Numbers.{has_numbers, kind_numbered, word_of_number}
 use Rattle.jr_scripts.specs.Names.{Names, word_posted}
@@ -51,7 +50,6 @@ use Rattle.jr_syntax.specs.declared.verb.PutAt.TheVariants as put_at
 use Rattle.jr_syntax.specs.declared.verb.Release.TheVariants as release
 use Rattle.jr_scripts.proofs.CommandDeeds.{numbered_has}
 use Rattle.jr_scripts.specs.Commands.{opening_by, opens, deed, tried}
-use Rattle.jr_env.specs.Deeds.{within_by}
 use Rattle.jr_scripts.specs.RegionCommands.{deed_at, deed_within, kind_of_level, nesting, nests, read_kind}
 use Rattle.jr_scripts.specs.RegionCommands.{level_reading, reading_as, level_writing, writing_as}
 use Rattle.jr_word.specs.declared.fault.Fault.TheVariants.{InCritical}
@@ -62,7 +60,6 @@ use Rattle.jr_scripts.specs.Layouts.{Layout}
 use Rattle.jr_scripts.specs.Places.{is_speaking, levels_after, objects_after}
 use Rattle.jr_scripts.specs.Posting.{Account, HasPosted, HasSpoken, HasWaited, Keeps, WasInVain, ThreadWords}
 use Rattle.jr_scripts.specs.Posting.{reply_to_wait, talk_of, word_under, words_after, words_found, words_with}
-use Rattle.jr_scripts.proofs.CopyDeeds.{does_get, does_put}
 use Rattle.jr_scripts.proofs.Speaking.{did_silent, did_speak, keeps_all, said_buffers, said_levels, said_objects}
 use Rattle.jr_scripts.proofs.Speaking.{found_words, silent_words, spoke_posting, spoke_waiting, stands_still}
 
@@ -267,41 +264,6 @@ did_at turns names levels (o ∷ os) c some d = d
 
 -- WHAT A COMMAND LEAVES
 
--- a command that is none of those that make calls or open a region makes no call
-pub left_over : (c : Command) → ((v : _) (n : _) → c ≢ commands.Make v n)
-    → ((v : _) (n : _) (r : _) → c ≢ commands.MakeFrom v n r) → ((v : _) (r : _) → c ≢ commands.On v r)
-    → ((v : _) (q : _) (r : _) → c ≢ commands.OnBoth v q r) → ((v : _) (n : _) → c ≢ commands.OnName v n)
-    → ((v : _) (n : _) → c ≢ commands.WithCount v n) → ((v : _) (n : _) (l : _) → c ≢ commands.MakeSized v n l)
-    → ((v : _) (n : _) (u : _) → c ≢ commands.MakeText v n u)
-    → ((v : _) (n : _) (l : _) (r : _) → c ≢ commands.MakeFilled v n l r)
-    → ((v : _) (n : _) (r : _) (i : _) → c ≢ commands.MakeAt v n r i)
-    → ((v : _) (r : _) (i : _) → c ≢ commands.OnAt v r i)
-    → ((v : _) (r : _) (i : _) (q : _) → c ≢ commands.SetAt v r i q)
-    → ((v : _) (r : _) (i : _) (x : _) → c ≢ commands.StoreAt v r i x)
-    → ((v : _) (n : _) (r : _) (m : _) → c ≢ commands.Release v n r m)
-    → ((v : _) (n : _) (r : _) → c ≢ commands.OpenLevel v n r) → ((v : _) → c ≢ commands.OfRoom v)
-    → ((v : _) (k : _) → c ≢ commands.WithTries v k) → makes_no_call c ≡ true
-left_over (commands.Make v n) other _ _ _ _ _ _ _ _ _ _ _ _ _ _ _ _ = absurd (other v n refl)
-left_over (commands.MakeFrom v n r) _ other _ _ _ _ _ _ _ _ _ _ _ _ _ _ _ = absurd (other v n r refl)
-left_over (commands.On v r) _ _ other _ _ _ _ _ _ _ _ _ _ _ _ _ _ = absurd (other v r refl)
-left_over (commands.OnBoth v q r) _ _ _ other _ _ _ _ _ _ _ _ _ _ _ _ _ = absurd (other v q r refl)
-left_over (commands.OnName v n) _ _ _ _ other _ _ _ _ _ _ _ _ _ _ _ _ = absurd (other v n refl)
-left_over (commands.WithCount v n) _ _ _ _ _ other _ _ _ _ _ _ _ _ _ _ _ = absurd (other v n refl)
-left_over (commands.MakeSized v n l) _ _ _ _ _ _ other _ _ _ _ _ _ _ _ _ _ = absurd (other v n l refl)
-left_over (commands.MakeText v n u) _ _ _ _ _ _ _ other _ _ _ _ _ _ _ _ _ = absurd (other v n u refl)
-left_over (commands.MakeFilled v n l r) _ _ _ _ _ _ _ _ other _ _ _ _ _ _ _ _ = absurd (other v n l r refl)
-left_over (commands.MakeAt v n r i) _ _ _ _ _ _ _ _ _ other _ _ _ _ _ _ _ = absurd (other v n r i refl)
-left_over (commands.OnAt v r i) _ _ _ _ _ _ _ _ _ _ other _ _ _ _ _ _ = absurd (other v r i refl)
-left_over (commands.SetAt v r i q) _ _ _ _ _ _ _ _ _ _ _ other _ _ _ _ _ = absurd (other v r i q refl)
-left_over (commands.StoreAt v r i x) _ _ _ _ _ _ _ _ _ _ _ _ other _ _ _ _ = absurd (other v r i x refl)
-left_over (commands.Release v n r m) _ _ _ _ _ _ _ _ _ _ _ _ _ other _ _ _ = absurd (other v n r m refl)
-left_over (commands.OpenLevel v n r) _ _ _ _ _ _ _ _ _ _ _ _ _ _ other _ _ = absurd (other v n r refl)
-left_over (commands.OfRoom v) _ _ _ _ _ _ _ _ _ _ _ _ _ _ _ other _ = absurd (other v refl)
-left_over (commands.WithTries v k) _ _ _ _ _ _ _ _ _ _ _ _ _ _ _ _ other = absurd (other v k refl)
-left_over (commands.OnNameAt v n i) _ _ _ _ _ _ _ _ _ _ _ _ _ _ _ _ _ = refl
-left_over (commands.PutAt v n i x) _ _ _ _ _ _ _ _ _ _ _ _ _ _ _ _ _ = refl
-left_over (commands.CloseLevel v m) _ _ _ _ _ _ _ _ _ _ _ _ _ _ _ _ _ = refl
-
 -- no refused command changes a buffer
 kept_by_refusal : (c : Command) (e : Fault) (names : Names) → names ≡ buffers_after c (Err e) names
 kept_by_refusal (commands.PutAt put_at.Put n i x) e names = refl
@@ -395,23 +357,6 @@ module _ {S B : Type 0} {G : Ghosts S} {layout : B → Layout} {tells : B → Ac
       subst (λ r. DidCommand layout tells looked follows turns c words old new names names' None r board board answer)
       (sym none)
       (outside c d is silent has (did_in_role stood did) (did.stands_is.role ∙ stood) levels objects changed)
-
-  -- a command that makes no call
-  pub uncalled : {old : Env S G} {names names' : Names} {board : B} {answer : Result Reply Fault} (c : Command)
-      (region : Option Region) → region ≡ None → IsOutside old → follows board words → makes_no_call c ≡ true
-      → answer ≡ answer_without_call names c → names' ≡ buffers_after c answer names
-      → DidCommand layout tells looked follows turns c words old old names names' None region board board answer
-  uncalled {names = names} {answer = answer} (commands.OnNameAt v n i) region none stood has some says changed =
-      let d : Command = commands.OnNameAt v n i in
-      called d d region refl none stood refl has (does_get turns names v n i answer says) refl refl changed
-  uncalled {names = names} {answer = answer} (commands.PutAt v n i x) region none stood has some says changed =
-      let d : Command = commands.PutAt v n i x in
-      called d d region refl none stood refl has (does_put turns names v n i x answer says) refl refl changed
-  uncalled {answer = Ok reply} (commands.CloseLevel v mode) region none stood has some says changed = absurd cc
-  uncalled {answer = Err e} (commands.CloseLevel v mode) region none stood has some says changed =
-      let d : Command = commands.CloseLevel v mode in
-      called d d region refl none stood refl has (does_nothing (λ p. (says, refl))) refl refl changed
-  uncalled _ region none stood has some says changed = absurd cc
 
   -- one by which they do, wherever the thread stands
   pub spoken : AreOf G.facts → {old new : Env S G} {names : Names} {region : Option Region} {board board' : B}

@@ -1,5 +1,5 @@
 -- For the crate's own functions: where a thread stands with its region, and what it did there.
-use Rattle.std.specs.Prelude.{◌≡◌, ℕ, Bool, true, false, List, [], length, Option, Some, None, Result, Ok, Err}
+use Rattle.std.specs.Prelude.{◌≡◌, ℕ, List, [], length, Option, Some, None, Result, Ok, Err}
 use Rattle.jr_word.specs.declared.handle.Handle.{Handle}
 use Rattle.jr_word.specs.declared.fault.Fault.{Fault}
 use Rattle.jr_word.specs.declared.fault.Fault.TheVariants as fault
@@ -45,15 +45,7 @@ abbrev pub put_by : PutAt → Result Reply Fault → Result Reply Fault
 put_by put_at.Put answer = answer
 put_by put_at.PutInLevel answer = Err fault.InCritical
 
--- whether a command makes no call where no region stands:
--- it is about an element of what a name stands for, or gives up a level
-abbrev pub makes_no_call : Command → Bool
-makes_no_call (commands.OnNameAt v n i) = true
-makes_no_call (commands.PutAt v n i x) = true
-makes_no_call (commands.CloseLevel v mode) = true
-makes_no_call _ = false
-
--- and its answer: E19 where it is none about an element
+-- the answer of a command that makes no call where no region stands: E19 where it is none about an element
 abbrev pub answer_without_call : Names → Command → Result Reply Fault
 answer_without_call names (commands.OnNameAt v n i) =
     got_by v (answer_in (λ x. replies.Value x) (getting i (binding names n)))

@@ -31,6 +31,7 @@ use jr_env::calls::{
 };
 use jr_frames::Reference;
 use jr_steps::Steps;
+use jr_syntax::Command::{CloseLevel, OnNameAt, PutAt};
 use jr_syntax::{Command, Make, MakeFrom, MakeSized, Name, On, Reference as Target, WithCount};
 use jr_weak::Marker;
 use jr_word::{Fault, Handle, RefKind};
@@ -286,6 +287,6 @@ pub fn perform<S: Steps, B: Board<S>>(
         }
         Command::OfRoom { .. } => collect(env, marker),
         Command::WithTries { tries, .. } => collect_announced(env, marker, turns, *tries),
-        _ => without_call(names, command),
+        OnNameAt { .. } | PutAt { .. } | CloseLevel { .. } => without_call(names, command),
     }
 }

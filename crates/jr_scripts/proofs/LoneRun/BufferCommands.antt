@@ -1,6 +1,6 @@
 -- What a lone thread's commands mean that read and write copied elements, and release them.
-use Rattle.std.proofs.Common.{◌≡◌, inl, inr, ℕ, ℤ, Option, Some, None, List, Result, Ok, Err, IfErr, refl, sym, ap}
-use Rattle.std.proofs.Common.{subst, ◌∙◌}
+use Rattle.std.proofs.Common.{◌≡◌, false, inl, inr, ℕ, ℤ, Option, Some, None, List, Result, Ok, Err, IfErr, refl, sym}
+use Rattle.std.proofs.Common.{ap, subst, ◌∙◌}
 use Rattle.jr_word.specs.declared.config.Config.{Config}
 use Rattle.jr_word.specs.declared.fault.Fault.{Fault}
 use Rattle.jr_word.specs.declared.handle.Handle.{Handle as HandleWord}
@@ -8,8 +8,7 @@ use Rattle.jr_model.specs.declared.frames.Mode.{Mode}
 use Rattle.jr_model.specs.declared.frames.Mode.TheVariants.{Copy, Commit, Abort}
 use Rattle.jr_model.specs.State.{State}
 use Rattle.jr_model.specs.History.{state}
-use Rattle.jr_model.specs.Calls.{Call, ◌>>◌, entered}
-use Rattle.jr_model.specs.Calls.{done as answers}
+use Rattle.jr_model.specs.Calls.{Call, ◌>>◌, entered, done as answers}
 use Rattle.jr_model.specs.Checks.{Word}
 use Rattle.jr_model.specs.Objects as objects
 use Rattle.jr_gate.specs.Performing.{ThreadState}
@@ -38,21 +37,19 @@ use Rattle.jr_scripts.specs.Meaning.{World, Meaning, goes_on}
 use Rattle.jr_scripts.specs.Meaning as meaning
 use Rattle.jr_scripts.proofs.LoneRun.MadeCalls.{Moment, Made, WasMadeOf, split, still}
 use Rattle.jr_scripts.proofs.LoneRun.MeaningFrames.{Pairing}
-use Rattle.jr_scripts.proofs.LoneRun.MeaningFits.{IsDone, Later, Outcome, handles_stay}
+use Rattle.jr_scripts.proofs.LoneRun.MeaningFits.{IsDone, Later, handles_stay}
 use Rattle.jr_scripts.proofs.LoneRun.MeaningObjects.{headers_fit, stay_still}
 use Rattle.jr_scripts.proofs.LoneRun.MeaningCopies.{back_means}
-use Rattle.jr_scripts.proofs.LoneRun.MeaningDeeds.{AfterDecided, BindingFits, HandleFits, IsPass, after_decided}
-use Rattle.jr_scripts.proofs.LoneRun.MeaningDeeds.{binding_later, formed, formed_both, made_once, now, read_fits}
-use Rattle.jr_scripts.proofs.LoneRun.MeaningDeeds.{was_formed}
-use Rattle.jr_scripts.proofs.LoneRun.CommandSteps.{Steps, Turn, at_most, even, handles, kept_step, named_step}
-use Rattle.jr_scripts.proofs.LoneRun.CommandSteps.{nothing_then, wanted_step, was_made}
+use Rattle.jr_scripts.proofs.LoneRun.MeaningDeeds.{AfterDecided, BindingFits, HandleFits, after_decided, binding_later}
+use Rattle.jr_scripts.proofs.LoneRun.MeaningDeeds.{formed, formed_both, made_once, now, read_fits, was_formed}
+use Rattle.jr_scripts.proofs.LoneRun.CommandSteps.{CallMeant, Steps, Turn, came, at_most, even, handles, kept_step}
+use Rattle.jr_scripts.proofs.LoneRun.CommandSteps.{named_step, nothing_then, still_step, wanted_step, was_made}
 use Rattle.jr_scripts.proofs.LoneRun.ElementCommands.{apart_before}
 
 -- what stands there is the buffer that was found
 buffer_found : (s : Binding) (b : Copied) → buffer_in s ≡ Ok b → s ≡ bound.Buffer b
-buffer_found bound.Nothing b is = absurd cc
-buffer_found (bound.Reference h) b is = absurd cc
 buffer_found (bound.Buffer c) b is = let same : c ≡ b = cc in ap (λ (x : Copied). bound.Buffer x) same
+buffer_found _ b is = absurd cc
 
 -- what is the same of all references is the same of what is meant
 same_of_binding : {A : Type 0} (P : Pairing) (w : World) (f : Binding → A)
@@ -61,22 +58,16 @@ same_of_binding : {A : Type 0} (P : Pairing) (w : World) (f : Binding → A)
 same_of_binding P w f same bound.Nothing bound.Nothing fits = refl
 same_of_binding P w f same (bound.Reference h) (bound.Reference g) fits = same h g
 same_of_binding P w f same (bound.Buffer b) (bound.Buffer d) fits = ap (λ z. f (bound.Buffer z)) fits
-same_of_binding P w f same bound.Nothing (bound.Reference g) fits = absurd fits
-same_of_binding P w f same bound.Nothing (bound.Buffer d) fits = absurd fits
-same_of_binding P w f same (bound.Reference h) bound.Nothing fits = absurd fits
-same_of_binding P w f same (bound.Reference h) (bound.Buffer d) fits = absurd fits
-same_of_binding P w f same (bound.Buffer b) bound.Nothing fits = absurd fits
-same_of_binding P w f same (bound.Buffer b) (bound.Reference g) fits = absurd fits
+same_of_binding P w f same _ _ fits = absurd fits
 
 -- what is put there is a buffer
 put_is_buffer : (i : ℕ) (z : ℤ) (t u : Binding) → putting i z t ≡ Ok u → (b : Copied) × (u ≡ bound.Buffer b)
-put_is_buffer i z bound.Nothing u is = absurd cc
-put_is_buffer i z (bound.Reference h) u is = absurd cc
 put_is_buffer i z (bound.Buffer b) u is = go (with_number b i z) is
   where
     go : (r : Result Copied Fault) → buffered r ≡ Ok u → (b : Copied) × (u ≡ bound.Buffer b)
     go (Ok d) same = (d, cc)
     go (Err e) same = absurd cc
+put_is_buffer i z _ u is = absurd cc
 
 -- a call whose answer is always the same
 record Unformed (c : Config) (last : ℕ) {A B : Type 0} (call : Call A) (x : B) (m : Moment) (answer : Result B Fault)
@@ -97,7 +88,7 @@ unformed c last {A} {B} call x m n answer r = go (split c last 0 call (λ u. ans
     go (inr d) = record { once = Err d.0; made = d.2; is = d.1 }
 
 module _ {c : Config} {last turns j k : ℕ} {P : Pairing} {w : World} {old new : ThreadState} {p q : Place}
-    {had told : ThreadWords} (s : Turn c last turns j k P w old new p q had told) where
+    {had told : ThreadWords} (s : Turn false c last turns j k P w old new p q had told) where
   -- EGET
 
   pub eget_step : j ≡ k → (n : List ℕ) (i : ℕ) (answer : Result Reply Fault)
@@ -117,11 +108,9 @@ module _ {c : Config} {last turns j k : ℕ} {P : Pairing} {w : World} {old new 
 
       go : (r : Result ℤ Fault) → AfterDecided (λ z. done (replies.Value z)) old new answer r
           → Steps s x answer (goes_on reply (r, w))
-      go (Ok z) d' = kept_step s x answer P w (Ok (replies.Value z)) (Ok (replies.Value z))
-          (nothing_then s d'.1 (at_most one)) d'.0 (λ names os ws. (refl, refl, refl))
-          (λ names os ws. (refl, refl, refl)) (λ line. refl)
-      go (Err e) d' = kept_step s x answer P w (Err e) (Err e) (nothing_then s d'.1 (at_most one)) d'.0
-          (λ names os ws. (refl, refl, refl)) (λ names os ws. (refl, refl, refl)) (λ line. refl)
+      go (Ok z) d' = still_step s x answer (Ok (replies.Value z)) (at_most one) d'
+          (λ place ws. (refl, refl))
+      go (Err e) d' = still_step s x answer (Err e) (at_most one) d' (λ place ws. (refl, refl))
 
   -- EPUT
 
@@ -146,14 +135,14 @@ module _ {c : Config} {last turns j k : ℕ} {P : Pairing} {w : World} {old new 
           let b = put_is_buffer i z (binding p.names n) t is in
           let both : t ≡ u = cc in
           named_step s x answer n P w (Ok replies.Done) (Ok replies.Done) t u (nothing_then s d'.1 (at_most one)) d'.0
-          (ap (names_put p.names n) is, refl, refl) (ap (names_put q.names n) is', refl, refl) (λ line. refl)
+          (ap (λ r. record p { names = names_put p.names n r }) is, refl)
+          (ap (λ r. record q { names = names_put q.names n r }) is', refl) (λ line. refl)
           (subst (BindingFits P w t) both (subst (λ y. BindingFits P w y y) (sym b.1) refl))
       go (Err e) (Err f) is is' same d' = kept_step s x answer P w (Err e) (Err f)
-          (nothing_then s d'.1 (at_most one)) d'.0 (λ names os ws. (refl, refl, refl))
-          (λ names os ws. (refl, refl, refl)) (λ line. ap (printed line x) (let one : e ≡ f = cc in
+          (nothing_then s d'.1 (at_most one)) d'.0 (λ place ws. (refl, refl))
+          (λ place ws. (refl, refl)) (λ line. ap (printed line x) (let one : e ≡ f = cc in
           ap (λ (y : Fault). Err y) one))
-      go (Ok t) (Err f) is is' same d' = absurd cc
-      go (Err e) (Ok u) is is' same d' = absurd cc
+      go _ _ is is' same d' = absurd cc
 
   -- RELEASE
 
@@ -168,18 +157,17 @@ module _ {c : Config} {last turns j k : ℕ} {P : Pairing} {w : World} {old new 
     -- what comes of the copying back
     released_after : ((Q : Pairing) (v : World) → Later P w Q v → BindingFits Q v
         (left_by mode (Ok replies.Done) (binding p.names n)) (left_by mode (Ok replies.Done) (binding q.names n)))
-        → (once : Result (Unit {0}) Fault) (b : Result (Unit {0}) Fault × World) → IsPass c last new.pass
-        → Outcome c last k (IsDone {A = Unit {0}} {B = Unit {0}}) P w once b (now new)
-        → answer ≡ formed (λ u. replies.Done) once → Steps s releases answer (goes_on done_then b)
-    released_after fits (Ok u) (Ok u', v) pass o is = named_step s releases answer n o.pairing v (Ok replies.Done)
+        → (once : Result (Unit {0}) Fault) (b : Result (Unit {0}) Fault × World)
+        → CallMeant s (IsDone {A = Unit {0}} {B = Unit {0}}) once b → answer ≡ formed (λ u. replies.Done) once
+        → Steps s releases answer (goes_on done_then b)
+    released_after fits (Ok u) (Ok u', v) i is = named_step s releases answer n i.outcome.pairing v (Ok replies.Done)
         (Ok replies.Done) (left_by mode (Ok replies.Done) (binding p.names n))
-        (left_by mode (Ok replies.Done) (binding q.names n)) (record { later = o.later; pass = pass; fits = o.fits }) is
-        (refl, refl, refl) (refl, refl, refl) (λ line. refl) (fits o.pairing v o.later)
-    released_after fits (Err e) (Err d, v) pass o is = kept_step s releases answer o.pairing v (Err e) (Err d)
-        (record { later = o.later; pass = pass; fits = o.fits }) is (λ names os ws. (refl, refl, refl))
-        (λ names os ws. (refl, refl, refl)) (λ line. ap (λ a. printed line releases (Err a)) o.answers)
-    released_after fits (Ok u) (Err d, v) pass o is = absurd o.answers
-    released_after fits (Err e) (Ok u, v) pass o is = absurd o.answers
+        (left_by mode (Ok replies.Done) (binding q.names n)) (came s i) is
+        (refl, refl) (refl, refl) (λ line. refl) (fits i.outcome.pairing v i.outcome.later)
+    released_after fits (Err e) (Err d, v) i is = kept_step s releases answer i.outcome.pairing v (Err e) (Err d)
+        (came s i) is (λ place ws. (refl, refl))
+        (λ place ws. (refl, refl)) (λ line. ap (λ a. printed line releases (Err a)) i.outcome.answers)
+    released_after fits _ _ i is = absurd i.outcome.answers
 
     -- where it copies back, and answers this
     module _ (b : Copied) (kept : Option (List ℕ)) (fits : (Q : Pairing) (v : World) → Later P w Q v → BindingFits Q v
@@ -206,10 +194,13 @@ module _ {c : Config} {last turns j k : ℕ} {P : Pairing} {w : World} {old new 
             let stays = stay_still c last (objects.copying_back c last 0 z b.kind a b.words)
             ((copying_back_is b.kind a b.words).stays c last 0 z) (now old) (now new) y.once
             (apart_before old.pass new.pass made.ran.acts made.ran.did) y.made in
-            released_after fits y.once (meaning.copied_back g.0 b Copy w) m.0
-            ((even one (back_means c last j z P w a g.0 s.some (read_fits P w h.0 g.0 a (handles s) once.1 same)
-            (headers_fit s.stands.fits stays) b)).outcome (now old) (now new) y.once s.stands.fits y.made)
-            (f.is ∙ (ap (formed (λ u. replies.Done)) y.is ∙ formed_both (λ u. replies.Done) (λ u. kept) y.once))
+            released_after fits y.once (meaning.copied_back g.0 b Copy w) (record {
+              pass = m.0;
+              outcome = (even one (back_means c last j z P w a g.0 s.some
+                  (read_fits P w h.0 g.0 a (handles s) once.1 same)
+                  (headers_fit s.stands.fits stays) b)).outcome (now old) (now new) y.once s.stands.fits y.made;
+              role = λ some. absurd (some s.region);
+            }) (f.is ∙ (ap (formed (λ u. replies.Done)) y.is ∙ formed_both (λ u. replies.Done) (λ u. kept) y.once))
 
   module _ (one : j ≡ k) (n : List ℕ) (r : Reference) (answer : Result Reply Fault) where
     abbrev MayRefuse : Mode → Type 0
@@ -237,8 +228,8 @@ module _ {c : Config} {last turns j k : ℕ} {P : Pairing} {w : World} {old new 
         let once = made_once (release_alone b.kind h.0 b.words Abort) turns old new f.once
         s.alone s.some_turns f.did in
         named_step s x answer n P w (Ok replies.Done) (Ok replies.Done) bound.Nothing bound.Nothing
-        (nothing_then s once.1 (at_most one)) (f.is ∙ ap (formed (λ u. replies.Done)) once.0) (refl, refl, refl)
-        (refl, refl, refl) (λ line. refl) tt
+        (nothing_then s once.1 (at_most one)) (f.is ∙ ap (formed (λ u. replies.Done)) once.0)
+        (refl, refl) (refl, refl) (λ line. refl) tt
 
     pub release_step : (mode : Mode) → MayRefuse mode
         → deed turns p.names (commands.Release release.Elements n r mode) old answer new
@@ -260,7 +251,7 @@ module _ {c : Config} {last turns j k : ℕ} {P : Pairing} {w : World} {old new 
         go : (t : Result Copied Fault) → buffer_in (binding p.names n) ≡ t → AfterDecided next old new answer t
             → Steps s x answer (goes_on then (t, w))
         go (Ok b) is d' = wanted_step s x answer (at_most one) (λ h. released b mode h) (released_then b mode) r
-            (λ e names os ws. (refl, refl, refl)) d'
+            (λ e place ws. (refl, refl)) d'
             (found_by_mode mode fault b (buffer_found (binding p.names n) b is))
-        go (Err e) is d' = kept_step s x answer P w (Err e) (Err e) (nothing_then s d'.1 (at_most one)) d'.0
-            (λ names os ws. (refl, refl, refl)) (λ names os ws. (refl, refl, refl)) (λ line. refl)
+        go (Err e) is d' =
+            still_step s x answer (Err e) (at_most one) d' (λ place ws. (refl, refl))

@@ -42,10 +42,9 @@ use Rattle.jr_scripts.proofs.LoneRun.MadeCalls.{AreUnopposed, is_opposed, moment
 use Rattle.jr_scripts.proofs.LoneRun.MeaningFrames.{Pairing}
 use Rattle.jr_scripts.proofs.LoneRun.MeaningFits.{Fits, HandlesStay, fits_less, gone_fits}
 use Rattle.jr_scripts.proofs.LoneRun.MeaningCollections.{at_reopen, fits_then, long, reopen_is, told_then}
-use Rattle.jr_scripts.proofs.LoneRun.MeaningDeeds.{IsPass, all_unopposed, made_once, names_stay, now}
-use Rattle.jr_scripts.proofs.LoneRun.MeaningDeeds.{words_stay}
+use Rattle.jr_scripts.proofs.LoneRun.MeaningDeeds.{IsPass, all_unopposed, made_once, names_stay, now, words_stay}
 use Rattle.jr_scripts.proofs.LoneRun.MeaningStands.{Keeps, pass_later}
-use Rattle.jr_scripts.proofs.LoneRun.CommandSteps.{Turn, Steps, at_most, kept_as}
+use Rattle.jr_scripts.proofs.LoneRun.CommandSteps.{Turn, Steps, at_most, left_as, none_stand}
 
 -- A CALL THAT KEEPS THE FRAMES
 abbrev KeepsFrames : {A : Type 0} → Call A → Type 0
@@ -173,7 +172,7 @@ module _ {old new : PassView} {cleared : List Handle} {dropped : List ℕ} {used
       subst (λ es. IsWhole (state es) cleared dropped) before d.whole
 
 module _ {c : Config} {last turns j k : ℕ} {P : Pairing} {w : World} {old new : ThreadState} {p q : Place}
-    {had told : ThreadWords} (s : Turn c last turns j k P w old new p q had told) where
+    {had told : ThreadWords} (s : Turn false c last turns j k P w old new p q had told) where
   -- A COLLECTION from a moment that is as the world
   collected_step : (x : Command) (answer : Result Reply Fault) (a : Collected)
       → ((b : Collected) → Keeps x (Ok (replies.Collected b)))
@@ -208,18 +207,21 @@ module _ {c : Config} {last turns j k : ℕ} {P : Pairing} {w : World} {old new 
         refs_grow = (let same = long c last k P w m fits one from.seen refl cleared dropped a.used legal whole in
             omega (arith, same));
       } in
-      kept_as s x answer P then (Ok (replies.Collected a)) (Ok (replies.Collected (told_of w then))) later
+      left_as s x answer P then (Ok (replies.Collected a)) (Ok (replies.Collected (told_of w then)))
+      p.names q.names later
       (subst (Fits c last k P then) (sym now_is)
       (fits_then c last k P w m fits one from.seen refl cleared dropped a.used legal whole))
-      (names_stay stay p.names q.names s.stands.names) (words_stay stay had told s.stands.words) is (keeps a)
-      (keeps (told_of w then)) (λ line. ap (λ z. printed line x (Ok (replies.Collected z))) same)
+      (λ some. absurd (some s.region)) (names_stay stay p.names q.names s.stands.names)
+      (words_stay stay had told s.stands.words)
+      (none_stand s P then) is (keeps a p had)
+      (keeps (told_of w then) q told) (λ line. ap (λ z. printed line x (Ok (replies.Collected z))) same)
 
   -- GC
   pub collect_step : j ≡ k → (answer : Result Reply Fault) → collecting old answer new
       → Steps s (commands.OfRoom of_room.Collect) answer (collects w)
   collect_step one (Ok (replies.Collected a)) d =
       collected_step (commands.OfRoom of_room.Collect) (Ok (replies.Collected a)) a
-      (λ b names os ws. (refl, refl, refl)) refl old.pass s.stands.pass (fits_less (at_most one) s.stands.fits)
+      (λ b place ws. (refl, refl)) refl old.pass s.stands.pass (fits_less (at_most one) s.stands.fits)
       d.cleared
       d.dropped d.clears d.drops d.collects (collect_keeps old.frames new.frames d.ran.acts
       (Ok (a.cleared, a.dropped, a.used)) d.ran.is)
@@ -260,7 +262,7 @@ module _ {c : Config} {last turns j k : ℕ} {P : Pairing} {w : World} {old new 
           ∙ ap (λ l. old.pass.seen ++ map (by 0) l) acts) in
           let state_is = ap state seen ∙ state_append old.pass.seen (map (by 0) (Meet ∷ Gate Announce ∷ [])) in
           collected_step (commands.WithTries with_tries.CollectAnnounced tries) answer a
-          (λ b names os ws. (refl, refl, refl)) is mid
+          (λ b place ws. (refl, refl)) is mid
           (pass_later c last old.pass mid (announcing_acts r.refused) first s.stands.pass)
           (subst (λ z. Fits c last k P w (moment z old.frames)) (sym state_is)
           (gone_fits (now old) 0 Announce (fits_less (at_most one) s.stands.fits))) done.cleared done.dropped

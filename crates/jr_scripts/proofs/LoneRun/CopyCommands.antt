@@ -1,6 +1,5 @@
 -- What a lone thread's commands of copies mean.
-use Rattle.std.proofs.Common.{◌≡◌, ℕ, true, List, Result, Ok, Err, IfErr, refl, sym, ap}
-use Rattle.std.proofs.Common.{subst, ◌∙◌}
+use Rattle.std.proofs.Common.{◌≡◌, false, ℕ, true, List, Result, Ok, Err, IfErr, refl, sym, ap, subst, ◌∙◌}
 use Rattle.jr_word.specs.declared.config.Config.{Config}
 use Rattle.jr_word.specs.declared.fault.Fault.{Fault}
 use Rattle.jr_word.specs.declared.fault.Fault.TheVariants.{WrongKind}
@@ -40,7 +39,7 @@ use Rattle.jr_scripts.proofs.LoneRun.MeaningObjects.{meant_in}
 use Rattle.jr_scripts.proofs.LoneRun.MeaningCopies.{elements_mean, elements_shown, elements_with, finds_memory}
 use Rattle.jr_scripts.proofs.LoneRun.MeaningCopies.{found_by, units_mean, units_shown, units_with}
 use Rattle.jr_scripts.proofs.LoneRun.MeaningDeeds.{HandleFits, formed, made_once, now, was_formed}
-use Rattle.jr_scripts.proofs.LoneRun.CommandSteps.{CallMeant, Steps, Turn, at_most, even, kept_step, named_step}
+use Rattle.jr_scripts.proofs.LoneRun.CommandSteps.{CallMeant, Steps, Turn, at_most, came, even, kept_step, named_step}
 use Rattle.jr_scripts.proofs.LoneRun.CommandSteps.{same_after, wanted_step}
 use Rattle.jr_scripts.proofs.LoneRun.ElementCommands.{AloneBefore, alone_before, numbered_step, word_outcome}
 
@@ -51,7 +50,7 @@ found_as form (Ok words) answer is = ap found_by is
 found_as form (Err e) answer is = ap found_by is
 
 module _ {c : Config} {last turns j k : ℕ} {P : Pairing} {w : World} {old new : ThreadState} {p q : Place}
-    {had told : ThreadWords} (s : Turn c last turns j k P w old new p q had told) where
+    {had told : ThreadWords} (s : Turn false c last turns j k P w old new p q had told) where
   -- ELEMS
 
   -- what comes of the copy
@@ -65,20 +64,19 @@ module _ {c : Config} {last turns j k : ℕ} {P : Pairing} {w : World} {old new 
       let o = i.outcome in
       named_step s (commands.MakeFrom make_from.Elements n r) answer n o.pairing v
       (Ok (replies.Copied (copy_of t words))) (Ok (replies.Copied (copy_of u words'))) (bound.Buffer (copy_of t words))
-      (bound.Buffer (copy_of u words')) (record { later = o.later; pass = i.pass; fits = o.fits }) is
-      (refl, refl, refl) (refl, refl, refl) (λ line. refl)
+      (bound.Buffer (copy_of u words')) (came s i) is
+      (refl, refl) (refl, refl) (λ line. refl)
       (ap (λ z. copy_of z words) kind ∙ ap (copy_of u) o.answers)
   copied_after n r answer t u kind (Err e) (Err d, v) i is =
       let o = i.outcome in
       kept_step s (commands.MakeFrom make_from.Elements n r) answer o.pairing v (Err e) (Err d)
-      (record { later = o.later; pass = i.pass; fits = o.fits }) is (λ names os ws. (refl, refl, refl))
-      (λ names os ws. (refl, refl, refl))
+      (came s i) is (λ place ws. (refl, refl))
+      (λ place ws. (refl, refl))
       (λ line. ap (λ a. printed line (commands.MakeFrom make_from.Elements n r) (Err a)) o.answers)
-  copied_after n r answer t u kind (Ok words) (Err d, v) i is = absurd i.outcome.answers
-  copied_after n r answer t u kind (Err e) (Ok words, v) i is = absurd i.outcome.answers
+  copied_after n r answer t u kind _ _ i is = absurd i.outcome.answers
 
 module _ {c : Config} {last turns j k : ℕ} {P : Pairing} {w : World} {old new : ThreadState} {p q : Place}
-    {had told : ThreadWords} (s : Turn c last turns j k P w old new p q had told) where
+    {had told : ThreadWords} (s : Turn false c last turns j k P w old new p q had told) where
   pub elems_step : j ≡ k → (n : List ℕ) (r : Reference) (answer : Result Reply Fault)
       → IfErr answer (IsAloneFault new.pass)
       → finds_memory w ≡ found_by answer
@@ -88,7 +86,7 @@ module _ {c : Config} {last turns j k : ℕ} {P : Pairing} {w : World} {old new 
   elems_step one n r answer fault found d = subst (Steps s x answer) (goes_on_twice wanted_object
       (λ a v. goes_on (λ u. copied a) (has_numbers a.1.kind, v))
       (goes_on (λ h v. (Ok h.0, v)) (wanted (referent q.names r), w)))
-      (numbered_step s one x r answer fault (λ e names os ws. (refl, refl, refl))
+      (numbered_step s one x r answer fault (λ e place ws. (refl, refl))
       (λ h t. copying_as turns h t) copied before rest d)
     where
       x : Command
@@ -103,7 +101,7 @@ module _ {c : Config} {last turns j k : ℕ} {P : Pairing} {w : World} {old new 
           answer d' in
           alone_before s (elements_alone t h) m f.once f.did
 
-      rest : (Q : Pairing) (m : ThreadState) (y : Turn c last turns j k Q w m new p q had told) (h g o : ℕ)
+      rest : (Q : Pairing) (m : ThreadState) (y : Turn false c last turns j k Q w m new p q had told) (h g o : ℕ)
           → HandleFits Q w h g → wanted_object g w ≡ (Ok (o, meant_in w o), w) → (t : Kind)
           → t ≡ (meant_in w o).kind → is_primitive t ≡ true → copying_as turns h t m answer new
           → Steps y x answer (copied (o, meant_in w o) w)
@@ -133,7 +131,7 @@ module _ {c : Config} {last turns j k : ℕ} {P : Pairing} {w : World} {old new 
       (goes_on (λ h v. (Ok h.0, v)) (wanted (referent q.names r), w))))
       (wanted_step s x answer (at_most one) (λ h. tried turns (get_string_chars h.0)
       >>= (λ units. done (replies.Units units))) (λ m v. goes_on (λ a z. goes_on reply (meaning.copy a.1.words z))
-      (wanted_as is_text WrongKind m v)) r (λ e names os ws. (refl, refl, refl)) d units_found)
+      (wanted_as is_text WrongKind m v)) r (λ e place ws. (refl, refl)) d units_found)
     where
       x : Command
       x = commands.On on.Chars r
@@ -164,6 +162,6 @@ module _ {c : Config} {last turns j k : ℕ} {P : Pairing} {w : World} {old new 
           subst (Steps s x answer) (goes_on_twice (λ a. meaning.copy a.1.words) reply
           (wanted_as is_text WrongKind g.0 w))
           (same_after s x answer {V = IsSame {A = List ℕ}} (λ units. replies.Units units) (λ units. replies.Units units)
-          (λ Q v units units' e. ap (λ z. replies.Units z) e) (λ units names os ws. (refl, refl, refl))
-          (λ units names os ws. (refl, refl, refl)) (λ e names os ws. (refl, refl, refl)) f.once (copied g.0 w) call
+          (λ Q v units units' e. ap (λ z. replies.Units z) e) (λ units place ws. (refl, refl))
+          (λ units place ws. (refl, refl)) (λ e place ws. (refl, refl)) f.once (copied g.0 w) call
           f.is)

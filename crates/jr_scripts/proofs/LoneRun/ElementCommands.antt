@@ -1,6 +1,6 @@
 -- What a lone thread's commands mean that read and write lengths and elements.
-use Rattle.std.proofs.Common.{◌≡◌, inl, inr, ℕ, ℤ, Bool, true, Option, List, [], ◌∷◌, length, nat_le, slice_index}
-use Rattle.std.proofs.Common.{slice_set, Result, Ok, Err, IfErr, refl, sym, ap, subst, ◌∙◌}
+use Rattle.std.proofs.Common.{◌≡◌, inl, inr, ℕ, ℤ, Bool, true, false, Option, List, [], ◌∷◌, length, nat_le}
+use Rattle.std.proofs.Common.{slice_index, slice_set, Result, Ok, Err, IfErr, refl, sym, ap, subst, ◌∙◌}
 use Rattle.std.specs.List.{AllByRecursion}
 use Rattle.jr_word.specs.declared.config.Config.{Config}
 use Rattle.jr_word.specs.declared.fault.Fault.{Fault}
@@ -59,9 +59,10 @@ use Rattle.jr_scripts.proofs.LoneRun.MeaningStores.{set_means, store_means}
 use Rattle.jr_scripts.proofs.LoneRun.MeaningDeeds.{AfterDecided, HandleFits, IsPass, after_decided, formed}
 use Rattle.jr_scripts.proofs.LoneRun.MeaningDeeds.{formed_both, handle_later}
 use Rattle.jr_scripts.proofs.LoneRun.MeaningDeeds.{made_once, names_later, now, read_fits, was_formed, words_later}
+use Rattle.jr_scripts.proofs.LoneRun.MeaningLevels.{levels_later}
 use Rattle.jr_scripts.proofs.LoneRun.MeaningStands.{Keeps}
-use Rattle.jr_scripts.proofs.LoneRun.CommandSteps.{CallMeant, Steps, Turn, at_most, even, handles, kept_step}
-use Rattle.jr_scripts.proofs.LoneRun.CommandSteps.{makes_after, nothing_then, same_after, wanted_step, was_made}
+use Rattle.jr_scripts.proofs.LoneRun.CommandSteps.{CallMeant, Steps, Turn, at_most, came, even, handles, kept_step}
+use Rattle.jr_scripts.proofs.LoneRun.CommandSteps.{makes_after, same_after, still_step, wanted_step, was_made}
 
 are_numbers : (k : Kind) {u : Unit {0}} → has_numbers k ≡ Ok u → is_primitive k ≡ true
 are_numbers Plain is = absurd cc
@@ -76,7 +77,7 @@ apart_before old new acts d = apart_state old.config old.last old.seen
     (subst (IsLegal old.config old.last) (sym d.begins.1) d.legal)).0
 
 module _ {c : Config} {last turns j k : ℕ} {P : Pairing} {w : World} {old new : ThreadState} {p q : Place}
-    {had told : ThreadWords} (s : Turn c last turns j k P w old new p q had told) where
+    {had told : ThreadWords} (s : Turn false c last turns j k P w old new p q had told) where
   module _ (x : Command) (answer : Result Reply Fault)
       (fault : IfErr answer (IsAloneFault new.pass)) where
     -- A CALL AT OBJECTS, which names the state that it leaves
@@ -91,7 +92,11 @@ module _ {c : Config} {last turns j k : ℕ} {P : Pairing} {w : World} {old new 
         let z = state new.pass.seen in
         let still = stay_still c last (work c last 0 z) (lawful.stays c last 0 z) (now old) (now new) once
         (apart_before old.pass new.pass made.ran.acts made.ran.did) m.1 in
-        record { pass = m.0; outcome = outcome z (headers_fit s.stands.fits still) m.1 }
+        record {
+          pass = m.0;
+          outcome = outcome z (headers_fit s.stands.fits still) m.1;
+          role = λ some. absurd (some s.region);
+        }
 
     object_made : {A B : Type 0} {V : Fitting A B} (form : A → Reply) (work : Config → ℕ → ℕ → State → Call A)
         → IsLawfulWork work → (meant : Meaning B) (once : Result A Fault)
@@ -126,7 +131,7 @@ module _ {c : Config} {last turns j k : ℕ} {P : Pairing} {w : World} {old new 
         g fits (λ a z word headers m. (means a z word headers).outcome (now old) (now new) once s.stands.fits m)
 
 module _ {c : Config} {last turns j k : ℕ} {P : Pairing} {w : World} {old new : ThreadState} {p q : Place}
-    {had told : ThreadWords} (s : Turn c last turns j k P w old new p q had told) where
+    {had told : ThreadWords} (s : Turn false c last turns j k P w old new p q had told) where
   -- before the last call the thread is alone too
   pub record AloneBefore (m : ThreadState) : Type 0 where
     pub alone : IsAlone m.pass
@@ -148,7 +153,7 @@ module _ {c : Config} {last turns j k : ℕ} {P : Pairing} {w : World} {old new 
       → answer ≡ Err e → Steps s x answer (goes_on next r)
   refused_after x answer next quiet e (Err d, v) i is =
       let o = i.outcome in
-      kept_step s x answer o.pairing v (Err e) (Err d) (record { later = o.later; pass = i.pass; fits = o.fits }) is
+      kept_step s x answer o.pairing v (Err e) (Err d) (came s i) is
       (quiet e) (quiet d) (λ line. ap (λ a. printed line x (Err a)) o.answers)
   refused_after x answer next quiet e (Ok y, v) i is = absurd i.outcome.answers
 
@@ -193,7 +198,7 @@ module _ {c : Config} {last turns j k : ℕ} {P : Pairing} {w : World} {old new 
       → deed turns p.names (commands.On on.Len r) old answer new
       → Steps s (commands.On on.Len r) answer (meaning.outside c q.names told (commands.On on.Len r) w)
   len_step one r answer fault d = length_step one (commands.On on.Len r) r answer fault
-      (λ n names os ws. (refl, refl, refl)) (λ e names os ws. (refl, refl, refl)) is_array NotArray
+      (λ n place ws. (refl, refl)) (λ e place ws. (refl, refl)) is_array NotArray
       (λ a. in_stay (CallOf.get_array_length a) (λ l n t z. refl))
       array_length_alone d
 
@@ -203,7 +208,7 @@ module _ {c : Config} {last turns j k : ℕ} {P : Pairing} {w : World} {old new 
       → Steps s (commands.On on.TextLength r) answer
       (meaning.outside c q.names told (commands.On on.TextLength r) w)
   text_length_step one r answer fault d = length_step one (commands.On on.TextLength r) r answer fault
-      (λ n names os ws. (refl, refl, refl)) (λ e names os ws. (refl, refl, refl)) is_text WrongKind
+      (λ n place ws. (refl, refl)) (λ e place ws. (refl, refl)) is_text WrongKind
       (λ a. in_stay (CallOf.get_string_length a) (λ l n t z. refl))
       text_length_alone d
 
@@ -238,7 +243,7 @@ module _ {c : Config} {last turns j k : ℕ} {P : Pairing} {w : World} {old new 
       (next : ℕ → Kind → Deed Reply)
       (then : ℕ × Contents → Meaning Reply)
       (before : (h : ℕ) (t : Kind) (m : ThreadState) → next h t m answer new → AloneBefore m)
-      (rest : (Q : Pairing) (m : ThreadState) (y : Turn c last turns j k Q w m new p q had told) (h g o : ℕ)
+      (rest : (Q : Pairing) (m : ThreadState) (y : Turn false c last turns j k Q w m new p q had told) (h g o : ℕ)
       → HandleFits Q w h g → wanted_object g w ≡ (Ok (o, meant_in w o), w) → (t : Kind) → t ≡ (meant_in w o).kind
       → is_primitive t ≡ true → next h t m answer new → Steps y x answer (then (o, meant_in w o) w)) where
     abbrev pub numbered : ℕ → Deed Reply
@@ -248,7 +253,7 @@ module _ {c : Config} {last turns j k : ℕ} {P : Pairing} {w : World} {old new 
     numbered_meant a v = goes_on (λ u. then a) (has_numbers a.1.kind, v)
 
     -- the call for the kind
-    kind_call : (m : ThreadState) (y : Turn c last turns j j P w old m p q had told) (z : Result Reply Fault)
+    kind_call : (m : ThreadState) (y : Turn false c last turns j j P w old m p q had told) (z : Result Reply Fault)
         → IfErr z (IsAloneFault m.pass) → (once : Result Kind Fault) (h g : ℕ)
         → HandleFits P w h g → kind_of h old once m → z ≡ formed (λ t. replies.Done) once
         → CallMeant y (KindFits g w) once (wanted_object g w)
@@ -257,7 +262,7 @@ module _ {c : Config} {last turns j k : ℕ} {P : Pairing} {w : World} {old new 
         (wanted_object g) once h g same
         (λ a b word headers. kind_means c last j b P w a g y.some word headers) d is
 
-    turn_at : (m : ThreadState) → AloneBefore m → Turn c last turns j j P w old m p q had told
+    turn_at : (m : ThreadState) → AloneBefore m → Turn false c last turns j j P w old m p q had told
     turn_at m a = record {
       some_turns = s.some_turns;
       some = s.some;
@@ -265,6 +270,7 @@ module _ {c : Config} {last turns j k : ℕ} {P : Pairing} {w : World} {old new 
       slots = s.slots;
       few = s.few;
       stands = s.stands;
+      region = s.region;
       alone = a.alone;
       all = a.all;
     }
@@ -285,6 +291,7 @@ module _ {c : Config} {last turns j k : ℕ} {P : Pairing} {w : World} {old new 
               pass = i.pass;
               outcome = subst (λ l. Outcome c last l (KindFits g.0 w) P w (Err e) r (now new))
                   same' i.outcome;
+              role = i.role;
             }) is
     numbered_found h g same (inl (t, m, first, d)) =
         go (has_numbers t) refl (after_decided (λ u. next h.0 t) m new answer (has_numbers t) d)
@@ -296,7 +303,7 @@ module _ {c : Config} {last turns j k : ℕ} {P : Pairing} {w : World} {old new 
             (i.pass, kind_known g.0 t m (wanted_object g.0 w) i.outcome)
 
         turn_then : AloneBefore m → (i : IsPass c last m.pass × KindKnown g.0 t m)
-            → Turn c last turns j k (i.1).pairing w m new p q had told
+            → Turn false c last turns j k (i.1).pairing w m new p q had told
         turn_then a i = record {
           some_turns = s.some_turns;
           some = s.some;
@@ -307,10 +314,12 @@ module _ {c : Config} {last turns j k : ℕ} {P : Pairing} {w : World} {old new 
             pass = i.0;
             fits = (i.1).fits;
             names = names_later (i.1).later p.names q.names s.stands.names;
-            outside = s.stands.outside;
-            outside_then = s.stands.outside_then;
             words = words_later (i.1).later had told s.stands.words;
+            levels = s.stands.levels;
+            objects = levels_later (i.1).later p.objects q.objects s.stands.objects;
+            role = λ some. absurd (some s.region);
           };
+          region = s.region;
           alone = s.alone;
           all = s.all;
         }
@@ -328,8 +337,7 @@ module _ {c : Config} {last turns j k : ℕ} {P : Pairing} {w : World} {old new 
             let a = alone_at m d'.1 in
             let i = known_at a in
             let y = turn_then a i in
-            subst (Steps s x answer) (went_on i.1 (Err e) is) (kept_step y x answer (i.1).pairing w (Err e) (Err e)
-            (nothing_then y d'.1 (at_most one)) d'.0 (quiet e) (quiet e) (λ line. refl))
+            subst (Steps s x answer) (went_on i.1 (Err e) is) (still_step y x answer (Err e) (at_most one) d' (quiet e))
         go (Ok u) is d' =
             let a = before h.0 t m d' in
             let i = known_at a in
@@ -353,7 +361,7 @@ module _ {c : Config} {last turns j k : ℕ} {P : Pairing} {w : World} {old new 
       → deed turns p.names (commands.OnAt on_at.Load r i) old answer new
       → Steps s (commands.OnAt on_at.Load r i) answer
       (meaning.outside c q.names told (commands.OnAt on_at.Load r i) w)
-  load_step one r i answer fault d = numbered_step one x r answer fault (λ e names os ws. (refl, refl, refl))
+  load_step one r i answer fault d = numbered_step one x r answer fault (λ e place ws. (refl, refl))
       (λ h t. loading_as turns h i t)
       (λ a. reads_number a.1.kind a.1.words i) before rest d
     where
@@ -366,7 +374,7 @@ module _ {c : Config} {last turns j k : ℕ} {P : Pairing} {w : World} {old new 
           answer d' in
           alone_before (read_alone t h i 1) m f.once f.did
 
-      rest : (Q : Pairing) (m : ThreadState) (y : Turn c last turns j k Q w m new p q had told) (h g o : ℕ)
+      rest : (Q : Pairing) (m : ThreadState) (y : Turn false c last turns j k Q w m new p q had told) (h g o : ℕ)
           → HandleFits Q w h g → wanted_object g w ≡ (Ok (o, meant_in w o), w) → (t : Kind)
           → t ≡ (meant_in w o).kind → is_primitive t ≡ true → loading_as turns h i t m answer new
           → Steps y x answer (reads_number (meant_in w o).kind (meant_in w o).words i w)
@@ -384,8 +392,8 @@ module _ {c : Config} {last turns j k : ℕ} {P : Pairing} {w : World} {old new 
           (same_after y x answer {V = IsSame {A = List ℕ}} (λ ws. replies.Value (first_number t ws))
           (λ ws. replies.Value (first_number (meant_in w o).kind ws))
           (λ R v ws ws' e. ap (λ l. replies.Value (first_number t l)) e
-          ∙ ap (λ z. replies.Value (first_number z ws')) kind) (λ ws names os us. (refl, refl, refl))
-          (λ ws names os us. (refl, refl, refl)) (λ e names os us. (refl, refl, refl)) f.once (found w) call f.is)
+          ∙ ap (λ z. replies.Value (first_number z ws')) kind) (λ ws place us. (refl, refl))
+          (λ ws place us. (refl, refl)) (λ e place ws. (refl, refl)) f.once (found w) call f.is)
         where
           one_word : Unit {0} → Meaning (List ℕ)
           one_word u z = (Ok (slice_index (meant_in w o).words i ∷ []), z)
@@ -406,7 +414,7 @@ module _ {c : Config} {last turns j k : ℕ} {P : Pairing} {w : World} {old new 
   get_step one n r i answer fault d = subst (Steps s x answer) (sym (goes_on_twice referring reply
       (goes_on (λ h v. (Ok h.0, v)) (wanted (referent q.names r), w))))
       (wanted_step s x answer (at_most one) (λ h. makes_reference turns (get_object_array_element h.0 i))
-      (λ m v. goes_on reply (referring m v)) r (λ e names os ws. (refl, refl, refl)) d found)
+      (λ m v. goes_on reply (referring m v)) r (λ e place ws. (refl, refl)) d found)
     where
       x : Command
       x = commands.MakeAt make_at.Get n r i
@@ -431,8 +439,8 @@ module _ {c : Config} {last turns j k : ℕ} {P : Pairing} {w : World} {old new 
           (λ l m t z a. objects.element_reading l m t z a i)
           (λ a. in_stay (CallOf.get_object_array_element a i) (λ l m t z. refl)) (referring g.0) y.once h.0 g.0 same
           (λ a z word headers. even one (element_means c last j z P w a g.0 i s.some word headers)) y.did is in
-          makes_after s x answer n (λ z names os ws. (refl, refl, refl)) (λ z v. refl) (λ e names os ws.
-          (refl, refl, refl)) y.once (referring g.0 w) call is
+          makes_after s x answer n (λ z place ws. (refl, refl)) (λ z v. refl) (λ e place ws.
+          (refl, refl)) y.once (referring g.0 w) call is
 
   -- STORE
 
@@ -441,7 +449,7 @@ module _ {c : Config} {last turns j k : ℕ} {P : Pairing} {w : World} {old new 
       → deed turns p.names (commands.StoreAt store_at.Store r i v) old answer new
       → Steps s (commands.StoreAt store_at.Store r i v) answer
       (meaning.outside c q.names told (commands.StoreAt store_at.Store r i v) w)
-  store_step one r i v answer fault d = numbered_step one x r answer fault (λ e names os ws. (refl, refl, refl))
+  store_step one r i v answer fault d = numbered_step one x r answer fault (λ e place ws. (refl, refl))
       (λ h t. storing_as turns h i v t) (λ a. writes_number a.0 a.1 i v)
       (λ h t m d'. before h t m (word_of_number t v) (after_decided (stored h t) m new answer (word_of_number t v) d'))
       (λ Q m y h g o same known t kind numbers d'. rest Q m y h g o same known t kind numbers (word_of_number t v) refl
@@ -460,7 +468,7 @@ module _ {c : Config} {last turns j k : ℕ} {P : Pairing} {w : World} {old new 
           let f = was_formed (λ u. replies.Done) (tried turns (set_array_region t h i (word ∷ []))) m new answer d' in
           alone_before (write_alone t h i (word ∷ [])) m f.once f.did
 
-      rest : (Q : Pairing) (m : ThreadState) (y : Turn c last turns j k Q w m new p q had told) (h g o : ℕ)
+      rest : (Q : Pairing) (m : ThreadState) (y : Turn false c last turns j k Q w m new p q had told) (h g o : ℕ)
           → HandleFits Q w h g → wanted_object g w ≡ (Ok (o, meant_in w o), w) → (t : Kind)
           → t ≡ (meant_in w o).kind → is_primitive t ≡ true → (b : Result ℕ Fault) → word_of_number t v ≡ b
           → AfterDecided (stored h t) m new answer b
@@ -476,8 +484,7 @@ module _ {c : Config} {last turns j k : ℕ} {P : Pairing} {w : World} {old new 
           go : (b : Result ℕ Fault)
               → AfterDecided (stored h t) m new answer b
               → Steps y x answer (goes_on writing (b, w))
-          go (Err e) d' = kept_step y x answer Q w (Err e) (Err e) (nothing_then y d'.1 (at_most one)) d'.0
-              (λ names os ws. (refl, refl, refl)) (λ names os ws. (refl, refl, refl)) (λ line. refl)
+          go (Err e) d' = still_step y x answer (Err e) (at_most one) d' (λ place ws. (refl, refl))
           go (Ok word) d' =
               let f = was_formed (λ u. replies.Done) (tried turns (set_array_region t h i (word ∷ []))) m new answer
               d' in
@@ -494,8 +501,8 @@ module _ {c : Config} {last turns j k : ℕ} {P : Pairing} {w : World} {old new 
               (λ u. meaning.rewrites o (meant_in w o) (slice_set (meant_in w o).words i word))
               (λ u z. (Ok replies.Done, z)) (refused_if (nat_le (length (meant_in w o).words) i) Range, w))
               (same_after y x answer {V = IsDone {A = Unit {0}} {B = Unit {0}}} (λ u. replies.Done) (λ u. replies.Done)
-              (λ R z u u' e. refl) (λ u names os ws. (refl, refl, refl)) (λ u names os ws. (refl, refl, refl))
-              (λ e names os ws. (refl, refl, refl)) f.once (meant w) call f.is)
+              (λ R z u u' e. refl) (λ u place ws. (refl, refl)) (λ u place ws. (refl, refl))
+              (λ e place ws. (refl, refl)) f.once (meant w) call f.is)
 
   -- SET
 
@@ -548,14 +555,14 @@ module _ {c : Config} {last turns j k : ℕ} {P : Pairing} {w : World} {old new 
         (once.4).0 f.is in
         subst (Steps s x answer) (in_turn g.0 v.0 w)
         (same_after s x answer {V = IsDone {A = Unit {0}} {B = Unit {0}}} (λ z. replies.Done) (λ z. replies.Done)
-        (λ Q z y y' e. refl) (λ y names os ws. (refl, refl, refl)) (λ y names os ws. (refl, refl, refl))
-        (λ e names os ws. (refl, refl, refl)) f.once (set_meant g.0 v.0 w) call f.is)
+        (λ Q z y y' e. refl) (λ y place ws. (refl, refl)) (λ y place ws. (refl, refl))
+        (λ e place ws. (refl, refl)) f.once (set_meant g.0 v.0 w) call f.is)
 
     pub set_step : deed turns p.names (commands.SetAt set_at.Set r i t) old answer new
         → Steps s (commands.SetAt set_at.Set r i t) answer
         (meaning.outside c q.names told (commands.SetAt set_at.Set r i t) w)
     set_step d = wanted_step s (commands.SetAt set_at.Set r i t) answer (at_most one) (λ h. second h)
-        (λ m. second_told m) r (λ e names os ws. (refl, refl, refl)) d
+        (λ m. second_told m) r (λ e place ws. (refl, refl)) d
         (λ h g same d'. wanted_step s (commands.SetAt set_at.Set r i t) answer (at_most one) (λ u. set_call h u)
-        (λ n. set_told g.0 n) t (λ e names os ws. (refl, refl, refl)) d'
+        (λ n. set_told g.0 n) t (λ e place ws. (refl, refl)) d'
         (λ u v same' d''. set_found h g u v same same' d''))

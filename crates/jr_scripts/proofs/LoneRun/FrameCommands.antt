@@ -1,5 +1,5 @@
 -- What a lone thread's commands of frames mean.
-use Rattle.std.proofs.Common.{◌≡◌, ℕ, suc, List, Result, IfErr, refl, sym, subst, arith}
+use Rattle.std.proofs.Common.{◌≡◌, false, ℕ, suc, List, Result, IfErr, refl, sym, subst, arith}
 use Rattle.jr_word.specs.declared.config.Config.{Config}
 use Rattle.jr_word.specs.declared.fault.Fault.{Fault}
 use Rattle.jr_model.specs.References as references
@@ -27,7 +27,7 @@ use Rattle.jr_scripts.proofs.LoneRun.MeaningDeeds.{made_once, was_formed}
 use Rattle.jr_scripts.proofs.LoneRun.CommandSteps.{Turn, Steps, made_call, made_of_step, same_after, even}
 
 module _ {c : Config} {last turns j k : ℕ} {P : Pairing} {w : World} {old new : ThreadState} {p q : Place}
-    {had told : ThreadWords} (s : Turn c last turns j k P w old new p q had told) where
+    {had told : ThreadWords} (s : Turn false c last turns j k P w old new p q had told) where
   -- ENSURE
 
   pub ensure_step : j ≡ k → (n : ℕ) (answer : Result Reply Fault)
@@ -43,8 +43,8 @@ module _ {c : Config} {last turns j k : ℕ} {P : Pairing} {w : World} {old new 
       (λ z l m y. references.ensure_local_capacity z l m n) (meaning.room_for c n) f.once
       (λ z. even one (room_means c last j {P = P} {w = w} n)) once.0 f.is in
       same_after s x answer {V = IsDone {A = Unit {0}} {B = Unit {0}}} (λ u. replies.Done) (λ u. replies.Done)
-      (λ Q z y y' e. refl) (λ y names os ws. (refl, refl, refl)) (λ y names os ws. (refl, refl, refl))
-      (λ e names os ws. (refl, refl, refl)) f.once (meaning.room_for c n w) i f.is
+      (λ Q z y y' e. refl) (λ y place ws. (refl, refl)) (λ y place ws. (refl, refl))
+      (λ e place ws. (refl, refl)) f.once (meaning.room_for c n w) i f.is
 
   -- PUSH
 
@@ -61,8 +61,8 @@ module _ {c : Config} {last turns j k : ℕ} {P : Pairing} {w : World} {old new 
       (λ z l m y. references.push_local_frame z l m n) (meaning.push c n) f.once
       (λ z. even one (push_means c last j P w n)) once.0 f.is in
       same_after s x answer {V = IsDone {A = Unit {0}} {B = Unit {0}}} (λ u. replies.Done) (λ u. replies.Done)
-      (λ Q z y y' e. refl) (λ y names os ws. (refl, refl, refl)) (λ y names os ws. (refl, refl, refl))
-      (λ e names os ws. (refl, refl, refl)) f.once (meaning.push c n w) i f.is
+      (λ Q z y y' e. refl) (λ y place ws. (refl, refl)) (λ y place ws. (refl, refl))
+      (λ e place ws. (refl, refl)) f.once (meaning.push c n w) i f.is
 
   -- POP
 

@@ -1,16 +1,14 @@
 -- What a lone thread's commands mean in a critical region.
-use Rattle.std.proofs.Common.{IsSome, ◌≡◌, ◌≢◌, ◌⊎◌, inl, inr, ℕ, ℤ, zero, suc, ◌<◌, ◌≤◌, ◌^◌, true, false, nat_le}
+use Rattle.std.proofs.Common.{IsSome, ◌≡◌, ◌≢◌, ◌⊎◌, inl, inr, ℕ, ℤ, zero, suc, ◌≤◌, true, false, nat_le}
 use Rattle.jr_model.proofs.Histories.{state_append}
 use Rattle.jr_model.specs.declared.frames.Mode.{Mode}
 use Rattle.jr_scripts.proofs.LoneRun.MeaningCalls.{WordFits}
-use Rattle.std.proofs.Common.{Option, Some, None, is_some, List, [], ◌∷◌, ◌++◌, map, length, slice_index, slice_set}
+use Rattle.std.proofs.Common.{Some, is_some, List, [], ◌∷◌, ◌++◌, map, length, slice_index, slice_set}
 use Rattle.std.proofs.Common.{Result, Ok, Err, IfErr, refl, sym, ap, subst, ◌∙◌, arith}
-use Rattle.std.specs.List.{AllByRecursion}
 use Rattle.std.proofs.lemmas.List.{append-nil}
 use Rattle.jr_word.specs.declared.config.Config.{Config}
 use Rattle.jr_word.specs.declared.fault.Fault.{Fault}
-use Rattle.jr_word.specs.declared.fault.Fault.TheVariants.{InCritical, Range, Stale, Turns}
-use Rattle.jr_word.specs.declared.fault.Fault.TheVariants.{WrongKind}
+use Rattle.jr_word.specs.declared.fault.Fault.TheVariants.{Range}
 use Rattle.jr_word.specs.declared.handle.Handle.{Handle as HandleWord}
 use Rattle.jr_word.specs.declared.kind.Kind.{Kind}
 use Rattle.jr_word.specs.declared.kind.Kind.TheVariants.{Plain, Objects, Text}
@@ -21,40 +19,31 @@ use Rattle.jr_model.specs.declared.event.Role.TheVariants.{Within}
 use Rattle.jr_model.specs.State.{Contents, State}
 use Rattle.jr_model.specs.Frames.{Frames}
 use Rattle.jr_model.specs.History.{by, state, state_from}
+use Rattle.jr_model.specs.OpenStays.{NoneLeaves}
 use Rattle.jr_model.specs.Calls.{Call}
 use Rattle.jr_model.specs.Checks.{Word, is_objects, is_read_as, is_text}
 use Rattle.jr_model.specs.Objects as objects
-use Rattle.jr_model.specs.OpenStays.{NoneLeaves}
 use Rattle.jr_model.proofs.EachCall.{get_work, nest_array_work, nest_string_work, set_work}
 use Rattle.jr_model.proofs.Lawful.{work_stays}
 use Rattle.jr_model.proofs.Stays.{still_did}
-use Rattle.jr_gate.specs.Performing.{HasLearned, IsMade, ThreadState}
+use Rattle.jr_gate.specs.Performing.{IsMade, ThreadState}
 use Rattle.jr_env.specs.Deeds.{Deed, decided, done, ◌>>=◌, within_by}
 use Rattle.jr_syntax.specs.declared.name.Reference.{Reference}
-use Rattle.jr_syntax.specs.declared.name.Reference.TheVariants as refers
 use Rattle.jr_syntax.specs.declared.command.Command.{Command}
 use Rattle.jr_syntax.specs.declared.command.Command.TheVariants as commands
 use Rattle.jr_syntax.specs.declared.verb.CloseLevel.{CloseLevel}
-use Rattle.jr_syntax.specs.declared.verb.Make.TheVariants as make
-use Rattle.jr_syntax.specs.declared.verb.OnName.TheVariants as on_name
 use Rattle.jr_syntax.specs.declared.verb.OnNameAt.TheVariants as on_name_at
 use Rattle.jr_syntax.specs.declared.verb.OpenLevel.{OpenLevel}
 use Rattle.jr_syntax.specs.declared.verb.OpenLevel.TheVariants as at
 use Rattle.jr_syntax.specs.declared.verb.PutAt.TheVariants as put_at
 use Rattle.jr_scripts.specs.declared.reply.Reply.{Reply}
 use Rattle.jr_scripts.specs.declared.reply.Reply.TheVariants as replies
-use Rattle.jr_scripts.specs.declared.binding.Binding.{Binding}
-use Rattle.jr_scripts.specs.declared.binding.Binding.TheVariants as bound
-use Rattle.jr_scripts.specs.Commands.{awaited}
-use Rattle.jr_scripts.specs.Names.{Names, binding, referent, wanted, word_posted}
+use Rattle.jr_scripts.specs.Names.{referent, wanted}
 use Rattle.jr_scripts.specs.Numbers.{has_numbers, number_of_word, word_of_number}
-use Rattle.jr_scripts.specs.Places.{all_but_last, Place, level_wanted, levels_after, newest, nth_object, objects_after}
-use Rattle.jr_scripts.specs.Posting.{IsAnswered, ThreadWords, reply_to_wait, said_alone, word_under, words_after}
+use Rattle.jr_scripts.specs.Places.{all_but_last, Place, level_wanted, newest, nth_object}
+use Rattle.jr_scripts.specs.Posting.{ThreadWords}
 use Rattle.jr_scripts.specs.RegionCommands.{writing_at, reading_at, giving_up, kind_of_level, level_reading}
-use Rattle.jr_scripts.specs.RegionCommands.{level_writing}
-use Rattle.jr_scripts.specs.RegionCommands.{nesting, nests, read_kind, reading_as, writing_as}
-use Rattle.jr_scripts.specs.Runs.{IsUnbarred}
-use Rattle.jr_scripts.specs.Text.{names_after, printed}
+use Rattle.jr_scripts.specs.RegionCommands.{level_writing, nesting, nests, read_kind, reading_as, writing_as}
 use Rattle.jr_model.proofs.ShownRefusals.{words_alone}
 use Rattle.jr_scripts.specs.AloneAnswers.{IsAloneFault}
 use Rattle.jr_scripts.proofs.AloneCalls.{IsAlone, alone_before, sees_alone}
@@ -62,37 +51,18 @@ use Rattle.jr_scripts.specs.Meaning.{World, Meaning, contents_in, goes_on, refus
 use Rattle.jr_scripts.specs.Meaning as meaning
 use Rattle.jr_scripts.proofs.LoneRun.MadeCalls.{Moment, moment_is}
 use Rattle.jr_scripts.proofs.LoneRun.MeaningFrames.{Pairing}
-use Rattle.jr_scripts.proofs.LoneRun.MeaningFits.{Fits, Fitting, IsDone, IsSame, Later, Outcome, fits_less, form_means}
+use Rattle.jr_scripts.proofs.LoneRun.MeaningFits.{Fits, Fitting, IsDone, IsSame, fits_less, form_means}
 use Rattle.jr_scripts.proofs.LoneRun.MeaningFits.{Means, gone_fits, goes_on_twice, later_self}
 use Rattle.jr_scripts.proofs.LoneRun.MeaningParts.{ObjectFits}
 use Rattle.jr_scripts.proofs.LoneRun.MeaningObjects.{HeadersFit, headers_fit, meant_in, there}
 use Rattle.jr_scripts.proofs.LoneRun.MeaningRegions.{LevelFits, get_means, level_means, set_means}
-use Rattle.jr_scripts.proofs.LoneRun.MeaningDeeds.{BindingFits, HandleFits, IsPass, MaybeWord, NamesFit, WordsFit}
-use Rattle.jr_scripts.proofs.LoneRun.MeaningDeeds.{AfterDecided, after_decided, call_made, formed, given_handle}
-use Rattle.jr_scripts.proofs.LoneRun.MeaningDeeds.{names_later}
-use Rattle.jr_scripts.proofs.LoneRun.MeaningDeeds.{names_set_fit, now, posted_fits, read_fits, was_formed}
-use Rattle.jr_scripts.proofs.LoneRun.MeaningDeeds.{word_under_fits, words_later, words_with_fit}
-use Rattle.jr_scripts.proofs.LoneRun.MeaningStands.{err_formed, pass_later}
-use Rattle.jr_scripts.proofs.LoneRun.MeaningLevels.{AreLevels, LedTo, StandsIn, level_at, level_last, levels_later}
-use Rattle.jr_scripts.proofs.LoneRun.MeaningLevels.{levels_less, levels_long, levels_put, some_put, stays_within}
-
--- a command with this answer changes neither names nor levels, and says and hears nothing
-abbrev pub Leaves : Command → Result Reply Fault → Type 0
-Leaves x a = (names : Names) (os : List ℕ) (ls : List (List ℕ)) (words : ThreadWords)
-    → (names_after x a names ≡ names) × (objects_after x a os ≡ os) × (levels_after x a ls ≡ ls)
-    × (words_after names x a words ≡ words)
-
--- A COMMAND'S TURN in a region
-pub record TurnIn (c : Config) (last turns j : ℕ) (P : Pairing) (w : World) (old new : ThreadState) (p q : Place)
-    (had told : ThreadWords) : Type 0 where
-  pub some_turns : turns ≢ 0
-  pub some : 1 ≤ c.threads
-  pub small : c.locals ≤ 4096
-  pub slots : c.slots ≤ 65536
-  pub few : last < 2 ^ 32
-  pub stands : StandsIn c last j P w old p q had told
-  pub alone : IsAlone new.pass
-  pub all : AllByRecursion IsUnbarred new.pass.seen
+use Rattle.jr_scripts.proofs.LoneRun.MeaningDeeds.{HandleFits, IsPass, AfterDecided, after_decided, call_made, now}
+use Rattle.jr_scripts.proofs.LoneRun.MeaningDeeds.{read_fits, was_formed}
+use Rattle.jr_scripts.proofs.LoneRun.MeaningStands.{Keeps, err_formed, pass_later}
+use Rattle.jr_scripts.proofs.LoneRun.MeaningLevels.{level_at, level_last, levels_less, levels_long, stays_within}
+use Rattle.jr_scripts.proofs.LoneRun.CommandSteps.{CallMeant, IsThen, Steps, Turn, handles, kept_step, same_after}
+use Rattle.jr_scripts.proofs.LoneRun.CommandSteps.{still_step, wanted_step}
+use Rattle.jr_scripts.proofs.LoneRun.OpeningCommands.{opened_so}
 
 -- kinds whose elements are numbers
 read_numbers : (t : Kind) {u : Unit {0}} → has_numbers (read_kind t) ≡ Ok u
@@ -109,130 +79,9 @@ own_numbers Objects is = absurd cc
 own_numbers Text is = absurd cc
 own_numbers _ is = (refl, refl, refl)
 
-module _ {c : Config} {last turns j : ℕ} {P : Pairing} {w : World} {old new : ThreadState} {p q : Place}
-    {had told : ThreadWords} (s : TurnIn c last turns j P w old new p q had told) (k : ℕ) (le : k ≤ j) where
-  -- a command that leaves the place as it is
-  in_kept : (x : Command) (answer : Result Reply Fault) (Q : Pairing) (v : World) (a b : Result Reply Fault)
-      → IsPass c last new.pass → Fits c last k Q v (now new) → Later P w Q v → (state new.pass.seen).role 0 ≡ Within
-      → answer ≡ a → Leaves x a → Leaves x b → ((line : ℕ) → printed line x a ≡ printed line x b)
-      → LedTo c last k x new p q had told answer (b, v)
-  in_kept x answer Q v a b pass fits later role is keeps keeps' text =
-      let one = keeps p.names p.objects p.levels had in
-      let two = keeps' q.names q.objects q.levels told in
-      subst (λ z. LedTo c last k x new p q had told z (b, v)) (sym is) (record {
-        pairing = Q;
-        stands = inr (record {
-          pass = pass;
-          fits = fits;
-          names = subst (λ n. NamesFit Q v n (names_after x b q.names)) (sym one.0)
-              (subst (λ n. NamesFit Q v p.names n) (sym two.0) (names_later later p.names q.names s.stands.names));
-          words = subst (λ l. WordsFit Q v l (words_after q.names x b told)) (sym one.3)
-              (subst (λ l. WordsFit Q v had l) (sym two.3) (words_later later had told s.stands.words));
-          levels = one.2 ∙ (s.stands.levels ∙ sym two.2);
-          objects = subst (λ l. AreLevels Q v l (objects_after x b q.objects)) (sym one.1)
-              (subst (λ l. AreLevels Q v p.objects l) (sym two.1)
-              (levels_later later p.objects q.objects s.stands.objects));
-          some = subst (λ l. l ≢ []) (sym one.1) s.stands.some;
-          role = role;
-        });
-        text = text;
-      })
-
-  -- nothing has happened
-  in_nothing : (x : Command) (answer : Result Reply Fault) (a : Result Reply Fault) → new ≡ old → answer ≡ a
-      → Leaves x a → LedTo c last k x new p q had told answer (a, w)
-  in_nothing x answer a same is keeps = in_kept x answer P w a a
-      (subst (λ (m : ThreadState). IsPass c last m.pass) (sym same) s.stands.pass)
-      (subst (λ (m : ThreadState). Fits c last k P w (now m)) (sym same) (fits_less le s.stands.fits)) (later_self P w)
-      (subst (λ (m : ThreadState). (state m.pass.seen).role 0 ≡ Within) (sym same) s.stands.role) is keeps keeps
-      (λ line. refl)
-
-  -- POST
-  pub in_post : (n : List ℕ) (answer : Result Reply Fault) → done replies.Done old answer new
-      → LedTo c last k (commands.OnName on_name.Post n) new p q had told answer (Ok replies.Done, w)
-  in_post n answer d = subst (λ z. LedTo c last k (commands.OnName on_name.Post n) new p q had told z
-      (Ok replies.Done, w)) (sym d.0) (record {
-        pairing = P;
-        stands = inr (record {
-          pass = subst (λ (m : ThreadState). IsPass c last m.pass) (sym d.1) s.stands.pass;
-          fits = subst (λ (m : ThreadState). Fits c last k P w (now m)) (sym d.1) (fits_less le s.stands.fits);
-          names = s.stands.names;
-          words = words_with_fit P w had told n (word_posted p.names n) (word_posted q.names n) s.stands.words
-              (posted_fits P w (binding p.names n) (binding q.names n) (s.stands.names n));
-          levels = s.stands.levels;
-          objects = s.stands.objects;
-          some = s.stands.some;
-          role = subst (λ (m : ThreadState). (state m.pass.seen).role 0 ≡ Within) (sym d.1) s.stands.role;
-        });
-        text = λ line. refl;
-      })
-
-  -- WAIT
-  learned_same : HasLearned old new → IsPass c last new.pass × (now new ≡ now old)
-  learned_same l =
-      let seen : new.pass.seen ≡ old.pass.seen =
-      sees_alone old.pass new.pass [] l.did s.alone ∙ append-nil old.pass.seen in (
-        pass_later c last old.pass new.pass [] l.did s.stands.pass,
-        moment_is (state new.pass.seen) (state old.pass.seen) new.frames old.frames (ap state seen) l.frames,
-      )
-
-  wait_same : (answer : Result Reply Fault) → awaited old answer new → IsPass c last new.pass × (now new ≡ now old)
-  wait_same answer (inl d) = learned_same d.2
-  wait_same answer (inr d) = (subst (λ (m : ThreadState). IsPass c last m.pass) (sym d.1) s.stands.pass, ap now d.1)
-
-  answered_in : (o : Option ℕ) (answer : Result Reply Fault) → IsAnswered o (λ z. ⊥) (Unit {0}) answer
-      → answer ≡ reply_to_wait o
-  answered_in (Some z) answer is = is
-  answered_in None answer (None, is, vain) = is
-  answered_in None answer (Some z, is, heard) = absurd heard
-
-  pub in_wait : (n : List ℕ) (answer : Result Reply Fault)
-      → said_alone p.names had (commands.Make make.Wait n) old.pass.seen answer new.pass.seen → awaited old answer new
-      → LedTo c last k (commands.Make make.Wait n) new p q had told answer (reply_to_wait (word_under told n), w)
-  in_wait n answer said d =
-      go (word_under had n) (word_under told n) (word_under_fits P w had told n s.stands.words)
-      (answered_in (word_under had n) answer said)
-    where
-      i : IsPass c last new.pass × (now new ≡ now old)
-      i = wait_same answer d
-
-      fits : Fits c last k P w (now new)
-      fits = subst (Fits c last k P w) (sym i.1) (fits_less le s.stands.fits)
-
-      role : (state new.pass.seen).role 0 ≡ Within
-      role = ap (λ (m : Moment). m.state.role 0) i.1 ∙ s.stands.role
-
-      go : (o o' : Option ℕ) → MaybeWord P w o o' → answer ≡ reply_to_wait o
-          → LedTo c last k (commands.Make make.Wait n) new p q had told answer (reply_to_wait o', w)
-      go None None same is = in_kept (commands.Make make.Wait n) answer P w (Err Turns) (Err Turns) i.0 fits
-          (later_self P w) role is (λ names os ls ws. (refl, refl, refl, refl))
-          (λ names os ls ws. (refl, refl, refl, refl)) (λ line. refl)
-      go (Some a) (Some b) same is = subst (λ z. LedTo c last k (commands.Make make.Wait n) new p q had told z
-          (Ok (replies.Made (Some (record { 0 = b }))), w)) (sym is) (record {
-            pairing = P;
-            stands = inr (record {
-              pass = i.0;
-              fits = fits;
-              names = names_set_fit P w p.names q.names n (bound.Reference (record { 0 = a }))
-                  (bound.Reference (record { 0 = b })) s.stands.names same;
-              words = words_with_fit P w had told n a b s.stands.words same;
-              levels = s.stands.levels;
-              objects = s.stands.objects;
-              some = s.stands.some;
-              role = role;
-            });
-            text = λ line. refl;
-          })
-      go None (Some b) same is = absurd same
-      go (Some a) None same is = absurd same
-
-  -- A CALL IN A REGION
-  record CallIn {A B : Type 0} (V : Fitting A B) (once : Result A Fault) (r : Result B Fault × World) : Type 0 where
-    pass : IsPass c last new.pass
-    outcome : Outcome c last k V P w once r (now new)
-    role : (state new.pass.seen).role 0 ≡ Within
-
-  -- one that was made from a moment that is the same
+module _ {c : Config} {last turns j k : ℕ} {P : Pairing} {w : World} {old new : ThreadState} {p q : Place}
+    {had told : ThreadWords} (s : Turn true c last turns j k P w old new p q had told) (le : k ≤ j) where
+  -- A CALL IN A REGION, from a moment that is the same
   in_call : {A B : Type 0} {V : Fitting A B} (asked : Config → ℕ → ℕ → State → Call A) (meant : Meaning B)
       (mid : ThreadState) (silent : ℕ) (once : Result A Fault) → IsPass c last mid.pass
       → Fits c last k P w (now mid) → (state mid.pass.seen).role 0 ≡ Within
@@ -242,7 +91,7 @@ module _ {c : Config} {last turns j : ℕ} {P : Pairing} {w : World} {old new : 
       → Means c last k k V P w (asked c last 0 z) meant)
       → IfErr once (IsAloneFault new.pass)
       → IsMade silent mid new (asked mid.pass.config mid.pass.last mid.pass.thread (state new.pass.seen)) once
-      → CallIn V once (meant w)
+      → CallMeant s V once (meant w)
   in_call asked meant mid silent once pass fits role stays means so d =
       let z = state new.pass.seen in
       let made = call_made c last asked mid new once pass s.alone s.all so silent d in
@@ -253,29 +102,9 @@ module _ {c : Config} {last turns j : ℕ} {P : Pairing} {w : World} {old new : 
       record {
         pass = pass_later c last mid.pass new.pass ran.acts ran.did pass;
         outcome = (means z (headers_fit fits still)).outcome (now mid) (now new) once fits made;
-        role = ap (λ (t : State). t.role 0) made.leads
+        role = λ some. ap (λ (t : State). t.role 0) made.leads
             ∙ stays_within c last (state mid.pass.seen) made.acts role none' made.legal;
       }
-
-  -- what comes of an answer whose reply is the same
-  in_after : {A B : Type 0} {V : Fitting A B} (x : Command) (answer : Result Reply Fault) (form : A → Reply)
-      (form' : B → Reply) → ((Q : Pairing) (v : World) (y : A) (z : B) → V Q v y z → form y ≡ form' z)
-      → ((y : A) → Leaves x (Ok (form y))) → ((z : B) → Leaves x (Ok (form' z))) → ((e : Fault) → Leaves x (Err e))
-      → (once : Result A Fault) (r : Result B Fault × World) → CallIn V once r → answer ≡ formed form once
-      → LedTo c last k x new p q had told answer (goes_on (λ z v. (Ok (form' z), v)) r)
-  in_after x answer form form' same keeps keeps' quiet (Ok y) (Ok z, v) i is =
-      let o = i.outcome in
-      subst (λ a. LedTo c last k x new p q had told a (Ok (form' z), v)) (sym is)
-      (in_kept x (Ok (form y)) o.pairing v (Ok (form y)) (Ok (form' z)) i.pass o.fits o.later i.role refl
-      (keeps y) (keeps' z)
-      (λ line. ap (λ a. printed line x (Ok a)) (same o.pairing v y z o.answers)))
-  in_after x answer form form' same keeps keeps' quiet (Err e) (Err d, v) i is =
-      let o = i.outcome in
-      subst (λ a. LedTo c last k x new p q had told a (Err d, v)) (sym is)
-      (in_kept x (Err e) o.pairing v (Err e) (Err d) i.pass o.fits o.later i.role refl (quiet e) (quiet d)
-      (λ line. ap (λ a. printed line x (Err a)) o.answers))
-  in_after x answer form form' same keeps keeps' quiet (Ok y) (Err d, v) i is = absurd i.outcome.answers
-  in_after x answer form form' same keeps keeps' quiet (Err e) (Ok z, v) i is = absurd i.outcome.answers
 
   -- THE KIND of a level's object is known, and nothing has happened
   record KindKnownAt (l : ℕ) (t : Kind) (m : ThreadState) : Type 0 where
@@ -318,7 +147,15 @@ module _ {c : Config} {last turns j : ℕ} {P : Pairing} {w : World} {old new : 
   fits_at i = subst (Fits c last k P w) (sym i.same) (fits_less le s.stands.fits)
 
   role_at : {l : ℕ} {t : Kind} {m : ThreadState} → KindKnownAt l t m → (state m.pass.seen).role 0 ≡ Within
-  role_at i = ap (λ (m : Moment). m.state.role 0) i.same ∙ s.stands.role
+  role_at i = ap (λ (m : Moment). m.state.role 0) i.same ∙ s.stands.role s.region
+
+  then_at : {l : ℕ} {t : Kind} {m : ThreadState} → KindKnownAt l t m → new ≡ m → IsThen s P w
+  then_at i same = record {
+    later = later_self P w;
+    pass = subst (λ (z : ThreadState). IsPass c last z.pass) (sym same) i.pass;
+    fits = subst (λ (z : ThreadState). Fits c last k P w (now z)) (sym same) (fits_at i);
+    role = λ some. subst (λ (z : ThreadState). (state z.pass.seen).role 0 ≡ Within) (sym same) (role_at i);
+  }
 
   -- CGET
   module _ (n : List ℕ) (i : ℕ) (answer : Result Reply Fault)
@@ -326,18 +163,18 @@ module _ {c : Config} {last turns j : ℕ} {P : Pairing} {w : World} {old new : 
     abbrev reading : Command
     reading = commands.OnNameAt on_name_at.GetInLevel n i
 
-    read_refused : (e : Fault) → Leaves reading (Err e)
-    read_refused e names os ls ws = (refl, refl, refl, refl)
+    read_refused : (e : Fault) → Keeps reading (Err e)
+    read_refused e place ws = (refl, refl)
 
-    read_value : (z : ℤ) → Leaves reading (Ok (replies.Value z))
-    read_value z names os ls ws = (refl, refl, refl, refl)
+    read_value : (z : ℤ) → Keeps reading (Ok (replies.Value z))
+    read_value z place ws = (refl, refl)
 
     abbrev read_told : ℕ × Contents → Meaning Reply
     read_told a v = goes_on (λ u. meaning.reads_number (read_kind a.1.kind) a.1.words i)
         (has_numbers (read_kind a.1.kind), v)
 
     get_at : (l : ℕ) → level_reading (nth_object p.objects l) i old answer new
-        → LedTo c last k reading new p q had told answer
+        → Steps s reading answer
         (read_told (nth_object q.objects l, meant_in w (nth_object q.objects l)) w)
     get_at l (inr d) = absurd (let bad = d.2.ran.is.2.1 in cc)
     get_at l (inl d) = go (has_numbers (read_kind d.0)) refl
@@ -347,20 +184,17 @@ module _ {c : Config} {last turns j : ℕ} {P : Pairing} {w : World} {old new : 
         go : (b : Result (Unit {0}) Fault) → has_numbers (read_kind d.0) ≡ b
             → AfterDecided
             (λ u. reading_as (nth_object p.objects l) i (read_kind d.0)) d.1 new answer b
-            → LedTo c last k reading new p q had told answer
+            → Steps s reading answer
             (read_told (nth_object q.objects l, meant_in w (nth_object q.objects l)) w)
         go (Err e) is d' =
             let i' = kind_known_at l d.0 d.1 d.2
             (subst (λ (z : ThreadState). IsAlone z.pass) d'.1 s.alone) in
-            subst (λ z. LedTo c last k reading new p q had told answer
+            subst (λ z. Steps s reading answer
             (goes_on (λ u. meaning.reads_number (read_kind (meant_in w (nth_object q.objects l)).kind)
             (meant_in w (nth_object q.objects l)).words i) (z, w)))
             (sym is ∙ ap (λ z. has_numbers (read_kind z)) i'.kind)
-            (in_kept reading answer P w (Err e) (Err e)
-            (subst (λ (z : ThreadState). IsPass c last z.pass) (sym d'.1) i'.pass)
-            (subst (λ (z : ThreadState). Fits c last k P w (now z)) (sym d'.1) (fits_at i')) (later_self P w)
-            (subst (λ (z : ThreadState). (state z.pass.seen).role 0 ≡ Within) (sym d'.1) (role_at i')) d'.0
-            (read_refused e) (read_refused e) (λ line. refl))
+            (kept_step s reading answer P w (Err e) (Err e) (then_at i' d'.1) d'.0 (read_refused e) (read_refused e)
+            (λ line. refl))
         go (Ok u) is d' =
             let form = λ (word : ℕ). replies.Value (number_of_word (read_kind d.0) word) in
             let f = was_formed form (within_by (λ l'. 0) (λ l' m' t' z.
@@ -382,7 +216,7 @@ module _ {c : Config} {last turns j : ℕ} {P : Pairing} {w : World} {old new : 
             (λ z headers. get_means c last k z P w (nth_object p.objects l) (nth_object q.objects l) i i'.named headers
             (ap is_objects (sym i'.kind) ∙ known.1) (read_kind d.0)
             (ap (is_read_as (read_kind d.0)) (sym i'.kind) ∙ known.0)) so f.did in
-            let done_so = in_after {V = IsSame {A = ℕ}} reading answer form form
+            let done_so = same_after s reading answer {V = IsSame {A = ℕ}} form form
             (λ Q v y z e. ap form e) (λ y. read_value (number_of_word (read_kind d.0) y))
             (λ y. read_value (number_of_word (read_kind d.0) y)) read_refused f.once
             (goes_on (λ u' s'. (Ok (slice_index words i), s')) (
@@ -390,7 +224,7 @@ module _ {c : Config} {last turns j : ℕ} {P : Pairing} {w : World} {old new : 
                   (nat_le (length words) i) Range,
               w,
             )) call f.is in
-            subst (λ z. LedTo c last k reading new p q had told answer z)
+            subst (λ z. Steps s reading answer z)
             (goes_on_twice (λ u' s'. (Ok (slice_index words i), s'))
             (λ z v. (Ok (form z), v)) (
               refused_if (nat_le (length words) i)
@@ -404,19 +238,19 @@ module _ {c : Config} {last turns j : ℕ} {P : Pairing} {w : World} {old new : 
             done_so
 
     pub in_get : reading_at p.levels p.objects n i old answer new
-        → LedTo c last k reading new p q had told answer (meaning.within c q.names told q.levels q.objects reading w)
-    in_get d = subst (λ ls. LedTo c last k reading new p q had told answer
+        → Steps s reading answer (meaning.within c q.names told q.levels q.objects reading w)
+    in_get d = subst (λ ls. Steps s reading answer
         (meaning.within c q.names told ls q.objects reading w)) s.stands.levels
         (go (level_wanted (newest p.levels n)) (after_decided (λ l. level_reading (nth_object p.objects l) i) old new
         answer (level_wanted (newest p.levels n)) d))
       where
         go : (r : Result ℕ Fault) → AfterDecided (λ l. level_reading (nth_object p.objects l) i) old new answer r
-            → LedTo c last k reading new p q had told answer (goes_on read_told (goes_on (λ l v. (
+            → Steps s reading answer (goes_on read_told (goes_on (λ l v. (
               Ok (nth_object q.objects l, contents_in (standing_at v.objects (nth_object q.objects l))),
               v,
             )) (r, w)))
         go (Ok l) d' = get_at l d'
-        go (Err e) d' = in_nothing reading answer (Err e) d'.1 d'.0 (read_refused e)
+        go (Err e) d' = still_step s reading answer (Err e) le d' (read_refused e)
 
   -- CSET
   module _ (n : List ℕ) (i : ℕ) (number : ℤ) (answer : Result Reply Fault)
@@ -424,29 +258,26 @@ module _ {c : Config} {last turns j : ℕ} {P : Pairing} {w : World} {old new : 
     abbrev writing : Command
     writing = commands.PutAt put_at.PutInLevel n i number
 
-    write_refused : (e : Fault) → Leaves writing (Err e)
-    write_refused e names os ls ws = (refl, refl, refl, refl)
+    write_refused : (e : Fault) → Keeps writing (Err e)
+    write_refused e place ws = (refl, refl)
 
     abbrev write_told : ℕ × Contents → Meaning Reply
     write_told a v = goes_on (λ u. meaning.writes_number a.0 a.1 i number) (has_numbers a.1.kind, v)
 
     -- a refusal that the kind or the number brings, before the call
     refused_at : (l : ℕ) (t : Kind) (m : ThreadState) (e : Fault) → kind_of_level (nth_object p.objects l) old (Ok t) m
-        → answer ≡ Err e → new ≡ m → LedTo c last k writing new p q had told answer (Err e, w)
+        → answer ≡ Err e → new ≡ m → Steps s writing answer (Err e, w)
     refused_at l t m e first is same =
         let i' = kind_known_at l t m first (subst (λ (z : ThreadState). IsAlone z.pass) same s.alone) in
-        in_kept writing answer P w (Err e) (Err e)
-        (subst (λ (z : ThreadState). IsPass c last z.pass) (sym same) i'.pass)
-        (subst (λ (z : ThreadState). Fits c last k P w (now z)) (sym same) (fits_at i')) (later_self P w)
-        (subst (λ (z : ThreadState). (state z.pass.seen).role 0 ≡ Within) (sym same) (role_at i')) is
-        (write_refused e) (write_refused e) (λ line. refl)
+        kept_step s writing answer P w (Err e) (Err e) (then_at i' same) is (write_refused e) (write_refused e)
+        (λ line. refl)
 
     kind_here : (l : ℕ) (t : Kind) (m : ThreadState) → kind_of_level (nth_object p.objects l) old (Ok t) m
         → IsAlone m.pass → t ≡ (meant_in w (nth_object q.objects l)).kind
     kind_here l t m first alone = (kind_known_at l t m first alone).kind
 
     set_at : (l : ℕ) → level_writing (nth_object p.objects l) i number old answer new
-        → LedTo c last k writing new p q had told answer
+        → Steps s writing answer
         (write_told (nth_object q.objects l, meant_in w (nth_object q.objects l)) w)
     set_at l (inr d) = absurd (let bad = d.2.ran.is.2.1 in cc)
     set_at l (inl d) = go (has_numbers d.0) refl
@@ -454,9 +285,9 @@ module _ {c : Config} {last turns j : ℕ} {P : Pairing} {w : World} {old new : 
       where
         go : (b : Result (Unit {0}) Fault) → has_numbers d.0 ≡ b
             → AfterDecided (λ u. writing_as (nth_object p.objects l) i number d.0) d.1 new answer b
-            → LedTo c last k writing new p q had told answer
+            → Steps s writing answer
             (write_told (nth_object q.objects l, meant_in w (nth_object q.objects l)) w)
-        go (Err e) is d' = subst (λ z. LedTo c last k writing new p q had told answer
+        go (Err e) is d' = subst (λ z. Steps s writing answer
             (goes_on
             (λ u. meaning.writes_number (nth_object q.objects l) (meant_in w (nth_object q.objects l)) i number)
             (z, w))) (sym is ∙ ap has_numbers (kind_here l d.0 d.1 d.2
@@ -468,23 +299,23 @@ module _ {c : Config} {last turns j : ℕ} {P : Pairing} {w : World} {old new : 
             further : (r : Result ℕ Fault) → word_of_number d.0 number ≡ r → AfterDecided (λ word.
                 within_by (λ l'. 0) (λ l' m' t' z. objects.region_set l' m' t' z d.0 (nth_object p.objects l) i word)
                 >>= (λ u'. done replies.Done)) d.1 new answer r
-                → LedTo c last k writing new p q had told answer
+                → Steps s writing answer
                 (write_told (nth_object q.objects l, meant_in w (nth_object q.objects l)) w)
             further (Err e) word d'' =
                 let kind = kind_here l d.0 d.1 d.2 (subst (λ (z : ThreadState). IsAlone z.pass) d''.1 s.alone) in
-                subst (λ kd. LedTo c last k writing new p q had told answer
+                subst (λ kd. Steps s writing answer
                 (goes_on (λ u v. goes_on (λ x t. goes_on (λ u' z. goes_on (λ u'' y. (Ok replies.Done, y))
                 (meaning.rewrites (nth_object q.objects l) (meant_in w (nth_object q.objects l))
                 (slice_set (meant_in w (nth_object q.objects l)).words i x) z))
                 (refused_if (nat_le (length (meant_in w (nth_object q.objects l)).words) i) Range, t))
                 (word_of_number kd number, v)) (has_numbers kd, w))) kind
-                (subst (λ b. LedTo c last k writing new p q had told answer
+                (subst (λ b. Steps s writing answer
                 (goes_on (λ u v. goes_on (λ x t. goes_on (λ u' z. goes_on (λ u'' y. (Ok replies.Done, y))
                 (meaning.rewrites (nth_object q.objects l) (meant_in w (nth_object q.objects l))
                 (slice_set (meant_in w (nth_object q.objects l)).words i x) z))
                 (refused_if (nat_le (length (meant_in w (nth_object q.objects l)).words) i) Range, t))
                 (word_of_number d.0 number, v)) (b, w))) (sym is)
-                (subst (λ r. LedTo c last k writing new p q had told answer
+                (subst (λ r. Steps s writing answer
                 (goes_on (λ x t. goes_on (λ u' z. goes_on (λ u'' y. (Ok replies.Done, y))
                 (meaning.rewrites (nth_object q.objects l) (meant_in w (nth_object q.objects l))
                 (slice_set (meant_in w (nth_object q.objects l)).words i x) z))
@@ -511,45 +342,45 @@ module _ {c : Config} {last turns j : ℕ} {P : Pairing} {w : World} {old new : 
                 headers
                 (ap is_objects (sym i'.kind) ∙ known.1) d.0 (ap (is_read_as d.0) (sym i'.kind) ∙ known.0)
                 (ap is_text (sym i'.kind) ∙ known.2) x) so f.did in
-                let done_so = in_after {V = IsDone {A = Unit {0}} {B = Unit {0}}} writing answer (λ u'. replies.Done)
-                (λ u'. replies.Done) (λ Q v y z e. refl) (λ y names os ls ws. (refl, refl, refl, refl))
-                (λ y names os ls ws. (refl, refl, refl, refl)) write_refused f.once (put w) call f.is in
-                subst (λ kd. LedTo c last k writing new p q had told answer
+                let done_so = same_after s writing answer {V = IsDone {A = Unit {0}} {B = Unit {0}}}
+                (λ u'. replies.Done) (λ u'. replies.Done) (λ Q v y z e. refl) (λ y place ws. (refl, refl))
+                (λ y place ws. (refl, refl)) write_refused f.once (put w) call f.is in
+                subst (λ kd. Steps s writing answer
                 (goes_on (λ u v. goes_on (λ x t. goes_on (λ u' z. goes_on (λ u'' y. (Ok replies.Done, y))
                 (meaning.rewrites (nth_object q.objects l) (meant_in w (nth_object q.objects l))
                 (slice_set (meant_in w (nth_object q.objects l)).words i x) z))
                 (refused_if (nat_le (length (meant_in w (nth_object q.objects l)).words) i) Range, t))
                 (word_of_number kd number, v)) (has_numbers kd, w))) i'.kind
-                (subst (λ b. LedTo c last k writing new p q had told answer
+                (subst (λ b. Steps s writing answer
                 (goes_on (λ u v. goes_on (λ x t. goes_on (λ u' z. goes_on (λ u'' y. (Ok replies.Done, y))
                 (meaning.rewrites (nth_object q.objects l) (meant_in w (nth_object q.objects l))
                 (slice_set (meant_in w (nth_object q.objects l)).words i x) z))
                 (refused_if (nat_le (length (meant_in w (nth_object q.objects l)).words) i) Range, t))
                 (word_of_number d.0 number, v)) (b, w))) (sym is)
-                (subst (λ r. LedTo c last k writing new p q had told answer
+                (subst (λ r. Steps s writing answer
                 (goes_on (λ x t. goes_on (λ u' z. goes_on (λ u'' y. (Ok replies.Done, y))
                 (meaning.rewrites (nth_object q.objects l) (meant_in w (nth_object q.objects l))
                 (slice_set (meant_in w (nth_object q.objects l)).words i x) z))
                 (refused_if (nat_le (length (meant_in w (nth_object q.objects l)).words) i) Range, t)) (r, w)))
-                (sym word) (subst (λ z. LedTo c last k writing new p q had told answer z) (goes_on_twice
+                (sym word) (subst (λ z. Steps s writing answer z) (goes_on_twice
                 (λ u'. meaning.rewrites (nth_object q.objects l) (meant_in w (nth_object q.objects l))
                 (slice_set words i x)) (λ u'' y. (Ok replies.Done, y)) (refused_if (nat_le (length words) i) Range, w))
                 done_so)))
 
     pub in_set : writing_at p.levels p.objects n i number old answer new
-        → LedTo c last k writing new p q had told answer (meaning.within c q.names told q.levels q.objects writing w)
-    in_set d = subst (λ ls. LedTo c last k writing new p q had told answer
+        → Steps s writing answer (meaning.within c q.names told q.levels q.objects writing w)
+    in_set d = subst (λ ls. Steps s writing answer
         (meaning.within c q.names told ls q.objects writing w)) s.stands.levels
         (go (level_wanted (newest p.levels n)) (after_decided (λ l. level_writing (nth_object p.objects l) i number) old
         new answer (level_wanted (newest p.levels n)) d))
       where
         go : (r : Result ℕ Fault) → AfterDecided (λ l. level_writing (nth_object p.objects l) i number) old new answer r
-            → LedTo c last k writing new p q had told answer (goes_on write_told (goes_on (λ l v. (
+            → Steps s writing answer (goes_on write_told (goes_on (λ l v. (
               Ok (nth_object q.objects l, contents_in (standing_at v.objects (nth_object q.objects l))),
               v,
             )) (r, w)))
         go (Ok l) d' = set_at l d'
-        go (Err e) d' = in_nothing writing answer (Err e) d'.1 d'.0 (write_refused e)
+        go (Err e) d' = still_step s writing answer (Err e) le d' (write_refused e)
 
   -- CRIT AND CRITSTR, for a further level
   module _ (v : OpenLevel) (n : List ℕ) (r : Reference) (answer : Result Reply Fault)
@@ -557,12 +388,12 @@ module _ {c : Config} {last turns j : ℕ} {P : Pairing} {w : World} {old new : 
     abbrev nesting_of : Command
     nesting_of = commands.OpenLevel v n r
 
-    nest_refused : (e : Fault) → Leaves nesting_of (Err e)
-    nest_refused e names os ls ws = (refl, refl, refl, refl)
+    nest_refused : (e : Fault) → Keeps nesting_of (Err e)
+    nest_refused e place ws = (refl, refl)
 
     -- the number of the new level, with the objects then, and the reply
     abbrev NestFits : Fitting (ℕ × List ℕ) Reply
-    NestFits Q u x y = (o : ℕ) × (y ≡ replies.Level o) × ObjectFits Q u (nth_object x.1 x.0) o
+    NestFits Q u x y = LevelFits Q u (nth_object x.1 x.0) y
 
     nest_stays : (v : OpenLevel) (l : Config) (m t : ℕ) (z : State) (os : List ℕ) (a : Word) (f g : Frames)
         (acts : List Act) (told : Result (ℕ × List ℕ) Fault) → nests v l m t z os a f acts told g → NoneLeaves acts
@@ -579,99 +410,58 @@ module _ {c : Config} {last turns j : ℕ} {P : Pairing} {w : World} {old new : 
         (λ o. (length os, os ++ o ∷ [])) (level_means c last k at.Text (length os) z P w a g s.some word headers)
         (λ Q u x y f. (f.0, f.1, subst (λ o. ObjectFits Q u o f.0) (sym (level_last os x)) f.2))
 
-    -- the level stands then
-    nested_so : (once : Result (ℕ × List ℕ) Fault) (b : Result Reply Fault × World) → CallIn NestFits once b
-        → answer ≡ formed (λ level. replies.Level (nth_object level.1 level.0)) once
-        → LedTo c last k nesting_of new p q had told answer b
-    nested_so (Ok x) (Ok y, u) i is =
-        let o = i.outcome in
-        let f = o.answers in
-        subst (λ a. LedTo c last k nesting_of new p q had told a (Ok y, u)) (sym is)
-        (subst (λ z. LedTo c last k nesting_of new p q had told (Ok (replies.Level (nth_object x.1 x.0))) (Ok z, u))
-        (sym f.1) (record {
-          pairing = o.pairing;
-          stands = inr (record {
-            pass = i.pass;
-            fits = o.fits;
-            names = names_later o.later p.names q.names s.stands.names;
-            words = words_later o.later had told s.stands.words;
-            levels = ap (λ l. l ++ n ∷ []) s.stands.levels;
-            objects = levels_put o.pairing u p.objects q.objects (nth_object x.1 x.0) f.0
-                (levels_later o.later p.objects q.objects s.stands.objects) f.2;
-            some = some_put p.objects (nth_object x.1 x.0);
-            role = i.role;
-          });
-          text = λ line. refl;
-        }))
-    nested_so (Err e) (Err d, u) i is =
-        let o = i.outcome in
-        subst (λ a. LedTo c last k nesting_of new p q had told a (Err d, u)) (sym is)
-        (in_kept nesting_of (Err e) o.pairing u (Err e) (Err d) i.pass o.fits o.later i.role refl (nest_refused e)
-        (nest_refused d) (λ line. ap (λ a. printed line nesting_of (Err a)) o.answers))
-    nested_so (Ok x) (Err d, u) i is = absurd i.outcome.answers
-    nested_so (Err e) (Ok y, u) i is = absurd i.outcome.answers
-
     nest_found : (h g : HandleWord) → HandleFits P w h.0 g.0
         → (nesting v p.objects h.0 >>= (λ level. done (replies.Level (nth_object level.1 level.0)))) old answer new
-        → LedTo c last k nesting_of new p q had told answer (meaning.level v (length q.objects) g.0 w)
+        → Steps s nesting_of answer (meaning.level v (length q.objects) g.0 w)
     nest_found h g same d =
         let form = λ (level : ℕ × List ℕ). replies.Level (nth_object level.1 level.0) in
         let f = was_formed form (nesting v p.objects h.0) old new answer d in
         let a = f.did.0 in
         let so = err_formed (IsAloneFault new.pass) form f.once
         (subst (λ z. IfErr z (IsAloneFault new.pass)) f.is fault) in
-        let word = read_fits P w h.0 g.0 a (λ i l. given_handle c last (P.handle i) s.small s.slots s.few
-        (s.stands.fits.refs.given i l)) f.did.1 same in
+        let word = read_fits P w h.0 g.0 a (handles s) f.did.1 same in
         let call = in_call {V = NestFits} (λ l m t z. nests v l m t z p.objects a)
         (meaning.level v (length p.objects) g.0)
-        old 1 f.once s.stands.pass (fits_less le s.stands.fits) s.stands.role
+        old 1 f.once s.stands.pass (fits_less le s.stands.fits) (s.stands.role s.region)
         (λ l m t z. nest_stays v l m t z p.objects a) (λ z headers. nest_means v z p.objects a g.0 word headers) so
         f.did.2 in
-        subst (λ m. LedTo c last k nesting_of new p q had told answer (meaning.level v m g.0 w))
+        subst (λ m. Steps s nesting_of answer (meaning.level v m g.0 w))
         (levels_long P w p.objects q.objects s.stands.objects)
-        (nested_so f.once (meaning.level v (length p.objects) g.0 w) call f.is)
+        (opened_so s v n r answer (λ level. nth_object level.1 level.0) f.once
+        (meaning.level v (length p.objects) g.0 w) call (λ x e. call.role s.region) f.is)
 
     abbrev nest_next : HandleWord → Deed Reply
     nest_next h = nesting v p.objects h.0 >>= (λ level. done (replies.Level (nth_object level.1 level.0)))
 
     pub in_nest : (decided (wanted (referent p.names r)) >>= nest_next) old answer new
-        → LedTo c last k nesting_of new p q had told answer
+        → Steps s nesting_of answer
         (goes_on (meaning.level v (length q.objects)) (goes_on (λ h z. (Ok h.0, z)) (wanted (referent q.names r), w)))
-    in_nest d = go (referent p.names r) (referent q.names r) (fits_of r)
-        (after_decided nest_next old new answer (wanted (referent p.names r)) d)
-      where
-        fits_of : (r : Reference) → BindingFits P w (referent p.names r) (referent q.names r)
-        fits_of refers.Null = refl
-        fits_of (refers.Named m) = s.stands.names m
-
-        go : (b b' : Binding) → BindingFits P w b b' → AfterDecided nest_next old new answer (wanted b)
-            → LedTo c last k nesting_of new p q had told answer
-            (goes_on (meaning.level v (length q.objects)) (goes_on (λ h z. (Ok h.0, z)) (wanted b', w)))
-        go bound.Nothing bound.Nothing fits d' = in_nothing nesting_of answer (Err Stale) d'.1 d'.0 (nest_refused Stale)
-        go (bound.Reference h) (bound.Reference g) fits d' = nest_found h g fits d'
-        go (bound.Buffer b) (bound.Buffer b') fits d' =
-            in_nothing nesting_of answer (Err WrongKind) d'.1 d'.0 (nest_refused WrongKind)
-        go bound.Nothing (bound.Reference g) fits d' = absurd fits
-        go bound.Nothing (bound.Buffer b) fits d' = absurd fits
-        go (bound.Reference h) bound.Nothing fits d' = absurd fits
-        go (bound.Reference h) (bound.Buffer b) fits d' = absurd fits
-        go (bound.Buffer b) bound.Nothing fits d' = absurd fits
-        go (bound.Buffer b) (bound.Reference g) fits d' = absurd fits
-
-  -- E19
-  pub in_critical : (x : Command) (answer : Result Reply Fault) → Leaves x (Err InCritical)
-      → (answer ≡ Err InCritical) × (new ≡ old) → LedTo c last k x new p q had told answer (Err InCritical, w)
-  in_critical x answer keeps d = in_nothing x answer (Err InCritical) d.1 d.0 keeps
+    in_nest d = wanted_step s nesting_of answer le nest_next (meaning.level v (length q.objects)) r nest_refused d
+        nest_found
 
   -- ENDCRIT
-  closed_then : (x : Unit {0}) (mode : Mode) (v : CloseLevel)
-      (ps os : List ℕ) → p.objects ≡ ps → q.objects ≡ os → AreLevels P w ps os → ps ≢ []
+  closed_as : (v : CloseLevel) (mode : Mode) → IsPass c last new.pass → Fits c last k P w (now new)
+      → (all_but_last p.objects ≢ [] → (state new.pass.seen).role 0 ≡ Within)
+      → Steps s (commands.CloseLevel v mode) (Ok replies.Done) (Ok replies.Done, w)
+  closed_as v mode pass fits role = record {
+    pairing = P;
+    stands = record {
+      pass = pass;
+      fits = fits;
+      names = s.stands.names;
+      words = s.stands.words;
+      levels = ap all_but_last s.stands.levels;
+      objects = levels_less P w p.objects q.objects s.stands.objects;
+      role = role;
+    };
+    text = λ line. refl;
+  }
+
+  closed_then : (x : Unit {0}) (mode : Mode) (v : CloseLevel) (ps : List ℕ) → p.objects ≡ ps
       → giving_up (length ps) old (Ok x) new
-      → LedTo c last k (commands.CloseLevel v mode) new p q had told (Ok replies.Done) (Ok replies.Done, w)
-  closed_then x mode v [] os e f a some d = absurd (some refl)
-  closed_then x mode v (o ∷ []) [] e f a some d = absurd a
-  closed_then x mode v (o ∷ []) (u ∷ t ∷ us) e f a some d = absurd a.1
-  closed_then x mode v (o ∷ []) (u ∷ []) e f a some d =
+      → Steps s (commands.CloseLevel v mode) (Ok replies.Done) (Ok replies.Done, w)
+  closed_then x mode v [] e d = absurd (s.region e)
+  closed_then x mode v (o ∷ []) e d =
       let ran = d.0.ran in
       let acts : ran.acts ≡ Gate Leave ∷ [] = ran.is.0 in
       let seen : new.pass.seen ≡ old.pass.seen ++ map (by 0) (Gate Leave ∷ []) =
@@ -681,49 +471,26 @@ module _ {c : Config} {last turns j : ℕ} {P : Pairing} {w : World} {old new : 
       let now_is = moment_is (state new.pass.seen) (state_from (state old.pass.seen) (map (by 0) (Gate Leave ∷ [])))
       new.frames old.frames (ap state seen ∙ state_append old.pass.seen
       (map (by 0) (Gate Leave ∷ []))) ran.is.2 in
-      record {
-        pairing = P;
-        stands = inl (
-          record {
-            pass = pass_later c last old.pass new.pass ran.acts ran.did s.stands.pass;
-            fits = subst (Fits c last k P w) (sym now_is) (gone_fits (now old) 0 Leave (fits_less le s.stands.fits));
-            names = s.stands.names;
-            outside = ap all_but_last e;
-            outside_then = ap all_but_last f;
-            words = s.stands.words;
-          },
-          ap all_but_last s.stands.levels,
-        );
-        text = λ line. refl;
-      }
-  closed_then x mode v (o ∷ r ∷ ps) os e f a some d =
+      closed_as v mode (pass_later c last old.pass new.pass ran.acts ran.did s.stands.pass)
+      (subst (Fits c last k P w) (sym now_is) (gone_fits (now old) 0 Leave (fits_less le s.stands.fits)))
+      (λ some. absurd (some (ap all_but_last e)))
+  closed_then x mode v (o ∷ r ∷ ps) e d =
       let ran = d.0.ran in
       let acts : ran.acts ≡ [] = ran.is.0 in
       let seen : new.pass.seen ≡ old.pass.seen = sees_alone old.pass new.pass ran.acts ran.did s.alone
       ∙ (ap (λ l. old.pass.seen ++ map (by new.pass.thread) l) acts ∙ append-nil old.pass.seen) in
       let now_is = moment_is (state new.pass.seen) (state old.pass.seen) new.frames old.frames (ap state seen) ran.is.2
       in
-      record {
-        pairing = P;
-        stands = inr (record {
-          pass = pass_later c last old.pass new.pass ran.acts ran.did s.stands.pass;
-          fits = subst (Fits c last k P w) (sym now_is) (fits_less le s.stands.fits);
-          names = s.stands.names;
-          words = s.stands.words;
-          levels = ap all_but_last s.stands.levels;
-          objects = levels_less P w p.objects q.objects s.stands.objects;
-          some = subst (λ l. all_but_last l ≢ []) (sym e) (λ z. absurd cc);
-          role = ap (λ es. (state es).role 0) seen ∙ s.stands.role;
-        });
-        text = λ line. refl;
-      }
+      closed_as v mode (pass_later c last old.pass new.pass ran.acts ran.did s.stands.pass)
+      (subst (Fits c last k P w) (sym now_is) (fits_less le s.stands.fits))
+      (λ some. ap (λ es. (state es).role 0) seen ∙ s.stands.role s.region)
 
   pub in_close : (v : CloseLevel) (mode : Mode) (answer : Result Reply Fault)
       → (giving_up (length p.objects) >>= (λ u. done replies.Done)) old answer new
-      → LedTo c last k (commands.CloseLevel v mode) new p q had told answer (Ok replies.Done, w)
+      → Steps s (commands.CloseLevel v mode) answer (Ok replies.Done, w)
   in_close v mode answer (inl d) =
-      subst (λ a. LedTo c last k (commands.CloseLevel v mode) new p q had told a (Ok replies.Done, w)) (sym d.3.0)
-      (closed_then d.0 mode v p.objects q.objects refl refl s.stands.objects s.stands.some
+      subst (λ a. Steps s (commands.CloseLevel v mode) a (Ok replies.Done, w)) (sym d.3.0)
+      (closed_then d.0 mode v p.objects refl
       (subst (λ m. giving_up (length p.objects) old (Ok d.0) m) (sym d.3.1) d.2))
   in_close v mode answer (inr d) = absurd
       (refused (length p.objects) d.0 old.frames new.frames d.2.0.ran.acts d.2.0.ran.is)

@@ -1,8 +1,7 @@
 -- What a lone thread's calls of references mean.
 use Rattle.std.proofs.Common.{◌≡◌, ◌≢◌, inr, IsSome, ℕ, zero, suc, ◌<◌, ◌≤◌, ◌+◌, ◌==◌, ◌||◌, Bool, true, false, not}
-use Rattle.std.proofs.Common.{cond, nat_lt}
-use Rattle.std.proofs.Common.{Option, Some, None, List, [], ◌∷◌, ◌++◌, length, map, slice_index, slice_set, Result, Ok}
-use Rattle.std.proofs.Common.{refl, sym, ap, subst, ◌∙◌, arith, replicate}
+use Rattle.std.proofs.Common.{cond, nat_lt, Option, Some, None, List, [], ◌∷◌, ◌++◌, length, map, slice_index}
+use Rattle.std.proofs.Common.{slice_set, Result, Ok, refl, sym, ap, subst, ◌∙◌, arith, replicate}
 use Rattle.std.specs.List.{filter}
 use Rattle.std.proofs.lemmas.List.{length-append, length-replicate, length-set, get_or-replicate}
 use Rattle.std.proofs.lemmas.Bool.Decides.{nat_tests}
@@ -22,7 +21,7 @@ use Rattle.jr_model.specs.State.{Contents, Handle, same_handle, same_kind}
 use Rattle.jr_model.specs.Steps.{act_after}
 use Rattle.jr_model.specs.Frames.{Frames, IsAdded, adds, all_refs, is_held, object_of, object_where, without_local}
 use Rattle.jr_model.specs.Calls.{◌>>=◌, decided, done}
-use Rattle.jr_model.specs.Checks.{Word, Nothing, Malformed, Parts, is_local, is_out_of_bounds, is_foreign, type_found}
+use Rattle.jr_model.specs.Checks.{Word, Nothing, Parts, is_local, is_out_of_bounds, is_foreign, type_found}
 use Rattle.jr_model.specs.Checks.{is_malformed, is_objects, element_word, is_of_kind, kind_number, same_object}
 use Rattle.jr_model.specs.Checks.{type_local}
 use Rattle.jr_model.specs.Parts.{delete_local_at, drop_local, found_answer, local_answer, look, looked}
@@ -63,10 +62,7 @@ pub word_later : {P Q : Pairing} {w v : World} → Later P w Q v → (a : Word) 
 word_later l Nothing zero fits = tt
 word_later l (Parts h) (suc i) fits =
     ((let small = fits.0 in let grow = l.refs_grow in omega arith), fits.1 ∙ sym (l.handles i fits.0))
-word_later l Nothing (suc i) fits = absurd fits
-word_later l Malformed zero fits = absurd fits
-word_later l Malformed (suc i) fits = absurd fits
-word_later l (Parts h) zero fits = absurd fits
+word_later l _ _ fits = absurd fits
 
 -- a new reference
 abbrev pub NewFits : Fitting Handle ℕ
@@ -200,8 +196,7 @@ module _ (c : Config) (last k : ℕ) where
   new_local_means P w (Some p) (Some o) fits = bind_means c last (room_means c last k {P = P} {w = w} 1)
       (λ Q v later u u' _. form_means c last {V = NewFits} {U = MaybeFits} (λ h. Some h)
       (added_means Q v o p (object_later later fits)) new_maybe)
-  new_local_means P w None (Some o) fits = absurd fits
-  new_local_means P w (Some p) None fits = absurd fits
+  new_local_means P w _ _ fits = absurd fits
 
   -- so many elements that are all alike
   all_alike : (P : Pairing) (w : World) (kind : Kind) (n word v : ℕ)
@@ -225,8 +220,7 @@ module _ (c : Config) (last k : ℕ) where
       → ElementFits P.object w.objects true (element_to y) (element_word x)
   element_fits P w None None fits = refl
   element_fits P w (Some p) (Some o) fits = fits
-  element_fits P w None (Some o) fits = absurd fits
-  element_fits P w (Some p) None fits = absurd fits
+  element_fits P w _ _ fits = absurd fits
 
   -- NEWPLAIN
   -- a new object of these words, where words that are alike are meant, and a local reference to it
@@ -287,10 +281,7 @@ module _ (c : Config) (last k : ℕ) where
   sound P w m (Parts h) (suc i) some f fits =
       sound_word m.frames m.state.given h some
       (subst (IsGiven c last m.frames m.state.given) (sym fits.1) (f.refs.given i fits.0))
-  sound P w m Nothing (suc i) some f fits = absurd fits
-  sound P w m Malformed zero some f fits = absurd fits
-  sound P w m Malformed (suc i) some f fits = absurd fits
-  sound P w m (Parts h) zero some f fits = absurd fits
+  sound P w m _ _ some f fits = absurd fits
 
   -- what stands at a handle that is handed in, and what is meant by it
   at_handle_fits : (P : Pairing) (w : World) (m : Moment) (h : Handle) (i : ℕ) → Fits c last k P w m
@@ -348,9 +339,7 @@ module _ (c : Config) (last k : ℕ) where
   found_fits P w kind (Some r) Cleared fits =
       subst (λ z. SameAnswer (FoundFits w P w) (Ok None) (Ok z)) (sym fits.1) (tt, refl)
   found_fits P w kind None Stale fits = refl
-  found_fits P w kind (Some r) Stale fits = absurd fits
-  found_fits P w kind None (Object p) fits = absurd fits
-  found_fits P w kind None Cleared fits = absurd fits
+  found_fits P w kind _ _ fits = absurd fits
 
   answer_is : (x : Option ℕ) → local_answer x ≡ found_answer (found_local x)
   answer_is None = refl
@@ -362,10 +351,7 @@ module _ (c : Config) (last k : ℕ) where
   looked_means P w (Parts h) (suc i) fits = read_means {V = FoundFits w} P w h i (λ f. local_answer (object_of f h))
       found_answer object_in fits (λ f is. answer_is (object_of f h))
       (λ l so. found_fits P w h.kind (standing_at w.refs i) l so)
-  looked_means P w Nothing (suc i) fits = absurd fits
-  looked_means P w Malformed zero fits = absurd fits
-  looked_means P w Malformed (suc i) fits = absurd fits
-  looked_means P w (Parts h) zero fits = absurd fits
+  looked_means P w _ _ fits = absurd fits
 
   pub resolved_means : (P : Pairing) (w : World) (a : Word) (g : ℕ) → 1 ≤ c.threads → WordFits P w a g
       → Means c last k k (FoundFits w) P w (references.resolved c last 0 a) (meaning.object g)
@@ -405,8 +391,7 @@ module _ (c : Config) (last k : ℕ) where
       go false e = eq_other p q (λ z. eq_false o u e (f.objects.apart o u one.0 two.0 (one.1 ∙ (z ∙ sym two.1))))
   same_fits P w m f None y (Some o) y' one two = absurd one
   same_fits P w m f (Some p) y None y' one two = absurd one
-  same_fits P w m f x None x' (Some u) one two = absurd two
-  same_fits P w m f x (Some q) x' None one two = absurd two
+  same_fits P w m f x _ x' _ one two = absurd two
 
   -- what two references are to, in a world that stays
   abbrev pub BothFits : World → ℕ → Fitting (Option ℕ × Option ℕ) (Option ℕ × Option ℕ)
@@ -451,9 +436,7 @@ module _ (c : Config) (last k : ℕ) where
   type_fits P n kind (Some r) (Object p) fits = sym (ap (λ z. kind_number z) fits.0)
   type_fits P n kind (Some r) Cleared fits = sym (ap (λ z. kind_number z) fits.0)
   type_fits P n kind None Stale fits = refl
-  type_fits P n kind (Some r) Stale fits = absurd fits
-  type_fits P n kind None (Object p) fits = absurd fits
-  type_fits P n kind None Cleared fits = absurd fits
+  type_fits P n kind _ _ fits = absurd fits
 
   type_is : (kind : RefKind) (x : Option ℕ) → kind ≡ Local → type_local x ≡ type_found kind (found_local x)
   type_is kind None is = refl
@@ -469,10 +452,7 @@ module _ (c : Config) (last k : ℕ) where
       (λ l. Ok (type_found h.kind l)) (λ r. Ok (type_in r)) fits
       (λ f is. ap (λ z. Ok z) (type_is h.kind (object_of f h) is))
       (λ l so. type_fits P w.objects h.kind (standing_at w.refs i) l so))))
-  type_means P w Nothing (suc i) some fits = absurd fits
-  type_means P w Malformed zero some fits = absurd fits
-  type_means P w Malformed (suc i) some fits = absurd fits
-  type_means P w (Parts h) zero some fits = absurd fits
+  type_means P w _ _ some fits = absurd fits
 
 -- A LOCAL REFERENCE IS GIVEN UP
 
@@ -623,7 +603,4 @@ module _ (c : Config) (last k : ℕ) where
           drop_means Q v i word.0 (subst (λ (t : World). IsSome (standing_at t.refs i)) (sym same.0.1)
           (was_found y (standing_at w.refs i) (ap (λ (r : Result (Option ℕ) Fault × World). r.0) same.1))) h word.1
           (sym (kind_true Local h.kind local)))
-      here Nothing (suc i) fits local = absurd fits
-      here Malformed zero fits local = absurd fits
-      here Malformed (suc i) fits local = absurd fits
-      here (Parts h) zero fits local = absurd fits
+      here _ _ fits local = absurd fits

@@ -32,15 +32,13 @@ use Rattle.jr_scripts.proofs.LoneRun.MadeCalls.{Moment, moment}
 use Rattle.jr_scripts.proofs.LoneRun.MeaningFrames.{Pairing, frames_later}
 use Rattle.jr_scripts.proofs.LoneRun.MeaningMatches.{IsStanding}
 use Rattle.jr_scripts.proofs.LoneRun.MeaningSlots.{in_row, taken_at}
-use Rattle.jr_scripts.proofs.LoneRun.MeaningFits.{ContentsFit, ElementFits, Fits, ObjectsFit, RefFits}
-use Rattle.jr_scripts.proofs.LoneRun.MeaningFits.{SlotsFit}
+use Rattle.jr_scripts.proofs.LoneRun.MeaningFits.{ContentsFit, ElementFits, Fits, ObjectsFit, RefFits, SlotsFit}
 use Rattle.jr_scripts.proofs.LoneRun.MeaningFits.{all_counted, both_there, counted, found_local, found_of, found_row}
 use Rattle.jr_scripts.proofs.LoneRun.MeaningFits.{IsGiven, slots_count}
 use Rattle.jr_scripts.proofs.LoneRun.MeaningReach.{by_handle, found_if, found_kept}
 use Rattle.jr_scripts.proofs.LoneRun.MeaningSweeps.{AreCleared, AreDropped, are_cleared, are_dropped, cleared_of}
 use Rattle.jr_scripts.proofs.LoneRun.MeaningSweeps.{IsOneOf, cleared_then, dropped_then, is_cleared, more_cleared}
-use Rattle.jr_scripts.proofs.LoneRun.MeaningSweeps.{one_of}
-use Rattle.jr_scripts.proofs.LoneRun.MeaningSweeps.{so_of_one}
+use Rattle.jr_scripts.proofs.LoneRun.MeaningSweeps.{one_of, so_of_one}
 
 -- LISTS
 
@@ -112,9 +110,7 @@ cleared_is P objects refs found fits = how_many_at was_cleared refs
     go kind (Some r) (Object p) fits = ap (λ x. not (is_some x)) fits.2
     go kind (Some r) Cleared fits = ap (λ x. not (is_some x)) fits.1
     go kind None Stale fits = refl
-    go kind (Some r) Stale fits = absurd fits
-    go kind None (Object p) fits = absurd fits
-    go kind None Cleared fits = absurd fits
+    go kind _ _ fits = absurd fits
 
 fun_same : {A B : Type 0} {f g : A → B} → ((x : A) → f x ≡ g x) → f ≡ g
 fun_same each = λ i x. each x i
@@ -341,9 +337,7 @@ module _ (c : Config) (last k : ℕ) (P : Pairing) (w : World) (m : Moment) (f :
           (fits.0, ap (kept_object reached) fits.1)
       go None Stale is fits (inl t) = absurd (let found = sym t.0.2 ∙ (sym (found_row_is t.0.0) ∙ is) in cc)
       go None Stale is fits (inr t) = subst (RefFits P.object then.objects h.kind None) (sym (same_found t.1 ∙ is)) tt
-      go (Some r) Stale is fits t = absurd fits
-      go None (Object p) is fits t = absurd fits
-      go None Cleared is fits t = absurd fits
+      go _ _ is fits t = absurd fits
 
   pub long : length then.refs ≡ length w.refs
   long = length-map w.refs (kept_ref reached)
@@ -437,8 +431,7 @@ module _ (c : Config) (last k : ℕ) (P : Pairing) (w : World) (m : Moment) (f :
               (slice_get-get_or y.words i 0 below ∙ ap Some (sym fit.1)) there in
               (stays q fit.0 (found_if c last k P w m f alone q fit.0 on), fit.1)
           element false e i small v fit = fit
-      go None y is fits r = absurd fits
-      go (Some x) None is fits r = absurd fits
+      go _ _ is fits r = absurd fits
 
   objects_then : ObjectsFit c P.object then.objects at_reopen.objects
   objects_then = record {
@@ -458,8 +451,7 @@ module _ (c : Config) (last k : ℕ) (P : Pairing) (w : World) (m : Moment) (f :
     where
       same : (x y : Option Contents) → ContentsFit P.object then.objects x y → length_of y ≡ length_of x
       same (Some x) (Some y) fits = fits.long
-      same None y fits = absurd fits
-      same (Some x) None fits = absurd fits
+      same _ _ fits = absurd fits
 
   -- THE ROOM IS AS THE WORLD THEN
   pub fits_then : Fits c last k P then (moment at_reopen m.frames)

@@ -1,6 +1,6 @@
 -- What a lone thread's commands mean, each from a moment that is as the world.
-use Rattle.std.proofs.Common.{◌≡◌, ℕ, Bool, true, List, [], ◌∷◌, ◌++◌, slice_index_or, Result, IfErr, refl, sym, ap}
-use Rattle.std.proofs.Common.{Err, subst}
+use Rattle.std.proofs.Common.{◌≡◌, ℕ, Bool, true, false, List, [], ◌∷◌, ◌++◌, slice_index_or, Result, IfErr, refl, sym}
+use Rattle.std.proofs.Common.{ap, Err, subst}
 use Rattle.jr_word.specs.declared.config.Config.{Config}
 use Rattle.jr_word.specs.declared.fault.Fault.{Fault}
 use Rattle.jr_word.specs.declared.fault.Fault.TheVariants.{InCritical}
@@ -32,8 +32,8 @@ use Rattle.jr_scripts.specs.Posting.{ThreadWords, said_alone}
 use Rattle.jr_scripts.specs.AloneAnswers.{IsAloneFault}
 use Rattle.jr_scripts.specs.Meaning as meaning
 use Rattle.jr_scripts.proofs.LoneRun.MeaningFrames.{Pairing}
-use Rattle.jr_scripts.proofs.LoneRun.MeaningStands.{Keeps, Stepped, left_before}
-use Rattle.jr_scripts.proofs.LoneRun.CommandSteps.{Turn, Steps, at_most, kept_step, nothing_then, referent_fits}
+use Rattle.jr_scripts.proofs.LoneRun.MeaningStands.{Stepped, left_before}
+use Rattle.jr_scripts.proofs.LoneRun.CommandSteps.{Turn, Steps, at_most, outside_then, referent_fits, still_step}
 use Rattle.jr_scripts.proofs.LoneRun.ObjectCommands.{plain_step, sized_step, text_step, filled_step}
 use Rattle.jr_scripts.proofs.LoneRun.ReferenceCommands.{drop_step, global_step, local_step, same_step, type_step}
 use Rattle.jr_scripts.proofs.LoneRun.ReferenceCommands.{weak_step}
@@ -43,6 +43,7 @@ use Rattle.jr_scripts.proofs.LoneRun.FrameCommands.{ensure_step, push_step, pop_
 use Rattle.jr_scripts.proofs.LoneRun.MeaningCopies.{found_by}
 use Rattle.jr_scripts.proofs.LoneRun.CopyCommands.{chars_step, elems_step}
 use Rattle.jr_scripts.proofs.LoneRun.BufferCommands.{eget_step, eput_step, release_step}
+use Rattle.jr_scripts.proofs.LoneRun.OpeningCommands.{open_step}
 use Rattle.jr_scripts.proofs.LoneRun.NoteCommands.{post_step, wait_step}
 use Rattle.jr_scripts.proofs.LoneRun.CollectionCommands.{announced_step, collect_step}
 
@@ -64,37 +65,25 @@ memory_left _ answer rest = refl
 abbrev next_found : List Bool → Bool
 next_found memory = slice_index_or memory 0 true
 
--- a command that opens and ends no level
-abbrev pub IsSteady : Command → Type 0
-IsSteady (commands.OpenLevel v n r) = ⊥
-IsSteady (commands.CloseLevel v mode) = ⊥
-IsSteady _ = Unit {0}
-
--- .. and makes no copy
+-- a command that makes no copy
 abbrev MakesNoCopy : Command → Type 0
 MakesNoCopy (commands.MakeFrom make_from.Elements n r) = ⊥
 MakesNoCopy (commands.On on.Chars r) = ⊥
-MakesNoCopy x = IsSteady x
+MakesNoCopy _ = Unit {0}
 
 module _ {c : Config} {last turns j k : ℕ} {P : Pairing} {w : World} {old new : ThreadState} {p q : Place}
-    {had told : ThreadWords} (s : Turn c last turns j k P w old new p q had told) where
+    {had told : ThreadWords} (s : Turn false c last turns j k P w old new p q had told) where
   pub deed_outside : (x : Command) (answer : Result Reply Fault) → deed_at turns p x old answer new
       → deed turns p.names x old answer new
   deed_outside x answer d =
-      subst (λ os. by_region os (deed turns p.names x) (deed_within p x) old answer new) s.stands.outside d
-
-  -- E19 of a command of a region
-  critical_step : (x : Command) → j ≡ k → (answer : Result Reply Fault) → Keeps x (Err InCritical)
-      → (answer ≡ Err InCritical) × (new ≡ old) → Steps s x answer (Err InCritical, w)
-  critical_step x one answer keeps d = kept_step s x answer P w (Err InCritical) (Err InCritical)
-      (nothing_then s d.1 (at_most one)) d.0 keeps keeps (λ line. refl)
+      subst (λ os. by_region os (deed turns p.names x) (deed_within p x) old answer new) s.region d
 
   one_step : (x : Command) → j ≡ left_before x k → (answer : Result Reply Fault) → MakesNoCopy x
       → deed turns p.names x old answer new → said_alone p.names had x old.pass.seen answer new.pass.seen
       → IfErr answer (IsAloneFault new.pass)
       → Steps s x answer (meaning.outside c q.names told x w)
   one_step (commands.Make make.Plain n) one answer covered d said fault = plain_step s one n answer fault d
-  one_step (commands.Make make.Wait n) one answer covered d said fault = wait_step s one n answer said d
+  one_step (commands.Make make.Wait n) one answer covered d said fault = wait_step s (at_most one) n answer said d
   one_step (commands.MakeFrom make_from.Global n r) one answer covered d said fault =
       global_step s one n r answer fault d
   one_step (commands.MakeFrom make_from.Weak n r) one answer covered d said fault = weak_step s one n r answer fault d
@@ -107,7 +96,7 @@ module _ {c : Config} {last turns j k : ℕ} {P : Pairing} {w : World} {old new 
   one_step (commands.MakeSized v n len) one answer covered d said fault = sized_step s one v n len answer fault d
   one_step (commands.MakeText v n units) one answer covered d said fault = text_step s one v n units answer fault d
   one_step (commands.MakeFilled v n len r) one answer covered d said fault = filled_step s one v n len r answer fault d
-  one_step (commands.OnName on_name.Post n) one answer covered d said fault = post_step s one n answer d
+  one_step (commands.OnName on_name.Post n) one answer covered d said fault = post_step s (at_most one) n answer d
   one_step (commands.WithCount with_count.Push n) one answer covered d said fault = push_step s one n answer fault d
   one_step (commands.WithCount with_count.Ensure n) one answer covered d said fault = ensure_step s one n answer fault d
   one_step (commands.On on.Len r) one answer covered d said fault = len_step s one r answer fault d
@@ -125,33 +114,39 @@ module _ {c : Config} {last turns j k : ℕ} {P : Pairing} {w : World} {old new 
   one_step (commands.Release release.Elements n r mode) one answer covered d said fault =
       release_step s one n r answer mode fault d
   one_step (commands.OnNameAt on_name_at.GetInLevel n i) one answer covered d said fault =
-      critical_step (commands.OnNameAt on_name_at.GetInLevel n i) one answer (λ names os ws. (refl, refl, refl)) d
+      still_step s (commands.OnNameAt on_name_at.GetInLevel n i) answer (Err InCritical) (at_most one) d
+      (λ place ws. (refl, refl))
   one_step (commands.PutAt put_at.PutInLevel n i z) one answer covered d said fault =
-      critical_step (commands.PutAt put_at.PutInLevel n i z) one answer (λ names os ws. (refl, refl, refl)) d
+      still_step s (commands.PutAt put_at.PutInLevel n i z) answer (Err InCritical) (at_most one) d
+      (λ place ws. (refl, refl))
+  one_step (commands.CloseLevel v mode) one answer covered d said fault =
+      still_step s (commands.CloseLevel v mode) answer (Err InCritical) (at_most one) d
+      (λ place ws. (refl, refl))
+  one_step (commands.OpenLevel v n r) one answer covered d said fault = open_step s one v n r answer fault d
   one_step x one answer covered d said fault = absurd covered
 
-  copy_step : (x : Command) → j ≡ left_before x k → (answer : Result Reply Fault) → IsSteady x
+  copy_step : (x : Command) → j ≡ left_before x k → (answer : Result Reply Fault)
       → deed turns p.names x old answer new → said_alone p.names had x old.pass.seen answer new.pass.seen
       → IfErr answer (IsAloneFault new.pass) → (rest : List Bool)
       → w.memory ≡ memory_shown x answer ++ rest → Steps s x answer (meaning.outside c q.names told x w)
-  copy_step (commands.MakeFrom make_from.Elements n r) one answer covered d said fault rest memory =
+  copy_step (commands.MakeFrom make_from.Elements n r) one answer d said fault rest memory =
       elems_step s one n r answer fault (ap next_found memory) d
-  copy_step (commands.On on.Chars r) one answer covered d said fault rest memory =
+  copy_step (commands.On on.Chars r) one answer d said fault rest memory =
       chars_step s one r answer fault (ap next_found memory) d
-  copy_step x one answer covered d said fault rest memory = one_step x one answer covered d said fault
+  copy_step x one answer d said fault rest memory = one_step x one answer tt d said fault
 
   at_place : (x : Command) (answer : Result Reply Fault) → Steps s x answer (meaning.outside c q.names told x w)
       → Steps s x answer (meaning_at c q told q.objects x w)
   at_place x answer steps =
-      subst (λ os. Steps s x answer (meaning_at c q told os x w)) (sym s.stands.outside_then) steps
+      subst (λ os. Steps s x answer (meaning_at c q told os x w)) (sym (outside_then s)) steps
 
 -- ONE COMMAND, as it means
 pub step : {c : Config} {last turns k : ℕ} {P : Pairing} {w : World} {old new : ThreadState} {p q : Place}
-    {had told : ThreadWords} (x : Command) (s : Turn c last turns (left_before x k) k P w old new p q had told)
-    (answer : Result Reply Fault) → IsSteady x → deed_at turns p x old answer new
+    {had told : ThreadWords} (x : Command) (s : Turn false c last turns (left_before x k) k P w old new p q had told)
+    (answer : Result Reply Fault) → deed_at turns p x old answer new
     → said_alone p.names had x old.pass.seen answer new.pass.seen
     → IfErr answer (IsAloneFault new.pass) → (rest : List Bool)
     → w.memory ≡ memory_shown x answer ++ rest
     → Stepped c last k x new p q had told answer (meaning_at c q told q.objects x w)
-step x s answer covered d said fault rest memory =
-    at_place s x answer (copy_step s x refl answer covered (deed_outside s x answer d) said fault rest memory)
+step x s answer d said fault rest memory =
+    at_place s x answer (copy_step s x refl answer (deed_outside s x answer d) said fault rest memory)

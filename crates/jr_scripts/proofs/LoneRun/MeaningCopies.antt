@@ -235,8 +235,7 @@ all_overwritten done (v ∷ vs) (w ∷ ws) long =
     ap (λ l. overwritten l (length done + 1) vs) (set-append_seam done w ws v ∙ sym (append_assoc done (v ∷ []) ws))
     ∙ (ap (λ n. overwritten (done ++ v ∷ [] ++ ws) n vs) (sym (length-append done (v ∷ [])))
     ∙ (all_overwritten (done ++ v ∷ []) vs ws (omega arith) ∙ append_assoc done (v ∷ []) vs))
-all_overwritten done [] (w ∷ ws) long = absurd (omega arith)
-all_overwritten done (v ∷ vs) [] long = absurd (omega arith)
+all_overwritten done _ _ long = absurd (omega arith)
 
 -- what is put at a key twice stands there as the last
 put_twice : {X : Type 0} (f : ℕ → X) (k : ℕ) (x y : X)

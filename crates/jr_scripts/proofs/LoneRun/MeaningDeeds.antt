@@ -192,13 +192,8 @@ binding_later {P} {Q} {w} {v} l (bound.Reference h) (bound.Reference g) fits = g
       is.1
           ∙ ap handle_word (sym (l.handles i is.0)),
     )
-binding_later l bound.Nothing (bound.Reference g) fits = absurd fits
-binding_later l bound.Nothing (bound.Buffer b) fits = absurd fits
-binding_later l (bound.Reference h) bound.Nothing fits = absurd fits
-binding_later l (bound.Reference h) (bound.Buffer b) fits = absurd fits
 binding_later l (bound.Buffer b) (bound.Buffer d) fits = fits
-binding_later l (bound.Buffer b) bound.Nothing fits = absurd fits
-binding_later l (bound.Buffer b) (bound.Reference g) fits = absurd fits
+binding_later l _ _ fits = absurd fits
 
 pub names_stay : {P Q : Pairing} {w v : World} → HandlesStay P w Q v → (names names' : Names)
     → NamesFit P w names names' → NamesFit Q v names names'
@@ -250,8 +245,7 @@ pub words_stay : {P Q : Pairing} {w v : World} → HandlesStay P w Q v → (xs y
     → WordsFit Q v xs ys
 words_stay l [] [] fits = tt
 words_stay l (x ∷ xs) (y ∷ ys) fits = (fits.0, handle_stays l x.1 y.1 fits.1, words_stay l xs ys fits.2)
-words_stay l [] (y ∷ ys) fits = absurd fits
-words_stay l (x ∷ xs) [] fits = absurd fits
+words_stay l _ _ fits = absurd fits
 
 pub words_later : {P Q : Pairing} {w v : World} → Later P w Q v → (xs ys : ThreadWords) → WordsFit P w xs ys
     → WordsFit Q v xs ys
@@ -274,15 +268,13 @@ word_under_fits P w (x ∷ xs) (y ∷ ys) n fits =
         → MaybeWord P w (cond b (Some x.1) (word_under xs n)) (cond b (Some y.1) (word_under ys n))
     go true rest = fits.1
     go false rest = rest
-word_under_fits P w [] (y ∷ ys) n fits = absurd fits
-word_under_fits P w (x ∷ xs) [] n fits = absurd fits
+word_under_fits P w _ _ n fits = absurd fits
 
 words_put : (P : Pairing) (w : World) (xs ys : ThreadWords) (n : List ℕ) (a b : ℕ) → WordsFit P w xs ys
     → HandleFits P w a b → WordsFit P w (xs ++ (n, a) ∷ []) (ys ++ (n, b) ∷ [])
 words_put P w [] [] n a b fits one = (refl, one, tt)
 words_put P w (x ∷ xs) (y ∷ ys) n a b fits one = (fits.0, fits.1, words_put P w xs ys n a b fits.2 one)
-words_put P w [] (y ∷ ys) n a b fits one = absurd fits
-words_put P w (x ∷ xs) [] n a b fits one = absurd fits
+words_put P w _ _ n a b fits one = absurd fits
 
 -- one more word, where none stands under the name
 pub words_with_fit : (P : Pairing) (w : World) (xs ys : ThreadWords) (n : List ℕ) (a b : ℕ) → WordsFit P w xs ys
@@ -293,21 +285,15 @@ words_with_fit P w xs ys n a b fits one = go (word_under xs n) (word_under ys n)
         → WordsFit P w (cond (is_some x) xs (xs ++ (n, a) ∷ [])) (cond (is_some y) ys (ys ++ (n, b) ∷ []))
     go None None same = words_put P w xs ys n a b fits one
     go (Some x) (Some y) same = fits
-    go None (Some y) same = absurd same
-    go (Some x) None same = absurd same
+    go _ _ same = absurd same
 
 -- the word that is posted for a name
 pub posted_fits : (P : Pairing) (w : World) (s t : Binding) → BindingFits P w s t
     → HandleFits P w (word_of_reference s) (word_of_reference t)
 posted_fits P w bound.Nothing bound.Nothing fits = refl
 posted_fits P w (bound.Reference h) (bound.Reference g) fits = fits
-posted_fits P w bound.Nothing (bound.Reference g) fits = absurd fits
-posted_fits P w bound.Nothing (bound.Buffer b) fits = absurd fits
-posted_fits P w (bound.Reference h) bound.Nothing fits = absurd fits
-posted_fits P w (bound.Reference h) (bound.Buffer b) fits = absurd fits
 posted_fits P w (bound.Buffer b) (bound.Buffer d) fits = refl
-posted_fits P w (bound.Buffer b) bound.Nothing fits = absurd fits
-posted_fits P w (bound.Buffer b) (bound.Reference g) fits = absurd fits
+posted_fits P w _ _ fits = absurd fits
 
 -- the word of a handle is not NULL
 not_null : (h : HandleParts) → IsHandle h → handle_word h ≢ 0

@@ -140,8 +140,7 @@ ref_there means n kind None l other fits there = go l fits there
   where
     go : (l : Found) → RefFits means n kind None l → l ≢ Stale → false ≡ same_kind other kind
     go Stale fits there = absurd (there refl)
-    go (Object p) fits there = absurd fits
-    go Cleared fits there = absurd fits
+    go _ fits there = absurd fits
 ref_there means n kind (Some r) Stale other fits there = absurd fits
 
 -- THE FRAMES ARE THOSE of the world, of which there are n references. Though k times more some are given up, each free
@@ -192,8 +191,7 @@ pub record ObjectsFit (c : Config) (object : ℕ → ℕ) (objects : List (Optio
 pub both_there : (object : ℕ → ℕ) (n : List (Option Contents)) (x y : Option Contents) → ContentsFit object n x y
     → IsSome x × IsSome y
 both_there object n (Some x) (Some y) fits = (refl, refl)
-both_there object n None y fits = absurd fits
-both_there object n (Some x) None fits = absurd fits
+both_there object n _ _ fits = absurd fits
 
 -- what is meant stays so
 pub element_later : {object object' : ℕ → ℕ} (n k : List (Option Contents))
@@ -217,8 +215,7 @@ pub each_later : {object object' : ℕ → ℕ} (n k : List (Option Contents))
     → ((o : ℕ) → IsStanding n o → IsStanding k o) → ((o : ℕ) → IsStanding n o → object' o ≡ object o)
     → (x y : Option Contents) → ContentsFit object n x y → ContentsFit object' k x y
 each_later n k stay same (Some x) (Some y) fits = contents_later n k stay same fits
-each_later n k stay same None y fits = absurd fits
-each_later n k stay same (Some x) None fits = absurd fits
+each_later n k stay same _ _ fits = absurd fits
 
 -- as many are there as stand, and what is counted of each comes to the same
 pub all_counted : {c : Config} {object : ℕ → ℕ} {objects : List (Option Contents)} {there : ℕ → Option Contents}
@@ -243,8 +240,7 @@ counted {object = object} {objects = objects} f =
   where
     same : (x y : Option Contents) → ContentsFit object objects x y → bit (is_some y) ≡ bit (is_some x)
     same (Some x) (Some y) fits = refl
-    same None y fits = absurd fits
-    same (Some x) None fits = absurd fits
+    same _ _ fits = absurd fits
 
 -- THE MOMENT IS AS THE WORLD
 pub record Fits (c : Config) (last k : ℕ) (P : Pairing) (w : World) (m : Moment) : Type 0 where
@@ -441,8 +437,7 @@ module _ (c : Config) (last : ℕ) where
       → Means {A = Unit {0}} {B = Unit {0}} k k IsDone P w (refuse_if b e) (λ v. (refused_if d e, v))
   test_means true true e same = decided_means {V = IsDone} (Err e) (Err e) refl
   test_means false false e same = decided_means {V = IsDone} (Ok tt) (Ok tt) tt
-  test_means true false e same = absurd cc
-  test_means false true e same = absurd cc
+  test_means _ _ e same = absurd cc
 
   -- an answer that is given, and what follows
   pub given_means : {A B C : Type 0} {V : Fitting B C} {P : Pairing} {w : World} {y : A} {next : A → Call B}
@@ -505,8 +500,7 @@ module _ (c : Config) (last : ℕ) where
           record { pairing = o.pairing; later = o.later; fits = o.fits; answers = (o.answers, is) }
       go n (Err e) (Err d, v) is o =
           record { pairing = o.pairing; later = o.later; fits = o.fits; answers = o.answers }
-      go n (Ok x) (Err d, v) is o = absurd o.answers
-      go n (Err e) (Ok y, v) is o = absurd o.answers
+      go n _ _ is o = absurd o.answers
 
   -- the answer in another form
   pub form_means : {A B C : Type 0} {V : Fitting A C} {U : Fitting B C} {P : Pairing} {w : World} {p : Call A}

@@ -126,8 +126,7 @@ module _ (P : Pairing) {n : ℕ} (once : (i j : ℕ) → i < n → j < n → P.h
           (cond (not d) (r ∷ filter (other_than (P.handle i)) rs) (filter (other_than (P.handle i)) rs))
       go true true e less = less
       go false false e less = one_local below same local less
-      go true false e less = absurd cc
-      go false true e less = absurd cc
+      go _ _ e less = absurd cc
 
   pub frames_less : {fs : List (List ℕ)} {gs : List (List LocalRef)} → AreFrames P n fs gs
       → AreFrames P n (map (filter (λ j. not (j == i))) fs) (map (filter (other_than (P.handle i))) gs)

@@ -1,8 +1,7 @@
--- How a lone thread stands in a critical region, beside what its script means.
-use Rattle.std.proofs.Common.{◌≡◌, ◌≢◌, ◌⊎◌, inl, inr, ℕ, zero, suc, List, [], ◌∷◌, ◌++◌, map, length, Result}
+-- The levels of a lone thread's critical region, beside those that are meant.
+use Rattle.std.proofs.Common.{◌≡◌, ◌≢◌, ◌⊎◌, inl, inr, ℕ, zero, suc, List, [], ◌∷◌, ◌++◌, map, length}
 use Rattle.std.proofs.Common.{refl, sym, ap, ◌∙◌}
 use Rattle.jr_word.specs.declared.config.Config.{Config}
-use Rattle.jr_word.specs.declared.fault.Fault.{Fault}
 use Rattle.jr_model.specs.declared.event.Act.{Act}
 use Rattle.jr_model.specs.declared.event.Act.TheVariants.{Gate}
 use Rattle.jr_model.specs.declared.event.GateAct.TheVariants.{Announce, Cancel, Enter, Knock, Leave, Reopen, Shut}
@@ -10,20 +9,13 @@ use Rattle.jr_model.specs.declared.event.GateAct.TheVariants.{Withdraw}
 use Rattle.jr_model.specs.declared.event.Role.TheVariants.{Within}
 use Rattle.jr_model.specs.State.{State}
 use Rattle.jr_model.specs.Steps.{ActNeeds, act_after}
-use Rattle.jr_model.specs.History.{by, state, state_from, IsLegalFrom}
+use Rattle.jr_model.specs.History.{by, state_from, IsLegalFrom}
 use Rattle.jr_model.specs.OpenStays.{NoneLeaves}
-use Rattle.jr_gate.specs.Performing.{ThreadState}
-use Rattle.jr_syntax.specs.declared.command.Command.{Command}
-use Rattle.jr_scripts.specs.declared.reply.Reply.{Reply}
-use Rattle.jr_scripts.specs.Places.{Place, all_but_last, nth_object, place_after}
-use Rattle.jr_scripts.specs.Posting.{ThreadWords, words_after}
-use Rattle.jr_scripts.specs.Text.{printed}
+use Rattle.jr_scripts.specs.Places.{all_but_last, nth_object}
 use Rattle.jr_scripts.specs.Meaning.{World}
 use Rattle.jr_scripts.proofs.LoneRun.MeaningFrames.{Pairing}
-use Rattle.jr_scripts.proofs.LoneRun.MeaningFits.{Fits, Later}
+use Rattle.jr_scripts.proofs.LoneRun.MeaningFits.{Later}
 use Rattle.jr_scripts.proofs.LoneRun.MeaningParts.{ObjectFits, object_later}
-use Rattle.jr_scripts.proofs.LoneRun.MeaningDeeds.{IsPass, NamesFit, WordsFit, now}
-use Rattle.jr_scripts.proofs.LoneRun.MeaningStands.{Stands}
 
 -- THE OBJECTS OF LEVELS are those that are meant
 abbrev pub AreLevels : Pairing → World → List ℕ → List ℕ → Type 0
@@ -35,33 +27,34 @@ pub levels_later : {P Q : Pairing} {w v : World} → Later P w Q v → (ps os : 
     → AreLevels Q v ps os
 levels_later l [] [] a = tt
 levels_later l (p ∷ ps) (o ∷ os) a = (object_later l a.0, levels_later l ps os a.1)
-levels_later l [] (o ∷ os) a = absurd a
-levels_later l (p ∷ ps) [] a = absurd a
+levels_later l _ _ a = absurd a
 
 pub levels_put : (P : Pairing) (w : World) (ps os : List ℕ) (p o : ℕ) → AreLevels P w ps os → ObjectFits P w p o
     → AreLevels P w (ps ++ p ∷ []) (os ++ o ∷ [])
 levels_put P w [] [] p o a one = (one, tt)
 levels_put P w (x ∷ ps) (y ∷ os) p o a one = (a.0, levels_put P w ps os p o a.1 one)
-levels_put P w [] (y ∷ os) p o a one = absurd a
-levels_put P w (x ∷ ps) [] p o a one = absurd a
+levels_put P w _ _ p o a one = absurd a
 
 pub levels_less : (P : Pairing) (w : World) (ps os : List ℕ) → AreLevels P w ps os
     → AreLevels P w (all_but_last ps) (all_but_last os)
 levels_less P w [] [] a = tt
 levels_less P w (p ∷ []) (o ∷ []) a = tt
 levels_less P w (p ∷ r ∷ ps) (o ∷ u ∷ os) a = (a.0, levels_less P w (r ∷ ps) (u ∷ os) a.1)
-levels_less P w (p ∷ []) (o ∷ u ∷ os) a = absurd a.1
-levels_less P w (p ∷ r ∷ ps) (o ∷ []) a = absurd a.1
 levels_less P w [] (o ∷ os) a = absurd a
 levels_less P w (p ∷ ps) [] a = absurd a
+levels_less P w _ _ a = absurd a.1
 
 pub levels_long : (P : Pairing) (w : World) (ps os : List ℕ) → AreLevels P w ps os → length ps ≡ length os
 levels_long P w [] [] a = refl
 levels_long P w (p ∷ ps) (o ∷ os) a = ap suc (levels_long P w ps os a.1)
-levels_long P w [] (o ∷ os) a = absurd a
-levels_long P w (p ∷ ps) [] a = absurd a
+levels_long P w _ _ a = absurd a
 
 -- none stand in both or in neither
+pub none_too : (P : Pairing) (w : World) (ps os : List ℕ) → AreLevels P w ps os → ps ≡ [] → os ≡ []
+none_too P w [] [] a none = refl
+none_too P w (p ∷ ps) os a none = absurd cc
+none_too P w [] (o ∷ os) a none = absurd a
+
 pub some_too : (P : Pairing) (w : World) (ps os : List ℕ) → AreLevels P w ps os → ps ≢ [] → os ≢ []
 some_too P w [] os a some e = some refl
 some_too P w (p ∷ ps) [] a some e = absurd a
@@ -73,8 +66,7 @@ pub level_at : (P : Pairing) (w : World) (ps os : List ℕ) → AreLevels P w ps
 level_at P w [] [] a l = inr refl
 level_at P w (p ∷ ps) (o ∷ os) a zero = inl a.0
 level_at P w (p ∷ ps) (o ∷ os) a (suc l) = level_at P w ps os a.1 l
-level_at P w [] (o ∷ os) a l = absurd a
-level_at P w (p ∷ ps) [] a l = absurd a
+level_at P w _ _ a l = absurd a
 
 pub some_put : (ps : List ℕ) (p : ℕ) → ps ++ p ∷ [] ≢ []
 some_put [] p e = absurd cc
@@ -104,29 +96,3 @@ module _ (c : Config) (last : ℕ) where
   stays_within s [] w none legal = w
   stays_within s (a ∷ acts) w none legal =
       stays_within (act_after s 0 a) acts (act_within s a w none.0 legal.0.1) none.1 legal.1
-
-module _ (c : Config) (last : ℕ) where
-  -- THE THREAD STANDS IN A REGION as in the world
-  pub record StandsIn (k : ℕ) (P : Pairing) (w : World) (m : ThreadState) (p q : Place) (had told : ThreadWords)
-      : Type 0 where
-    pub pass : IsPass c last m.pass
-    pub fits : Fits c last k P w (now m)
-    pub names : NamesFit P w p.names q.names
-    pub words : WordsFit P w had told
-    pub levels : p.levels ≡ q.levels
-    pub objects : AreLevels P w p.objects q.objects
-    pub some : p.objects ≢ []
-    pub role : (state m.pass.seen).role 0 ≡ Within
-
-  -- it stands outside, or in a region
-  abbrev pub StandsAt : ℕ → Pairing → World → ThreadState → Place → Place → ThreadWords → ThreadWords → Type 0
-  StandsAt k P w m p q had told =
-      (Stands c last k P w m p q had told × (p.levels ≡ q.levels)) ⊎ StandsIn k P w m p q had told
-
-  -- THE COMMAND LED where it means: it printed the same, and the thread stands as in the world then
-  pub record LedTo (k : ℕ) (x : Command) (new : ThreadState) (p q : Place) (had told : ThreadWords)
-      (answer : Result Reply Fault) (r : Result Reply Fault × World) : Type 0 where
-    pub pairing : Pairing
-    pub stands : StandsAt k pairing r.1 new (place_after x answer p) (place_after x r.0 q)
-        (words_after p.names x answer had) (words_after q.names x r.0 told)
-    pub text : (line : ℕ) → printed line x answer ≡ printed line x r.0

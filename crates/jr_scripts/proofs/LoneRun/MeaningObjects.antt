@@ -1,8 +1,7 @@
 -- What a lone thread's calls at objects mean: their lengths and their elements.
 use Rattle.std.proofs.Common.{◌≡◌, ◌≢◌, ℕ, zero, suc, ◌<◌, ◌≤◌, ◌+◌, Bool, true, false, not, nat_lt, nat_le, Option}
 use Rattle.std.proofs.Common.{IsSome, is_some, Some, None, List, [], ◌∷◌, length, map, slice_get, slice_index, Result}
-use Rattle.std.proofs.Common.{Ok, Err, refl}
-use Rattle.std.proofs.Common.{sym, ap, subst, ◌∙◌, arith}
+use Rattle.std.proofs.Common.{Ok, Err, refl, sym, ap, subst, ◌∙◌, arith}
 use Rattle.std.specs.List.{AllByRecursion}
 use Rattle.std.proofs.lemmas.Bool.Decides.{nat_tests}
 use Rattle.std.proofs.lemmas.List.{ext_get_or}
@@ -88,8 +87,7 @@ pub record IsThere (object : ℕ → ℕ) (n : List (Option Contents)) (x y : Op
 is_there : (object : ℕ → ℕ) (n : List (Option Contents)) (x y : Option Contents) → ContentsFit object n x y
     → IsThere object n x y
 is_there object n (Some x) (Some y) fits = record { contents = y; is = refl; alike = fits }
-is_there object n None y fits = absurd fits
-is_there object n (Some x) None fits = absurd fits
+is_there object n _ _ fits = absurd fits
 
 pub there : {c : Config} {last k : ℕ} {P : Pairing} {w : World} {m : Moment} (o : ℕ) → Fits c last k P w m
     → IsStanding w.objects o
@@ -231,8 +229,7 @@ module _ (c : Config) (last k : ℕ) where
       go None None fits is = refused_means c last {next = next} Null
       go (Some p) (Some o) fits is = given_means c last {y = p} {next = next}
           (means_as c last refl (means p o (record { named = fits; wanted = ap (goes_on after) is })))
-      go None (Some o) fits is = absurd fits
-      go (Some p) None fits is = absurd fits
+      go _ _ fits is = absurd fits
 
   -- what follows for an object that is wanted
   pub wanted_means : {A B : Type 0} {V : Fitting A B} {next : ℕ → Call A} (then : ℕ × Contents → Meaning B)

@@ -59,8 +59,7 @@ pub option_later : {P Q : Pairing} {w v : World} → Later P w Q v → (x y : Op
     → OptionFits Q v x y
 option_later l None None fits = tt
 option_later l (Some p) (Some o) fits = object_later l fits
-option_later l None (Some o) fits = absurd fits
-option_later l (Some p) None fits = absurd fits
+option_later l _ _ fits = absurd fits
 
 -- what a reference is to stays so
 pub ref_later : (means means' : ℕ → ℕ) (n k : List (Option Contents)) (kind : RefKind) (r : Option Ref) (l : Found)
@@ -70,9 +69,7 @@ ref_later means means' n k kind None Stale stay same fits = tt
 ref_later means means' n k kind (Some r) (Object p) stay same fits =
     (fits.0, fits.1, fits.2, stay fits.1 fits.3, same fits.1 fits.3 ∙ fits.4)
 ref_later means means' n k kind (Some r) Cleared stay same fits = fits
-ref_later means means' n k kind None (Object p) stay same fits = absurd fits
-ref_later means means' n k kind None Cleared stay same fits = absurd fits
-ref_later means means' n k kind (Some r) Stale stay same fits = absurd fits
+ref_later means means' n k kind _ _ stay same fits = absurd fits
 
 module _ (c : Config) (last k : ℕ) where
   -- ROOM FOR LOCAL REFERENCES

@@ -19,7 +19,7 @@ use Rattle.jr_model.specs.Steps.{ActNeeds, IsInRow, act_after}
 use Rattle.jr_model.specs.Frames.{object_of}
 use Rattle.jr_model.specs.History.{by, state_from, IsLegalFrom}
 use Rattle.jr_model.specs.Calls.{Call, ◌>>◌, act, one_of, refuse}
-use Rattle.jr_model.specs.Checks.{Word, Nothing, Malformed, Parts, is_local, is_malformed, is_of_kind, is_out_of_bounds}
+use Rattle.jr_model.specs.Checks.{Word, Nothing, Parts, is_local, is_malformed, is_of_kind, is_out_of_bounds}
 use Rattle.jr_model.specs.Parts.{create, created, created_with, delete, delete_at, delete_found, probes}
 use Rattle.jr_model.specs.References as references
 use Rattle.jr_model.proofs.Counts.{bit, count_all_false}
@@ -357,8 +357,7 @@ module _ (c : Config) (last k : ℕ) where
   new_global_means kind row P w None None fits = done_means c last {V = MaybeFits} None 0 tt
   new_global_means kind row P w (Some p) (Some o) fits = form_means c last {V = NewFits} {U = MaybeFits} (λ h. Some h)
       (create_means kind P w o p fits row) new_maybe
-  new_global_means kind row P w None (Some o) fits = absurd fits
-  new_global_means kind row P w (Some p) None fits = absurd fits
+  new_global_means kind row P w _ _ fits = absurd fits
 
   -- NEWGLOBALREF and NEWWEAKGLOBALREF
   pub reference_means : (kind : RefKind) → kind ≢ Local → (P : Pairing) (w : World) (a : Word) (g : ℕ) → 1 ≤ c.threads
@@ -480,9 +479,7 @@ module _ (c : Config) (last k : ℕ) where
             deleted h is other m n x f (delete_found h (m.state.refs h)) r (λ e. let bad = sym found ∙ e in cc) d
         go m n x f r (Some s) Cleared found fits d =
             deleted h is other m n x f (delete_found h (m.state.refs h)) r (λ e. let bad = sym found ∙ e in cc) d
-        go m n x f r (Some s) Stale found fits d = absurd fits
-        go m n x f r None (Object q) found fits d = absurd fits
-        go m n x f r None Cleared found fits d = absurd fits
+        go m n x f r _ _ found fits d = absurd fits
 
   -- DELETEGLOBALREF and DELETEWEAKGLOBALREF
   pub delete_reference_means : (kind : RefKind) → kind ≢ Local → (P : Pairing) (w : World) (a : Word) (g : ℕ)
@@ -500,7 +497,4 @@ module _ (c : Config) (last k : ℕ) where
       here Nothing zero fits same = spent_nothing c last k
       here (Parts h) (suc i) fits same = delete_row_means P w i fits.0 h fits.1
           (λ e. row (kind_true kind h.kind same ∙ e))
-      here Nothing (suc i) fits same = absurd fits
-      here Malformed zero fits same = absurd fits
-      here Malformed (suc i) fits same = absurd fits
-      here (Parts h) zero fits same = absurd fits
+      here _ _ fits same = absurd fits

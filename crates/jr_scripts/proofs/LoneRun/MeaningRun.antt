@@ -1,7 +1,7 @@
 -- The text of a run is what its script means.
 use Rattle.std.proofs.Common.{◌≡◌, ◌≢◌, ℕ, zero, suc, ◌<◌, ◌≤◌, ◌+◌, ◌^◌, Bool, true, false, cond, Option, is_some}
 use Rattle.std.proofs.Common.{List, [], ◌∷◌, ◌++◌, map, length, replicate, get_or, Result, Ok, IfErr, refl, sym, ap}
-use Rattle.std.proofs.Common.{inl, inr, subst, ◌∙◌, arith, append_assoc}
+use Rattle.std.proofs.Common.{subst, ◌∙◌, arith, append_assoc}
 use Rattle.std.proofs.lemmas.List.{length-replicate}
 use Rattle.std.specs.FinMap.{get-empty}
 use Rattle.std.specs.List.{AllByRecursion, filter}
@@ -50,8 +50,8 @@ use Rattle.jr_scripts.proofs.LoneRun.MeaningScopes.{SameTables, drops_keep}
 use Rattle.jr_scripts.proofs.LoneRun.MeaningDeeds.{BindingFits, IsPass, call_made, made_once, now}
 use Rattle.jr_scripts.proofs.LoneRun.MeaningCommands.{memory_left, memory_shown}
 use Rattle.jr_scripts.proofs.LoneRun.EachCommand.{ended_at, step_at}
-use Rattle.jr_scripts.proofs.LoneRun.MeaningLevels.{AreLevels, LedTo, StandsAt, levels_later}
-use Rattle.jr_scripts.proofs.LoneRun.MeaningStands.{Stands, left_before, left_then}
+use Rattle.jr_scripts.proofs.LoneRun.MeaningLevels.{AreLevels, levels_later}
+use Rattle.jr_scripts.proofs.LoneRun.MeaningStands.{Stands, Stepped, left_before, left_then}
 
 -- ONE COMMAND MORE
 told_snoc : (c : Config) (line : ℕ) (before : List Command) (x : Command) (t : Told)
@@ -146,7 +146,7 @@ module _ (c : Config) (last turns : ℕ) (one : c.threads ≡ 1) (some_turns : t
   record IsTold (memory rest : List Bool) (k : ℕ) (commands : List Command) (text : List ℕ) (new : ThreadState)
       (place : Place) (words : ThreadWords) : Type 0 where
     pub pairing : Pairing
-    pub stands : StandsAt c last k pairing (told_from c 3 commands (first_told memory)).world new place
+    pub stands : Stands c last k pairing (told_from c 3 commands (first_told memory)).world new place
         (told_from c 3 commands (first_told memory)).place words (told_from c 3 commands (first_told memory)).words
     pub text_is : text ≡ (told_from c 3 commands (first_told memory)).text
     pub left : (told_from c 3 commands (first_told memory)).world.memory ≡ rest
@@ -155,32 +155,10 @@ module _ (c : Config) (last turns : ℕ) (one : c.threads ≡ 1) (some_turns : t
   record TellsSo (k : ℕ) (t : Told) (text : List ℕ) (new : ThreadState) (place : Place)
       (words : ThreadWords) : Type 0 where
     pub pairing : Pairing
-    pub stands : StandsAt c last k pairing t.world new place t.place words t.words
+    pub stands : Stands c last k pairing t.world new place t.place words t.words
     pub text_is : text ≡ t.text
 
   -- what is to come of memory is nothing of how a thread stands
-  remembers : {k : ℕ} {P : Pairing} {w : World} {m : ThreadState} {p q : Place} {had told : ThreadWords}
-      (memory : List Bool) → Stands c last k P w m p q had told
-      → Stands c last k P (record w { memory = memory }) m p q had told
-  remembers memory s =
-      let f = s.fits in
-      record {
-        pass = s.pass;
-        fits = record {
-          refs = f.refs;
-          locals = f.locals;
-          slots = f.slots;
-          objects = f.objects;
-          used = f.used;
-          space = f.space;
-          agree = f.agree;
-        };
-        names = s.names;
-        outside = s.outside;
-        outside_then = s.outside_then;
-        words = s.words;
-      }
-
   remembers_levels : (P : Pairing) (w : World) (ps os : List ℕ) (memory : List Bool) → AreLevels P w ps os
       → AreLevels P (record w { memory = memory }) ps os
   remembers_levels P w ps os memory a = levels_later {P = P} {Q = P} {w = w} {v = record w { memory = memory }}
@@ -191,13 +169,12 @@ module _ (c : Config) (last turns : ℕ) (one : c.threads ≡ 1) (some_turns : t
         objects_stay = λ o l. l;
       }) ps os a
 
-  remembers_at : {k : ℕ} {P : Pairing} {w : World} {m : ThreadState} {p q : Place} {had told : ThreadWords}
-      (memory : List Bool) → StandsAt c last k P w m p q had told
-      → StandsAt c last k P (record w { memory = memory }) m p q had told
-  remembers_at {k} {P} {w} {m} {p} {q} memory (inl (s, levels)) = inl (remembers memory s, levels)
-  remembers_at {k} {P} {w} {m} {p} {q} memory (inr s) =
+  remembers : {k : ℕ} {P : Pairing} {w : World} {m : ThreadState} {p q : Place} {had told : ThreadWords}
+      (memory : List Bool) → Stands c last k P w m p q had told
+      → Stands c last k P (record w { memory = memory }) m p q had told
+  remembers {k} {P} {w} {m} {p} {q} memory s =
       let f = s.fits in
-      inr (record {
+      record {
         pass = s.pass;
         fits = record {
           refs = f.refs;
@@ -212,25 +189,24 @@ module _ (c : Config) (last turns : ℕ) (one : c.threads ≡ 1) (some_turns : t
         words = s.words;
         levels = s.levels;
         objects = remembers_levels P w p.objects q.objects memory s.objects;
-        some = s.some;
         role = s.role;
-      })
+      }
 
   tells_so : (k : ℕ) (t : Told) (line : ℕ) (x : Command) (answer : Result Reply Fault) (text : List ℕ)
       (new : ThreadState) (place : Place) (words : ThreadWords) → text ≡ t.text
-      → LedTo c last k x new place t.place words t.words answer
+      → Stepped c last k x new place t.place words t.words answer
       (meaning_at c t.place t.words t.place.objects x t.world)
       → TellsSo k (told_after c line x t) (text ++ printed line x answer) new (place_after x answer place)
       (words_after place.names x answer words)
   tells_so k t line x answer text new place words is stepped =
       go (meaning_at c t.place t.words t.place.objects x t.world) stepped
     where
-      go : (r : Result Reply Fault × World) → LedTo c last k x new place t.place words t.words answer r
+      go : (r : Result Reply Fault × World) → Stepped c last k x new place t.place words t.words answer r
           → TellsSo k (tells line x t r) (text ++ printed line x answer) new (place_after x answer place)
           (words_after place.names x answer words)
       go (b, v) s = record {
         pairing = s.pairing;
-        stands = remembers_at (memory_after x t.world.memory) s.stands;
+        stands = remembers (memory_after x t.world.memory) s.stands;
         text_is = ap (λ z. z ++ printed line x answer) is ∙ ap (λ z. t.text ++ z) (s.text line);
       }
 
@@ -245,19 +221,17 @@ module _ (c : Config) (last turns : ℕ) (one : c.threads ≡ 1) (some_turns : t
       → (rest : List Bool) → IsTold (memory_of e ++ rest) rest k commands text new place words
   all_told k commands le text new place words nothing answers alone all rest = record {
     pairing = first_pairing;
-    stands = inl (
-      record {
-        pass = record { config = refl; last_is = refl; thread = refl };
-        fits = opening_fits rest k (omega arith);
-        names = λ n. subst (λ (o : Option Binding). BindingFits first_pairing (first_world rest) (or_nothing o)
-            (or_nothing o))
-            (sym (get-empty name_order n)) tt;
-        outside = refl;
-        outside_then = refl;
-        words = tt;
-      },
-      refl,
-    );
+    stands = record {
+      pass = record { config = refl; last_is = refl; thread = refl };
+      fits = opening_fits rest k (omega arith);
+      names = λ n. subst (λ (o : Option Binding). BindingFits first_pairing (first_world rest) (or_nothing o)
+          (or_nothing o))
+          (sym (get-empty name_order n)) tt;
+      words = tt;
+      levels = refl;
+      objects = tt;
+      role = λ some. absurd (some refl);
+    };
     text_is = refl;
     left = refl;
   }
@@ -280,7 +254,7 @@ module _ (c : Config) (last turns : ℕ) (one : c.threads ≡ 1) (some_turns : t
       (place_after x answer stood) (words_after stood.names x answer had))
       (sym (append_assoc (memory_of done) (memory_shown x answer) rest)) (record {
         pairing = so.pairing;
-        stands = subst (λ (z : Told). StandsAt c last k so.pairing z.world new (place_after x answer stood) z.place
+        stands = subst (λ (z : Told). Stands c last k so.pairing z.world new (place_after x answer stood) z.place
             (words_after stood.names x answer had) z.words) (sym whole) so.stands;
         text_is = so.text_is ∙ ap (λ (z : Told). z.text) (sym whole);
         left = ap (λ (z : Told). z.world.memory) whole ∙ (tells_left (3 + length before) x t

@@ -16,8 +16,7 @@ use Rattle.jr_model.specs.declared.frames.TheConstants.{FRAMES}
 use Rattle.jr_model.specs.State.{Handle, State, same_handle, same_kind}
 use Rattle.jr_model.specs.Steps.{act_after}
 use Rattle.jr_model.specs.Frames.{AreTheLocals, Frames, all_refs, drop_all, frames_before, free_places, is_held, joined}
-use Rattle.jr_model.specs.Frames.{last_frame}
-use Rattle.jr_model.specs.Frames.{object_of, object_where, popped, pushed}
+use Rattle.jr_model.specs.Frames.{last_frame, object_of, object_where, popped, pushed}
 use Rattle.jr_model.specs.History.{by, state_from}
 use Rattle.jr_model.specs.Calls.{Call, ◌>>◌, refuse_if}
 use Rattle.jr_model.specs.Checks.{Word, is_local}
@@ -395,8 +394,7 @@ module _ (c : Config) (last k : ℕ) where
     popping_means (Some p) (Some o) fits = guard_means c last k {V = MaybeFits}
         (λ f. free_places last (popped f) == 0) (λ z. held z == length (newest_frame z.frames) + c.locals) LocalsFull
         (omega arith) (λ m f. after_lacks m f) (λ free. take_and_add (Some p) (Some o) fits)
-    popping_means None (Some o) fits = absurd fits
-    popping_means (Some p) None fits = absurd fits
+    popping_means _ _ fits = absurd fits
 
   -- POPLOCALFRAME
   pub pop_means : (P : Pairing) (w : World) (a : Word) (g : ℕ) → 1 ≤ c.threads → WordFits P w a g

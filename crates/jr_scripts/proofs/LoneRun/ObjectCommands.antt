@@ -1,5 +1,5 @@
 -- What a lone thread's commands that make objects mean.
-use Rattle.std.proofs.Common.{◌≡◌, ℕ, Some, List, [], length, Result, Ok, Err, IfErr, refl, sym, ap, subst, ◌∙◌}
+use Rattle.std.proofs.Common.{◌≡◌, false, ℕ, Some, List, [], length, Result, Ok, Err, IfErr, refl, sym, ap, subst, ◌∙◌}
 use Rattle.std.proofs.Common.{replicate}
 use Rattle.jr_word.specs.declared.config.Config.{Config}
 use Rattle.jr_word.specs.declared.fault.Fault.{Fault}
@@ -39,7 +39,7 @@ use Rattle.jr_scripts.proofs.LoneRun.CommandSteps.{Turn, Steps, CallMeant, made_
 use Rattle.jr_scripts.proofs.LoneRun.CommandSteps.{even, at_most}
 
 module _ {c : Config} {last turns j k : ℕ} {P : Pairing} {w : World} {old new : ThreadState} {p q : Place}
-    {had told : ThreadWords} (s : Turn c last turns j k P w old new p q had told) where
+    {had told : ThreadWords} (s : Turn false c last turns j k P w old new p q had told) where
   -- PLAIN
 
   some_once : (once : Result Handle Fault) (r : Result ℕ Fault × World)
@@ -77,7 +77,7 @@ module _ {c : Config} {last turns j k : ℕ} {P : Pairing} {w : World} {old new 
       ∙ formed_both (λ h. replies.Made (Some h)) packed g.once) in
       let i = called g.once g.did is in
       makes_after s x answer n sets silent quiet (formed Some g.once) (meant w)
-      (record { pass = i.pass; outcome = some_once g.once (meant w) i.outcome })
+      (record { pass = i.pass; outcome = some_once g.once (meant w) i.outcome; role = i.role })
       (is ∙ sym (formed_both (λ h. replies.Made (packed_if h)) Some g.once))
 
   pub plain_step : j ≡ k → (n : List ℕ) (answer : Result Reply Fault)
@@ -86,7 +86,7 @@ module _ {c : Config} {last turns j k : ℕ} {P : Pairing} {w : World} {old new 
       → Steps s (commands.Make make.Plain n) answer (meaning.outside c q.names told (commands.Make make.Plain n) w)
   plain_step one n answer fault d =
       let x = commands.Make make.Plain n in
-      new_step x n answer (λ h names os ws. (refl, refl, refl)) (λ h g. refl) (λ e names os ws. (refl, refl, refl))
+      new_step x n answer (λ h place ws. (refl, refl)) (λ h g. refl) (λ e place ws. (refl, refl))
       (call_by (λ z. z.objects) (λ z l t y. references.new_plain z l t)) (meaning.made c Plain [])
       (λ once d' is. made_call s x answer fault {V = NewFits} (λ h. replies.Made (Some (packed h)))
       old.pass.config.objects (λ z l t y. references.new_plain z l t) (meaning.made c Plain []) once
@@ -101,7 +101,7 @@ module _ {c : Config} {last turns j k : ℕ} {P : Pairing} {w : World} {old new 
       (meaning.outside c q.names told (commands.MakeSized v n len) w)
   sized_step one v n len answer fault d =
       let x = commands.MakeSized v n len in
-      new_step x n answer (λ h names os ws. (refl, refl, refl)) (λ h g. refl) (λ e names os ws. (refl, refl, refl))
+      new_step x n answer (λ h place ws. (refl, refl)) (λ h g. refl) (λ e place ws. (refl, refl))
       (call_by (making_steps len) (λ z l t y. references.new_array z l t (kind_made v) len))
       (meaning.made c (kind_made v) (replicate len 0))
       (λ once d' is. made_call s x answer fault {V = NewFits} (λ h. replies.Made (Some (packed h)))
@@ -119,7 +119,7 @@ module _ {c : Config} {last turns j k : ℕ} {P : Pairing} {w : World} {old new 
       (meaning.outside c q.names told (commands.MakeText v n units) w)
   text_step one v n units answer fault d =
       let x = commands.MakeText v n units in
-      new_step x n answer (λ h names os ws. (refl, refl, refl)) (λ h g. refl) (λ e names os ws. (refl, refl, refl))
+      new_step x n answer (λ h place ws. (refl, refl)) (λ h g. refl) (λ e place ws. (refl, refl))
       (call_by (making_steps (length units)) (λ z l t y. references.new_string z l t units))
       (meaning.made c Text units)
       (λ once d' is. made_call s x answer fault {V = NewFits} (λ h. replies.Made (Some (packed h)))
@@ -139,7 +139,7 @@ module _ {c : Config} {last turns j k : ℕ} {P : Pairing} {w : World} {old new 
       (goes_on (λ h z. (Ok h.0, z)) (wanted (referent q.names r), w)))
       (wanted_step s (commands.MakeFilled v n len r) answer (at_most one)
       (λ h. makes_new turns (new_object_array len h.0))
-      (λ m z. goes_on (λ t u. (Ok (reply_made t), u)) (filled m z)) r (λ e names os ws. (refl, refl, refl)) d found)
+      (λ m z. goes_on (λ t u. (Ok (reply_made t), u)) (filled m z)) r (λ e place ws. (refl, refl)) d found)
     where
       filled : ℕ → Meaning ℕ
       filled m z = goes_on (λ o. meaning.made c Objects (replicate len (element_to o))) (meaning.object m z)
@@ -156,8 +156,8 @@ module _ {c : Config} {last turns j k : ℕ} {P : Pairing} {w : World} {old new 
           (goes_on (λ t u. (Ok (reply_made t), u)) (filled g.0 w))
       found h g same d' =
           let x = commands.MakeFilled v n len r in
-          new_step x n answer (λ z names os ws. (refl, refl, refl)) (λ z y. refl)
-          (λ e names os ws. (refl, refl, refl))
+          new_step x n answer (λ z place ws. (refl, refl)) (λ z y. refl)
+          (λ e place ws. (refl, refl))
           (call_on_by (making_steps len) h.0 (λ z l t y a. references.new_object_array z l t len a)) (filled g.0)
           (λ once d'' is. made_call s x answer fault {V = NewFits} (λ z. replies.Made (Some (packed z)))
           (making_steps len old.pass.config) (λ z l t y. references.new_object_array z l t len d''.0) (filled g.0)

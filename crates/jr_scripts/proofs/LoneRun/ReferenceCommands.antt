@@ -1,7 +1,6 @@
 -- What a lone thread's commands of references mean.
-use Rattle.std.proofs.Common.{◌≡◌, ℕ, zero, suc, Bool, true, None, List, Result, Ok, Err, IfErr, refl, sym, ap, subst}
-use Rattle.std.proofs.Common.{◌∙◌}
-use Rattle.std.proofs.Common.{arith}
+use Rattle.std.proofs.Common.{◌≡◌, ℕ, zero, suc, Bool, true, false, None, List, Result, Ok, Err, IfErr, refl, sym, ap}
+use Rattle.std.proofs.Common.{subst, ◌∙◌, arith}
 use Rattle.jr_word.specs.declared.config.Config.{Config}
 use Rattle.jr_word.specs.declared.fault.Fault.{Fault}
 use Rattle.jr_word.specs.declared.handle.Handle.{Handle as HandleWord}
@@ -10,7 +9,7 @@ use Rattle.jr_word.specs.declared.fault.Fault.TheVariants.{WrongKind}
 use Rattle.jr_word.specs.declared.handle.RefKind.TheVariants.{Local, Global, Weak}
 use Rattle.jr_model.specs.State.{Handle, same_kind}
 use Rattle.jr_model.specs.Calls.{Call}
-use Rattle.jr_model.specs.Checks.{Word, Nothing, Malformed, Parts, is_of_kind}
+use Rattle.jr_model.specs.Checks.{Word, Nothing, Parts, is_of_kind}
 use Rattle.jr_model.specs.References as references
 use Rattle.jr_model.proofs.Updates.{kind_self}
 use Rattle.jr_gate.specs.Performing.{ThreadState}
@@ -41,10 +40,11 @@ use Rattle.jr_scripts.proofs.LoneRun.MeaningFits.{IsDone, IsSame, Means}
 use Rattle.jr_scripts.proofs.LoneRun.MeaningDeeds.{BindingFits, HandleFits, after_decided, formed, made_once, read_fits}
 use Rattle.jr_scripts.proofs.LoneRun.MeaningDeeds.{was_formed}
 use Rattle.jr_scripts.proofs.LoneRun.CommandSteps.{Turn, Steps, kept_step, nothing_then, made_call, word_call}
-use Rattle.jr_scripts.proofs.LoneRun.CommandSteps.{same_after, wanted_step, handles, even, at_most, made_of_step}
+use Rattle.jr_scripts.proofs.LoneRun.CommandSteps.{same_after, still_step, wanted_step, handles, even, at_most}
+use Rattle.jr_scripts.proofs.LoneRun.CommandSteps.{made_of_step}
 
 module _ {c : Config} {last turns j k : ℕ} {P : Pairing} {w : World} {old new : ThreadState} {p q : Place}
-    {had told : ThreadWords} (s : Turn c last turns j k P w old new p q had told) where
+    {had told : ThreadWords} (s : Turn false c last turns j k P w old new p q had told) where
   -- GLOBAL, WEAK and LOCAL
 
   pub global_step : j ≡ k → (n : List ℕ) (r : Reference) (answer : Result Reply Fault)
@@ -112,17 +112,17 @@ module _ {c : Config} {last turns j k : ℕ} {P : Pairing} {w : World} {old new 
           (read_fits P w h.0 g.0 a (handles s) one_of.2 same)
           (read_fits P w u.0 v.0 b (handles s) one_of.3 same'))) (one_of.4).0 f.is in
           same_after s x answer {V = IsSame {A = Bool}} (λ z. replies.Same z) (λ z. replies.Same z) (λ Q z y y' e. ap
-          (λ z. replies.Same z) e) (λ y names os ws. (refl, refl, refl)) (λ y names os ws. (refl, refl, refl))
-          (λ e names os ws. (refl, refl, refl)) f.once (meaning.same g.0 v.0 w) i f.is
+          (λ z. replies.Same z) e) (λ y place ws. (refl, refl)) (λ y place ws. (refl, refl))
+          (λ e place ws. (refl, refl)) f.once (meaning.same g.0 v.0 w) i f.is
 
       pub same_step : deed turns p.names (commands.OnBoth on_both.Same r t) old answer new
           → Steps s (commands.OnBoth on_both.Same r t) answer
           (meaning.outside c q.names told (commands.OnBoth on_both.Same r t) w)
       same_step d =
           wanted_step s (commands.OnBoth on_both.Same r t) answer (at_most one) (λ v. second v) (λ m. second_means m)
-          r (λ e names os ws. (refl, refl, refl)) d
+          r (λ e place ws. (refl, refl)) d
           (λ h g same d'. wanted_step s (commands.OnBoth on_both.Same r t) answer (at_most one) (λ u. compare h u)
-          (λ n. compare_means g.0 n) t (λ e names os ws. (refl, refl, refl)) d'
+          (λ n. compare_means g.0 n) t (λ e place ws. (refl, refl)) d'
           (λ u v same' d''. same_found h g u v same same' d''))
 
   -- DROP
@@ -136,19 +136,14 @@ module _ {c : Config} {last turns j k : ℕ} {P : Pairing} {w : World} {old new 
     where
       all_null : (kind : RefKind) (b : Word) → WordFits P w b 0 → is_of_kind kind b ≡ true
       all_null kind Nothing fits = refl
-      all_null kind Malformed fits = absurd fits
-      all_null kind (Parts h) fits = absurd fits
+      all_null kind _ fits = absurd fits
   of_its_kind word (Parts h) (suc i) once fits d = (h.kind, λ b. all_one b, d)
     where
       all_one : (b : Word) → WordFits P w b (suc i) → is_of_kind h.kind b ≡ true
       all_one (Parts g) is =
           ap (λ (x : Handle). same_kind h.kind x.kind) (is.1 ∙ sym fits.1) ∙ kind_self h.kind
-      all_one Nothing is = absurd is
-      all_one Malformed is = absurd is
-  of_its_kind word Nothing (suc i) once fits d = absurd fits
-  of_its_kind word Malformed zero once fits d = absurd fits
-  of_its_kind word Malformed (suc i) once fits d = absurd fits
-  of_its_kind word (Parts h) zero once fits d = absurd fits
+      all_one _ is = absurd is
+  of_its_kind word _ _ once fits d = absurd fits
 
   module _ (spent : j ≡ suc k) (r : Reference) (answer : Result Reply Fault)
       (fault : IfErr answer (IsAloneFault new.pass)) where
@@ -171,8 +166,8 @@ module _ {c : Config} {last turns j k : ℕ} {P : Pairing} {w : World} {old new 
         (λ a z word. subst (λ n. Means c last n k (IsDone {A = Unit {0}} {B = Unit {0}}) P w (asked c last 0 a)
         (meaning.delete g.0)) (sym spent) (means a word)) one is in
         same_after s x answer {V = IsDone {A = Unit {0}} {B = Unit {0}}} (λ u. replies.Done) (λ u. replies.Done)
-        (λ Q z y y' e. refl) (λ y names os ws. (refl, refl, refl)) (λ y names os ws. (refl, refl, refl))
-        (λ e names os ws. (refl, refl, refl)) once (meaning.delete g.0 w) i is
+        (λ Q z y y' e. refl) (λ y place ws. (refl, refl)) (λ y place ws. (refl, refl))
+        (λ e place ws. (refl, refl)) once (meaning.delete g.0 w) i is
 
     drop_found : (h g : HandleWord) → HandleFits P w h.0 g.0
         → (deletion turns h.0 >>= (λ u. done replies.Done)) old answer new
@@ -202,7 +197,7 @@ module _ {c : Config} {last turns j k : ℕ} {P : Pairing} {w : World} {old new 
     drop_step d =
         wanted_step s (commands.On on.Drop r) answer (omega arith)
         (λ h. deletion turns h.0 >>= (λ u. done replies.Done)) (λ n. drop_meant n) r
-        (λ e names os ws. (refl, refl, refl)) d drop_found
+        (λ e place ws. (refl, refl)) d drop_found
 
   -- TYPE
 
@@ -219,7 +214,7 @@ module _ {c : Config} {last turns j k : ℕ} {P : Pairing} {w : World} {old new 
       let f = was_formed (λ z. replies.Type z) (type_of turns None) old new answer d' in
       kept_step s x answer P w (Ok (replies.Type 0)) (Ok (replies.Type 0))
       (nothing_then s (f.did).1 (at_most one)) (f.is ∙ ap (formed (λ z. replies.Type z)) (f.did).0)
-      (λ names os ws. (refl, refl, refl)) (λ names os ws. (refl, refl, refl)) (λ line. refl)
+      (λ place ws. (refl, refl)) (λ place ws. (refl, refl)) (λ line. refl)
   type_step one r answer fault (bound.Reference h) (bound.Reference g) fits d =
       let x = commands.On on.Type r in
       let d' = after_decided (λ y. type_of turns y >>= (λ z. done (replies.Type z))) old new answer
@@ -230,17 +225,10 @@ module _ {c : Config} {last turns j k : ℕ} {P : Pairing} {w : World} {old new 
       (λ z l t u a. references.get_object_ref_type z l t a) (meaning.type_meant g.0) f.once h.0 g.0 fits
       (λ a z word. even one (type_means c last j P w a g.0 s.some word)) once f.is in
       same_after s x answer {V = IsSame {A = ℕ}} (λ z. replies.Type z) (λ z. replies.Type z) (λ Q z y y' e. ap
-      (λ z. replies.Type z) e) (λ y names os ws. (refl, refl, refl)) (λ y names os ws. (refl, refl, refl))
-      (λ e names os ws. (refl, refl, refl)) f.once (meaning.type_meant g.0 w) i f.is
+      (λ z. replies.Type z) e) (λ y place ws. (refl, refl)) (λ y place ws. (refl, refl))
+      (λ e place ws. (refl, refl)) f.once (meaning.type_meant g.0 w) i f.is
   type_step one r answer fault (bound.Buffer b) (bound.Buffer e) fits d =
-      let x = commands.On on.Type r in
-      let d' = after_decided (λ h. type_of turns h >>= (λ z. done (replies.Type z))) old new answer
-      (reference_in (bound.Buffer b)) d in
-      kept_step s x answer P w (Err WrongKind) (Err WrongKind) (nothing_then s d'.1 (at_most one)) d'.0
-      (λ names os ws. (refl, refl, refl)) (λ names os ws. (refl, refl, refl)) (λ line. refl)
-  type_step one r answer fault bound.Nothing (bound.Reference g) fits d = absurd fits
-  type_step one r answer fault bound.Nothing (bound.Buffer b) fits d = absurd fits
-  type_step one r answer fault (bound.Reference h) bound.Nothing fits d = absurd fits
-  type_step one r answer fault (bound.Reference h) (bound.Buffer b) fits d = absurd fits
-  type_step one r answer fault (bound.Buffer b) bound.Nothing fits d = absurd fits
-  type_step one r answer fault (bound.Buffer b) (bound.Reference g) fits d = absurd fits
+      still_step s (commands.On on.Type r) answer (Err WrongKind) (at_most one)
+      (after_decided (λ h. type_of turns h >>= (λ z. done (replies.Type z))) old new answer
+      (reference_in (bound.Buffer b)) d) (λ place ws. (refl, refl))
+  type_step one r answer fault _ _ fits d = absurd fits

@@ -1,11 +1,16 @@
-use Rattle.std.proofs.Common.{◌≡◌, ap, rules, refl, sym, ◌∙◌}
-use Rattle.jr_syntax.specs.declared.command.Command.TheVariants.{Make, MakeText, OnBoth, Release}
+use Rattle.std.proofs.Common.{◌≡◌, [], inl, inr, ap, rules, refl, sym, ◌∙◌}
+use Rattle.jr_syntax.specs.declared.command.Command.{Command}
+use Rattle.jr_syntax.specs.declared.command.Command.TheVariants.{CloseLevel, Make, MakeText, OnBoth, Release}
 use Rattle.jr_syntax.specs.declared.verb.Release.TheVariants as releases
 use Rattle.jr_syntax.specs.declared.verb.OnBoth.TheVariants.{Same}
 use Rattle.jr_scripts.specs.Commands.{loading, storing}
-use Rattle.jr_env.proofs.Carrying.{did_decided}
+use Rattle.jr_env.proofs.Carrying.{did_decided, does_nothing}
+use Rattle.jr_scripts.specs.Advancing.{answer_without_call}
+use Rattle.jr_scripts.specs.Places.{levels_after, objects_after}
+use Rattle.jr_scripts.specs.Text.{buffers_after}
+use Rattle.jr_scripts.proofs.CopyDeeds.{does_get, does_put}
 use Rattle.jr_scripts.proofs.CommandDeeds.{only_release, only_same, does_stored_as}
-use Rattle.jr_scripts.proofs.Within.{called, left_over, outside, posted, uncalled, waited}
+use Rattle.jr_scripts.proofs.Within.{called, outside, posted, waited}
 use Rattle.jr_scripts.proofs.perform.perform.Goals as goal
 
 pub returns-in-MakeFrom-clause-did : goal.returns-in-MakeFrom-clause-did
@@ -111,11 +116,20 @@ returns-in-OpenLevel-clause-did g c =
     outside c.args.command.now _ c.in-OpenLevel.is refl c.requires.follows c.open_region.ensures.does
     c.open_region.ensures.stand c.open_region.ensures.levels c.open_region.ensures.objects refl
 
-pub returns-in_default-clause-did : goal.returns-in_default-clause-did
-returns-in_default-clause-did g c =
-    uncalled c.args.command.now c.args.region.now c.requires.none c.requires.outside c.requires.follows (left_over
-    c.args.command.now c.in_default.not-Make c.in_default.not-MakeFrom c.in_default.not-On c.in_default.not-OnBoth
-    c.in_default.not-OnName c.in_default.not-WithCount c.in_default.not-MakeSized c.in_default.not-MakeText
-    c.in_default.not-MakeFilled c.in_default.not-MakeAt c.in_default.not-OnAt c.in_default.not-SetAt
-    c.in_default.not-StoreAt c.in_default.not-Release c.in_default.not-OpenLevel c.in_default.not-OfRoom
-    c.in_default.not-WithTries) c.without_call.ensures.answer c.without_call.ensures.names
+pub returns-in-OnNameAt-clause-did : goal.returns-in-OnNameAt-clause-did
+returns-in-OnNameAt-clause-did g c =
+    let names = c.args.names.now in
+    let says = λ (d : Command) (is : c.args.command.now ≡ d). c.without_call.ensures.answer
+    ∙ ap (answer_without_call names) is in
+    let changed = λ (d : Command) (is : c.args.command.now ≡ d). c.without_call.ensures.names
+    ∙ ap (λ e. buffers_after e c.without_call.result names) is in
+    elim c.in-OnNameAt.is [
+      | inl x ↦ called c.args.command.now _ c.args.region.now x.3 c.requires.none c.requires.outside refl
+          c.requires.follows (does_get c.args.turns names x.0 x.1 x.2 _ (says _ x.3)) refl refl (changed _ x.3)
+      | inr (inl x) ↦ called c.args.command.now _ c.args.region.now x.4 c.requires.none c.requires.outside refl
+          c.requires.follows (does_put c.args.turns names x.0 x.1 x.2 x.3 _ (says _ x.4)) refl refl (changed _ x.4)
+      | inr (inr x) ↦ called c.args.command.now _ c.args.region.now x.2 c.requires.none c.requires.outside refl
+          c.requires.follows (does_nothing (λ p. (says _ x.2, refl)))
+          (sym (ap (λ a. levels_after (CloseLevel x.0 x.1) a []) (says _ x.2)))
+          (sym (ap (λ a. objects_after (CloseLevel x.0 x.1) a []) (says _ x.2))) (changed _ x.2)
+    ]
