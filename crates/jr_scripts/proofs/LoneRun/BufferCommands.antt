@@ -42,8 +42,9 @@ use Rattle.jr_scripts.proofs.LoneRun.MeaningObjects.{headers_fit, stay_still}
 use Rattle.jr_scripts.proofs.LoneRun.MeaningCopies.{back_means}
 use Rattle.jr_scripts.proofs.LoneRun.MeaningDeeds.{AfterDecided, BindingFits, HandleFits, after_decided, binding_later}
 use Rattle.jr_scripts.proofs.LoneRun.MeaningDeeds.{formed, formed_both, made_once, now, read_fits, was_formed}
-use Rattle.jr_scripts.proofs.LoneRun.CommandSteps.{CallMeant, Steps, Turn, came, at_most, even, handles, kept_step}
-use Rattle.jr_scripts.proofs.LoneRun.CommandSteps.{named_step, nothing_then, still_step, wanted_step, was_made}
+use Rattle.jr_scripts.proofs.LoneRun.CommandSteps.{CallMeant, Steps, Turn, came, failed_step, at_most, even, handles}
+use Rattle.jr_scripts.proofs.LoneRun.CommandSteps.{kept_step, named_step, nothing_then, still_step, wanted_step}
+use Rattle.jr_scripts.proofs.LoneRun.CommandSteps.{was_made}
 use Rattle.jr_scripts.proofs.LoneRun.ElementCommands.{apart_before}
 
 -- what stands there is the buffer that was found
@@ -164,9 +165,8 @@ module _ {c : Config} {last turns j k : ℕ} {P : Pairing} {w : World} {old new 
         (Ok replies.Done) (left_by mode (Ok replies.Done) (binding p.names n))
         (left_by mode (Ok replies.Done) (binding q.names n)) (came s i) is
         (refl, refl) (refl, refl) (λ line. refl) (fits i.outcome.pairing v i.outcome.later)
-    released_after fits (Err e) (Err d, v) i is = kept_step s releases answer i.outcome.pairing v (Err e) (Err d)
-        (came s i) is (λ place ws. (refl, refl))
-        (λ place ws. (refl, refl)) (λ line. ap (λ a. printed line releases (Err a)) i.outcome.answers)
+    released_after fits (Err e) (Err d, v) i is =
+        failed_step s releases answer e d v (λ z place ws. (refl, refl)) i is
     released_after fits _ _ i is = absurd i.outcome.answers
 
     -- where it copies back, and answers this

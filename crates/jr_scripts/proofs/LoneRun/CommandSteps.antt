@@ -153,6 +153,12 @@ module _ {inside : Bool} {c : Config} {last turns j k : ℕ} {P : Pairing} {w : 
     pub still_step : (a : Result Reply Fault) → k ≤ j → (answer ≡ a) × (new ≡ old) → Keeps x a → Steps (a, w)
     still_step a le d keeps = kept_step P w a a (nothing_then d.1 le) d.0 keeps keeps (λ line. refl)
 
+    -- a call was refused
+    pub failed_step : {A B : Type 0} {V : Fitting A B} (e d : Fault) (v : World) → ((e : Fault) → Keeps x (Err e))
+        → CallMeant V (Err e) (Err d, v) → answer ≡ Err e → Steps (Err d, v)
+    failed_step e d v quiet i is = kept_step i.outcome.pairing v (Err e) (Err d) (came i) is (quiet e) (quiet d)
+        (λ line. ap (λ a. printed line x (Err a)) i.outcome.answers)
+
     -- one that sets a name
     pub named_step : (n : List ℕ) (Q : Pairing) (v : World) (a b : Result Reply Fault) (t u : Binding) → IsThen Q v
         → answer ≡ a → Leaves x a p (with_name p.names n t) had → Leaves x b q (with_name q.names n u) told
@@ -192,13 +198,9 @@ module _ {inside : Bool} {c : Config} {last turns j k : ℕ} {P : Pairing} {w : 
         → Steps (goes_on (λ z v. (Ok (form' z), v)) r)
     same_after form form' same keeps keeps' quiet (Ok y) (Ok z, v) i is =
         let o = i.outcome in
-        kept_step o.pairing v (Ok (form y)) (Ok (form' z))
-        (came i) is (keeps y) (keeps' z)
+        kept_step o.pairing v (Ok (form y)) (Ok (form' z)) (came i) is (keeps y) (keeps' z)
         (λ line. ap (λ a. says x a) (same o.pairing v y z o.answers))
-    same_after form form' same keeps keeps' quiet (Err e) (Err d, v) i is =
-        let o = i.outcome in
-        kept_step o.pairing v (Err e) (Err d) (came i) is
-        (quiet e) (quiet d) (λ line. ap (λ a. printed line x (Err a)) o.answers)
+    same_after form form' same keeps keeps' quiet (Err e) (Err d, v) i is = failed_step e d v quiet i is
     same_after form form' same keeps keeps' quiet _ _ i is = absurd i.outcome.answers
 
     -- what comes of an answer that makes a reference, or NULL
@@ -208,18 +210,12 @@ module _ {inside : Bool} {c : Config} {last turns j k : ℕ} {P : Pairing} {w : 
         → Steps (goes_on (λ z v. (Ok (reply_made z), v)) r)
     makes_after n sets silent quiet (Ok None) (Ok zero, v) i is =
         let o = i.outcome in
-        made_step n o.pairing v None None (came i) is sets refl
-        refl
+        made_step n o.pairing v None None (came i) is sets refl refl
     makes_after n sets silent quiet (Ok (Some h)) (Ok (suc z), v) i is =
         let o = i.outcome in
-        made_step n o.pairing v (Some (packed h)) (Some (record { 0 = suc z }))
-        (came i) is sets
-        (silent (packed h) (record { 0 = suc z }))
-        ((o.answers).0, ap handle_word (o.answers).1)
-    makes_after n sets silent quiet (Err e) (Err d, v) i is =
-        let o = i.outcome in
-        kept_step o.pairing v (Err e) (Err d) (came i) is
-        (quiet e) (quiet d) (λ line. ap (λ a. printed line x (Err a)) o.answers)
+        made_step n o.pairing v (Some (packed h)) (Some (record { 0 = suc z })) (came i) is sets
+        (silent (packed h) (record { 0 = suc z })) ((o.answers).0, ap handle_word (o.answers).1)
+    makes_after n sets silent quiet (Err e) (Err d, v) i is = failed_step e d v quiet i is
     makes_after n sets silent quiet _ _ i is = absurd i.outcome.answers
 
     -- a reference that is wanted

@@ -29,7 +29,6 @@ use Rattle.jr_scripts.specs.Names.{referent, wanted}
 use Rattle.jr_scripts.specs.Numbers.{has_numbers}
 use Rattle.jr_scripts.specs.Places.{Place}
 use Rattle.jr_scripts.specs.Posting.{ThreadWords}
-use Rattle.jr_scripts.specs.Text.{printed}
 use Rattle.jr_scripts.specs.Meaning.{World, Meaning, goes_on, wanted_as, wanted_object}
 use Rattle.jr_scripts.specs.Meaning as meaning
 use Rattle.jr_scripts.proofs.LoneRun.MadeCalls.{Made}
@@ -39,7 +38,7 @@ use Rattle.jr_scripts.proofs.LoneRun.MeaningObjects.{meant_in}
 use Rattle.jr_scripts.proofs.LoneRun.MeaningCopies.{elements_mean, elements_shown, elements_with, finds_memory}
 use Rattle.jr_scripts.proofs.LoneRun.MeaningCopies.{found_by, units_mean, units_shown, units_with}
 use Rattle.jr_scripts.proofs.LoneRun.MeaningDeeds.{HandleFits, formed, made_once, now, was_formed}
-use Rattle.jr_scripts.proofs.LoneRun.CommandSteps.{CallMeant, Steps, Turn, at_most, came, even, kept_step, named_step}
+use Rattle.jr_scripts.proofs.LoneRun.CommandSteps.{CallMeant, Steps, Turn, at_most, came, even, failed_step, named_step}
 use Rattle.jr_scripts.proofs.LoneRun.CommandSteps.{same_after, wanted_step}
 use Rattle.jr_scripts.proofs.LoneRun.ElementCommands.{AloneBefore, alone_before, numbered_step, word_outcome}
 
@@ -68,11 +67,7 @@ module _ {c : Config} {last turns j k : ℕ} {P : Pairing} {w : World} {old new 
       (refl, refl) (refl, refl) (λ line. refl)
       (ap (λ z. copy_of z words) kind ∙ ap (copy_of u) o.answers)
   copied_after n r answer t u kind (Err e) (Err d, v) i is =
-      let o = i.outcome in
-      kept_step s (commands.MakeFrom make_from.Elements n r) answer o.pairing v (Err e) (Err d)
-      (came s i) is (λ place ws. (refl, refl))
-      (λ place ws. (refl, refl))
-      (λ line. ap (λ a. printed line (commands.MakeFrom make_from.Elements n r) (Err a)) o.answers)
+      failed_step s (commands.MakeFrom make_from.Elements n r) answer e d v (λ z place ws. (refl, refl)) i is
   copied_after n r answer t u kind _ _ i is = absurd i.outcome.answers
 
 module _ {c : Config} {last turns j k : ℕ} {P : Pairing} {w : World} {old new : ThreadState} {p q : Place}

@@ -42,7 +42,6 @@ use Rattle.jr_scripts.specs.Numbers.{first_number, has_numbers, word_of_number}
 use Rattle.jr_scripts.specs.Places.{Place}
 use Rattle.jr_scripts.specs.Posting.{ThreadWords}
 use Rattle.jr_scripts.specs.Runs.{IsUnbarred}
-use Rattle.jr_scripts.specs.Text.{printed}
 use Rattle.jr_scripts.specs.Tries.{Tried}
 use Rattle.jr_scripts.specs.Meaning.{World, Meaning, element_to, goes_on, named_by, reads_number, refused_if}
 use Rattle.jr_scripts.specs.Meaning.{reply_made, wanted_as, wanted_element, wanted_object, writes_number}
@@ -61,7 +60,7 @@ use Rattle.jr_scripts.proofs.LoneRun.MeaningDeeds.{formed_both, handle_later}
 use Rattle.jr_scripts.proofs.LoneRun.MeaningDeeds.{made_once, names_later, now, read_fits, was_formed, words_later}
 use Rattle.jr_scripts.proofs.LoneRun.MeaningLevels.{levels_later}
 use Rattle.jr_scripts.proofs.LoneRun.MeaningStands.{Keeps}
-use Rattle.jr_scripts.proofs.LoneRun.CommandSteps.{CallMeant, Steps, Turn, at_most, came, even, handles, kept_step}
+use Rattle.jr_scripts.proofs.LoneRun.CommandSteps.{CallMeant, Steps, Turn, at_most, even, failed_step, handles}
 use Rattle.jr_scripts.proofs.LoneRun.CommandSteps.{makes_after, same_after, still_step, wanted_step, was_made}
 
 are_numbers : (k : Kind) {u : Unit {0}} → has_numbers k ≡ Ok u → is_primitive k ≡ true
@@ -151,10 +150,7 @@ module _ {c : Config} {last turns j k : ℕ} {P : Pairing} {w : World} {old new 
       (next : B → Meaning Reply) → ((e : Fault) → Keeps x (Err e)) → (e : Fault) (r : Result B Fault × World)
       → CallMeant s V (Err e) r
       → answer ≡ Err e → Steps s x answer (goes_on next r)
-  refused_after x answer next quiet e (Err d, v) i is =
-      let o = i.outcome in
-      kept_step s x answer o.pairing v (Err e) (Err d) (came s i) is
-      (quiet e) (quiet d) (λ line. ap (λ a. printed line x (Err a)) o.answers)
+  refused_after x answer next quiet e (Err d, v) i is = failed_step s x answer e d v quiet i is
   refused_after x answer next quiet e (Ok y, v) i is = absurd i.outcome.answers
 
   -- LEN AND SLEN

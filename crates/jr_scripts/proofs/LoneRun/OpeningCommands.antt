@@ -31,7 +31,6 @@ use Rattle.jr_scripts.specs.Commands.{deed, opening_by, opening_levels, opens, t
 use Rattle.jr_scripts.specs.Names.{referent, wanted}
 use Rattle.jr_scripts.specs.Places.{Place}
 use Rattle.jr_scripts.specs.Posting.{ThreadWords}
-use Rattle.jr_scripts.specs.Text.{printed}
 use Rattle.jr_scripts.specs.AloneAnswers.{IsAloneFault}
 use Rattle.jr_scripts.proofs.AloneDeeds.{opening_alone}
 use Rattle.jr_scripts.specs.Meaning.{World, goes_on}
@@ -46,7 +45,7 @@ use Rattle.jr_scripts.proofs.LoneRun.MeaningDeeds.{AfterDecided, BindingFits, Ha
 use Rattle.jr_scripts.proofs.LoneRun.MeaningDeeds.{made_once, names_later, now, read_fits, was_formed, words_later}
 use Rattle.jr_scripts.proofs.LoneRun.MeaningStands.{Keeps}
 use Rattle.jr_scripts.proofs.LoneRun.MeaningLevels.{levels_later, levels_put, stays_within}
-use Rattle.jr_scripts.proofs.LoneRun.CommandSteps.{CallMeant, Steps, Turn, at_most, came, even, handles, kept_step}
+use Rattle.jr_scripts.proofs.LoneRun.CommandSteps.{CallMeant, Steps, Turn, at_most, even, failed_step, handles}
 use Rattle.jr_scripts.proofs.LoneRun.CommandSteps.{referent_fits, still_step, was_made}
 use Rattle.jr_scripts.proofs.LoneRun.ElementCommands.{apart_before}
 
@@ -107,10 +106,7 @@ module _ {inside : Bool} {c : Config} {last turns j k : ℕ} {P : Pairing} {w : 
         text = λ line. refl;
       }))
   opened_so object (Err e) (Err d, u) i role is =
-      let x = commands.OpenLevel v n r in
-      kept_step s x answer i.outcome.pairing u (Err e) (Err d) (came s i) is
-      (λ place ws. (refl, refl)) (λ place ws. (refl, refl))
-      (λ line. ap (λ a. printed line x (Err a)) i.outcome.answers)
+      failed_step s (commands.OpenLevel v n r) answer e d u (λ z place ws. (refl, refl)) i is
   opened_so object _ _ i role is = absurd i.outcome.answers
 
 module _ {c : Config} {last turns j k : ℕ} {P : Pairing} {w : World} {old new : ThreadState} {p q : Place}
