@@ -1,9 +1,9 @@
 -- What is written of a script of one thread is what it means.
-use Rattle.std.proofs.Common.{◌≡◌, ◌≢◌, ◌≤◌, ◌+◌, ℕ, Bool, not, List, [], ◌∷◌, ◌++◌, length, nat_le, true}
+use Rattle.std.proofs.Common.{◌≡◌, ◌≢◌, ◌≤◌, ◌+◌, ℕ, suc, Bool, not, List, [], ◌∷◌, ◌++◌, length, nat_le, true}
 use Rattle.std.proofs.Common.{Option, None, Some, codes, refl, sym, ap, ◌∙◌, subst, arith}
 use Rattle.std.specs.List.{filter}
 use Rattle.std.specs.Io.KnownBytes.{Appends, Keeps}
-use Rattle.std.proofs.lemmas.List.{append-nil, length-map, length-append}
+use Rattle.std.proofs.lemmas.List.{append-nil, length-map}
 use Rattle.std.proofs.lemmas.List.Filters.{length-filter_both}
 use Rattle.std.proofs.lemmas.Bool.Decides.{nat_tests}
 use Rattle.clap.specs.Words.{Text}
@@ -21,7 +21,7 @@ use Rattle.jrefs.specs.declared.request.Request.TheVariants.{Run}
 use Rattle.jrefs.specs.declared.trouble.Trouble.{Trouble}
 use Rattle.jrefs.specs.declared.trouble.Trouble.TheVariants as troubles
 use Rattle.jrefs.specs.Act.{AnswersWords, AppendsBeginning, Fails, IsOutput, IsOutputFor, LeavesWritten, Stops}
-use Rattle.jrefs.specs.Meant.{single, WritesMeant, WritesWhatIsMeant}
+use Rattle.jrefs.specs.Meant.{single, wrote_all, wrote_beginning, wrote_nothing, WritesMeant, WritesWhatIsMeant}
 use Rattle.jrefs.specs.Request.{asked_for}
 use Rattle.jrefs.specs.Trouble.{status_of}
 use Rattle.jrefs.proofs.CommandLine.{asks_found}
@@ -31,12 +31,15 @@ use Rattle.jrefs.proofs.CommandLine.{asks_found}
 few : (all gone kept lines : ℕ) → gone + kept ≡ all → lines ≡ 2 + all → nat_le lines 4096 ≡ true → gone ≤ 4294967295
 few all gone kept lines both long is = grind (arith, nat_tests)
 
-lines_long : (c : Config) (part : ThreadPart)
-    → length (script_lines c (part ∷ [])) ≡ 2 + length part.commands
+-- a part's lines are its own and its commands'
+part_long : (p : ThreadPart) → length (part_lines p) ≡ 1 + length p.commands
+part_long p = let one : suc (length p.commands) ≡ 1 + length p.commands = omega arith in
+    ap suc (length-map p.commands _) ∙ one
+
+lines_long : (c : Config) (part : ThreadPart) → length (script_lines c (part ∷ [])) ≡ 2 + length part.commands
 lines_long c part =
-    let each = length-append (part_lines part) [] in
-    let commands = length-map part.commands _ in
-    omega arith
+    let two : suc (1 + length part.commands) ≡ 2 + length part.commands = omega arith in
+    ap suc (ap length (append-nil (part_lines part)) ∙ part_long part) ∙ two
 
 -- fewer commands give up references than there are serials
 few_given_up : (c : Config) (part : ThreadPart) → IsScript (single c part)
@@ -87,7 +90,7 @@ pub answer_writes : (words : List Text) (known old new : Option (List ℕ)) → 
 answer_writes words known old new done c part run is there =
     let reply = subst (λ (o : Option (List ℕ)). IsOutput done.0 o done.2.output) there done.2.is_output in
     let text = output_means c part words done.2.output run is (done.0, done.1, reply) in
-    all text.0 (subst (Appends old new) text.1 done.2.written)
+    wrote_all text.0 (subst (Appends old new) text.1 done.2.written)
 
 by_trouble : (t : Trouble) (words : List Text) (left old new : Option (List ℕ)) (c : Config) (part : ThreadPart)
     → status_of t ≢ 2 → words ≡ codes "run" ∷ [] → IsScript (single c part)
@@ -97,12 +100,12 @@ by_trouble (troubles.Script line reason) words left old new c part apart run is 
     let none = no_fault (single c part) is in
     cc
 by_trouble troubles.Usage words left old new c part apart run is leaves = absurd (apart refl)
-by_trouble troubles.Memory words left old new c part apart run is leaves = nothing leaves.1
+by_trouble troubles.Memory words left old new c part apart run is leaves = wrote_nothing leaves.1
 by_trouble troubles.Input words left old new c part apart run is leaves =
-    beginning [] (begins_with_nothing old new (text_of_part [] c part) leaves.1)
+    wrote_beginning [] (begins_with_nothing old new (text_of_part [] c part) leaves.1)
 by_trouble troubles.Output words left old new c part apart run is leaves =
     let text = output_means c part words leaves.0 run is leaves.1 in
-    beginning text.0 (subst (AppendsBeginning old new) text.1 leaves.2)
+    wrote_beginning text.0 (subst (AppendsBeginning old new) text.1 leaves.2)
 
 pub failure_writes : (t : Trouble) (words : List Text) (known left old new : Option (List ℕ)) → status_of t ≢ 2
     → LeavesWritten t words known left old new → WritesWhatIsMeant words known old new (status_of t)

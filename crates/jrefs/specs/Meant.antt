@@ -16,9 +16,9 @@ single c part = record { config = c; threads = part ∷ [] }
 -- WHAT IS WRITTEN OF THE TEXT that the part means, for some choice of which copies find memory:
 -- all of it at status 0, nothing at status 3, and a beginning at status 4; there is no other status
 pub data WritesMeant (c : Config) (part : ThreadPart) (old new : Option (List ℕ)) : ℕ → Type 0 where
-  all : (memory : List Bool) → Appends old new (text_of_part memory c part) → WritesMeant c part old new 0
-  nothing : Keeps old new → WritesMeant c part old new 3
-  beginning : (memory : List Bool) → AppendsBeginning old new (text_of_part memory c part)
+  wrote_all : (memory : List Bool) → Appends old new (text_of_part memory c part) → WritesMeant c part old new 0
+  wrote_nothing : Keeps old new → WritesMeant c part old new 3
+  wrote_beginning : (memory : List Bool) → AppendsBeginning old new (text_of_part memory c part)
       → WritesMeant c part old new 4
 
 -- THE WORDS ARE `run`, and a script of one thread is all that is there to be read:
