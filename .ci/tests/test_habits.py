@@ -38,13 +38,13 @@ WRONG = {
     "crates.txt": "jr_word:\njr_env: jr_word\n", "HANDLES": "Handles allowed: none.\n", "README.md": "a" * 12_289, ".ci/run": "true\n",
     "crates/jr_word/src/lib.rt": "pub fn one() {}\n", "crates/jr_env/src/lib.rt": "#![tactic(auto)]\npub fn two() {}\n",
     "crates/jr_env/must-fail/it.edit": "", ".ci/edits/jr_none/it.edit": "", "crates/jr_word/README.md": "# A word\n", "crates/jr_word/out/it": "",
-    "crates/jr_rule/src/row.rt": "struct Row {\n    pub table: Table,\n}\n", "crates/jr_rule/src/over.rt": "use atomic_table::Table;\n",
+    "crates/jr_rule/src/row.rt": "struct Row {\n    pub table: Table,\n}\n// .peek\nlet found = table.peek(0);\n", "crates/jr_rule/src/over.rt": "use atomic_table::Table;\n",
     "crates/jr_word/specs/One.antt": "abbrev pub same : Type 0\nsame = Unit\n", "crates/jr_word/specs/Two.antt": "-- two\nabbrev pub same : Type 0\nsame = Unit\n",
 }
 FOUND = {
     "basics": ("HANDLES: must be", "docs/DECISIONS.md: missing", "docs/ARCHITECTURE.md: missing", ".ci/run: does not call rt ci", "crates/jr_word/out/it: is not"),
     "edits": (".ci/edits/jr_none/it.edit: crates.txt has no", "crates/jr_word/src/lib.rt: lacks the line", "crates/jr_word: 1 public", "crates/jr_env: 1 public", "crates/jr_env/must-fail: an edit"),
-    "table": ("crates/jr_rule/src/row.rt:2: the field", "crates/jr_rule/src/over.rt:1: names `Table`"),
+    "table": ("crates/jr_rule/src/row.rt:2: the field", "crates/jr_rule/src/row.rt:5: an operation that takes no seat", "crates/jr_rule/src/over.rt:1: names `Table`"),
     "pages": ("README.md: 12289 bytes", "crates/jr_word/README.md: 1 lines", "crates/jr_word/README.md: has not", "crates/jr_env/README.md: missing"),
 }
 

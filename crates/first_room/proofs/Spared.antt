@@ -13,9 +13,8 @@ use Rattle.jr_model.specs.References as references
 use Rattle.jr_gate.specs.Performing.{IsMade, ThreadState}
 use Rattle.jr_env.specs.Deeds.{Deed, answered_by, call_by, call_on_by, delete_reference, get_object_ref_type}
 use Rattle.jr_env.specs.Deeds.{is_same_object, new_array, new_object_array, new_plain, new_reference}
-use Rattle.jr_env.specs.Requests.{making_steps}
+use Rattle.jr_env.specs.Requests.{making_steps, packed, packed_if}
 use Rattle.jr_env.specs.Deeds.{pop_local_frame, push_local_frame, ◌>>=◌}
-use Rattle.jr_env.specs.Requests.{packed, packed_if}
 use Rattle.first_room.specs.Calls.{making_own}
 use Rattle.first_room.proofs.Sparing.{Spares, array_making_spares, comparison_spares, creation_spares}
 use Rattle.first_room.proofs.Sparing.{entered_spares, made_spares, popping_spares, pushing_spares}

@@ -19,11 +19,9 @@ use Rattle.jr_gate.specs.Performing.{ThreadState}
 use Rattle.jr_weak.specs.declared.collecting.Collected.{Collected}
 use Rattle.jr_env.specs.Collections.{announced_collection}
 use Rattle.jr_env.specs.Deeds.{Deed, delete_reference, done, get_object_ref_type, is_same_object, new_array}
-use Rattle.jr_env.specs.Deeds.{new_reference, pop_local_frame, push_local_frame, set_array_region}
-use Rattle.jr_env.specs.Requests.{packed}
-use Rattle.jr_env.specs.Deeds.{call_by, ◌>>=◌, ◌>>◌}
+use Rattle.jr_env.specs.Deeds.{new_reference, pop_local_frame, push_local_frame, set_array_region, call_by, ◌>>=◌, ◌>>◌}
+use Rattle.jr_env.specs.Requests.{packed, making_steps}
 use Rattle.jr_env.specs.Remedies.{collection_in_turn, refused_once, served_now, tried_last}
-use Rattle.jr_env.specs.Requests.{making_steps}
 use Rattle.first_room.specs.declared.TheConstants.{TRIES}
 use Rattle.first_room.specs.Calls.{Findings, Shared, clearing, collecting_in_turn, collecting_twice}
 use Rattle.first_room.specs.Calls.{is_kept_out, preparing, sharing, word_made}

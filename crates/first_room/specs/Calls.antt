@@ -15,8 +15,7 @@ use Rattle.jr_weak.specs.declared.collecting.Collected.{Collected}
 use Rattle.jr_env.specs.Collections.{collection}
 use Rattle.jr_env.specs.Deeds.{Deed, done, new_plain, new_array, new_object_array, new_reference}
 use Rattle.jr_env.specs.Deeds.{delete_reference, is_same_object, get_object_ref_type}
-use Rattle.jr_env.specs.Deeds.{push_local_frame, pop_local_frame, set_array_region, ◌>>=◌, ◌>>◌}
-use Rattle.jr_env.specs.Deeds.{within_by}
+use Rattle.jr_env.specs.Deeds.{push_local_frame, pop_local_frame, set_array_region, ◌>>=◌, ◌>>◌, within_by}
 use Rattle.jr_env.specs.Remedies.{collection_in_turn}
 use Rattle.jr_threads.specs.Parts.{ComesOfDeed}
 

@@ -113,6 +113,8 @@ impl<P: Copy, C: Cells<P>, U: Steps> Cells<P> for Overtaken<C, U> {
 
     ghost goes = { λ s t acts. C.goes s.cells t.cells acts };
 
+    ghost joints = { λ s. C.joints s.cells };
+
     ghost are_at = { λ s place. C.are_at s.cells place };
 
     ghost one = { λ s place. C.one s.cells place };

@@ -5,7 +5,7 @@ use Rattle.jr_word.specs.declared.config.Config.{Config}
 use Rattle.jr_model.specs.History.{IsLegal, mine}
 use Rattle.jr_model.proofs.Histories.{mine_append}
 use Rattle.jr_steps.specs.declared.known.Known.{Known}
-use Rattle.jr_steps.specs.Knowing.{Facts, Goes, Saw, Sees}
+use Rattle.jr_steps.specs.Knowing.{Facts, Goes, Sees}
 use Rattle.jr_steps.proofs.CollectorFacts.{goes_sees, sees_more}
 use Rattle.jr_compact.specs.Counting.{SawWithin, SeesWithin}
 
@@ -61,12 +61,4 @@ module _ {S : Type 0} {facts : S → Facts} {a b : S} {met : Known → Type 0} {
     stands_is = p.stands_is;
     hint_is = p.hint_is;
     leads = λ k s h. let x = p.leads k s h in (x.0, x.1, within_most (n k) (few k) x.2, x.3);
-  }
-
-  -- how many they were is forgotten
-  pub saw_any : {m : Known → ℕ} → SawWithin facts m a b met shows → Saw facts a b met shows
-  saw_any p = record {
-    stands_is = p.stands_is;
-    hint_is = p.hint_is;
-    leads = λ k s h. let x = p.leads k s h in (x.0, x.1, (x.2).sees, x.3);
   }

@@ -21,8 +21,7 @@ use Rattle.jr_model.proofs.Updates.{eq_self}
 use Rattle.jr_steps.specs.declared.known.Known.{Known}
 use Rattle.jr_steps.specs.declared.known.Holdings.{Holdings}
 use Rattle.jr_steps.specs.Holdings.{header_in}
-use Rattle.jr_steps.specs.Knowing.{AreOf, Facts, MayKnow, Took, anything}
-use Rattle.jr_steps.specs.Knowing.{state_of, KnowsHeader, IsSettled, ShowsHeader}
+use Rattle.jr_steps.specs.Knowing.{AreOf, Facts, MayKnow, Took, anything, state_of, KnowsHeader, IsSettled, ShowsHeader}
 use Rattle.jr_steps.proofs.CollectorFacts.{tables_seen}
 use Rattle.jr_heap.proofs.Headers.{is_number}
 use Rattle.jr_heap.proofs.KnownHeaders.{steps_keep_headers}

@@ -27,9 +27,8 @@ use Rattle.jr_frames.specs.Ready.{StandsReady}
 use Rattle.jr_frames.proofs.FramesAgree.{holds_did}
 use Rattle.jr_weak.specs.declared.collecting.Collected.{Collected}
 use Rattle.jr_weak.specs.Collecting.{CollectsAnnounced, GivesUp, MakesAnnouncedCollection, WasGivenUp}
-use Rattle.jr_weak.specs.Collecting.{announced_steps, closed_at_look}
+use Rattle.jr_weak.specs.Collecting.{announced_steps, closed_at_look, closed_at_exchange, moved_at_exchange, taken_back}
 use Rattle.jr_weak.specs.Counting.{collection_steps}
-use Rattle.jr_weak.specs.Collecting.{closed_at_exchange, moved_at_exchange, taken_back}
 use Rattle.jr_weak.specs.Waiting.{ShutsActByAct}
 use Rattle.jr_env.specs.Collections.{IsNoTurn, announced_collection}
 use Rattle.jr_env.specs.Deeds.{DoesDeed, DoesOutside}

@@ -11,8 +11,7 @@ use Rattle.jr_model.specs.Calls.{Call}
 use Rattle.jr_steps.specs.declared.known.Known.{Known}
 use Rattle.jr_steps.specs.Knowing.{AreOf, Facts, Standing, state_of}
 use Rattle.jr_gate.specs.Performing.{IsAsBefore, IsMade, Performed, ThreadState, thread_state}
-use Rattle.jr_env.specs.Deeds.{CarriedOut, Deed, DoesDeed, answered_by, decided, ◌>>=◌}
-use Rattle.jr_env.specs.Deeds.{within_by}
+use Rattle.jr_env.specs.Deeds.{CarriedOut, Deed, DoesDeed, answered_by, decided, ◌>>=◌, within_by}
 
 -- one and then the other
 pub role_then : (s t u : Standing) (q r : Role) → IsAsBefore (record s { role = q }) t

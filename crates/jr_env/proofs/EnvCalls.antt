@@ -21,8 +21,7 @@ use Rattle.jr_gate.specs.Performing.{ThreadState}
 use Rattle.jr_frames.specs.Table.{Table}
 use Rattle.jr_frames.specs.OverSteps.{CallsWhole}
 use Rattle.jr_env.specs.Works.{Completes}
-use Rattle.jr_env.specs.Deeds.{CarriedOut, Deed, DoesDeed, DoesOutside, after_exit, answered_by}
-use Rattle.jr_env.specs.Deeds.{call, call_by}
+use Rattle.jr_env.specs.Deeds.{CarriedOut, Deed, DoesDeed, DoesOutside, after_exit, answered_by, call, call_by}
 use Rattle.jr_env.specs.Requests.{packed, packed_if}
 use Rattle.jr_env.proofs.Carrying.{did_both, did_in_role, did_more, does_both, own_call}
 use Rattle.jr_env.proofs.EndedStays.{leaves}

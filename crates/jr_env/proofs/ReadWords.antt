@@ -1,6 +1,5 @@
 -- Each word says something as a reference: nothing, the parts of a handle, or neither.
-use Rattle.std.proofs.Common.{◌≡◌, ◌≢◌, ◌⊎◌, ⊎_elim, inl, inr, ◌^◌, ◌/◌, ◌%◌, ℕ, zero, suc, refl}
-use Rattle.std.proofs.Common.{arith}
+use Rattle.std.proofs.Common.{◌≡◌, ◌≢◌, ◌⊎◌, ⊎_elim, inl, inr, ◌^◌, ◌/◌, ◌%◌, ℕ, zero, suc, refl, arith}
 use Rattle.std.proofs.lemmas.Grind.{common_steps}
 use Rattle.std.proofs.lemmas.Bool.{cases_lt}
 use Rattle.jr_word.specs.declared.handle.RefKind.{RefKind}

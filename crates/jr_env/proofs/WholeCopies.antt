@@ -13,8 +13,7 @@ use Rattle.jr_model.specs.declared.event.Act.{Act}
 use Rattle.jr_model.specs.State.{State}
 use Rattle.jr_model.specs.History.{PassView, IsLegal}
 use Rattle.jr_model.specs.Frames.{Frames}
-use Rattle.jr_model.specs.Calls.{Call, Ran, ◌>>◌, done, for_object}
-use Rattle.jr_model.specs.Calls.{one_of, refuse, refuse_if, unless_memory_for}
+use Rattle.jr_model.specs.Calls.{Call, Ran, ◌>>◌, done, for_object, one_of, refuse, refuse_if, unless_memory_for}
 use Rattle.jr_model.specs.Checks.{Word, is_array, is_text, same_element}
 use Rattle.jr_model.specs.Parts.{read, write}
 use Rattle.jr_model.proofs.Runs.{ran_err, ran_give}

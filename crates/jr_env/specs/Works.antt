@@ -25,9 +25,8 @@ use Rattle.jr_frames.specs.Ready.{StandsReady}
 use Rattle.jr_frames.specs.Reading.{IsReadAs}
 use Rattle.jr_frames.specs.Steady.{IsSteady}
 use Rattle.jr_elements.specs.Copies.{answer_in}
-use Rattle.jr_env.specs.Requests.{Request, asks, gives, named, on_word, on_words, told_by}
+use Rattle.jr_env.specs.Requests.{Request, asks, gives, named, on_word, on_words, told_by, making_steps}
 use Rattle.jr_env.specs.Deeds.{DoesDeed, DoesOutside, whole, in_a_stay}
-use Rattle.jr_env.specs.Requests.{making_steps}
 
 -- the pass holds the header of the new object beside what it held, and its range no more;
 -- and just what it held where there is no new object

@@ -2,7 +2,7 @@
 use Rattle.std.proofs.Common.{◌≡◌, ◌≢◌, ◌==◌, ◌-◌, ◌<◌, ℕ, Bool, true, false, cond, List}
 use Rattle.std.proofs.Common.{[], ◌∷◌, map, length, slice_set, refl, sym, ap, subst, ◌∙◌}
 use Rattle.std.proofs.lemmas.List.{length-set, get_or-set_same, get_or-set_other}
-use Rattle.std.specs.List.{refill}
+use Rattle.std.specs.List.{refill, concat}
 use Rattle.arrayvec.specs.ArrayVec.{ArrayVec}
 use Rattle.arrayvec.proofs.ArrayVecLemmas.{items-with_items}
 use Rattle.jr_word.specs.declared.handle.RefKind.TheVariants.{Local}
@@ -14,7 +14,6 @@ use Rattle.jr_frames.specs.declared.frames.Frames.TheInside.{Inside as Fields}
 use Rattle.jr_frames.specs.Table.{IsOnly}
 use Rattle.jr_frames.specs.Places.{given_of, unused, place_at, ref_at}
 use Rattle.linked_lists.specs.Lists.{times, Lists}
-use Rattle.std.specs.List.{concat}
 use Rattle.jr_frames.specs.Arrangements.{table, IsTable}
 use Rattle.linked_lists.proofs.Times.{not_first, none_left, none_right}
 use Rattle.jr_frames.proofs.Places.{object_in, object_at_place}

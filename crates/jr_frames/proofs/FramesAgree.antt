@@ -8,8 +8,7 @@ use Rattle.jr_model.specs.declared.event.Act.TheVariants.{LocalPut, LocalDrop}
 use Rattle.jr_model.specs.State.{Handle}
 use Rattle.jr_model.specs.Frames.{Frames, IsAdded, object_at, stored_at}
 use Rattle.jr_model.proofs.Presence.{named_is_present}
-use Rattle.jr_model.proofs.Agreement.{added_given, agree_spared, places_did, places_from}
-use Rattle.jr_model.proofs.Agreement.{spares_places, stored_did}
+use Rattle.jr_model.proofs.Agreement.{added_given, agree_spared, places_did, places_from, spares_places, stored_did}
 use Rattle.jr_steps.specs.declared.known.Known.{Known}
 use Rattle.jr_steps.specs.Acts.{act_of_put}
 use Rattle.jr_steps.specs.Knowing.{view, state_of, HasObject, Holds}

@@ -48,9 +48,6 @@ gives_later : (given last : ℕ) (rest : Bool) → last < given → (nat_le give
 gives_later given last rest l = ap (λ b. b || rest) (let e : nat_le given last ≡ false = grind (arith, nat_tests) in e)
 
 module _ {places : List Place} {last : ℕ} {all : List ℕ} where
-  pub left_begins : {next : Option ℕ} → next ≡ first_listed all → IsLeft places last all next
-  left_begins e = record { done = []; rest = all; parts = refl; at = e; same = refl }
-
   -- nothing is left at the end
   pub left_none : {next : Option ℕ} → IsLeft places last all next → next ≡ None → false ≡ gives_again last places all
   left_none {next} left e = sym (left.same ∙ ap (gives_again last places) (none left.rest (sym e ∙ left.at)))

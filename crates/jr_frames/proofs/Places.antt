@@ -1,7 +1,7 @@
 -- What the table shows at a place, and of a handle.
 use Rattle.std.proofs.Common.{◌≡◌, ◌==◌, ◌&&◌, ◌||◌, ◌+◌, ℕ, Bool, true, false, not, cond, if◌then◌else◌}
 use Rattle.std.proofs.Common.{nat_le, List, [], ◌∷◌, map, Option, Some, None, slice_index, refl, ap, ◌∙◌, arith}
-use Rattle.std.specs.List.{list_any}
+use Rattle.std.specs.List.{list_any, concat}
 use Rattle.std.proofs.Math.ListN.{get_or-map}
 use Rattle.jr_model.specs.declared.frames.LocalRef.{LocalRef}
 use Rattle.jr_model.specs.State.{Handle, same_handle}
@@ -11,7 +11,6 @@ use Rattle.jr_frames.specs.declared.place.Place.{Place}
 use Rattle.jr_frames.specs.declared.frames.Frames.TheInside.{Inside as Fields}
 use Rattle.jr_frames.specs.Places.{given_of, unused, place_at, is_taken, ref_at}
 use Rattle.linked_lists.specs.Lists.{times}
-use Rattle.std.specs.List.{concat}
 use Rattle.jr_frames.specs.Arrangements.{table, IsTable}
 use Rattle.jr_frames.proofs.Showing.{joined_map}
 

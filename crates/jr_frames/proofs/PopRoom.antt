@@ -2,7 +2,7 @@
 use Rattle.std.proofs.Common.{◌≡◌, ◌==◌, ◌&&◌, ◌||◌, ◌+◌, ◌<◌, ◌≤◌, ⊎_elim, ℕ, suc, Bool}
 use Rattle.std.proofs.Common.{true, false, not, if◌then◌else◌, nat_le, List, [], ◌∷◌}
 use Rattle.std.proofs.Common.{length, slice_index, refl, sym, ap, subst, ◌∙◌, arith}
-use Rattle.std.specs.List.{list_any}
+use Rattle.std.specs.List.{list_any, concat}
 use Rattle.std.proofs.lemmas.List.{length-map}
 use Rattle.std.proofs.lemmas.Bool.{cases_lt}
 use Rattle.std.proofs.lemmas.Bool.Decides.{nat_tests}
@@ -12,17 +12,14 @@ use Rattle.jr_model.specs.Frames.{is_free, free_places, joined, popped}
 use Rattle.jr_model.proofs.Counts.{count_none, count_all_false}
 use Rattle.jr_model.proofs.Updates.{eq_true}
 use Rattle.jr_frames.specs.declared.frames.Frames.TheInside.{Inside as Fields}
-use Rattle.jr_frames.specs.Places.{given_of, unused, place_at, is_taken, is_idle}
+use Rattle.jr_frames.specs.Places.{given_of, unused, place_at, is_taken, is_idle, ref_at}
 use Rattle.linked_lists.specs.Lists.{times, list_at, last_list, lists_before}
-use Rattle.std.specs.List.{concat}
 use Rattle.jr_frames.specs.Arrangements.{table, IsTable}
-use Rattle.jr_frames.specs.Places.{ref_at}
 use Rattle.jr_frames.proofs.FreePlaces.{first_idle}
-use Rattle.jr_frames.proofs.Showing.{map_before}
+use Rattle.jr_frames.proofs.Showing.{map_before, joined_map}
 use Rattle.linked_lists.proofs.LastList.{last_at, times_parts}
 use Rattle.jr_frames.proofs.Named.{taken_index}
 use Rattle.jr_frames.proofs.Places.{any_ref, listed}
-use Rattle.jr_frames.proofs.Showing.{joined_map}
 use Rattle.jr_frames.specs.Giving.{IsFrame, gives_again}
 use Rattle.linked_lists.proofs.Times.{times_here}
 use Rattle.linked_lists.proofs.Shown.{times_at}

@@ -12,9 +12,8 @@ use Rattle.jr_model.specs.History.{PassView, IsLegal, Did}
 use Rattle.jr_model.specs.Frames.{Frames, object_of}
 use Rattle.jr_model.specs.Refusals.{Grounds}
 use Rattle.jr_model.specs.Calls.{Call, Ran, refuse_if, done, some_act, ◌>>=◌}
-use Rattle.jr_model.specs.Checks.{is_local, type_found, type_local}
+use Rattle.jr_model.specs.Checks.{is_local, type_found, type_local, Parts}
 use Rattle.jr_model.specs.Parts.{looked_at, local_answer, local_object, found_answer, found_object, type_at}
-use Rattle.jr_model.specs.Checks.{Parts}
 use Rattle.jr_model.proofs.Stays.{did_nothing}
 use Rattle.jr_model.proofs.Windows.{window_nothing}
 use Rattle.jr_model.proofs.Runs.{ran_some_act, ran_refuse, ran_done, ran_then, ran_give, did_legal}

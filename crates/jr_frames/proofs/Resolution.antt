@@ -17,7 +17,7 @@ use Rattle.jr_model.specs.Calls.{Call, Ran, done, ◌>>=◌}
 use Rattle.jr_model.specs.Checks.{Word, Parts, is_local, is_malformed}
 use Rattle.jr_model.specs.Checks.{is_out_of_bounds, is_foreign, type_found, type_local}
 use Rattle.jr_model.specs.Parts.{found_answer, local_answer, look, looked, looked_at, type_at}
-use Rattle.jr_model.specs.References.{resolved}
+use Rattle.jr_model.specs.References.{resolved, typing}
 use Rattle.jr_model.proofs.Stays.{did_nothing}
 use Rattle.jr_model.proofs.Windows.{window_nothing}
 use Rattle.jr_model.proofs.Runs.{ran_done}
@@ -26,7 +26,6 @@ use Rattle.jr_steps.specs.Knowing.{AreOf, Facts, view, anything, keeps, Holds, G
 use Rattle.jr_steps.proofs.StepFacts.{goes_did, looked_present}
 use Rattle.jr_frames.specs.OverSteps.{FoundPresent, Resolves, Calls}
 use Rattle.jr_frames.specs.Reading.{word_of}
-use Rattle.jr_model.specs.References.{typing}
 use Rattle.jr_frames.specs.declared.reference.Reference.{Reference}
 use Rattle.jr_frames.specs.declared.reference.Reference.TheVariants as reference
 use Rattle.jr_gate.proofs.Spending.{made_of, spending, spend_step, spend_none}

@@ -1,20 +1,14 @@
 -- What is shown of places, and of the order that they stand in.
-use Rattle.std.proofs.Common.{◌≡◌, ◌==◌, ◌&&◌, ◌+◌, ◌≤◌, ℕ, Bool, false, not}
+use Rattle.std.proofs.Common.{◌≡◌, ◌==◌, ◌&&◌, ◌+◌, ◌≤◌, ℕ, Bool, false}
 use Rattle.std.proofs.Common.{nat_le, List, [], ◌∷◌, ◌++◌, map, length, refl, sym, ap, ◌∙◌, arith}
-use Rattle.std.proofs.lemmas.List.{get_or_past, map-append}
+use Rattle.std.proofs.lemmas.List.{map-append}
 use Rattle.std.proofs.lemmas.Bool.Decides.{nat_tests}
 use Rattle.std.specs.List.{concat}
 use Rattle.linked_lists.specs.Lists.{last_list, lists_before, with_end}
 use Rattle.jr_model.specs.declared.frames.LocalRef.{LocalRef}
 use Rattle.jr_model.specs.Frames.{joined, with_last, last_frame, frames_before}
 use Rattle.jr_frames.specs.declared.place.Place.{Place}
-use Rattle.jr_frames.specs.Places.{unused, is_taken, is_idle}
-use Rattle.linked_lists.specs.Lists.{with_end, last_list, lists_before}
-use Rattle.std.specs.List.{concat}
-
--- no place beyond the last is taken, or free
-pub not_taken : (places : List Place) (q : ℕ) → length places ≤ q → is_taken places q ≡ false
-not_taken places q l = ap (λ (x : Place). not (x.object == 0)) (get_or_past places q unused l)
+use Rattle.jr_frames.specs.Places.{is_idle}
 
 beyond : (q n : ℕ) (b : Bool) → n ≤ q → (nat_le (q + 1) n && b) ≡ false
 beyond q n b l = grind (arith, nat_tests)

@@ -3,12 +3,11 @@ use Rattle.std.proofs.Common.{◌≡◌, ◌==◌, ◌+◌, ◌-◌, ◌≤◌, 
 use Rattle.std.proofs.Common.{List, [], ◌∷◌, map, refl, sym, subst, ◌∙◌, arith}
 use Rattle.std.proofs.lemmas.List.{length-map}
 use Rattle.std.proofs.Math.ListN.{get_or-map}
-use Rattle.std.specs.List.{AllByRecursion}
+use Rattle.std.specs.List.{AllByRecursion, concat}
 use Rattle.jr_model.specs.Frames.{AreSound, HaveOwnPlaces, IsNewest, all_refs}
 use Rattle.jr_frames.specs.declared.frames.Frames.TheInside.{Inside as Fields}
 use Rattle.jr_frames.specs.Places.{given_of, unused, place_at, is_taken, ref_at}
 use Rattle.linked_lists.specs.Lists.{times}
-use Rattle.std.specs.List.{concat}
 use Rattle.jr_frames.specs.Arrangements.{table, IsTable}
 use Rattle.linked_lists.proofs.Times.{times_here}
 use Rattle.jr_frames.proofs.Places.{listed, any_ref}

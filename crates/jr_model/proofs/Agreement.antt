@@ -15,8 +15,7 @@ use Rattle.jr_model.specs.State.{Handle, same_handle, State, opening}
 use Rattle.jr_model.specs.Steps.{act_after, after}
 use Rattle.jr_model.specs.History.{History, state_from, state, mine, PassView, Did}
 use Rattle.jr_model.specs.Frames.{Frames, Agree, HaveOwnPlaces, AreSound, IsNewest, IsAdded, IsMove}
-use Rattle.jr_model.specs.Frames.{fresh_frames, stored_at}
-use Rattle.jr_model.specs.Frames.{pushes, adds, deletes, pops, frees, all_refs, without_local}
+use Rattle.jr_model.specs.Frames.{fresh_frames, stored_at, pushes, adds, deletes, pops, frees, all_refs, without_local}
 use Rattle.jr_model.specs.Frames.{drop_all, frames_before, freed, is_held, joined, last_frame}
 use Rattle.jr_model.specs.Frames.{object_at, object_of, object_where, popped, pushed, with_last}
 use Rattle.jr_model.specs.Laws.{FreshAreSound, FramesStaySound, FramesStayAgreed, HandleIsAtPlace}

@@ -12,8 +12,7 @@ use Rattle.jr_model.specs.declared.event.GateAct.TheVariants.{Shut, Reopen}
 use Rattle.jr_model.specs.State.{Handle, same_handle, Contents, State, IsReached, present_words}
 use Rattle.jr_model.specs.Steps.{Needs, ActNeeds, act_after, after}
 use Rattle.jr_model.specs.History.{History, by, state, state_from, IsLegalFrom, mine}
-use Rattle.jr_model.specs.CollectionCalls.{IsToClear, IsToDrop, IsWhole, IsExact, KeepsReached}
-use Rattle.jr_model.specs.CollectionCalls.{sweeping_acts}
+use Rattle.jr_model.specs.CollectionCalls.{IsToClear, IsToDrop, IsWhole, IsExact, KeepsReached, sweeping_acts}
 use Rattle.jr_model.specs.Laws.{CollectionIsExact}
 use Rattle.jr_model.proofs.Updates.{at_number, at_number_self, at_handle, at_handle_self}
 use Rattle.jr_model.proofs.Updates.{eq_self, eq_true, eq_false, handle_true}

@@ -12,8 +12,7 @@ use Rattle.jr_model.specs.declared.event.Act.TheVariants.{Probe, ReserveLost}
 use Rattle.jr_model.specs.State.{State, EachPresent, IsOccupied}
 use Rattle.jr_model.specs.Steps.{Needs}
 use Rattle.jr_model.specs.History.{History, by, state, IsLegal, mine, PassView, Did}
-use Rattle.jr_model.specs.Refusals.{Sometime, WasTaken, WasOccupied, LostSpace}
-use Rattle.jr_model.specs.Refusals.{IsOpenWith, GateHasMoved, Grounds}
+use Rattle.jr_model.specs.Refusals.{Sometime, WasTaken, WasOccupied, LostSpace, IsOpenWith, GateHasMoved, Grounds}
 use Rattle.jr_model.proofs.Updates.{eq_true}
 use Rattle.jr_model.proofs.Histories.{legal_append, state_push}
 use Rattle.jr_model.proofs.Stays.{mine_did}

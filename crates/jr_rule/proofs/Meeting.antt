@@ -5,7 +5,8 @@ use Rattle.jr_model.specs.declared.event.Act.{Act}
 use Rattle.jr_steps.specs.declared.known.Known.{Known}
 use Rattle.jr_steps.specs.Holdings.{InSpace}
 use Rattle.jr_rule.specs.Rule.{counting, joints_at, view_at, AreBeginnings, EachFits, SeatState, stepping_pass}
-use Rattle.jr_rule.specs.Rule.{noted_pass, others_of, Tells, IsAlone, IsNote, IsSeated, together, first_alone}
+use Rattle.jr_rule.specs.Rule.{note_again, noted_pass, once_more, others_of, Tells, IsAlone, IsNote, IsSeated}
+use Rattle.jr_rule.specs.Rule.{first_alone, together}
 use Rattle.jr_rule.proofs.Seats.{joined_is}
 
 module _ (a b m : SeatState) (alone : IsAlone a) (other : IsAlone b) (joined : m ≡ (together a.0 b.0, a.1)) where
@@ -49,27 +50,45 @@ module _ (a b m : SeatState) (alone : IsAlone a) (other : IsAlone b) (joined : m
       held = s.held;
       others = subst (λ ks. EachFits (stepping_pass a).config (stepping_pass a).last (s.new).seen s.held ks)
           (sym (ap (λ (z : SeatState). others_of z.0.passes) alone)) tt;
-      noted = subst (λ ns. AreBeginnings (s.new).seen ns) (sym (ap (λ (z : SeatState). z.0.notes) alone)) tt;
+      noted = subst (λ ns. AreBeginnings (stepping_pass a).config (s.new).seen ns)
+          (sym (ap (λ (z : SeatState). z.0.notes) alone)) tt;
     }
 
--- A pass that learns what a note says, while it has it
+-- A pass and a note at one seat
 module _ (a b m : SeatState) (alone : IsAlone a) (note : IsNote b) (joined : m ≡ (together a.0 b.0, a.1)) where
-  -- the seat that was joined has the pass and the note
-  pub with_note : m ≡ (view_at (joints_at a + joints_at b + 1) (stepping_pass a ∷ []) (noted_pass b ∷ []), [])
-  with_note = joined ∙ ap (λ (z : SeatState × SeatState). (together z.0.0 z.1.0, z.0.1)) (λ i. (alone i, note i))
+  counted_note : b ≡ (view_at (joints_at b) [] (noted_pass b ∷ []), [])
+  counted_note = note ∙ (λ i. (view_at (ap joints_at (sym note) i) [] (noted_pass b ∷ []), []))
 
+  -- the seat that was joined has both, with what both counted, and the join
+  pub with_note : m ≡ (view_at (joints_at a + joints_at b + 1) (stepping_pass a ∷ []) (noted_pass b ∷ []), [])
+  with_note =
+      joined ∙ ap (λ (z : SeatState × SeatState). (together z.0.0 z.1.0, z.0.1)) (λ i. (alone i, counted_note i))
+
+  -- and once the note has left it again, with the parting
+  pub past_note : (m' : SeatState) → m' ≡ (once_more m.0, m.1)
+      → m' ≡ (view_at (joints_at a + joints_at b + 1 + 1) (stepping_pass a ∷ []) (noted_pass b ∷ []), [])
+  past_note m' e = e ∙ ap (λ (z : SeatState). (once_more z.0, z.1)) with_note
+
+  -- the note is then as it was
+  pub note_left : (n : SeatState) → n ≡ (note_again m.0, []) → n ≡ b
+  note_left n e = e ∙ (ap (λ (z : SeatState). (note_again z.0, [])) with_note ∙ sym note)
+
+-- A pass that learns what a note says, while its seat knows it
+module _ (a b m : SeatState) {j : ℕ} (alone : IsAlone a)
+    (here : m ≡ (view_at j (stepping_pass a ∷ []) (noted_pass b ∷ []), [])) where
   acting_noted : stepping_pass m ≡ stepping_pass a
-  acting_noted = ap stepping_pass with_note
+  acting_noted = ap stepping_pass here
 
   module _ {told : Known → ℕ → List Act → Known → Type 0} (n : ℕ) (m' : SeatState) (s : Tells told m n m') where
     -- and it has seen all that the note says
     pub learned : IsPrefix (noted_pass b).seen (stepping_pass m').seen
     learned = subst (λ (k : Known). IsPrefix (noted_pass b).seen k.seen) (sym (ap stepping_pass s.is))
-        (subst (λ ns. AreBeginnings (s.new).seen ns) (ap (λ (z : SeatState). z.0.notes) with_note) s.noted).0
+        (subst (λ ns. AreBeginnings (stepping_pass m).config (s.new).seen ns)
+        (ap (λ (z : SeatState). z.0.notes) here) s.noted).0.1
 
-    -- it has what both counted, and the join
-    pub learned_once : joints_at m' ≡ joints_at a + joints_at b + 1
-    learned_once = ap joints_at s.is ∙ ap joints_at with_note
+    -- its count stays
+    pub looked_once : joints_at m' ≡ j
+    looked_once = ap joints_at s.is ∙ ap joints_at here
 
     -- as if it had looked alone
     pub told_noted : Tells told (counting (joints_at m') a) n m'
@@ -78,9 +97,9 @@ module _ (a b m : SeatState) (alone : IsAlone a) (note : IsNote b) (joined : m �
       new = s.new;
       is = s.is ∙ (λ i. (
         view_at (ap joints_at (sym s.is) i)
-            (s.new ∷ (ap (λ (z : SeatState). others_of z.0.passes) with_note
+            (s.new ∷ (ap (λ (z : SeatState). others_of z.0.passes) here
             ∙ ap (λ (z : SeatState). others_of z.0.passes) (sym alone)) i) [],
-        (ap (λ (z : SeatState). z.1) with_note ∙ ap (λ (z : SeatState). z.1) (sym alone)) i,
+        (ap (λ (z : SeatState). z.1) here ∙ ap (λ (z : SeatState). z.1) (sym alone)) i,
       ));
       goes = subst (λ k. Rattle.jr_steps.specs.Knowing.Goes k s.acts s.new) acting_noted s.goes;
       says = subst (λ k. told k n s.acts s.new) acting_noted s.says;
@@ -88,5 +107,6 @@ module _ (a b m : SeatState) (alone : IsAlone a) (note : IsNote b) (joined : m �
       held = s.held;
       others = subst (λ ks. EachFits (stepping_pass a).config (stepping_pass a).last (s.new).seen s.held ks)
           (sym (ap (λ (z : SeatState). others_of z.0.passes) alone)) tt;
-      noted = subst (λ ns. AreBeginnings (s.new).seen ns) (sym (ap (λ (z : SeatState). z.0.notes) alone)) tt;
+      noted = subst (λ ns. AreBeginnings (stepping_pass a).config (s.new).seen ns)
+          (sym (ap (λ (z : SeatState). z.0.notes) alone)) tt;
     }

@@ -162,7 +162,8 @@ module _ (brought : ℕ) (first rest m' : SeatState) (ks : List Known) (count : 
         held = t.held;
         others = subst (λ ls. EachFits (stepping_pass first).config (stepping_pass first).last (t.new).seen t.held ls)
             (sym (ap (λ (z : SeatState). others_of z.0.passes) alone)) tt;
-        noted = subst (λ ns. AreBeginnings (t.new).seen ns) (sym (ap (λ (z : SeatState). z.0.notes) alone)) tt;
+        noted = subst (λ ns. AreBeginnings (stepping_pass first).config (t.new).seen ns)
+            (sym (ap (λ (z : SeatState). z.0.notes) alone)) tt;
       }
 
   -- what the look saw begins with all that the others have seen, and has no more of their events

@@ -116,10 +116,13 @@ goes_at k log held acts g f legal =
     }
 
 -- what notes say is a beginning of a longer history too
-noted_on : (log more : History) (ns : List Known) → AreBeginnings log ns → AreBeginnings (log ++ more) ns
-noted_on log more [] noted = tt
-noted_on log more (n ∷ ns) noted =
-    (prefix_trans n.seen log (log ++ more) noted.0 (more, refl), noted_on log more ns noted.1)
+noted_on : (c : Config) (log more : History) (ns : List Known) → AreBeginnings c log ns
+    → AreBeginnings c (log ++ more) ns
+noted_on c log more [] noted = tt
+noted_on c log more (n ∷ ns) noted = (
+  (noted.0.0, prefix_trans n.seen log (log ++ more) noted.0.1 (more, refl)),
+  noted_on c log more ns noted.1,
+)
 
 module _ (joints : ℕ) (c : Config) (last : ℕ) where
   -- the passes of other views, and the others of this one, are of other threads
@@ -167,9 +170,9 @@ module _ (joints : ℕ) (c : Config) (last : ℕ) where
             (at_set r.views id j w v there);
         noted = λ j v there. ⊎_elim
             (λ (q : (j ≡ id) × (w ≡ v)).
-            subst (λ (z : View). AreBeginnings (kept.log ++ map (by t) acts) z.notes) q.1 tt)
+            subst (λ (z : View). AreBeginnings c (kept.log ++ map (by t) acts) z.notes) q.1 tt)
             (λ (q : (j ≢ id) × (get_elem? r.views j ≡ some v)).
-            noted_on kept.log (map (by t) acts) v.notes (kept.noted j v q.1))
+            noted_on c kept.log (map (by t) acts) v.notes (kept.noted j v q.1))
             (at_set r.views id j w v there);
         once = λ u h. let same = total_at (passes_of u) r.views id (view_at joints (k ∷ ks) ns) w at in
             let most = kept.once u h in omega arith;
@@ -203,7 +206,8 @@ module _ (joints : ℕ) (c : Config) (last slots id : ℕ) (k : Known) (ks ns : 
               made.holdings (hold_here kept.held k.thread made.holdings);
           held = hold kept.held k.thread made.holdings;
           others = others_fit k.config k.last kept.log kept.held k.thread made.acts made.holdings ks far.0 fit.1;
-          noted = noted_on kept.log (map (by k.thread) made.acts) ns (kept.noted id (view_at joints (k ∷ ks) ns) at);
+          noted = noted_on k.config kept.log (map (by k.thread) made.acts) ns
+              (kept.noted id (view_at joints (k ∷ ks) ns) at);
         },
       )
 

@@ -15,9 +15,9 @@ use Rattle.jr_rule.specs.declared.rule.View.{View}
 use Rattle.jr_steps.specs.declared.known.Holdings.{Holdings}
 use Rattle.jr_steps.specs.Holdings.{empty}
 use Rattle.jr_rule.specs.Image.{IsImage}
-use Rattle.jr_rule.specs.Rule.{known, note_of, once_more, view_at, view_of, AreBeginnings, IsSized, EachFits, total}
-use Rattle.jr_rule.specs.Rule.{is_of, passes_of, Kept, newcomers, SeatState, first_alone, without_first, together}
-use Rattle.jr_rule.specs.Rule.{spent}
+use Rattle.jr_rule.specs.Rule.{known, note_again, note_of, once_more, view_at, view_of, AreBeginnings, IsSized}
+use Rattle.jr_rule.specs.Rule.{EachFits, is_of, passes_of, Kept, newcomers, SeatState, first_alone, without_first}
+use Rattle.jr_rule.specs.Rule.{spent, together, total}
 use Rattle.jr_rule.proofs.RuleKept.{total_append, total_at}
 
 each_append : (c : Config) (last : ℕ) (log : History) (held : ℕ → Holdings) (ks ls : List Known)
@@ -25,17 +25,17 @@ each_append : (c : Config) (last : ℕ) (log : History) (held : ℕ → Holdings
 each_append c last log held [] ls a b = b
 each_append c last log held (k ∷ ks) ls a b = (a.0, each_append c last log held ks ls a.1 b)
 
-noted_append : (log : History) (ns os : List Known) → AreBeginnings log ns → AreBeginnings log os
-    → AreBeginnings log (ns ++ os)
-noted_append log [] os a b = b
-noted_append log (n ∷ ns) os a b = (a.0, noted_append log ns os a.1 b)
+noted_append : (c : Config) (log : History) (ns os : List Known) → AreBeginnings c log ns → AreBeginnings c log os
+    → AreBeginnings c log (ns ++ os)
+noted_append c log [] os a b = b
+noted_append c log (n ∷ ns) os a b = (a.0, noted_append c log ns os a.1 b)
 
 module _ (c : Config) (last : ℕ) where
   -- a seat's passes are cut in two, and its notes
   cuts : (id : ℕ) (v left right : View) → ((log : History) (held : ℕ → Holdings) → EachFits c last log held v.passes
       → EachFits c last log held left.passes × EachFits c last log held right.passes)
-      → ((log : History) (held : ℕ → Holdings) → EachFits c last log held v.passes → AreBeginnings log v.notes
-      → AreBeginnings log left.notes × AreBeginnings log right.notes)
+      → ((log : History) (held : ℕ → Holdings) → EachFits c last log held v.passes → AreBeginnings c log v.notes
+      → AreBeginnings c log left.notes × AreBeginnings c log right.notes)
       → ((t : ℕ) → passes_of t left + passes_of t right ≡ passes_of t v) → Splits (Kept last c) id v left right
   cuts id v left right parts notes counts r kept at = record {
     log = kept.log;
@@ -56,10 +56,10 @@ module _ (c : Config) (last : ℕ) where
         let cut = notes kept.log kept.held (kept.each id v at) (kept.noted id v at) in
         ⊎_elim
         (λ (in_front : get_elem? (slice_set r.views id left) j ≡ some w). ⊎_elim
-        (λ (t : (j ≡ id) × (left ≡ w)). subst (λ (z : View). AreBeginnings kept.log z.notes) t.1 cut.0)
+        (λ (t : (j ≡ id) × (left ≡ w)). subst (λ (z : View). AreBeginnings c kept.log z.notes) t.1 cut.0)
         (λ (t : (j ≢ id) × (get_elem? r.views j ≡ some w)). kept.noted j w t.1)
         (at_set r.views id j left w in_front))
-        (λ (new : right ≡ w). subst (λ (z : View). AreBeginnings kept.log z.notes) new cut.1)
+        (λ (new : right ≡ w). subst (λ (z : View). AreBeginnings c kept.log z.notes) new cut.1)
         (at_snoc (slice_set r.views id left) right w j there);
     once = λ t h.
         let f : View → ℕ = passes_of t in
@@ -86,14 +86,14 @@ module _ (c : Config) (last : ℕ) where
       → Splits (Kept last c) id v (once_more v) (note_of v)
   jots id v k ks {n} is = subst (λ (w : View). Splits (Kept last c) id w (once_more w) (note_of w)) (sym is)
       (cuts id (view_at n (k ∷ ks) []) (view_at (n + 1) (k ∷ ks) []) (view_at 0 [] (k ∷ [])) (λ log held fit. (fit, tt))
-      (λ log held fit noted. (tt, ((fit.0).begins, tt))) (λ t. omega arith))
+      (λ log held fit noted. (tt, (((fit.0).same_config, (fit.0).begins), tt))) (λ t. omega arith))
 
-  -- a copy of a seat's notes leaves it, where it has no pass
-  pub copies : (id : ℕ) (v : View) (ns : List Known) {n : ℕ} → v ≡ view_at n [] ns
-      → Splits (Kept last c) id v v (once_more v)
-  copies id v ns {n} is = subst (λ (w : View). Splits (Kept last c) id w w (once_more w)) (sym is)
-      (cuts id (view_at n [] ns) (view_at n [] ns) (view_at (n + 1) [] ns) (λ log held fit. (fit, fit))
-      (λ log held fit noted. (noted, noted)) (λ t. refl))
+  -- a note that joined a seat leaves it again
+  pub leaves_again : (id : ℕ) (v : View) (k n : Known) (ks ns : List Known) {j : ℕ} → v ≡ view_at j (k ∷ ks) (n ∷ ns)
+      → Splits (Kept last c) id v (once_more v) (note_again v)
+  leaves_again id v k n ks ns {j} is = subst (λ (w : View). Splits (Kept last c) id w (once_more w) (note_again w))
+      (sym is) (cuts id (view_at j (k ∷ ks) (n ∷ ns)) (view_at (j + 1) (k ∷ ks) (n ∷ ns)) (view_at 0 [] (n ∷ []))
+      (λ log held fit. (fit, tt)) (λ log held fit noted. (noted, (noted.0, tt))) (λ t. omega arith))
 
   pub gathers : (id : ℕ) (v : View) (other : ℕ) (w : View) → Joins (Kept last c) id v other w (together v w) spent
   gathers id v other w r kept at apart there =
@@ -116,10 +116,10 @@ module _ (c : Config) (last : ℕ) where
             (at_set r.views id j (together v w) u t.1))
             (at_set (slice_set r.views id (together v w)) other j spent u there');
         noted = λ j u there'. ⊎_elim
-            (λ (t : (j ≡ other) × (spent ≡ u)). subst (λ (z : View). AreBeginnings kept.log z.notes) t.1 tt)
+            (λ (t : (j ≡ other) × (spent ≡ u)). subst (λ (z : View). AreBeginnings c kept.log z.notes) t.1 tt)
             (λ (t : (j ≢ other) × (get_elem? (slice_set r.views id (together v w)) j ≡ some u)). ⊎_elim
-            (λ (q : (j ≡ id) × (together v w ≡ u)). subst (λ (z : View). AreBeginnings kept.log z.notes) q.1
-            (noted_append kept.log v.notes w.notes (kept.noted id v at) (kept.noted other w was)))
+            (λ (q : (j ≡ id) × (together v w ≡ u)). subst (λ (z : View). AreBeginnings c kept.log z.notes) q.1
+            (noted_append c kept.log v.notes w.notes (kept.noted id v at) (kept.noted other w was)))
             (λ (q : (j ≢ id) × (get_elem? r.views j ≡ some u)). kept.noted j u q.1)
             (at_set r.views id j (together v w) u t.1))
             (at_set (slice_set r.views id (together v w)) other j spent u there');
@@ -181,8 +181,8 @@ module _ (c : Config) (last : ℕ) where
       alone v (suc j) there = absurd (some-ne-none v (sym there))
 
       unnoted : (v : View) (j : ℕ) → get_elem? (view_of (newcomers c last c.threads 0) ∷ []) j ≡ some v
-          → AreBeginnings [] v.notes
-      unnoted v zero there = subst (λ (z : View). AreBeginnings [] z.notes) (some-injective _ v there) tt
+          → AreBeginnings c [] v.notes
+      unnoted v zero there = subst (λ (z : View). AreBeginnings c [] z.notes) (some-injective _ v there) tt
       unnoted v (suc j) there = absurd (some-ne-none v (sym there))
 
   -- the next of the newcomers

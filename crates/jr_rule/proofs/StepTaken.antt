@@ -25,8 +25,7 @@ use Rattle.jr_steps.specs.Knowing.{KnowsHeader, MayKnow, ReadsInTurn, SawPart}
 use Rattle.jr_steps.proofs.StepFacts.{goes_did}
 use Rattle.jr_rule.specs.declared.cells.Cells.{Ghosts}
 use Rattle.jr_rule.specs.declared.over.StepsOver.{StepsOver}
-use Rattle.jr_rule.specs.Cells.{Sight, IsAmong, AreItsActs, May}
-use Rattle.jr_rule.specs.Cells.{IsOwed, HasStepped, InRole, IsStanding, stands_at}
+use Rattle.jr_rule.specs.Cells.{Sight, IsAmong, AreItsActs, May, IsOwed, HasStepped, InRole, IsStanding, stands_at}
 use Rattle.jr_rule.specs.CellLaws.{among_of}
 use Rattle.jr_rule.specs.Over.{facts_over as facts}
 use Rattle.jr_rule.specs.Parts.{facts_within}

@@ -6,10 +6,9 @@ use Rattle.jr_word.specs.declared.config.Config.{Config}
 use Rattle.jr_word.specs.declared.slot.SlotParts.TheVariants as slot
 use Rattle.jr_word.specs.Config.{row_words}
 use Rattle.jr_model.specs.declared.event.Role.TheVariants.{Outside}
-use Rattle.jr_model.specs.State.{opening}
+use Rattle.jr_model.specs.State.{is_inside, opening}
 use Rattle.jr_model.proofs.Counts.{count_all_false}
 use Rattle.jr_word.specs.declared.gate.GateState.TheVariants.{Open}
-use Rattle.jr_model.specs.State.{is_inside}
 use Rattle.jr_rule.specs.Image.{local_at, unowned, IsImage}
 use Rattle.jr_steps.specs.Holdings.{empty}
 use Rattle.jr_rule.proofs.HoldingsInSpace.{holdings_in_space}

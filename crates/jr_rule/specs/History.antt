@@ -103,6 +103,6 @@ AllTellOfOperations kind = TellsOfOperations (λ s m n m'. Tells kind.told m n m
 -- how its seats are cut in two, and joined
 abbrev pub AllPart : Type 0
 AllPart = ((v : View) (k : Known) (ks : List Known) → v.passes ≡ k ∷ ks → Parts v (deal.left v) (deal.right v)
-    × Parts v (leave_first.left v) (leave_first.right v) × Parts v (jot.left v) (jot.right v))
-    × ((v : View) → v.passes ≡ [] → Parts v (again.left v) (again.right v))
+    × Parts v (leave_first.left v) (leave_first.right v) × Parts v (jot.left v) (jot.right v)
+    × Parts v (again.left v) (again.right v))
     × ((v w : View) → (gather.both v w).passes ≡ v.passes ++ w.passes) × (gather.spent.passes ≡ [])

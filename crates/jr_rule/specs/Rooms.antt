@@ -31,8 +31,9 @@ IsOfRoom r p = IsAt r.row p
 abbrev pub holder_over : {P : Type 0} {G : Ghosts RoomCells P} → StepsOver RoomCells P G → Holder
 holder_over s = record { seat = s.cells.seat; thread = s.cells.thread; role = s.role; fresh = s.fresh; hint = s.hint }
 
--- THE COUNT OF JOINS AND PARTINGS of seats that steps have, each of which is a load of the gate. A step
--- leaves it as it is. Who joins another takes over its count. A seat that is let go takes its count with it
+-- THE COUNT OF JOINS AND PARTINGS of seats that steps have, each of which is a load of the gate. An operation on a word
+-- leaves it as it is (`counted` of `Cells`), and a step's body is over any cells, so that it has such operations alone.
+-- Who joins another takes over its count. A seat without a pass has none, and can't be cut
 abbrev pub joints_over : {P : Type 0} {G : Ghosts RoomCells P} → StepsOver RoomCells P G → ℕ
 joints_over s = joints_at s.cells.seat.me
 
@@ -81,7 +82,7 @@ abbrev pub seen_by_pinned : PinnedNote → History
 seen_by_pinned p = (noted_pass (p.perch.view, [])).seen
 
 -- the count that the pinned note has. A perch hands out the view that it was made with: so its exchanges are in
--- no count, and a copy leaves the count of what stays there as it was. The copy brings its own parting along
+-- no count. Who learns it has the count of its join, and of the parting by which the note leaves again
 abbrev pub joints_of_pinned : PinnedNote → ℕ
 joints_of_pinned p = p.perch.view.joints
 

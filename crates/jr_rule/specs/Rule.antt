@@ -57,10 +57,11 @@ abbrev pub EachFits : Config → ℕ → History → (ℕ → Holdings) → List
 EachFits c last log held [] = Unit {0}
 EachFits c last log held (k ∷ ks) = Fits c last log held k × EachFits c last log held ks
 
--- A NOTE says what a pass had seen: a beginning of the history
-abbrev pub AreBeginnings : History → List Known → Type 0
-AreBeginnings log [] = Unit {0}
-AreBeginnings log (n ∷ ns) = IsPrefix n.seen log × AreBeginnings log ns
+-- A NOTE says what a pass of the room had seen: a beginning of the history. (`nobody` has
+-- other sizes, so that no seat without a pass can be cut for a note)
+abbrev pub AreBeginnings : Config → History → List Known → Type 0
+AreBeginnings c log [] = Unit {0}
+AreBeginnings c log (n ∷ ns) = ((n.config ≡ c) × IsPrefix n.seen log) × AreBeginnings c log ns
 
 abbrev pub total : {A : Type 0} → (A → ℕ) → List A → ℕ
 total f [] = 0
@@ -84,7 +85,7 @@ pub record Kept (last : ℕ) (c : Config) (r : Row) : Type 0 where
   pub sized : IsSized c last
   pub image : IsImage c last r.words (state log) held
   pub each : (j : ℕ) (v : View) → get_elem? r.views j ≡ some v → EachFits c last log held v.passes
-  pub noted : (j : ℕ) (v : View) → get_elem? r.views j ≡ some v → AreBeginnings log v.notes
+  pub noted : (j : ℕ) (v : View) → get_elem? r.views j ≡ some v → AreBeginnings c log v.notes
   pub once : (t : ℕ) → t < c.threads → total (passes_of t) r.views ≡ 1
 
 -- AT THE OPENING the one seat stands for all passes, of so many threads from t on, which have seen nothing
@@ -150,7 +151,7 @@ pub record Tells (told : Known → ℕ → List Act → Known → Type 0) (m : S
   pub space : InSpace (stepping_pass m).config new.holdings
   pub held : ℕ → Holdings
   pub others : EachFits (stepping_pass m).config (stepping_pass m).last new.seen held (others_of m.0.passes)
-  pub noted : AreBeginnings new.seen m.0.notes
+  pub noted : AreBeginnings (stepping_pass m).config new.seen m.0.notes
 
 -- the seat with another count
 abbrev pub counting : ℕ → SeatState → SeatState
@@ -202,13 +203,22 @@ note_of v = view_at 0 [] (first_of v.passes ∷ [])
 abbrev pub once_more : View → View
 once_more v = view_at (v.joints + 1) v.passes v.notes
 
+-- a note that leaves a seat again which it joined. Where the seat has no pass
+-- it would be `nobody`'s, so that each cut is in the count of a seat with a pass
+abbrev pub note_beside : List Known → Known → Known
+note_beside [] n = nobody
+note_beside (k ∷ ks) n = n
+
+abbrev pub note_again : View → View
+note_again v = view_at 0 [] (note_beside v.passes (first_of v.notes) ∷ [])
+
 -- what the pass knew of which a seat has a note
 abbrev pub noted_pass : SeatState → Known
 noted_pass m = first_of m.0.notes
 
--- THE SEAT IS A NOTE'S: of one pass, with nothing beside
+-- THE SEAT IS A NOTE'S: of one pass, with nothing beside, and without a count
 abbrev pub IsNote : SeatState → Type 0
-IsNote m = m ≡ (view_at (joints_at m) [] (noted_pass m ∷ []), [])
+IsNote m = m ≡ (view_at 0 [] (noted_pass m ∷ []), [])
 
 -- HOW TWO SEATS ARE JOINED: one stands for the passes of both, with the notes of both,
 -- and with both their counts and this join; the other stands for none, without a count

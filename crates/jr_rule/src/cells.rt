@@ -27,7 +27,7 @@ impl StepKind for Brand {
 
 /// Who steps on the words of a row: each operation is one on one word, and one step. `P` is where the words are.
 pub trait Cells<P: Copy> {
-    ghost use Rattle.std.specs.Prelude.{List};
+    ghost use Rattle.std.specs.Prelude.{ℕ, List};
     ghost use Rattle.jr_model.specs.declared.event.Act.{Act};
     ghost use Rattle.jr_rule.specs.Cells.{Sight, AreSoundWords};
 
@@ -36,6 +36,9 @@ pub trait Cells<P: Copy> {
 
     /// A step with these acts was taken: what it made of the one history that the thread knows, in a room. Over plain words, which may have several, this says nothing.
     ghost goes: { Self → Self → List Act → Type 0 };
+
+    /// The count of joins and partings of seats that is theirs. Each is an operation beside the five, and none of these makes one.
+    ghost joints: { Self → ℕ };
 
     /// They are there.
     ghost are_at: { Self → P → Type 0 };
@@ -74,7 +77,8 @@ pub trait Cells<P: Copy> {
         requires owed { IsOwed (sight self.old) T.met at (λ n. n) T.told }
         ensures there { are_at self.new place }
         ensures step { HasStepped (sight self.old) (sight self.new) T.met T.told result }
-        ensures seen { WentBy (goes self.old self.new) (sight self.old) T.met T.told result };
+        ensures seen { WentBy (goes self.old self.new) (sight self.old) T.met T.told result }
+        ensures counted { joints self.new ≡ joints self.old };
 
     /// Stores a word.
     fn store<T: StepKind>(&mut self, place: P, at: usize, new: u64)
@@ -82,7 +86,8 @@ pub trait Cells<P: Copy> {
         requires owed { IsOwed (sight self.old) T.met at (λ n. new) (λ k n. T.told k new) }
         ensures there { are_at self.new place }
         ensures step { HasStepped (sight self.old) (sight self.new) T.met T.told new }
-        ensures seen { WentBy (goes self.old self.new) (sight self.old) T.met T.told new };
+        ensures seen { WentBy (goes self.old self.new) (sight self.old) T.met T.told new }
+        ensures counted { joints self.new ≡ joints self.old };
 
     /// Adds to a word. The number that was found.
     fn add<T: StepKind>(&mut self, place: P, at: usize, more: u64) -> u64
@@ -90,7 +95,8 @@ pub trait Cells<P: Copy> {
         requires owed { IsOwed (sight self.old) T.met at (λ n. (n + more) % 2 ^ 64) T.told }
         ensures there { are_at self.new place }
         ensures step { HasStepped (sight self.old) (sight self.new) T.met T.told result }
-        ensures seen { WentBy (goes self.old self.new) (sight self.old) T.met T.told result };
+        ensures seen { WentBy (goes self.old self.new) (sight self.old) T.met T.told result }
+        ensures counted { joints self.new ≡ joints self.old };
 
     /// Takes away from a word. The number that was found.
     fn take<T: StepKind>(&mut self, place: P, at: usize, less: u64) -> u64
@@ -98,7 +104,8 @@ pub trait Cells<P: Copy> {
         requires owed { IsOwed (sight self.old) T.met at (λ n. (n + (2 ^ 64 - less)) % 2 ^ 64) T.told }
         ensures there { are_at self.new place }
         ensures step { HasStepped (sight self.old) (sight self.new) T.met T.told result }
-        ensures seen { WentBy (goes self.old self.new) (sight self.old) T.met T.told result };
+        ensures seen { WentBy (goes self.old self.new) (sight self.old) T.met T.told result }
+        ensures counted { joints self.new ≡ joints self.old };
 
     /// Exchanges a word for a new one where it is `old`. The number that was found.
     fn exchange<T: StepKind>(&mut self, place: P, at: usize, old: u64, new: u64) -> u64
@@ -106,7 +113,8 @@ pub trait Cells<P: Copy> {
         requires owed { IsOwed (sight self.old) T.met at (λ n. either (n == old) new n) T.told }
         ensures there { are_at self.new place }
         ensures step { HasStepped (sight self.old) (sight self.new) T.met T.told result }
-        ensures seen { WentBy (goes self.old self.new) (sight self.old) T.met T.told result };
+        ensures seen { WentBy (goes self.old self.new) (sight self.old) T.met T.told result }
+        ensures counted { joints self.new ≡ joints self.old };
 
     /// What always holds of the words.
     ghost sound: { (s : Self) (place : P) → are_at s place → AreSoundWords (sight s) };
@@ -125,6 +133,7 @@ pub(crate) fn load<C: Cells<P>, P: Copy, T: StepKind, A: Copy>(
     ensures there { C.are_at cells.new place }
     ensures step { HasStepped (C.sight cells.old) (C.sight cells.new) T.met T.told result }
     ensures seen { WentBy (C.goes cells.old cells.new) (C.sight cells.old) T.met T.told result }
+    ensures counted { C.joints cells.new ≡ C.joints cells.old }
 {
     cells.load::<T>(place, at)
 }
@@ -143,6 +152,7 @@ pub(crate) fn store<C: Cells<P>, P: Copy, T: StepKind, A: Copy>(
     ensures there { C.are_at cells.new place }
     ensures step { HasStepped (C.sight cells.old) (C.sight cells.new) T.met T.told new }
     ensures seen { WentBy (C.goes cells.old cells.new) (C.sight cells.old) T.met T.told new }
+    ensures counted { C.joints cells.new ≡ C.joints cells.old }
 {
     cells.store::<T>(place, at, new);
 }
@@ -161,6 +171,7 @@ pub(crate) fn add<C: Cells<P>, P: Copy, T: StepKind, A: Copy>(
     ensures there { C.are_at cells.new place }
     ensures step { HasStepped (C.sight cells.old) (C.sight cells.new) T.met T.told result }
     ensures seen { WentBy (C.goes cells.old cells.new) (C.sight cells.old) T.met T.told result }
+    ensures counted { C.joints cells.new ≡ C.joints cells.old }
 {
     cells.add::<T>(place, at, more)
 }
@@ -179,6 +190,7 @@ pub(crate) fn take<C: Cells<P>, P: Copy, T: StepKind, A: Copy>(
     ensures there { C.are_at cells.new place }
     ensures step { HasStepped (C.sight cells.old) (C.sight cells.new) T.met T.told result }
     ensures seen { WentBy (C.goes cells.old cells.new) (C.sight cells.old) T.met T.told result }
+    ensures counted { C.joints cells.new ≡ C.joints cells.old }
 {
     cells.take::<T>(place, at, less)
 }
@@ -198,6 +210,7 @@ pub(crate) fn exchange<C: Cells<P>, P: Copy, T: StepKind, A: Copy>(
     ensures there { C.are_at cells.new place }
     ensures step { HasStepped (C.sight cells.old) (C.sight cells.new) T.met T.told result }
     ensures seen { WentBy (C.goes cells.old cells.new) (C.sight cells.old) T.met T.told result }
+    ensures counted { C.joints cells.new ≡ C.joints cells.old }
 {
     cells.exchange::<T>(place, at, old, new)
 }

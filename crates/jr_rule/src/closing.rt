@@ -27,7 +27,7 @@ pub struct Left<const LAST: u32> {
 impl<const LAST: u32> Room<LAST> {
     ghost use Rattle.jr_model.specs.declared.event.Act.TheVariants.{Meet};
     ghost use Rattle.jr_steps.specs.Knowing.{anything, keeps, Took};
-    ghost use Rattle.jr_rule.specs.Passes.{facts_of, holder_of, known_of, Closes};
+    ghost use Rattle.jr_rule.specs.Passes.{facts_of, holder_of, joints_of, known_of, Closes};
     ghost use Rattle.jr_rule.specs.Rooms.{IsOfRoom, IsLeft, CountsInside};
 
     /// Closes the room, and tells what stands in it: what stands after a legal history that begins with all that the pass has seen, and has no more events of its thread. The pass has to be one of the room's.
@@ -45,6 +45,7 @@ impl<const LAST: u32> Room<LAST> {
         requires { IsOfRoom self pass }
         ensures ok { IfOk result (λ s. Closes (known_of pass) s) }
         ensures err { IfErr result (λ l. IsLeft self.entry pass l) }
+        ensures counted { IfErr result (λ l. joints_of l.pass ≡ joints_of pass) }
     {
         let (inside, pass) = self.look(pass);
         if inside != 0 {
@@ -64,6 +65,7 @@ impl<const LAST: u32> Room<LAST> {
         ensures room { IsOfRoom self.now result.1 }
         ensures step { Took facts_of (holder_of pass) (holder_of result.1) (Meet ∷ []) anything keeps }
         ensures seen { CountsInside (known_of pass) (known_of result.1) result.0 }
+        ensures counted { joints_of result.1 ≡ joints_of pass }
     {
         let mut steps = RoomSteps::new(self, pass);
         let inside = all_counted(steps.look(GateLoad::Meet));

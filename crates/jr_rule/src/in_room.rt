@@ -37,7 +37,7 @@ impl<'r, const LAST: u32, Q: Site, T: ThreadNumber> Copy for InRoom<'r, LAST, Q,
 
 impl<'r, const LAST: u32, Q: Site, T: ThreadNumber> Cells<InRoom<'r, LAST, Q, T>> for RoomCells {
     ghost use Rattle.jr_steps.specs.Knowing.{Goes};
-    ghost use Rattle.jr_rule.specs.Rule.{stepping_pass};
+    ghost use Rattle.jr_rule.specs.Rule.{joints_at, stepping_pass};
     ghost use Rattle.jr_rule.specs.Sights.{sight_of_seat};
     ghost use Rattle.jr_rule.specs.Sites.{IsAtThread};
     ghost use Rattle.jr_rule.specs.SiteLaws.{thread_one, thread_sound};
@@ -45,6 +45,8 @@ impl<'r, const LAST: u32, Q: Site, T: ThreadNumber> Cells<InRoom<'r, LAST, Q, T>
     ghost sight = { λ s. sight_of_seat s.seat.table_id s.seat.me };
 
     ghost goes = { λ s t acts. Goes (stepping_pass s.seat.me) acts (stepping_pass t.seat.me) };
+
+    ghost joints = { λ s. joints_at s.seat.me };
 
     ghost are_at = { λ s place. IsAtThread Q.room Q.sizes T.number s place.room.now };
 

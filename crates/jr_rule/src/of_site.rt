@@ -41,7 +41,7 @@ impl<Q: Site> Copy for OfSite<Q> {}
 
 impl<const LAST: u32, Q: Site> Cells<OfSite<Q>> for OwnedCells<LAST> {
     ghost use Rattle.jr_steps.specs.Knowing.{Goes};
-    ghost use Rattle.jr_rule.specs.Rule.{stepping_pass};
+    ghost use Rattle.jr_rule.specs.Rule.{joints_at, stepping_pass};
     ghost use Rattle.jr_rule.specs.Sights.{sight_of_seat};
     ghost use Rattle.jr_rule.specs.OwnedSites.{IsOwnedIn};
     ghost use Rattle.jr_rule.specs.OwnedLaws.{owned_one, owned_sound};
@@ -49,6 +49,8 @@ impl<const LAST: u32, Q: Site> Cells<OfSite<Q>> for OwnedCells<LAST> {
     ghost sight = { λ s. sight_of_seat s.cells.seat.table_id s.cells.seat.me };
 
     ghost goes = { λ s t acts. Goes (stepping_pass s.cells.seat.me) acts (stepping_pass t.cells.seat.me) };
+
+    ghost joints = { λ s. joints_at s.cells.seat.me };
 
     ghost are_at = { λ s place. IsOwnedIn Q.room s };
 
@@ -143,10 +145,11 @@ impl<const LAST: u32, Q: Site> StepsIn<Q> for StepsOver<OwnedCells<LAST>, OfSite
         ensures busy { result ≡ false → IsUnchanged facts_over self.old self.new }
         ensures counted { (result ≡ true → joints_owned self.new ≡ joints_owned self.old + joints_of_pinned pinned.now + 2) × (result ≡ false → joints_owned self.new ≡ joints_owned self.old) }
     {
-        let Some(note) = pinned.copy(&*self.cells.room) else {
+        let Some(note) = pinned.take() else {
             return false;
         };
-        StepsIn::<Q>::learn(self, note);
+        let note = self.cells.cells.learn_again(&*self.cells.room, note);
+        pinned.give(note);
         true
     }
 }

@@ -45,6 +45,7 @@ impl<C: Cells<P>, P: Copy> StepsOver<C, P> {
         requires { GateLoadFits self.old.role name }
         ensures step { Took facts_over self.old self.new (act_of_gate_load name result ∷ []) anything (λ j k. ShowsGate result k × keeps j k) }
         ensures seen { LooksSo (C.sight self.old.cells) (C.sight self.new.cells) self.old.role name result }
+        ensures counted { C.joints self.new.cells ≡ C.joints self.old.cells }
     {
         let about = (name, self.role);
         let found = load::<C, P, Brand, (GateLoad, Role)>(&mut self.cells, self.place, GATE, about);

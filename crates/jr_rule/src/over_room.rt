@@ -148,11 +148,11 @@ impl<'a, const LAST: u32> StepsOver<RoomCells, &'a Room<LAST>> {
         self.note().pin()
     }
 
-    /// Learns all that a pinned note of the room says, as `learn` does, and leaves it pinned; or answers false, where another thread was just taking its copy. Nobody waits, and there is no lock: these steps are then as they were, and the call may be made again. Each call learns, also where this thread has learned the note before.
+    /// Learns all that a pinned note of the room says, as `learn` does, and leaves it pinned; or answers false, where another thread was just learning it. Nobody waits, and there is no lock: these steps are then as they were, and the call may be made again. Each call learns, also where this thread has learned the note before.
     ///
     /// # Operations
     ///
-    /// One where the answer is true, a load of the gate, and none where it is false. Where it is true, the copy leaves the note and joins the thread's seat by two loads of the gate: they count as one parting and one join. No clause counts the exchanges of the note's own word: one, and where a copy rests there another one.
+    /// One where the answer is true, a load of the gate, and none where it is false. Where it is true, the note joins the thread's seat and leaves it again by two loads of the gate: they count as one join and one parting. No clause counts the exchanges of the note's own word: one, and where the note rested there another one.
     pub fn learn_pinned(&mut self, pinned: &PinnedNote) -> bool
         requires { IsPinnedThere self.old pinned.now }
         ensures room { self.new.place ≡ self.old.place }
@@ -162,10 +162,11 @@ impl<'a, const LAST: u32> StepsOver<RoomCells, &'a Room<LAST>> {
         ensures busy { result ≡ false → AreAsBefore self.old self.new }
         ensures counted { (result ≡ true → joints_over self.new ≡ joints_over self.old + joints_of_pinned pinned.now + 2) × (result ≡ false → joints_over self.new ≡ joints_over self.old) }
     {
-        let Some(note) = pinned.copy(self.place) else {
+        let Some(note) = pinned.take() else {
             return false;
         };
-        self.learn(note);
+        let note = self.cells.learn_again(self.place, note);
+        pinned.give(note);
         true
     }
 

@@ -19,13 +19,15 @@ impl<const LAST: u32> Cells<()> for OwnedCells<LAST> {
     ghost use Rattle.std.specs.Prelude.{◌≡◌};
     ghost use Rattle.std.specs.Arc.{arc_value};
     ghost use Rattle.jr_steps.specs.Knowing.{Goes};
-    ghost use Rattle.jr_rule.specs.Rule.{stepping_pass};
+    ghost use Rattle.jr_rule.specs.Rule.{joints_at, stepping_pass};
     ghost use Rattle.jr_rule.specs.Sights.{IsSeatOf, sight_of_seat};
     ghost use Rattle.jr_rule.specs.CellLaws.{seat_one, seat_sound};
 
     ghost sight = { λ s. sight_of_seat s.cells.seat.table_id s.cells.seat.me };
 
     ghost goes = { λ s t acts. Goes (stepping_pass s.cells.seat.me) acts (stepping_pass t.cells.seat.me) };
+
+    ghost joints = { λ s. joints_at s.cells.seat.me };
 
     ghost are_at = { λ s place. IsSeatOf (arc_value s.room).row.table.shared.table_id (arc_value s.room).row.config (arc_value s.room).row.last s.cells.seat.table_id s.cells.seat.me s.cells.thread };
 

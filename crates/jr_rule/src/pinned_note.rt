@@ -1,9 +1,8 @@
-//! A note that several threads may learn: it stays where it is, and each of them takes a copy.
+//! A note that several threads may learn: each of them takes it, and gives it back.
 ghost use Rattle.std.specs.Prelude.{◌≡◌, [], IfSome};
-ghost use Rattle.jr_rule.specs.Rule.{IsNote, once_more};
+ghost use Rattle.jr_rule.specs.Rule.{IsNote};
 
 use crate::note::Note;
-use crate::room::Room;
 use crate::rule::View;
 use atomic_table::{Perch, Seat};
 
@@ -15,7 +14,7 @@ const RESTS: u64 = 2;
 
 /// What a thread had seen in its room, pinned where other threads find it: it can be shared by `&`, and each thread of the room may learn it, as often as it likes. It is no pass: it holds nobody inside, and no collection and no close waits for it. It has one word of its own, none that names its room, and may be let go.
 ///
-/// There is no lock, and nobody waits: a thread that finds another one just taking its copy is told so.
+/// There is no lock, and nobody waits: a thread that finds another one just learning it is told so.
 #[derive(Drop)]
 pub struct PinnedNote {
     pub(crate) perch: Perch<(), View>,
@@ -34,17 +33,19 @@ impl PinnedNote {
         PinnedNote { perch }
     }
 
-    /// A copy of the note, where nobody else is taking one at the moment.
-    pub(crate) fn copy<const LAST: u32>(&self, room: &Room<LAST>) -> Option<Note>
-        requires { self.now.perch.table_id ≡ room.now.row.table.shared.table_id }
-        ensures { IfSome result (λ n. (n.seat.table_id ≡ self.now.perch.table_id) × (n.seat.me ≡ (once_more self.now.perch.view, []))) }
+    /// The seat of the note, where nobody else has it at the moment.
+    pub(crate) fn take(&self) -> Option<Seat<(), View>>
+        ensures { IfSome result (λ s. (s.table_id ≡ self.now.perch.table_id) × (s.me ≡ (self.now.perch.view, []))) }
     {
-        let (_, Some(mut seat)) = self.perch.take(TAKEN) else {
-            return None;
-        };
-        let copy = room.row.copy(&mut seat);
-        // (nobody else gives a seat here, so this one comes to rest again; no clause says so, and where it didn't, nobody could learn the note any more)
+        let (_, seat) = self.perch.take(TAKEN);
+        seat
+    }
+
+    /// The seat comes to rest again.
+    pub(crate) fn give(&self, seat: Seat<(), View>)
+        requires { (seat.table_id ≡ self.now.perch.table_id) × (seat.me ≡ (self.now.perch.view, [])) }
+    {
+        // (nobody else gives a seat here, so this one comes to rest; no clause says so, and where it didn't, nobody could learn the note any more)
         let _ = self.perch.give(seat, TAKEN, RESTS);
-        Some(Note { seat: copy })
     }
 }

@@ -38,6 +38,8 @@ impl<const LAST: u32> Cells<()> for PlainCells<LAST> {
 
     ghost goes = { λ s t acts. Unit {0} };
 
+    ghost joints = { λ s. 0 };
+
     ghost are_at = { λ s place. Unit {0} };
 
     ghost one = { λ s place. unit_one };

@@ -131,16 +131,6 @@ impl Row {
         }
     }
 
-    /// A copy of what the seat of a note says, in a seat of its own, which has the count of this parting.
-    pub(crate) fn copy(&self, note: &mut Seat<(), View>) -> Seat<(), View>
-        requires room { note.old.table_id ≡ self.now.table.shared.table_id }
-        requires note { IsNote note.old.me }
-        ensures same { (note.new.table_id ≡ note.old.table_id) × (note.new.me ≡ note.old.me) }
-        ensures copy { (result.table_id ≡ note.old.table_id) × (result.me ≡ (once_more note.old.me.0, [])) }
-    {
-        self.table.shared.split_seat::<Again>(note)
-    }
-
     /// What stands at the end of all passes of the seat.
     pub(crate) fn end(self, seat: Seat<(), View>) -> Summary
         requires room { seat.table_id ≡ self.table.shared.table_id }
@@ -340,6 +330,29 @@ impl RoomCells {
         shared.load::<Learning>(&mut self.seat, GATE);
     }
 
+    /// The same, but the note leaves the seat again, as it was.
+    pub(crate) fn learn_again<const LAST: u32>(
+        &mut self,
+        room: &Room<LAST>,
+        note: Seat<(), View>,
+    ) -> Seat<(), View>
+        requires there { IsSeatOf room.now.row.table.shared.table_id room.now.row.config room.now.row.last self.old.seat.table_id self.old.seat.me self.old.thread }
+        requires row { note.table_id ≡ self.old.seat.table_id }
+        requires note { IsNote note.me }
+        ensures there { IsSeatOf room.now.row.table.shared.table_id room.now.row.config room.now.row.last self.new.seat.table_id self.new.seat.me self.new.thread }
+        ensures same { (self.new.thread ≡ self.old.thread) × (self.new.seat.table_id ≡ self.old.seat.table_id) }
+        ensures looked { LooksBy [] self.old.seat.me self.new.seat.me }
+        ensures learned { IsPrefix (noted_pass note.me).seen (stepping_pass self.new.seat.me).seen }
+        ensures note { (result.table_id ≡ note.table_id) × (result.me ≡ note.me) }
+        ensures counted { joints_at self.new.seat.me ≡ joints_at self.old.seat.me + joints_at note.me + 2 }
+    {
+        let table = &room.row.table.shared;
+        table.join_seat::<Gather>(&mut self.seat, note);
+        let again = table.split_seat::<Again>(&mut self.seat);
+        table.load::<Learning>(&mut self.seat, GATE);
+        again
+    }
+
     /// The same with the seat of other cells of the room, which have it again then. What leaves them meanwhile is their pass, and the seat that it left is spent.
     pub(crate) fn meet_cells<const LAST: u32>(&mut self, room: &Room<LAST>, other: &mut RoomCells)
         requires there { IsSeatOf room.now.row.table.shared.table_id room.now.row.config room.now.row.last self.old.seat.table_id self.old.seat.me self.old.thread }
@@ -367,6 +380,8 @@ impl<'a, const LAST: u32> Cells<&'a Room<LAST>> for RoomCells {
     ghost sight = { λ s. sight_of_seat s.seat.table_id s.seat.me };
 
     ghost goes = { λ s t acts. Goes (stepping_pass s.seat.me) acts (stepping_pass t.seat.me) };
+
+    ghost joints = { λ s. joints_at s.seat.me };
 
     ghost are_at = { λ s room. IsSeatOf room.now.row.table.shared.table_id room.now.row.config room.now.row.last s.seat.table_id s.seat.me s.thread };
 

@@ -110,15 +110,15 @@ impl Split<View> for Jot {
     ghost right = { note_of };
 }
 
-/// A copy of the seat's notes leaves it, with the count of this parting. The seat has no pass. It stays just as it was, since it rests on a perch again.
+/// The seat's note leaves it again, and the seat knows it still. The count stays, with this parting. A seat without a pass can't be cut so: the note would be nobody's.
 pub struct Again;
 
 impl Split<View> for Again {
-    ghost use Rattle.jr_rule.specs.Rule.{once_more};
+    ghost use Rattle.jr_rule.specs.Rule.{note_again, once_more};
 
-    ghost left = { λ v. v };
+    ghost left = { once_more };
 
-    ghost right = { once_more };
+    ghost right = { note_again };
 }
 
 /// The passes of both seats, their notes, and both their counts.

@@ -86,7 +86,7 @@ impl<Q: Site> PinnedNoteOf<Q> {
         }
     }
 
-    /// The thread of steps in the site's room learns it, unless another thread is just taking its copy: then the answer is false, and the steps are as they were.
+    /// The thread of steps in the site's room learns it, unless another thread is just learning it: then the answer is false, and the steps are as they were.
     ///
     /// # Operations
     ///

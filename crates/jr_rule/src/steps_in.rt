@@ -43,7 +43,7 @@ pub trait StepsIn<Q: Site>: Steps {
         ensures learned { HasSeen Self.facts self.new (seen_by_note note) }
         ensures counted { Self.joints self.new ≡ Self.joints self.old + joints_of_note note + 1 };
 
-    /// Learns all that a pinned note of the room says, as `learn` does, and leaves it pinned; or answers false, where another thread was just taking its copy. Nobody waits, and there is no lock: these steps are then as they were, and the call may be made again. Each call learns, also where this thread has learned the note before.
+    /// Learns all that a pinned note of the room says, as `learn` does, and leaves it pinned; or answers false, where another thread was just learning it. Nobody waits, and there is no lock: these steps are then as they were, and the call may be made again. Each call learns, also where this thread has learned the note before.
     ///
     /// # Operations
     ///
@@ -89,10 +89,11 @@ impl<'r, const LAST: u32, Q: Site, T: ThreadNumber> StepsIn<Q>
         ensures busy { result ≡ false → IsUnchanged facts_over self.old self.new }
         ensures counted { (result ≡ true → joints_over self.new ≡ joints_over self.old + joints_of_pinned pinned.now + 2) × (result ≡ false → joints_over self.new ≡ joints_over self.old) }
     {
-        let Some(note) = pinned.copy(self.place.room) else {
+        let Some(note) = pinned.take() else {
             return false;
         };
-        StepsIn::<Q>::learn(self, note);
+        let note = self.cells.learn_again(self.place.room, note);
+        pinned.give(note);
         true
     }
 }
@@ -114,7 +115,7 @@ impl<Q: Site> NoteOf<Q> {
 }
 
 impl<Q: Site> PinnedNoteOf<Q> {
-    /// The thread of steps in the site's room learns it, unless another thread is just taking its copy: then the answer is false, and the steps are as they were.
+    /// The thread of steps in the site's room learns it, unless another thread is just learning it: then the answer is false, and the steps are as they were.
     ///
     /// # Operations
     ///

@@ -9,7 +9,7 @@ use Rattle.jr_word.specs.declared.fault.Fault.TheVariants as fault
 use Rattle.jr_model.specs.Frames.{Frames}
 use Rattle.jr_syntax.specs.declared.command.Command.{Command}
 use Rattle.jr_steps.specs.declared.known.Known.{Known}
-use Rattle.jr_steps.specs.Knowing.{Facts, Holds}
+use Rattle.jr_steps.specs.Knowing.{Facts, Holds, Standing}
 use Rattle.jr_env.specs.Deeds.{CarriedOut, DoesDeed}
 use Rattle.jr_scripts.specs.declared.reply.Reply.{Reply}
 use Rattle.jr_model.specs.declared.event.Role.TheVariants.{Outside}
@@ -25,7 +25,6 @@ use Rattle.jr_scripts.specs.Runs.{WritesDown, running}
 use Rattle.jr_scripts.proofs.Speaking.{Carries, explains_still, words_same}
 use Rattle.jr_gate.specs.Performing.{IsAsBefore, thread_state}
 use Rattle.jr_env.proofs.Carrying.{role_kept, role_then}
-use Rattle.jr_steps.specs.Knowing.{Standing}
 
 module _ {S : Type 0} (facts : S → Facts) where
   -- so far these commands were done, the output grew, and what was known explains by how much

@@ -19,8 +19,7 @@ use Rattle.jr_scripts.specs.Names.{Names, word_posted}
 use Rattle.jr_scripts.specs.Places.{Place}
 use Rattle.jr_scripts.specs.Explains.{Explains, nothing, then}
 use Rattle.jr_scripts.specs.Posted.{IsPosted}
-use Rattle.jr_scripts.specs.Posting.{IsAnswered, ThreadWords, said}
-use Rattle.jr_scripts.specs.Posting.{said_alone, word_under, words_after, words_with}
+use Rattle.jr_scripts.specs.Posting.{IsAnswered, ThreadWords, said, said_alone, word_under, words_after, words_with}
 use Rattle.jr_scripts.proofs.Speaking.{found_words}
 
 -- a word is under the name

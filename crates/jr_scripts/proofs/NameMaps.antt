@@ -21,8 +21,7 @@ use Rattle.jr_syntax.specs.declared.verb.Release.TheVariants as release
 use Rattle.jr_scripts.specs.Buffers.{Copied}
 use Rattle.jr_scripts.specs.declared.reply.Reply.{Reply}
 use Rattle.jr_scripts.specs.declared.binding.Binding.{Binding}
-use Rattle.jr_scripts.specs.declared.binding.Binding.TheVariants.{Nothing, Buffer}
-use Rattle.jr_scripts.specs.declared.binding.Binding.TheVariants.{Reference as Refers}
+use Rattle.jr_scripts.specs.declared.binding.Binding.TheVariants.{Nothing, Buffer, Reference as Refers}
 use Rattle.jr_scripts.specs.Text.{buffers_after, left_by}
 use Rattle.jr_scripts.specs.Names.{IsSet, Names, buffer_in, name_order, names_put}
 use Rattle.jr_scripts.specs.Names.{or_nothing, putting, binding, with_name}

@@ -1,8 +1,7 @@
 -- What commands say and hear of a board, and what else may be told in its place.
 use Rattle.std.proofs.Common.{◌≡◌, ◌∙◌, ℕ, suc, true, false, Option, Some, None, List, Result}
 use Rattle.std.proofs.Common.{Ok, Err, inl, inr, refl, sym, ap, subst, arith, ◌+◌, ◌∷◌, [], ◌++◌}
-use Rattle.std.specs.Prelude.{IfNone}
-use Rattle.std.specs.Prelude.{cond, is_some}
+use Rattle.std.specs.Prelude.{IfNone, cond, is_some}
 use mathlib.Core.Logic.{∥∥₁_map}
 use Rattle.jr_word.specs.declared.fault.Fault.{Fault}
 use Rattle.jr_model.specs.declared.event.Role.{Role}

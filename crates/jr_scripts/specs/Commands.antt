@@ -47,8 +47,7 @@ use Rattle.jr_env.specs.Deeds.{new_reference, new_local_ref, delete_reference, d
 use Rattle.jr_env.specs.Deeds.{get_object_ref_type, push_local_frame, ensure_local_capacity, pop_local_frame}
 use Rattle.jr_env.specs.Deeds.{kind_of, get_array_length, get_string_length, get_object_array_element}
 use Rattle.jr_env.specs.Deeds.{set_object_array_element, get_array_region, set_array_region, get_array_elements}
-use Rattle.jr_env.specs.Deeds.{release_array_elements, get_string_chars, ◌>>=◌, ◌>>◌}
-use Rattle.jr_env.specs.Deeds.{answered_by, within_by}
+use Rattle.jr_env.specs.Deeds.{release_array_elements, get_string_chars, ◌>>=◌, ◌>>◌, answered_by, within_by}
 use Rattle.jr_env.specs.Envs.{Does}
 use Rattle.jr_scripts.specs.Tries.{Tried}
 use Rattle.jr_scripts.specs.declared.commands.elements.ElementAt.{ElementAt}

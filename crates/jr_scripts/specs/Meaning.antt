@@ -1,7 +1,6 @@
 -- WHAT A SCRIPT OF ONE THREAD MEANS: its text, by a machine that has no handles, slots, places or object numbers
 use Rattle.std.specs.Prelude.{◌≡◌, ◌≢◌, ◌<◌, ◌≤◌, ◌^◌, ◌+◌, ◌-◌, ◌==◌, ◌&&◌, ℕ, ℤ, zero, suc, Bool, true, false, cond}
-use Rattle.std.specs.Prelude.{not}
-use Rattle.std.specs.Prelude.{nat_lt, nat_le}
+use Rattle.std.specs.Prelude.{not, nat_lt, nat_le}
 use Rattle.std.specs.Prelude.{Option, Some, None, is_some, Result, Ok, Err, List, [], ◌∷◌, ◌++◌, map, length, replicate}
 use Rattle.std.specs.Prelude.{drop, slice_index, slice_index_or, slice_set}
 use Rattle.std.specs.List.{filter, flat_map, list_any, sum_by}

@@ -11,8 +11,7 @@ use Rattle.jr_model.specs.Objects.{nest_array, nest_string, region_get, region_k
 use Rattle.jr_steps.specs.Holdings.{empty}
 use Rattle.jr_frames.specs.Reading.{IsReadAs}
 use Rattle.jr_gate.specs.Performing.{ThreadState}
-use Rattle.jr_env.specs.Deeds.{Deed, decided, done, ◌>>=◌, ◌>>◌}
-use Rattle.jr_env.specs.Deeds.{within_by}
+use Rattle.jr_env.specs.Deeds.{Deed, decided, done, ◌>>=◌, ◌>>◌, within_by}
 use Rattle.jr_syntax.specs.declared.command.Command.{Command}
 use Rattle.jr_syntax.specs.declared.command.Command.TheVariants as commands
 use Rattle.jr_syntax.specs.declared.verb.Make.{Make}

@@ -304,10 +304,6 @@ module _ {S : Type 0} (facts : S → Facts) where
     pub hint_is : (facts new).hint ≡ (facts old).hint
     pub leads : Leads facts old new met made shows
 
-  -- the same, where none of them has an act
-  abbrev pub Saw : S → S → (Known → Type 0) → (Known → Known → Type 0) → Type 0
-  Saw old new met shows = Went old new (facts old).stands met Sees shows
-
   -- the pass is not fresh any more, and nothing else changed: what was known is that of
   -- what is known in which the thread has stored no local reference, if the pass was fresh
   pub record Spent (old new : S) : Type 0 where

@@ -1,10 +1,9 @@
 -- A list that is cut where a test passes.
 use Rattle.std.proofs.Common.{◌≡◌, ℕ, ◌+◌, ◌<◌, Bool, true, false, cond, List, [], ◌∷◌}
 use Rattle.std.proofs.Common.{length, take, drop, Option, Some, None, refl, arith, ltb}
-use Rattle.std.specs.Prelude.{MatchOption, not}
+use Rattle.std.specs.Prelude.{MatchOption, not, nat_eq, ◌-◌}
 use Rattle.std.specs.List.{slice_split, onto_first, position, position_or_len}
 use Rattle.std.proofs.lemmas.List.Splits.{slice_split_first, length-slice_split}
-use Rattle.std.specs.Prelude.{nat_eq, ◌-◌}
 use Rattle.std.proofs.lemmas.Grind.{common_steps}
 use Rattle.jr_syntax.specs.Line.{lines_of_pieces, lines_of}
 use Rattle.std.proofs.lemmas.Bool.{ltb-true, ltb-false}

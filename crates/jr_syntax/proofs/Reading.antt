@@ -8,8 +8,7 @@ use Rattle.std.proofs.lemmas.Bool.{le-ltb, leb-true, le-leb, ne_eqb, not-false}
 use Rattle.std.proofs.lemmas.List.{length-append, append-nil, map-append}
 use Rattle.std.proofs.lemmas.List.Splits.{join_with_byte-slice_split}
 use Rattle.jr_word.specs.declared.config.Config.{Config}
-use Rattle.jr_word.specs.Config.{is_between}
-use Rattle.jr_word.specs.Config.{in_limits}
+use Rattle.jr_word.specs.Config.{is_between, in_limits}
 use Rattle.jr_syntax.specs.declared.fault.Reason.{Reason}
 use Rattle.jr_syntax.specs.declared.fault.Reason.TheVariants.{EmptyInput, UnfinishedLine, NotAscii}
 use Rattle.jr_syntax.specs.declared.fault.Reason.TheVariants.{VmLineExpected, NumberOutOfRange}

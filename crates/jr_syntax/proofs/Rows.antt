@@ -7,8 +7,7 @@ use Rattle.std.specs.Str.{bytes_eq}
 use Rattle.std.proofs.lemmas.Bool.{ltb-false, ne_eqb}
 use Rattle.std.proofs.lemmas.List.{length-map}
 use Rattle.jr_word.specs.declared.config.Config.{Config}
-use Rattle.jr_word.specs.Config.{is_between}
-use Rattle.jr_word.specs.Config.{in_limits}
+use Rattle.jr_word.specs.Config.{is_between, in_limits}
 use Rattle.jr_syntax.specs.declared.fault.Reason.{Reason}
 use Rattle.jr_syntax.specs.declared.fault.Reason.TheVariants.{TooLong, UnfinishedLine, NotAscii, VmLineExpected}
 use Rattle.jr_syntax.specs.declared.fault.Reason.TheVariants.{ThreadLineExpected, TooManyThreads, NameUsedTwice}

@@ -10,8 +10,7 @@ use Rattle.std.proofs.lemmas.Bool.{and_parts, and_from, leb-true, lt-leb, le-ltb
 use Rattle.std.proofs.lemmas.List.{length-append, length-map, append-nil, map-append}
 use Rattle.std.proofs.lemmas.List.Folds.{list_any-append}
 use Rattle.jr_word.specs.declared.config.Config.{Config}
-use Rattle.jr_word.specs.Config.{is_between}
-use Rattle.jr_word.specs.Config.{in_limits}
+use Rattle.jr_word.specs.Config.{is_between, in_limits}
 use Rattle.jr_syntax.specs.declared.command.Command.{Command}
 use Rattle.jr_syntax.specs.declared.command.Command.TheVariants as commands
 use Rattle.jr_syntax.specs.declared.verb.OnName.TheVariants.{Post}

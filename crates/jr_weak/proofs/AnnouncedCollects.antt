@@ -26,8 +26,7 @@ use Rattle.jr_gate.specs.Announcing.{AnnouncesInTwo, WasNotAnnounced}
 use Rattle.jr_compact.specs.Counting.{TakesWithin}
 use Rattle.jr_weak.specs.Counting.{collection_steps, sweeping_steps}
 use Rattle.jr_weak.specs.Collecting.{CollectsFrom, Finishes, GivesUp, MakesAnnouncedCollection, WentAnnounced}
-use Rattle.jr_weak.specs.Collecting.{closed_at_look, shut_acts}
-use Rattle.jr_weak.specs.Collecting.{closed_at_exchange, moved_at_exchange, taken_back}
+use Rattle.jr_weak.specs.Collecting.{closed_at_look, shut_acts, closed_at_exchange, moved_at_exchange, taken_back}
 use Rattle.jr_weak.specs.Waiting.{CancelsAfter, ShutsActByAct, ShutsAfter, ShutsAnnounced}
 use Rattle.jr_weak.proofs.Collects.{collects_since, within_since}
 use Rattle.jr_weak.proofs.Tries.{one_more}

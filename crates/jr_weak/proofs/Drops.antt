@@ -21,8 +21,7 @@ use Rattle.jr_steps.specs.Knowing.{Facts, Standing, AreOf, MayKnow, Took, anythi
 use Rattle.jr_steps.proofs.CollectorFacts.{same_tables}
 use Rattle.jr_steps.proofs.StepFacts.{goes_did}
 use Rattle.jr_weak.specs.Marks.{IsMarked}
-use Rattle.jr_weak.specs.Sweeping.{MayDrop, NumberIsSwept, SweepsNumber}
-use Rattle.jr_weak.specs.Sweeping.{AreCleared, AreDropped, DropsUnreached}
+use Rattle.jr_weak.specs.Sweeping.{MayDrop, NumberIsSwept, SweepsNumber, AreCleared, AreDropped, DropsUnreached}
 use Rattle.jr_weak.proofs.Kept.{DroppedFrom, dropped_from, exactly_same, exactly_dropped}
 use Rattle.jr_weak.proofs.Leading.{reached_on, reached_present}
 use Rattle.jr_weak.proofs.Sweeping.{SweepsTo, TakenTo, sweeps_may, sweeps_next, sweeps_none, taken_next, taken_none}

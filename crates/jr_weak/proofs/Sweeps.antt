@@ -20,8 +20,7 @@ use Rattle.jr_steps.specs.declared.known.Known.{Known}
 use Rattle.jr_steps.specs.declared.known.Holdings.{Holdings}
 use Rattle.jr_steps.specs.Acts.{handle_of}
 use Rattle.jr_steps.specs.Collecting.{CanWipe}
-use Rattle.jr_steps.specs.Knowing.{Facts, Standing, AreOf, MayKnow, Took}
-use Rattle.jr_steps.specs.Knowing.{anything, state_of, keeps, ShowsSlot}
+use Rattle.jr_steps.specs.Knowing.{Facts, Standing, AreOf, MayKnow, Took, anything, state_of, keeps, ShowsSlot}
 use Rattle.jr_steps.proofs.CollectorFacts.{same_tables}
 use Rattle.jr_steps.proofs.StepFacts.{goes_did}
 use Rattle.jr_weak.specs.Marks.{IsMarked, weak_in}

@@ -30,9 +30,6 @@ module _ {most : ℕ} {links : List Link} {l : Lists} (shown : AreShown most lin
   all_low = all_below l.numbers l.numbers _ (omega arith)
       (λ q g. omega (arith, times_at q k (l.free ∷ l.lists), shown.below q g))
 
-  pub end_fits : (end : ℕ) → end ≡ l.numbers + k → end < length links
-  end_fits end e = let size = shown.size in omega arith
-
   pub first_shown : (n end : ℕ) → n ≡ l.numbers → end ≡ l.numbers + k
       → number_below n (next_at links end) ≡ first_listed (list_at (l.free ∷ l.lists) k)
   first_shown n end e is =

@@ -61,7 +61,7 @@ impl<S: Steps> Env<S> {
         note.pin()
     }
 
-    /// Learns all that a pinned note of the room says, as `learn` does, and leaves it pinned; or answers false, where another thread was just taking its copy. Nobody waits: the env is then as it was, and the call may be made again. An env in a room alone has this call.
+    /// Learns all that a pinned note of the room says, as `learn` does, and leaves it pinned; or answers false, where another thread was just learning it. Nobody waits: the env is then as it was, and the call may be made again. An env in a room alone has this call.
     ///
     /// # Operations
     ///

@@ -1,7 +1,6 @@
 -- What one look tells of a handle, and what is said of a word by it.
 use Rattle.std.proofs.Common.{◌≡◌, ◌≢◌, ⊎_elim, ◌<◌, ◌≤◌, ◌==◌, ℕ, Bool, true, false, cond}
-use Rattle.std.proofs.Common.{nat_lt, nat_le, Option, Some, None, slice_index}
-use Rattle.std.proofs.Common.{refl, sym, ap, subst, ◌∙◌, arith}
+use Rattle.std.proofs.Common.{nat_lt, nat_le, Option, Some, None, slice_index, refl, sym, ap, subst, ◌∙◌, arith}
 use Rattle.std.proofs.lemmas.Bool.Decides.{nat_tests}
 use Rattle.std.proofs.lemmas.Bool.{cases_lt}
 use Rattle.jr_word.specs.declared.config.Config.{Config}

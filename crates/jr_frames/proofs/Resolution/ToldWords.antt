@@ -41,8 +41,7 @@ use Rattle.jr_frames.specs.declared.explaining.Explanation.TheVariants as explai
 use Rattle.jr_frames.specs.declared.explaining.Told.{Told}
 use Rattle.jr_frames.specs.declared.explaining.Told.TheVariants as told
 use Rattle.jr_frames.specs.Explaining.{ExplainsWord, IsExplained, IsSeenNow, SaysOfHandle, SaysTold, TellsHandle}
-use Rattle.jr_frames.specs.Explaining.{ToldPresent, WasSeen}
-use Rattle.jr_frames.specs.Explaining.{found_local, foreign, glance, look_acts}
+use Rattle.jr_frames.specs.Explaining.{ToldPresent, WasSeen, found_local, foreign, glance, look_acts}
 use Rattle.jr_frames.specs.Explaining.{outside, own, told_by_place, told_by_slot}
 use Rattle.jr_frames.proofs.FoundObject.{spend_look}
 use Rattle.jr_frames.proofs.FramesAgree.{holds_did, local_present}

@@ -56,9 +56,10 @@ in_all : (P : Known → Type 0) (ks : List Known) → ((k : Known) → IsIn k ks
 in_all P [] each = tt
 in_all P (k ∷ ks) each = (each k (inl refl), in_all P ks (λ x i. each x (inr i)))
 
-noted_in : (log : History) (ns : List Known) → AreBeginnings log ns → AllByRecursion (λ n. IsPrefix n.seen log) ns
-noted_in log [] noted = tt
-noted_in log (n ∷ ns) noted = (noted.0, noted_in log ns noted.1)
+noted_in : (c : Config) (log : History) (ns : List Known) → AreBeginnings c log ns
+    → AllByRecursion (λ n. IsPrefix n.seen log) ns
+noted_in c log [] noted = tt
+noted_in c log (n ∷ ns) noted = (noted.0.1, noted_in c log ns noted.1)
 
 pub seen_of : (log : History) (r : Row) → AllByRecursion (IsSeenAt log) r.views → (k : Known) → IsPassAt r k
     → IsSeenIn log k
@@ -205,7 +206,7 @@ history_at c last r kept = record {
     seen : AllByRecursion (IsSeenAt kept.log) r.views
     seen = all_of (IsSeenAt kept.log) r.views (λ j v there. (
       seen_in c last kept.log kept.held v.passes (kept.each j v there),
-      noted_in kept.log v.notes (kept.noted j v there),
+      noted_in c kept.log v.notes (kept.noted j v there),
     ))
 
 -- who took the last event has seen the whole, at each seat

@@ -1,7 +1,6 @@
 -- One reference more, and one less, beside those of the world of what a script means.
 use Rattle.std.proofs.Common.{◌≡◌, ◌≢◌, ◌⊎◌, inl, inr, ℕ, ◌<◌, ◌+◌, Bool, nat_eq, Option, None, List, [], ◌∷◌, ◌++◌}
-use Rattle.std.proofs.Common.{length, slice_set}
-use Rattle.std.proofs.Common.{refl, sym, subst, ◌∙◌, arith}
+use Rattle.std.proofs.Common.{length, slice_set, refl, sym, subst, ◌∙◌, arith}
 use Rattle.std.proofs.lemmas.List.{length-append, length-set, get_or_append_left, get_or_push}
 use Rattle.jr_word.specs.declared.config.Config.{Config}
 use Rattle.jr_model.specs.declared.event.Found.{Found}

@@ -1,7 +1,6 @@
 use Rattle.std.proofs.Common.{rules, ◌≡◌, suc, ap, ◌∙◌, arith}
 use Rattle.jr_frames.specs.Places.{given_of, place_at}
-use Rattle.jr_frames.proofs.Giving.{left_at, left_none, here_times, here_found, here_goes_on, here_smaller}
-use Rattle.jr_frames.proofs.Giving.{in_order}
+use Rattle.jr_frames.proofs.Giving.{left_at, left_none, here_times, here_found, here_goes_on, here_smaller, in_order}
 use Rattle.jr_frames.proofs.frame_walk.any_gives_again.Goals as goal
 
 pub bounds-deref-from : goal.bounds-deref-from

@@ -1,5 +1,4 @@
-use Rattle.std.proofs.Common.{◌≡◌, ◌==◌, ◌+◌, ◌-◌, cond}
-use Rattle.std.proofs.Common.{None, Some, slice_set, sym, ap, subst, ◌∙◌, lit<}
+use Rattle.std.proofs.Common.{◌≡◌, ◌==◌, ◌+◌, ◌-◌, cond, None, Some, slice_set, sym, ap, subst, ◌∙◌, lit<}
 use Rattle.arrayvec.specs.ArrayVec.{ArrayVec}
 use Rattle.linked_lists.specs.Lists.{Lists, with_end, with_lists}
 use Rattle.jr_model.specs.declared.frames.LocalRef.{LocalRef}

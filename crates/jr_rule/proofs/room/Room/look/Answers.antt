@@ -1,9 +1,9 @@
-use Rattle.std.proofs.Common.{◌≡◌, sym, ap, subst, ◌∙◌}
+use Rattle.std.proofs.Common.{◌≡◌, ℕ, sym, ap, subst, ◌∙◌}
 use Rattle.jr_steps.proofs.StepFacts.{took_less}
 use Rattle.jr_steps.specs.declared.known.Known.{Known}
 use Rattle.jr_rule.specs.Passes.{Holder, known_of}
 use Rattle.jr_rule.specs.Rooms.{holder_over, CountsInside}
-use Rattle.jr_rule.specs.Rule.{stepping_pass}
+use Rattle.jr_rule.specs.Rule.{joints_at, stepping_pass}
 use Rattle.jr_rule.proofs.GateSteps.{counted_after}
 use Rattle.jr_rule.proofs.PassOver.{stays_of, took_there}
 use Rattle.jr_rule.proofs.room.Room.look.Goals as goal
@@ -30,3 +30,8 @@ returns-clause-seen g c =
     s.1.is ∙ ap (λ (h : Holder). stepping_pass h.seat.me) (sym c.into_pass.ensures.pass) in
     subst (λ k. CountsInside (known_of c.args.pass) k c.all_counted-inside.result) last
     (record { goes = s.2; is = c.all_counted-inside.ensures ∙ counted_after _ s.2 s.3 })
+
+pub returns-clause-counted : goal.returns-clause-counted
+returns-clause-counted g c =
+    let count : Holder → ℕ = λ h. joints_at h.seat.me in
+    ap count c.into_pass.ensures.pass ∙ (c.look.ensures.counted ∙ ap count c.new-steps.ensures.pass)

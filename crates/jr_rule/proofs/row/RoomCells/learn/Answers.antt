@@ -1,7 +1,7 @@
 use Rattle.std.proofs.Common.{[], rules, ap}
 use Rattle.jr_rule.specs.Rule.{LookedBy, SeatState}
 use Rattle.jr_rule.proofs.GateOwed.{learns}
-use Rattle.jr_rule.proofs.Meeting.{learned_once, told_noted, with_note}
+use Rattle.jr_rule.proofs.Meeting.{looked_once, told_noted, with_note}
 use Rattle.jr_rule.proofs.RuleKept.{plays}
 use Rattle.jr_rule.proofs.Seats.{gathers}
 use Rattle.jr_rule.proofs.row.RoomCells.learn.Goals as goal
@@ -21,12 +21,17 @@ load-requires g c =
     )
 
 pub returns-clause-looked : goal.returns-clause-looked
-returns-clause-looked g c = (
-  c.load.result,
-  told_noted c.args.self.now.seat.me c.args.note.me c.join_seat.new.seat.me c.requires.there.alone c.requires.note
-      c.join_seat.ensures.2 c.load.result c.load.new.seat.me c.load.ensures.2,
-)
+returns-clause-looked g c =
+    let s = c.args.self.now.seat.me in
+    let m = c.join_seat.new.seat.me in
+    let here = with_note s c.args.note.me m c.requires.there.alone c.requires.note c.join_seat.ensures.2 in (
+      c.load.result,
+      told_noted s c.args.note.me m c.requires.there.alone here c.load.result c.load.new.seat.me c.load.ensures.2,
+    )
 
 pub returns-clause-counted : goal.returns-clause-counted
-returns-clause-counted g c = learned_once c.args.self.now.seat.me c.args.note.me c.join_seat.new.seat.me
-    c.requires.there.alone c.requires.note c.join_seat.ensures.2 c.load.result c.load.new.seat.me c.load.ensures.2
+returns-clause-counted g c =
+    let s = c.args.self.now.seat.me in
+    let m = c.join_seat.new.seat.me in
+    let here = with_note s c.args.note.me m c.requires.there.alone c.requires.note c.join_seat.ensures.2 in
+    looked_once s c.args.note.me m c.requires.there.alone here c.load.result c.load.new.seat.me c.load.ensures.2

@@ -1,6 +1,6 @@
-use Rattle.std.proofs.Common.{◌+◌, ◌%◌, ◌^◌}
+use Rattle.std.proofs.Common.{◌+◌, ◌%◌, ◌^◌, sym}
 use Rattle.jr_rule.proofs.RuleKept.{plays}
-use Rattle.jr_rule.proofs.SeatStepped.{seated, place_here, owes_here, seat_next, seat_stepped, seat_went}
+use Rattle.jr_rule.proofs.SeatStepped.{seated, place_here, owes_here, same_joints, seat_next, seat_stepped, seat_went}
 use Rattle.jr_rule.proofs.row.RoomCellsCellsRefRoom.add.Goals as goal
 
 pub fetch_add-requires : goal.fetch_add-requires
@@ -21,3 +21,6 @@ returns-clause-step g c = seat_stepped c.fetch_add.ensures.2 c.fetch_add.ensures
 
 pub returns-clause-seen : goal.returns-clause-seen
 returns-clause-seen g c = seat_went c.fetch_add.ensures.2 c.requires.owed.may
+
+pub returns-clause-counted : goal.returns-clause-counted
+returns-clause-counted g c = sym (same_joints c.fetch_add.ensures.2)

@@ -1,7 +1,7 @@
-use Rattle.std.proofs.Common.{eqb}
+use Rattle.std.proofs.Common.{eqb, sym}
 use prog.Atomic.{either}
 use Rattle.jr_rule.proofs.RuleKept.{plays}
-use Rattle.jr_rule.proofs.SeatStepped.{seated, place_here, owes_here, seat_next, seat_stepped, seat_went}
+use Rattle.jr_rule.proofs.SeatStepped.{seated, place_here, owes_here, same_joints, seat_next, seat_stepped, seat_went}
 use Rattle.jr_rule.proofs.row.RoomCellsCellsRefRoom.exchange.Goals as goal
 
 pub compare_exchange-requires : goal.compare_exchange-requires
@@ -22,3 +22,6 @@ returns-clause-step g c = seat_stepped c.compare_exchange.ensures.2 c.compare_ex
 
 pub returns-clause-seen : goal.returns-clause-seen
 returns-clause-seen g c = seat_went c.compare_exchange.ensures.2 c.requires.owed.may
+
+pub returns-clause-counted : goal.returns-clause-counted
+returns-clause-counted g c = sym (same_joints c.compare_exchange.ensures.2)

@@ -1,7 +1,6 @@
 use Rattle.std.proofs.Common.{rules, subst, ap, sym}
-use Rattle.linked_lists.specs.Lists.{Lists}
+use Rattle.linked_lists.specs.Lists.{Lists, IsAfter}
 use Rattle.linked_lists.proofs.Shown.{shown_as}
-use Rattle.linked_lists.specs.Lists.{IsAfter}
 use Rattle.linked_lists.proofs.TakingOut.{low}
 use Rattle.linked_lists.proofs.Reading.{after_shown}
 use Rattle.linked_lists.proofs.linked_lists.LinkedLists.after.Goals as goal

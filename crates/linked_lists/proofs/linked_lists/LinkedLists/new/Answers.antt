@@ -1,9 +1,8 @@
-use Rattle.std.proofs.Common.{◌≤◌, ℕ, refl, ap, subst, arith}
+use Rattle.std.proofs.Common.{◌≤◌, ℕ, refl, ap, subst, arith, List}
 use Rattle.linked_lists.specs.declared.links.Link.{Link}
 use Rattle.linked_lists.proofs.Fresh.{AreFirst, fresh_shown, link}
 use Rattle.linked_lists.proofs.Shown.{are_lists, seen_as}
 use Rattle.linked_lists.proofs.linked_lists.LinkedLists.new.Goals as goal
-use Rattle.std.proofs.Common.{List}
 
 all_first : (n k : ℕ) (links : List Link) → n ≤ k → k ≤ n → AreFirst n k links → AreFirst n n links
 all_first n k links l m first = subst (λ j. AreFirst n j links) (omega arith) first
