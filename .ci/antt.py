@@ -30,7 +30,7 @@ LIBRARY = {
     "unsigned_abs": abs, "int_rem_euclid": lambda k, l: k % abs(l), "cast_signed": lambda w, n: n if n < 2 ** (w - 1) else -1 - max(2**w - 1 - n, 0),
     "decimal": lambda n: tuple(b"%d" % n), "signed_decimal": lambda k: tuple(b"%d" % k), "codes": tuple, "bytes_eq": lambda xs, ys: xs == ys,
     "◌∷◌": lambda x, xs: (x, *xs), "◌++◌": lambda xs, ys: xs + ys, "length": len, "replicate": lambda n, x: (x,) * n,
-    "drop": lambda n, xs: xs[n:], "slice_index": lambda xs, n: xs[n] if n < len(xs) else 0,
+    "drop": lambda n, xs: xs[n:], "take": lambda n, xs: xs[:n], "refl": (), "slice_index": lambda xs, n: xs[n] if n < len(xs) else 0,
     "slice_index_or": lambda xs, n, x: xs[n] if n < len(xs) else x, "slice_set": lambda xs, n, x: (*xs[:n], x, *xs[n + 1 :]) if n < len(xs) else xs,
     "map": lambda f, xs: tuple(map(f, xs)), "filter": lambda p, xs: tuple(filter(p, xs)), "flat_map": lambda f, xs: tuple(y for x in xs for y in f(x)),
     "list_any": lambda p, xs: any(map(p, xs)), "list_all": lambda p, xs: all(map(p, xs)), "sum_by": lambda f, xs: sum(map(f, xs)),
@@ -230,6 +230,7 @@ class File:
         """Reads a file, or this text of it."""
         specs = Specs(f"crates/{module.replace('.', '/')}.antt", text).read()
         self.module, self.scope, self.lines, self.blocks = module, specs.scope, {it.name[1]: it.lines for it in specs.definitions}, {}
+        self.constructors = {name for (_, name), _ in specs.constructors()}
         self.operators = {it.strip("◌"): (int(level), side) for side, level, names in FIXITY.findall(specs.text) for it in names.split()}
         for number, (around, its) in enumerate(groupby(specs.definitions, lambda it: it.around)):
             named = [name for names in re.findall(r"\(([^:()]+) :", around) for name in names.split()]
@@ -276,8 +277,10 @@ class Equation:
             return None
         if labels:
             return labels[0] if self.file.scope.modules.get(head[1], "").endswith(".TheVariants") else None
-        module, _ = self.file.scope.meaning(head[1]) or ("", "")
-        return head[1] if head[1] in CONSTRUCTORS or ".specs.declared." in module and not head[1].isupper() else None
+        module, name = self.file.scope.meaning(head[1]) or ("", "")
+        if ".specs.declared." in module:
+            return None if head[1].isupper() else head[1]
+        return head[1] if head[1] in CONSTRUCTORS or module and name in self.definitions.file(module).constructors else None
 
     def match(self, pattern, value):
         """Asks that a value fits a pattern, and has the pattern's variables be its parts."""

@@ -7,8 +7,13 @@ thread posted; and each thread frees its own at its end."""
 from antt import Definitions
 
 MEANING, POSTING, TEXT = "jr_scripts.specs.Meaning", "jr_scripts.specs.Posting", "jr_scripts.specs.Text"
-# What no script comes to: a frame always stands, and so does each object that a reference, an element or a level names.
-UNUSED = {"newest_frame []", "put_last [] n", "contents_in None", "elements_of None"}
+CALLS = "jr_model.specs.CallPrograms"
+# What no script comes to: a frame always stands, and so does each object that a reference, an element or a level names; and
+# `drop` deletes whatever the kind is, by no call of one.
+UNUSED = {
+    "newest_frame []", "put_last [] n", "contents_in None", "elements_of None", "ending_meant ( deletes k p ) known o",
+    "ending_meant ( deletes_local p ) known o",
+}  # fmt: skip
 # Definitions whose list is asked for its elements alone, and those that each line asks again of all lines before it.
 AS_SETS, KEPT = ("reached_by",), ("verb_of", "is_thread_line", "second_word", "posted_by")
 STALE, FOREIGN = ("Err", ("Stale",)), ("Err", ("Foreign",))
@@ -38,7 +43,7 @@ class Together:
 
     def answer(self, thread, command):
         """Returns the answer to a command of a thread, and the world then."""
-        told, refs = self.told[thread], self.world["refs"]
+        told = self.told[thread]
         levels = told["place"]["objects"]
         meaning = self.run(MEANING, "meaning_at", self.config, told["place"], told["words"], levels, command)
         if command[0] in ("OfRoom", "WithTries"):
@@ -46,8 +51,13 @@ class Together:
             return (("Ok", ("Busy", inside)), world) if inside and not levels else meaning(world)
         answer, world = meaning(self.seen_by(thread, HIDDEN))
         is_foreign = answer == STALE and meaning(self.seen_by(thread, SHOWN))[0] != STALE
+        return FOREIGN if is_foreign else answer, self.with_others(thread, world)
+
+    def with_others(self, thread, world):
+        """Returns a world that a thread sees, with the local references of others as they were."""
+        refs = self.world["refs"]
         kept = (new if is_own else old for new, old, is_own in zip(world["refs"], refs, self.is_own(thread)))
-        return FOREIGN if is_foreign else answer, {**world, "refs": (*kept, *world["refs"][len(refs) :])}
+        return {**world, "refs": (*kept, *world["refs"][len(refs) :])}
 
     def does(self, thread, command):
         """Does a command of a thread, but for a `wait` for what nobody posted yet. Returns whether it did."""
@@ -70,8 +80,9 @@ class Together:
         while self.done[thread] < len(commands) and self.does(thread, commands[self.done[thread]]):
             self.done[thread] += 1
         if before < self.done[thread] == len(commands):
-            own, self.told[thread] = sum(self.told[thread]["world"]["frames"], ()), {**self.told[thread], "place": self.first["place"]}
-            self.world = {**self.world, "refs": self.run(MEANING, "without", own, self.world["refs"])}
+            told, free = self.told[thread], self.run(CALLS, "free_locals")
+            _, world = self.run(MEANING, "call_on_none", self.config, told["place"]["names"], told["words"], free)(self.seen_by(thread, HIDDEN))
+            self.told[thread], self.world = {**told, "place": self.first["place"]}, self.with_others(thread, world)
         return before < self.done[thread]
 
     def text(self):

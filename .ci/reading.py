@@ -27,11 +27,22 @@ MEMBER = re.compile(r"(?<![\w.])([A-Z]\w*)\.([A-Za-z]\w*)")
 ABOVE = re.compile(r"^(?:pub )?trait (\w+)(?:<[^{]*?>)?: (\w+)", re.M)
 # Traits whose members count for nothing beside the trait itself: what they are in a room is a claim of its own.
 TOLD_APART = ("Steps",)
+# Data that calls are values of: what reads them does so by cases, of which a call needs those of its own value.
+CASES = (("jr_model.specs.Programs", "Program"), ("jr_model.specs.Programs", "Ending"), ("jr_model.specs.AllCalls", "CallOf"))
+
+
+@dataclass
+class Part:
+    """A part of a definition: its type, an equation, or the head or a constructor of data in CASES. How many lines it has, the names that its left side says, the words that mean something, in their order, each with the name that it means, and these names."""
+    length: int
+    left: set
+    words: list
+    says: set
 
 
 @dataclass
 class Definition:
-    """A definition, or a proof, of specs/: its lines without comments, the names that it says, and for each of its equations the words that mean something, in their order, each with the name that it means."""
+    """A definition, or a proof, of specs/: its lines without comments, the names that it says, and its parts."""
     name: tuple
     file: str
     number: int
@@ -39,10 +50,14 @@ class Definition:
     around: str
     lines: list = field(default_factory=list)
     says: set = field(default_factory=set)
-    equations: list = field(default_factory=list)
+    parts: list = field(default_factory=list)
+
+    def row_of(self, constructor):
+        """Returns the words of the equation for a constructor."""
+        return next((it.words for it in self.parts if constructor in it.left), [])
 
 
-@dataclass
+@dataclass(eq=False)
 class Entry:
     """A function, a type or a ghost member of src/: the file, and from where to where its head stands there; the trait, the type (by the name that the file gives it, where it gives one: `pub type Name = Type;`) or `Trait for Type` that it stands in; its clauses; the names that they say; and the words of its signature or its public fields that may be Rust types, each with the crate that it is of."""
     file: str
@@ -169,6 +184,8 @@ class Specs:
                 current = self.definitions[-1]
             if current:
                 current.lines.append(code[margin:])
+        for name, _ in self.constructors():
+            self.scope.define(name[1], name)
         for it in self.definitions:
             it.says = self.said_by(it)
         return self
@@ -181,20 +198,21 @@ class Specs:
                     yield (self.module, line.split()[0]), it.name
 
     def said_by(self, definition):
-        """Returns the names that a definition says, equation by equation, each with the words that its left side binds."""
-        own, chunks = definition.name[1], []
+        """Returns the names that a definition says, part by part, each with the words that its left side binds."""
+        own, chunks, is_cases = definition.name[1], [], definition.name in CASES
         for line in definition.lines:
-            if not chunks or line.split(" ")[0] == own:
+            if not chunks or line.split(" ")[0] == own or is_cases and re.match(r"  \S", line):
                 chunks.append([])
             chunks[-1].append(line)
-        said = self.scope.says(definition.around)
-        for text in map("\n".join, chunks):
+        around = self.scope.words_said(definition.around)
+        for lines in chunks:
+            text = "\n".join(lines)
             is_equation = text.split(" ")[0] == own and not text.startswith(f"{own} :")
-            left = re.split(r"\s=(?:\s|$)", text)[0] if is_equation else ""
+            left = re.split(r"\s=(?:\s|$)", text)[0] if is_equation else text.split()[0] if is_cases and definition.parts else ""
             hidden = bound_words(text).union(re.findall(r"(?<![\w.'])[a-z][\w']*(?![\w.'])", left))
-            definition.equations.append(self.scope.words_said(text, hidden - {own}))
-            said |= {name for _, name in definition.equations[-1]}
-        return said - {definition.name}
+            words = around + self.scope.words_said(text, hidden - {own})
+            definition.parts.append(Part(len(lines), self.scope.says(left), words, {name for _, name in words}))
+        return set().union(*(it.says for it in definition.parts)) - {definition.name}
 
 
 class Source:
@@ -316,8 +334,10 @@ class Repository:
             self.items += items
             self.public += public_items(crate, items)
             self.types.update({(crate, it.name): (f"{crate}.specs.declared.{it.module}", it.name) for it in items if it.kind in ("struct", "enum", "type")})
-        self.said.update({name: it.says for name, it in self.definitions.items()})
         self.read_types()
+        self.cases = {name: data for name, data in self.constructors.items() if data in CASES}
+        self.parts = {name: [Part(0, set(), [], says)] for name, says in [*self.said.items(), *((it, {data}) for it, data in self.constructors.items())]}
+        self.parts.update({name: it.parts for name, it in self.definitions.items() if not it.is_proof})
 
     def says(self, item, clause="", impls=()):
         """Returns the names that an item says, or its clauses of this name alone with its signature. A member of a trait that it says through a type parameter counts as what the trait says of it and its impls do: those for these types, where the trait has some of them, else all."""
@@ -362,13 +382,20 @@ class Repository:
             if trait == "Model" and it.name in ("Value", "view"):
                 self.said[self.types[it.crate, of]] |= it.says
 
-    def reach(self, names):
-        """Returns the names that one comes to from these, without proofs."""
-        found, left = set(), set(names)
-        while left:
-            name = left.pop()
-            name = self.constructors.get(name, name)
-            if name not in found and not (name in self.definitions and self.definitions[name].is_proof):
-                found.add(name)
-                left |= self.said.get(name, set())
-        return found
+    def reach(self, names, any_of=CASES):
+        """Returns the names that one comes to from these, without proofs, each with how many of its lines count. What is for a constructor of CASES counts where something says that, or it is of these data, or nothing says any of its data."""
+        found, waiting, new = {}, [], set(names)
+        while new:
+            found.update(dict.fromkeys(new, 0))
+            parts, waiting, new = waiting + [(it, part) for it in new for part in self.parts.get(it, ())], [], set()
+            for name, part in parts:
+                if all(it in found or self.cases[it] in any_of for it in part.left & self.cases.keys()):
+                    found[name] += part.length
+                    new |= part.says
+                else:
+                    waiting.append((name, part))
+            new -= found.keys()
+        unsaid = {it for it in CASES if it in found} - {self.cases.get(it) for it in found} - {*any_of}
+        if unsaid:
+            return self.reach(names, unsaid.union(any_of))
+        return {it: lines for it, lines in found.items() if it not in self.constructors and (lines or it not in self.definitions)}

@@ -6,7 +6,7 @@ import unittest
 from shared import CI
 from antt import Definitions
 from cases import cases
-from meant import AS_SETS, KEPT, MEANING, Meant
+from meant import AS_SETS, CALLS, KEPT, MEANING, Meant
 from rattle import text_of
 
 SMALL = """-- Of no use.
@@ -55,12 +55,12 @@ abbrev pub lost : ℕ → ℕ
 lost zero = 7
 lost n = (both (n ∷ 3 ∷ [])).left + sum_by (λ m. m + n) (both (3 ∷ [])).right
 """
-# What is planted in the definitions: a kept script that tells it, and what takes the place of what.
+# What is planted in the definitions: a kept script that tells it, what takes the place of what, and in which file, where it is not that of what scripts mean.
 PLANTED = {
     "E18 comes after E7": (
         "scripts/arrays/what_is_refused_at_objects",
-        "  word ← decided (word_of_number x.kind number)\n  refuse_if (nat_le (length x.words) i) fault.Range\n",
-        "  refuse_if (nat_le (length x.words) i) fault.Range\n  word ← decided (word_of_number x.kind number)\n",
+        "    word ← decided (word_of_number k x)\n    does (call_on h ",
+        "    call_on h (get_array_region k i 1)\n    word ← decided (word_of_number k x)\n    does (call_on h ",
     ),
     "a cleared weak reference has type 0": (
         "scripts/collections/a_weak_reference_is_cleared", "type_in (Some r) = kind_number r.kind", "type_in (Some r) = cond (is_some r.object) (kind_number r.kind) 0",
@@ -69,17 +69,21 @@ PLANTED = {
     "an object needs no local place": ("scripts/references/sixteen_local_places", "    room_for 1\n    reserve (length words)", "    reserve (length words)"),
     "an array's kind comes after E17": (
         "scripts/regions/a_kind_before_a_seventeenth_level",
-        "  refuse_if (not (is_primitive a.1.kind)) fault.WrongElement\n  refuse_if (nat_le LEVELS levels) fault.Size\n",
-        "  refuse_if (nat_le LEVELS levels) fault.Size\n  refuse_if (not (is_primitive a.1.kind)) fault.WrongElement\n",
+        "(not (is_primitive k), WrongElement) ∷ (nat_le LEVELS levels, Size) ∷ []",
+        "(nat_le LEVELS levels, Size) ∷ (not (is_primitive k), WrongElement) ∷ []",
+        CALLS,
     ),
     "an array comes before what it is to name": (
-        "scripts/arrays/both_references_of_a_set", "    o ← object n\n    a ← wanted_element m i\n    rewrites", "    a ← wanted_element m i\n    o ← object n\n    rewrites",
+        "scripts/arrays/both_references_of_a_set",
+        "= names_both (wants one (looks (λ k n.\n    tests (element_tests i k n) (refl, (refl, (refl, tt))) (ends (writes_to i other)))))",
+        "= names one (wants one (names other (looks (λ k n.\n    tests (element_tests i k n) (refl, (refl, (refl, tt))) (ends (writes_to i other))))))",
+        CALLS,
     ),
     "a wait forgets what was posted": ("scripts/threads/an_element_is_handed_over", "(word_under words n)", "(word_under [] n)"),
     "an array's name comes before its buffer's": (
         "scripts/copies/names_of_a_release",
-        "    b ← decided (buffer_in (binding names n))\n    m ← the names r\n",
-        "    m ← the names r\n    b ← decided (buffer_in (binding names n))\n",
+        "    b ← decided (buffer_in (binding names n))\n    h ← the r\n",
+        "    h ← the r\n    b ← decided (buffer_in (binding names n))\n",
     ),
 }  # fmt: skip
 
@@ -123,10 +127,12 @@ class Scripts(unittest.TestCase):
         os.chdir(f"{CI}/..")
 
     def test_kept_scripts_tell_what_is_planted(self):
-        text, kept, whole = text_of(f"crates/{MEANING.replace('.', '/')}.antt"), {it.name: it for it in cases()}, Meant()
-        for what, (name, old, new) in PLANTED.items():
+        kept, whole = {it.name: it for it in cases()}, Meant()
+        for what, (name, old, new, *of) in PLANTED.items():
+            module = of[0] if of else MEANING
+            text = text_of(f"crates/{module.replace('.', '/')}.antt")
             self.assertEqual(text.count(old), 1, what)
-            planted = Meant({MEANING: text.replace(old, new)})
+            planted = Meant({module: text.replace(old, new)})
             self.assertEqual(whole.printed(kept[name].text), kept[name].output, what)
             self.assertNotEqual(planted.printed(kept[name].text), kept[name].output, what)
 

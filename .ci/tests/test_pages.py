@@ -96,6 +96,25 @@ STAYS = {
     "crates/jr_env/src/env.rt": f"//! Env.\n\n/// An env.\npub struct Env {{}}\n\nimpl Env {{{CALL % (BARRED, 'Three')}}}\n",
     "crates/jr_env/src/stay.rt": f"//! Stay.\n\n/// A stay.\npub struct Stay {{}}\n\nimpl Stay {{{CALL % ('', 'One')}}}\n",
 }
+PROGRAMS = """-- programs
+pub data Ending : Type 0 where
+  types : Ending
+  pops : ℕ → Ending
+abbrev pub typing : ℕ
+typing = 1
+abbrev pub popping : ℕ → ℕ
+popping n = n
+abbrev pub ended : Ending → ℕ
+ended types = typing
+ended (pops n) = popping n
+"""
+READING = "ghost use Rattle.jr_model.specs.Programs.{ended, types};\npub trait NativeCall {\n    ghost request: { types };\n}\n"
+CALLS = {
+    "crates.txt": "jr_model:\n",
+    "crates/jr_model/specs/Programs.antt": PROGRAMS,
+    "crates/jr_model/src/lib.rt": "pub mod calls;\n",
+    "crates/jr_model/src/calls.rt": READING + "".join(f"pub fn c{it}<C: NativeCall>(c: C)\n    ensures {{ ended {said} }}\n{{\n}}\n" for it, said in enumerate(("types", "(C.request c)", "c"))),
+}
 WORDS = "jr_word.specs.Words"
 
 
@@ -135,7 +154,7 @@ class Sources(unittest.TestCase):
 
     def test_what_is_reached_leaves_proofs_out(self):
         reached = self.repository.reach({(WORDS, "held"), (WORDS, "same_self")})
-        self.assertEqual(reached, {(WORDS, "held"), (WORDS, "same"), (WORDS, "Pair")})
+        self.assertEqual(reached, {(WORDS, "held"): 2, (WORDS, "same"): 2, (WORDS, "Pair"): 2})
 
     def test_what_is_public(self):
         self.assertEqual(sorted(it.name for it in self.repository.public if it.kind in ("fn", "struct", "trait")), ["Asks", "Kind", "kind_of"])
@@ -223,6 +242,14 @@ class Pages(unittest.TestCase):
             claims = trusted.each_function(repo, "jr_env", lambda it: True)
             self.assertEqual([it[0] for it in trusted.beside_stays(claims)], ["`Env::delete`"])
             self.assertEqual(trusted.in_stays(repo, claims), "Each other call of a `Stay` rests on 0 to 0 lines more than the call of an env of its name. `.ci/trusted` lists them too.")
+
+    def test_a_call_counts_of_what_reads_programs_what_its_own_needs(self):
+        with repository(CALLS):
+            by_cases, all_of = (script("trusted").each_function(Repository(), "jr_model", lambda it: True, (), it) for it in (True, False))
+        one, any_call, any_program = ({name[1]: lines for name, lines in names.items()} for _, _, names in by_cases)
+        self.assertEqual(one, {"ended": 2, "Ending": 2, "typing": 2})
+        self.assertEqual(any_call, {"ended": 3, "Ending": 3, "typing": 2, "popping": 2})
+        self.assertEqual((any_program, by_cases[1:]), (any_call, all_of[1:]))
 
     def test_links(self):
         self.assertEqual(anchor("By `law`, and call"), "by-law-and-call")

@@ -1,10 +1,9 @@
 -- What a call did that was answered.
-use Rattle.std.proofs.Common.{◌≡◌, ◌∙◌, inl, inr, ℕ, Bool, true, false, not, nat_lt, nat_le, ◌+◌}
+use Rattle.std.proofs.Common.{◌≡◌, ◌∙◌, inl, inr, ℕ, Bool, true, false, not, ◌+◌}
 use Rattle.std.proofs.Common.{List, [], ◌∷◌, ◌++◌, append_assoc, length, Ok, refl, sym, ap, subst, arith}
 use Rattle.std.specs.List.{AllByRecursion}
 use Rattle.jr_word.specs.declared.config.Config.{Config}
 use Rattle.jr_word.specs.declared.fault.Fault.{Fault}
-use Rattle.jr_word.specs.declared.fault.Fault.TheVariants as fault
 use Rattle.jr_word.specs.declared.kind.Kind.{Kind}
 use Rattle.jr_word.specs.declared.kind.Kind.TheVariants.{Int}
 use Rattle.jr_model.specs.declared.event.Act.{Act}
@@ -12,16 +11,18 @@ use Rattle.jr_model.specs.declared.event.Act.TheVariants.{Gate, Read}
 use Rattle.jr_model.specs.declared.event.GateAct.TheVariants.{Enter, Leave}
 use Rattle.jr_model.specs.State.{Handle, State}
 use Rattle.jr_model.specs.Frames.{Frames}
-use Rattle.jr_model.specs.Calls.{Call, done, entered, for_object, refuse_if, some_act, ◌>>=◌, ◌>>◌}
-use Rattle.jr_model.specs.Checks.{Word, is_array, is_read_as, same_element}
+use Rattle.jr_model.specs.Calls.{Call, entered, for_object, refuse_if, some_act, ◌>>=◌, ◌>>◌}
+use Rattle.jr_model.specs.Checks.{Word, same_element}
 use Rattle.jr_model.specs.Parts.{not_null, publish, reserve, write}
 use Rattle.jr_model.specs.References.{added, made, resolved, room_for}
-use Rattle.jr_model.specs.Objects.{part_of, part_writing, region_get}
+use Rattle.jr_model.specs.Programs.{at_object, handed_one, work_of}
+use Rattle.jr_model.specs.Tests.{Tests, tested}
+use Rattle.jr_model.specs.CallPrograms.{get_tests, part_tests, region_get, set_array_region}
 use Rattle.jr_model.proofs.Exactly.{append_all}
 use Rattle.first_room.proofs.InHistory.{all_each, count, count_append, count_none}
 use Rattle.first_room.proofs.Ints.{HasInts, MakesOnly, untouched_only}
-use Rattle.first_room.proofs.Sparing.{Untouching, added_spares, append_none, part_spares}
-use Rattle.first_room.proofs.Sparing.{reserve_spares, room_for_spares, touches}
+use Rattle.first_room.proofs.Sparing.{Untouching, added_spares, append_none, not_null_spares, reserve_spares}
+use Rattle.first_room.proofs.Sparing.{resolved_spares, room_for_spares, touches}
 
 -- one call and then another were answered
 pub record BothAnswered {A B : Type 0} (first : Call A) (next : A → Call B) (f g : Frames) (acts : List Act)
@@ -41,7 +42,7 @@ both first next f g acts y (inl r) =
 both first next f g acts y (inr r) = absurd (let bad = r.1 in cc)
 
 -- a test passed, and then this was answered
-pub checked : {A : Type 0} (b : Bool) (e : Fault) (next : Call A) (f g : Frames) (acts : List Act) (y : A)
+checked : {A : Type 0} (b : Bool) (e : Fault) (next : Call A) (f g : Frames) (acts : List Act) (y : A)
     → (refuse_if b e >> next) f acts (Ok y) g → (b ≡ false) × next f acts (Ok y) g
 checked b e next f g acts y was = go b (both (refuse_if b e) (λ _. next) f g acts y was)
   where
@@ -52,6 +53,15 @@ checked b e next f g acts y was = go b (both (refuse_if b e) (λ _. next) f g ac
       subst (λ (z : Frames × List Act). next z.0 z.1 (Ok y) g)
           (λ i. (r.one.2 i, sym (r.is ∙ ap (λ l. l ++ r.rest) r.one.0) i)) r.two,
     )
+
+-- and so did tests
+tests_passed : {A : Type 0} (ts : Tests) (next : Call A) (f g : Frames) (acts : List Act) (y : A)
+    → tested ts next f acts (Ok y) g → AllByRecursion (λ t. t.0 ≡ false) ts × next f acts (Ok y) g
+tests_passed [] next f g acts y was = (tt, was)
+tests_passed ((b, e) ∷ ts) next f g acts y was =
+    let first = checked b e (tested ts next) f g acts y was in
+    let rest = tests_passed ts next f g acts y first.1 in
+    ((first.0, rest.0), rest.1)
 
 -- a call in a stay of its own was answered
 pub stayed : {A : Type 0} (work : Call A) (f g : Frames) (acts : List Act) (y : A) → entered work f acts (Ok y) g
@@ -116,41 +126,35 @@ module _ (c : Config) (last t : ℕ) where
 
   -- an array of ints was written
   pub ints_written : (s : State) (a : Word) (ws : List ℕ) (f g : Frames) (acts : List Act)
-      → part_writing c last t s Int a 0 ws f acts (Ok tt) g
+      → work_of c last t s (handed_one a) (set_array_region Int 0 ws) f acts (Ok tt) g
       → (o : ℕ) × HasInts o s × (front : List Act) × Untouching front × (rest : List Act) × (acts ≡ front ++ rest)
       × (mid : Frames) × write o 0 ws mid rest (Ok tt) g
   ints_written s a ws f g acts was =
-      let r = both (part_of c last t s Int 0 (length ws) a) (λ o. write o 0 ws) f g acts tt was in
-      let third : ℕ → Call ℕ = λ o. for_object s o (λ l m. refuse_if (not (is_array l)) fault.NotArray >> (refuse_if
-      (not (same_element Int l)) fault.WrongElement >> (refuse_if (nat_lt m (0 + length ws)) fault.Range >> done o))) in
-      let b = both (resolved c last t a) (λ x. not_null x >>= third) f r.mid r.front r.x r.one in
-      let d = both (not_null b.x) third b.mid r.mid b.rest r.x b.two in
+      let ts : Kind → ℕ → Tests = part_tests Int 0 (length ws) in
+      let writes : ℕ → Call (Unit {0}) = λ o. for_object s o (λ l m. tested (ts l m) (write o 0 ws)) in
+      let b = both (resolved c last t a) (λ x. not_null x >>= writes) f g acts tt was in
+      let d = both (not_null b.x) writes b.mid g b.rest tt b.two in
       let e = d.two in
-      let last_check : Call ℕ = refuse_if (nat_lt (length e.0.words) (0 + length ws)) fault.Range >> done d.x in
-      let e1 = checked (not (is_array e.0.kind)) fault.NotArray
-      (refuse_if (not (same_element Int e.0.kind)) fault.WrongElement >> last_check) d.mid r.mid d.rest r.x e.2 in
-      let e2 = checked (not (same_element Int e.0.kind)) fault.WrongElement last_check d.mid r.mid d.rest r.x e1.1 in
-      let e3 = checked (nat_lt (length e.0.words) (0 + length ws)) fault.Range (done d.x) d.mid r.mid d.rest r.x e2.1 in
-      let same : d.x ≡ r.x = let q = e3.1.1 in cc in
-      let ints : HasInts d.x s = record { contents = e.0; is = e.1; ints = is_int e.0.kind e2.0 } in (
-        r.x,
-        subst (λ o. HasInts o s) same ints,
-        r.front,
-        part_spares c last t s a (length ws) f r.mid r.front (Ok r.x) r.one,
-        r.rest,
-        r.is,
-        r.mid,
-        r.two,
+      let k = e.0.kind in
+      let m = length e.0.words in
+      let passed = tests_passed (ts k m) (write d.x 0 ws) d.mid g d.rest tt e.2 in (
+        d.x,
+        record { contents = e.0; is = e.1; ints = is_int k passed.0.1.0 },
+        b.front ++ d.front,
+        append_none b.front d.front (resolved_spares c last t a f b.mid b.front (Ok b.x) b.one)
+            (not_null_spares b.x b.mid d.mid d.front (Ok d.x) d.one),
+        d.rest,
+        b.is ∙ (ap (λ l. b.front ++ l) d.is ∙ sym (append_assoc b.front d.front d.rest)),
+        d.mid,
+        passed.1,
       )
 
   -- an element of an array of ints was read in a region
   pub ints_read : (s : State) (o i v : ℕ) (f g : Frames) (acts : List Act)
-      → region_get c last t s Int o i f acts (Ok v) g → HasInts o s × (acts ≡ Read o i v ∷ [])
+      → at_object c last t s o (region_get Int i) f acts (Ok v) g → HasInts o s × (acts ≡ Read o i v ∷ [])
   ints_read s o i v f g acts was =
-      let reads : Call ℕ = some_act (Read o i) in
-      let e1 = checked (not (is_read_as Int was.0.kind)) fault.WrongElement
-      (refuse_if (nat_le (length was.0.words) i) fault.Range >> reads) f g acts v was.2 in
-      let e2 = (checked (nat_le (length was.0.words) i) fault.Range reads f g acts v e1.1).1 in (
-        record { contents = was.0; is = was.1; ints = is_int was.0.kind e1.0 },
-        e2.1 ∙ ap (λ z. Read o i z ∷ []) (let q = e2.2 in cc),
+      let ts : Tests = get_tests Int i was.0.kind (length was.0.words) in
+      let passed = tests_passed ts (some_act (Read o i)) f g acts v was.2 in (
+        record { contents = was.0; is = was.1; ints = is_int was.0.kind passed.0.0 },
+        passed.1.1 ∙ ap (λ z. Read o i z ∷ []) (let q = passed.1.2 in cc),
       )

@@ -12,14 +12,15 @@ use Rattle.jr_word.specs.Elem.{signed_word}
 use Rattle.jr_model.specs.declared.event.Role.{Role}
 use Rattle.jr_model.specs.declared.event.Role.TheVariants.{Outside}
 use Rattle.jr_model.specs.Frames.{Frames}
-use Rattle.jr_model.specs.Objects.{get_array_critical, region_get}
+use Rattle.jr_model.specs.Programs.{at_object}
+use Rattle.jr_model.specs.CallPrograms.{get_array_critical, region_get}
 use Rattle.jr_steps.specs.declared.known.Known.{Known}
 use Rattle.jr_steps.specs.Knowing.{AreOf, Facts, Holds, Standing}
 use Rattle.jr_gate.specs.Performing.{IsAsBefore, thread_state, thread_state_with}
 use Rattle.jr_env.proofs.Carrying.{did_in_role, did_more, did_reply, does_then, own_call}
 use Rattle.jr_frames.specs.Table.{Table}
 use Rattle.jr_critical.specs.declared.levels.Levels.{Levels}
-use Rattle.jr_critical.specs.Levels.{GivesUpAll, Opens, Reaches, in_words, level_object, objects_of}
+use Rattle.jr_critical.specs.Levels.{GivesUpAll, Opens, Reaches, in_words, level_object, objects_of, opened_by}
 use Rattle.jr_weak.specs.declared.collecting.Collected.{Collected}
 use Rattle.jr_env.specs.Collections.{collection}
 use Rattle.jr_env.specs.Deeds.{CarriedOut, Deed, DoesDeed, DoesOutside, after_exit, new_plain, new_array}
@@ -104,13 +105,14 @@ module _ {S : Type 0} {facts : S → Facts} where
 
   -- the second thread's reading in a region, from its entry to its exit
   pub region_read : AreOf facts → (a b c d : S) (f f1 f2 g : Frames) (word : ℕ) (v : Levels) (x : ℕ)
-      → (facts a).stands.role ≡ Outside → Opens facts a b f word get_array_critical (Ok v) → f1 ≡ f → f2 ≡ f → g ≡ f
-      → Reaches facts b c f1 v (λ c last t s. region_get c last t s Int (level_object v 0) 1) (Ok x)
+      → (facts a).stands.role ≡ Outside → Opens facts a b f word (opened_by (get_array_critical 0)) (Ok v)
+      → f1 ≡ f → f2 ≡ f → g ≡ f
+      → Reaches facts b c f1 v (λ c last t s. at_object c last t s (level_object v 0) (region_get Int 1)) (Ok x)
       → GivesUpAll facts c d f2 v → DoesDeed facts a d f g (reading_within word) (Ok x)
   region_read fits a b c d f f1 f2 g word v x out opened same same' same'' was_reached was_ended =
       let reached =
-      subst (λ h. Reaches facts b c h v (λ c last t s. region_get c last t s Int (level_object v 0) 1) (Ok x)) same
-      was_reached in
+      subst (λ h. Reaches facts b c h v (λ c last t s. at_object c last t s (level_object v 0) (region_get Int 1))
+      (Ok x)) same was_reached in
       let ended = subst (λ h. GivesUpAll facts c d h v) same' was_ended in
       let o = opened.2.stands_is in
       let r = reached.stands_is in
@@ -137,13 +139,14 @@ module _ {S : Type 0} {facts : S → Facts} where
                 (
                   opened.0,
                   opened.1,
-                  own_call facts fits (λ c. 1) (λ c last t s. get_array_critical c last t s opened.0) k x1.0 s x1.2,
+                  own_call facts fits (λ c. 1) (λ c last t s. opened_by (get_array_critical 0) c last t s opened.0) k
+                      x1.0 s x1.2,
                 ),
                 inl (
                   x,
                   thread_state (facts c) x2.0 f,
-                  own_call facts fits (λ c. 0) (λ c last t s. region_get c last t s Int (level_object v 0) 1) x1.0 x2.0
-                      x1.1 x2.2,
+                  own_call facts fits (λ c. 0) (λ c last t s. at_object c last t s (level_object v 0)
+                      (region_get Int 1)) x1.0 x2.0 x1.1 x2.2,
                   inl (tt, thread_state (facts d) x3.0 f, x3.2, (refl, refl)),
                 ),
               ),
@@ -152,10 +155,10 @@ module _ {S : Type 0} {facts : S → Facts} where
 
   -- so that it did, whatever it was answered
   pub reads_within : AreOf facts → (a b c d : S) (f f1 f2 g : Table) (word : ℕ) (v w : Levels) (r : Result ℤ Fault)
-      → (facts a).stands.role ≡ Outside → Opens facts a b f.frames word get_array_critical (Ok v)
+      → (facts a).stands.role ≡ Outside → Opens facts a b f.frames word (opened_by (get_array_critical 0)) (Ok v)
       → length (objects_of v) ≡ 1 → f1 ≡ f → f2 ≡ f1 → g ≡ f2 → w ≡ v
       → (0 < length (objects_of v) → Reaches facts b c f1.frames v (λ c last t s.
-      region_get c last t s Int (level_object v 0) 1) (in_words (signed_word w32) r))
+      at_object c last t s (level_object v 0) (region_get Int 1)) (in_words (signed_word w32) r))
       → GivesUpAll facts c d f2.frames w → (facts d).stands.role ≡ Outside
       → IfOk r (λ x. DoesOutside facts a d f.frames g.frames (reading_within word) (Ok (signed_word w32 x)))
   reads_within fits a b c d f f1 f2 g word v w (Ok x) out opened one same1 same2 same left reached ended done = record {

@@ -1,24 +1,18 @@
 -- Deeds of which nothing makes an array of ints, or writes.
-use Rattle.std.proofs.Common.{◌≡◌, inl, inr, ℕ, false, [], replicate, Result, Ok, Err, refl, sym, subst}
-use Rattle.jr_word.specs.declared.config.Config.{Config}
+use Rattle.std.proofs.Common.{inl, inr, ℕ, Result, Ok, Err, refl, sym, subst}
 use Rattle.jr_word.specs.declared.fault.Fault.{Fault}
-use Rattle.jr_word.specs.declared.handle.RefKind.{RefKind}
-use Rattle.jr_word.specs.declared.kind.Kind.{Kind}
-use Rattle.jr_word.specs.declared.kind.Kind.TheVariants.{Int, Plain}
-use Rattle.jr_model.specs.State.{State}
 use Rattle.jr_model.specs.Calls.{Call}
-use Rattle.jr_model.specs.Checks.{Word, same_element}
+use Rattle.jr_model.specs.Checks.{Word}
 use Rattle.jr_model.specs.History.{state}
-use Rattle.jr_model.specs.References as references
+use Rattle.jr_model.specs.Programs.{AnswerKind, Program, handed_none, none_known}
+use Rattle.jr_model.specs.CallPrograms as programs
 use Rattle.jr_gate.specs.Performing.{IsMade, ThreadState}
-use Rattle.jr_env.specs.Deeds.{Deed, answered_by, call_by, call_on_by, delete_reference, get_object_ref_type}
-use Rattle.jr_env.specs.Deeds.{is_same_object, new_array, new_object_array, new_plain, new_reference}
-use Rattle.jr_env.specs.Requests.{making_steps, packed, packed_if}
-use Rattle.jr_env.specs.Deeds.{pop_local_frame, push_local_frame, ◌>>=◌}
+use Rattle.jr_env.specs.Deeds.{Deed, answered_by, call_apart, new_object_array, new_plain, pop_local_frame}
+use Rattle.jr_env.specs.Deeds.{push_local_frame, whole, ◌>>=◌}
+use Rattle.jr_env.specs.Requests.{Request, asks, for_new_object_array, for_new_plain, for_pop_local_frame, gives, named}
+use Rattle.jr_env.specs.Requests.{on_word, on_words, told_by}
 use Rattle.first_room.specs.Calls.{making_own}
-use Rattle.first_room.proofs.Sparing.{Spares, array_making_spares, comparison_spares, creation_spares}
-use Rattle.first_room.proofs.Sparing.{entered_spares, made_spares, popping_spares, pushing_spares}
-use Rattle.first_room.proofs.Sparing.{removal_spares, typing_spares}
+use Rattle.first_room.proofs.Sparing.{IsSparing, Spares, entered_spares, program_spares}
 use Rattle.first_room.proofs.Traces.{IsQuiet, quiet_then}
 
 -- ONE DEED AND THEN ANOTHER WERE ANSWERED
@@ -55,59 +49,39 @@ answered_spared form first p old new answer (inl x) =
     subst (λ (z : ThreadState). IsQuiet old.pass z.pass) (sym x.3.1) (p old x.1 (Ok x.0) x.2)
 answered_spared form first p old new answer (inr x) = p old new (Err x.0) x.2
 
-on_spared : {A : Type 0} (silent : Config → ℕ) (w : ℕ) (asked : Config → ℕ → ℕ → State → Word → Call A)
-    → ((c : Config) (last t : ℕ) (s : State) (a : Word) → Spares (asked c last t s a))
-    → Spared (call_on_by silent w asked)
-on_spared silent w asked p old new answer x =
-    made_quiet _ (p old.pass.config old.pass.last old.pass.thread (state new.pass.seen) x.0) x.2.0
+-- a request for a program that has none
+abbrev pub AsksSparing : {A : Type 0} → Request A → Type 0
+AsksSparing (asks silent words p) = IsSparing p
+AsksSparing (on_word w next) = (a : Word) → AsksSparing (next a)
+AsksSparing (on_words v w next) = (a b : Word) → AsksSparing (next a b)
+AsksSparing (gives form first) = AsksSparing first
+AsksSparing (told_by form first) = AsksSparing first
+AsksSparing (named name first) = AsksSparing first
 
-making_spared : {A : Type 0} (silent : Config → ℕ) (asked : Config → ℕ → ℕ → State → Call A)
-    → ((c : Config) (last t : ℕ) (s : State) → Spares (asked c last t s)) → Spared (call_by silent asked)
-making_spared silent asked p old new answer x =
-    made_quiet _ (p old.pass.config old.pass.last old.pass.thread (state new.pass.seen)) x.0
+-- ITS WHOLE CALL has none
+pub whole_spared : {A : Type 0} (request : Request A) → AsksSparing request → Spared (whole request)
+whole_spared (asks silent words p) sparing old new answer x =
+    let c = old.pass in
+    made_quiet _ (entered_spares _ (program_spares c.config c.last c.thread (state new.pass.seen) words p none_known 0
+    sparing)) x.0
+whole_spared (on_word w next) sparing old new answer x = whole_spared (next x.0) (sparing x.0) old new answer x.2
+whole_spared (on_words v w next) sparing old new answer x =
+    whole_spared (next x.0 x.1) (sparing x.0 x.1) old new answer x.4
+whole_spared (gives form first) sparing old new answer x =
+    answered_spared form (whole first) (whole_spared first sparing) old new answer x
+whole_spared (told_by form first) sparing old new answer x = whole_spared first sparing old new _ x
+whole_spared (named name first) sparing old new answer x = whole_spared first sparing old new answer x
 
--- THE CALLS of the two threads
+-- and so has a call that enters no gate
+pub apart_spared : {n : ℕ} {a : AnswerKind} (p : Program n a) → IsSparing p → Spared (call_apart p)
+apart_spared p sparing old new answer x =
+    let c = old.pass in
+    made_quiet _ (program_spares c.config c.last c.thread (state new.pass.seen) handed_none p none_known 0 sparing) x.0
 
-pub push_spared : (n : ℕ) → Spared (push_local_frame n)
-push_spared n old new answer x = made_quiet _ (pushing_spares old.pass.config old.pass.last old.pass.thread n) x.0
-
-pub pop_spared : (w : ℕ) → Spared (pop_local_frame w)
-pop_spared w = answered_spared packed_if _ (on_spared (λ c. 0) w (λ c last t s a. references.pop_local_frame c last t a)
-    (λ c last t s a. entered_spares _ (popping_spares c last t a)))
-
-pub array_spared : (k : Kind) (n : ℕ) → same_element Int k ≡ false → Spared (new_array k n)
-array_spared k n other = answered_spared packed _ (making_spared _ (λ c last t s. references.new_array c last t k n)
-    (λ c last t s. entered_spares _ (made_spares c last t k (replicate n 0) other)))
-
-pub plain_spared : Spared new_plain
-plain_spared = answered_spared packed _ (making_spared (λ c. c.objects) (λ c last t s. references.new_plain c last t)
-    (λ c last t s. entered_spares _ (made_spares c last t Plain [] refl)))
-
-pub objects_spared : (n w : ℕ) → Spared (new_object_array n w)
-objects_spared n w =
-    answered_spared packed _ (on_spared (making_steps n) w (λ c last t s a. references.new_object_array c last t n a)
-    (λ c last t s a. entered_spares _ (array_making_spares c last t n a)))
-
-pub reference_spared : (k : RefKind) (w : ℕ) → Spared (new_reference k w)
-reference_spared k w =
-    answered_spared packed_if _ (on_spared (λ c. 0) w (λ c last t s a. references.new_reference c last t k a)
-    (λ c last t s a. entered_spares _ (creation_spares c last t k a)))
-
-pub deleted_spared : (k : RefKind) (w : ℕ) → Spared (delete_reference k w)
-deleted_spared k w = on_spared (λ c. 0) w (λ c last t s a. references.delete_reference c last t k a) (λ c last t s a.
-    entered_spares _ (removal_spares c last t k a))
-
-pub typed_spared : (w : ℕ) → Spared (get_object_ref_type w)
-typed_spared w = on_spared (λ c. 0) w (λ c last t s a. references.get_object_ref_type c last t a) (λ c last t s a.
-    entered_spares _ (typing_spares c last t a))
-
-pub same_spared : (v w : ℕ) → Spared (is_same_object v w)
-same_spared v w old new answer x =
-    made_quiet (references.is_same_object old.pass.config old.pass.last old.pass.thread x.0 x.1)
-    (entered_spares _ (comparison_spares old.pass.config old.pass.last old.pass.thread x.0 x.1)) x.4.0
-
+-- what the second thread makes
 pub own_spared : Spared making_own
 own_spared =
-    spared_then (push_local_frame 4) _ (push_spared 4) (λ _. spared_then new_plain _ plain_spared (λ object.
-    spared_then (new_object_array 2 object.0) _ (objects_spared 2 object.0)
-    (λ _. answered_spared (λ _. tt) (pop_local_frame 0) (pop_spared 0))))
+    spared_then (push_local_frame 4) _ (apart_spared (programs.push_local_frame 4) refl) (λ _.
+    spared_then new_plain _ (whole_spared for_new_plain refl) (λ object.
+    spared_then (new_object_array 2 object.0) _ (whole_spared (for_new_object_array 2 object.0) (λ a. refl))
+    (λ _. answered_spared (λ _. tt) (pop_local_frame 0) (whole_spared (for_pop_local_frame 0) (λ a. refl)))))

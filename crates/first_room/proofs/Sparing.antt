@@ -7,31 +7,38 @@ use Rattle.jr_word.specs.declared.config.Config.{Config}
 use Rattle.jr_word.specs.declared.fault.Fault.{Fault}
 use Rattle.jr_word.specs.declared.fault.Fault.TheVariants as fault
 use Rattle.jr_word.specs.declared.handle.RefKind.{RefKind}
+use Rattle.jr_word.specs.declared.handle.RefKind.TheVariants.{Local}
 use Rattle.jr_word.specs.declared.kind.Kind.{Kind}
-use Rattle.jr_word.specs.declared.kind.Kind.TheVariants.{Int, Objects}
+use Rattle.jr_word.specs.declared.kind.Kind.TheVariants.{Int}
 use Rattle.jr_model.specs.declared.event.Act.{Act}
 use Rattle.jr_model.specs.declared.event.Act.TheVariants.{Gate, Meet, ShutBusy, Clear, Delete, DeleteStale}
-use Rattle.jr_model.specs.declared.event.Act.TheVariants.{Drop, Look, LocalDrop, New, Probe, Reserve}
+use Rattle.jr_model.specs.declared.event.Act.TheVariants.{Drop, Look, LocalDrop, New, Probe, Read, Reserve}
 use Rattle.jr_model.specs.declared.event.Act.TheVariants.{ReserveFull, ReserveLost, Settle, Write}
 use Rattle.jr_model.specs.declared.event.GateAct.TheVariants.{Announce, Cancel, Reopen}
 use Rattle.jr_model.specs.declared.event.Found.{Found}
 use Rattle.jr_model.specs.declared.event.Found.TheVariants.{Object, Cleared, Stale}
 use Rattle.jr_model.specs.declared.frames.LocalRef.{LocalRef}
-use Rattle.jr_model.specs.declared.frames.TheConstants.{FRAMES, LEVELS}
+use Rattle.jr_model.specs.declared.frames.TheConstants.{FRAMES}
 use Rattle.jr_model.specs.State.{Handle, State}
 use Rattle.jr_model.specs.CollectionCalls.{collection_acts}
-use Rattle.jr_model.specs.Objects.{level_array, part_of}
-use Rattle.jr_model.specs.Frames.{Frames, free_places, last_frame, object_of, popped}
+use Rattle.jr_model.specs.Frames.{Frames, all_refs, drop_all, free_places, last_frame, object_of, popped}
 use Rattle.jr_model.specs.Calls.{Call, act, decided, done, entered, for_object, one_of, opened}
 use Rattle.jr_model.specs.Calls.{refuse, refuse_if, some_act, ◌>>=◌, ◌>>◌}
-use Rattle.jr_model.specs.Checks.{Word, Nothing, Malformed, Parts, is_array, is_foreign, is_local, is_malformed}
-use Rattle.jr_model.specs.Checks.{is_of_kind, is_out_of_bounds, is_primitive, same_element, type_found, type_local}
+use Rattle.jr_model.specs.Checks.{Word, Nothing, Malformed, Parts, is_foreign, is_local, is_malformed}
+use Rattle.jr_model.specs.Checks.{is_of_kind, is_out_of_bounds, same_element, type_found, type_local}
 use Rattle.jr_model.specs.Parts.{announce, collect, collect_announced, collected, create, created}
-use Rattle.jr_model.specs.Parts.{created_with, delete_at, delete_found, found_closed, found_moved}
-use Rattle.jr_model.specs.Parts.{found_object, frame_left, frame_to_pop, local_object, look, looked}
-use Rattle.jr_model.specs.Parts.{not_null, probes, publish, refused_shuts, reserve, take_frame, type_at}
-use Rattle.jr_model.specs.References.{added, array_making, comparison, creation, made, new_local, popping}
-use Rattle.jr_model.specs.References.{push_local_frame, removal, resolved, resolved_both, room_after, room_for, typing}
+use Rattle.jr_model.specs.Parts.{created_with, delete_at, delete_found, delete_local_at, found_closed, found_moved}
+use Rattle.jr_model.specs.Parts.{found_object, frame_left, frame_to_pop, local_object, look, looked, looked_at}
+use Rattle.jr_model.specs.Parts.{new_frame, not_null, probes, publish, read, read_acts, refused_shuts, reserve}
+use Rattle.jr_model.specs.Parts.{take_frame, type_at}
+use Rattle.jr_model.specs.References.{added, freeing, local_removal, made, new_local, popping}
+use Rattle.jr_model.specs.References.{removal, resolved, resolved_both, room_after, room_for, typing}
+use Rattle.jr_model.specs.Programs.{AnswerKind, Which, one, other, Ending, Program, ends, names, names_both}
+use Rattle.jr_model.specs.Programs.{wants, looks, tests, finds, gives_kind, gives_number, gives_object}
+use Rattle.jr_model.specs.Programs.{compares, types, creates, refers, deletes, deletes_local, asks_room, pushes}
+use Rattle.jr_model.specs.Programs.{pops_to, frees, makes, fills, reads, reads_from, copies, writes, writes_to}
+use Rattle.jr_model.specs.Programs.{writes_from, call_of, ended}
+use Rattle.jr_model.specs.Tests.{Tests, tested}
 use Rattle.jr_model.proofs.Exactly.{all_map, append_all}
 
 -- the act makes an array of ints, or writes an element
@@ -110,14 +117,23 @@ found_spares Stale = decided_spares _
 look_spares : (h : Handle) → Spares (look h)
 look_spares h = some_act_spares (Look h) (λ r. refl)
 
-looked_spares : (a : Word) → Spares (looked a)
-looked_spares Nothing = decided_spares (Ok None)
-looked_spares Malformed = decided_spares (Ok None)
-looked_spares (Parts h) = cond_spares (is_local h) (λ old. local_object (object_of old h) old) (look h >>= found_object)
+looked_at_spares : (h : Handle) → Spares (looked_at h)
+looked_at_spares h = cond_spares (is_local h) (λ old. local_object (object_of old h) old) (look h >>= found_object)
     (λ f g acts answer is. local_spares (object_of f h) f g acts answer is)
     (bind_spares (look h) found_object (look_spares h) found_spares)
 
-not_null_spares : (o : Option ℕ) → Spares (not_null o)
+looked_spares : (a : Word) → Spares (looked a)
+looked_spares Nothing = decided_spares (Ok None)
+looked_spares Malformed = decided_spares (Ok None)
+looked_spares (Parts h) = looked_at_spares h
+
+delete_local_at_spares : (a : Word) → Spares (delete_local_at a)
+delete_local_at_spares Nothing = decided_spares (Ok tt)
+delete_local_at_spares Malformed = decided_spares (Ok tt)
+delete_local_at_spares (Parts h) = bind_spares (looked_at h) _ (looked_at_spares h) (λ x f g acts answer is.
+    subst Untouching (sym is.0) (refl, tt))
+
+pub not_null_spares : (o : Option ℕ) → Spares (not_null o)
 not_null_spares (Some o) = decided_spares (Ok o)
 not_null_spares None = decided_spares _
 
@@ -172,12 +188,24 @@ reserve_spares (suc n) =
     (some_act_spares {X = ℕ × ℕ} (λ l. ReserveLost (suc n) l.0 l.1) (λ l. refl)) (λ l. decided_spares _)))
 
 publish_spares : (k : Kind) (ws : List ℕ) → same_element Int k ≡ false → Spares (publish k ws)
-publish_spares k ws other = one_of_spares (some_act (λ o. New o k ws)) (refuse fault.ObjectsFull)
-    (some_act_spares (λ o. New o k ws) (λ o. other)) (decided_spares _)
+publish_spares k ws none = one_of_spares (some_act (λ o. New o k ws)) (refuse fault.ObjectsFull)
+    (some_act_spares (λ o. New o k ws) (λ o. none)) (decided_spares _)
+
+reads_none : (o start : ℕ) (vs : List ℕ) → Untouching (read_acts o start vs)
+reads_none o start [] = tt
+reads_none o start (v ∷ vs) = (refl, reads_none o (start + 1) vs)
+
+read_spares : (o start n : ℕ) → Spares (read o start n)
+read_spares o start n f g acts answer is = subst Untouching (sym is.2) (reads_none o start is.0)
+
+drops_none : (refs : List LocalRef) → Untouching (drop_all refs)
+drops_none refs = all_map (λ a. touches a ≡ false) (λ (r : LocalRef). LocalDrop r.handle.index) refs (λ r. refl)
 
 take_frame_spares : Spares take_frame
-take_frame_spares f g acts answer is = subst Untouching (sym is.0)
-    (all_map (λ a. touches a ≡ false) (λ (r : LocalRef). LocalDrop r.handle.index) (last_frame f.frames) (λ r. refl))
+take_frame_spares f g acts answer is = subst Untouching (sym is.0) (drops_none (last_frame f.frames))
+
+freeing_spares : Spares freeing
+freeing_spares f g acts answer is = subst Untouching (sym is.0) (drops_none (all_refs f))
 
 frame_to_pop_spares : Spares frame_to_pop
 frame_to_pop_spares f g acts answer is = refuse_if_spares (nat_lt (length f.frames) 2) fault.NoFrame f g acts answer is
@@ -200,11 +228,11 @@ module _ (c : Config) (last thread : ℕ) where
   new_local_spares (Some o) = bind_spares (room_for c last thread 1) _ (room_for_spares 1) (λ _.
       bind_spares (added c last thread o) _ (added_spares o) (λ h. decided_spares (Ok (Some h))))
 
-  pub made_spares : (k : Kind) (ws : List ℕ) → same_element Int k ≡ false → Spares (made c last thread k ws)
-  made_spares k ws other =
+  made_spares : (k : Kind) (ws : List ℕ) → same_element Int k ≡ false → Spares (made c last thread k ws)
+  made_spares k ws none =
       bind_spares (room_for c last thread 1) _ (room_for_spares 1) (λ _.
       bind_spares (reserve (length ws)) _ (reserve_spares (length ws)) (λ _.
-      bind_spares (publish k ws) _ (publish_spares k ws other) (λ o. added_spares o)))
+      bind_spares (publish k ws) _ (publish_spares k ws none) (λ o. added_spares o)))
 
   pub resolved_spares : (a : Word) → Spares (resolved c last thread a)
   resolved_spares a =
@@ -223,57 +251,103 @@ module _ (c : Config) (last thread : ℕ) where
       (bind_spares (looked a) _ (looked_spares a) (λ x.
       bind_spares (looked b) _ (looked_spares b) (λ y. decided_spares (Ok (x, y))))))))))
 
-  -- WHAT EACH CALL DOES WITHIN ITS STAY
-
-  pub creation_spares : (k : RefKind) (a : Word) → Spares (creation c last thread k a)
-  creation_spares k a = bind_spares (resolved c last thread a) _ (resolved_spares a) (created_spares c.slots k)
-
-  pub removal_spares : (k : RefKind) (a : Word) → Spares (removal c k a)
+  removal_spares : (k : RefKind) (a : Word) → Spares (removal c k a)
   removal_spares k a =
       checked (is_malformed a) fault.Stale _ (checked (not (is_of_kind k a)) fault.WrongKind _
       (checked (is_out_of_bounds c a) fault.Stale _ (delete_at_spares a)))
 
-  pub comparison_spares : (a b : Word) → Spares (comparison c last thread a b)
-  comparison_spares a b =
-      bind_spares (resolved_both c last thread a b) _ (resolved_both_spares a b) (λ x. decided_spares _)
+  local_removal_spares : (a : Word) → Spares (local_removal c thread a)
+  local_removal_spares a =
+      checked (is_malformed a) fault.Stale _ (checked (not (is_of_kind Local a)) fault.WrongKind _
+      (checked (is_out_of_bounds c a) fault.Stale _
+      (checked (is_foreign thread a) fault.Foreign _ (delete_local_at_spares a))))
 
-  pub typing_spares : (a : Word) → Spares (typing c thread a)
+  typing_spares : (a : Word) → Spares (typing c thread a)
   typing_spares a = cond_spares (is_malformed a || is_out_of_bounds c a || is_foreign thread a) (done 0) (type_at a)
       (decided_spares (Ok 0)) (type_at_spares a)
 
-  pub popping_spares : (a : Word) → Spares (frame_to_pop >> (resolved c last thread a >>= popping c last thread))
+  popping_spares : (a : Word) → Spares (frame_to_pop >> (resolved c last thread a >>= popping c last thread))
   popping_spares a =
       bind_spares frame_to_pop _ frame_to_pop_spares (λ _.
       bind_spares (resolved c last thread a) _ (resolved_spares a) (λ x.
       bind_spares (room_after c last thread x) _ (room_after_spares x) (λ _.
       bind_spares take_frame _ take_frame_spares (λ _. new_local_spares x))))
 
-  pub array_making_spares : (n : ℕ) (a : Word) → Spares (array_making c last thread n a)
-  array_making_spares n a = bind_spares (resolved c last thread a) _ (resolved_spares a) (λ x.
-      made_spares Objects _ refl)
-
-  pub part_spares : (s : State) (a : Word) (n : ℕ) → Spares (part_of c last thread s Int 0 n a)
-  part_spares s a n =
-      bind_spares (resolved c last thread a) _ (resolved_spares a) (λ x.
-      bind_spares (not_null x) _ (not_null_spares x) (λ o.
-      for_spares s o _ (λ l m.
-      checked (not (is_array l)) fault.NotArray _ (checked (not (same_element Int l)) fault.WrongElement _
-      (checked (nat_lt m (0 + n)) fault.Range _ (decided_spares (Ok o)))))))
-
-  pub opening_spares : (s : State) (a : Word) → Spares (level_array c last thread s 0 a)
-  opening_spares s a =
-      bind_spares (resolved c last thread a) _ (resolved_spares a) (λ x.
-      bind_spares (not_null x) _ (not_null_spares x) (λ o.
-      for_spares s o _ (λ k n.
-      checked (not (is_array k)) fault.NotArray _ (checked (not (is_primitive k)) fault.WrongElement _
-      (checked (nat_le LEVELS 0) fault.Size _ (decided_spares (Ok o)))))))
-
-  pub pushing_spares : (n : ℕ) → Spares (push_local_frame c last thread n)
+  pushing_spares : (n : ℕ) → Spares (frame_left >> (room_for c last thread n >> new_frame))
   pushing_spares n =
       bind_spares frame_left _ (λ f g acts answer is.
       refuse_if_spares (nat_le FRAMES (length f.frames)) fault.LocalsFull f g acts answer is) (λ _.
       bind_spares (room_for c last thread n) _ (room_for_spares n) (λ _ f g acts answer is.
       subst Untouching (sym is.0) tt))
+
+-- PROGRAMS
+
+-- an ending that makes an array of ints, or writes an element
+abbrev touched_by : {n : ℕ} {a : AnswerKind} → Ending n a → Bool
+touched_by (makes k ws) = same_element Int k
+touched_by (fills k n w) = same_element Int k
+touched_by (writes i v) = true
+touched_by (writes_to i w) = true
+touched_by (writes_from start vs) = true
+touched_by _ = false
+
+-- a program that doesn't, however it ends
+abbrev pub IsSparing : {n : ℕ} {a : AnswerKind} → Program n a → Type 0
+IsSparing (ends e) = touched_by e ≡ false
+IsSparing (names w p) = IsSparing p
+IsSparing (names_both p) = IsSparing p
+IsSparing (wants w p) = IsSparing p
+IsSparing (looks next) = (k : Kind) (l : ℕ) → IsSparing (next k l)
+IsSparing (tests ts silent p) = IsSparing p
+IsSparing (finds i p) = IsSparing p
+
+tested_spares : {A : Type 0} (ts : Tests) (next : Call A) → Spares next → Spares (tested ts next)
+tested_spares [] next p = p
+tested_spares ((b, e) ∷ ts) next p = checked b e (tested ts next) (tested_spares ts next p)
+
+module _ (c : Config) (last thread : ℕ) (words : Which → Word) where
+  ended_spares : {n : ℕ} {a : AnswerKind} (e : Ending n a) (known : Which → Option ℕ) (o : ℕ) → touched_by e ≡ false
+      → Spares (ended c last thread words e known o)
+  ended_spares (gives_kind k) known o none = decided_spares (Ok k)
+  ended_spares (gives_number n) known o none = decided_spares (Ok n)
+  ended_spares gives_object known o none = decided_spares (Ok o)
+  ended_spares compares known o none = decided_spares _
+  ended_spares (types w) known o none = typing_spares c last thread (words w)
+  ended_spares (creates k w) known o none = created_spares c.slots k (known w)
+  ended_spares (refers w) known o none = new_local_spares c last thread (known w)
+  ended_spares (deletes k w) known o none = removal_spares c last thread k (words w)
+  ended_spares (deletes_local w) known o none = local_removal_spares c last thread (words w)
+  ended_spares (asks_room n) known o none = room_for_spares c last thread n
+  ended_spares (pushes n) known o none = pushing_spares c last thread n
+  ended_spares (pops_to w) known o none = popping_spares c last thread (words w)
+  ended_spares frees known o none = freeing_spares
+  ended_spares (makes k ws) known o none = made_spares c last thread k ws none
+  ended_spares (fills k n w) known o none = made_spares c last thread k _ none
+  ended_spares (reads i) known o none = some_act_spares (Read o i) (λ v. refl)
+  ended_spares (reads_from start n) known o none = read_spares o start n
+  ended_spares (copies zero) known o none = read_spares o 0 0
+  ended_spares (copies (suc n)) known o none =
+      one_of_spares (read o 0 (suc n)) _ (read_spares o 0 (suc n)) (decided_spares _)
+  ended_spares (writes i v) known o none = absurd cc
+  ended_spares (writes_to i w) known o none = absurd cc
+  ended_spares (writes_from start vs) known o none = absurd cc
+
+module _ (c : Config) (last thread : ℕ) (s : State) (words : Which → Word) where
+  pub program_spares : {n : ℕ} {a : AnswerKind} (p : Program n a) (known : Which → Option ℕ) (o : ℕ) → IsSparing p
+      → Spares (call_of c last thread s words p known o)
+  program_spares (ends e) known o none = ended_spares c last thread words e known o none
+  program_spares (names w p) known o none =
+      bind_spares (resolved c last thread (words w)) _ (resolved_spares c last thread (words w)) (λ x.
+      program_spares p _ o none)
+  program_spares (names_both p) known o none =
+      bind_spares (resolved_both c last thread (words one) (words other)) _
+      (resolved_both_spares c last thread (words one) (words other)) (λ x. program_spares p _ o none)
+  program_spares (wants w p) known o none =
+      bind_spares (not_null (known w)) _ (not_null_spares (known w)) (λ q. program_spares p known q none)
+  program_spares (looks next) known o none = for_spares s o _ (λ k n. program_spares (next k n) known o (none k n))
+  program_spares (tests ts silent p) known o none = tested_spares ts _ (program_spares p known o none)
+  program_spares (finds i p) known o none =
+      bind_spares (some_act (Read o i)) _ (some_act_spares (Read o i) (λ v. refl)) (λ v. program_spares p _ o none)
 
 -- A COLLECTION
 

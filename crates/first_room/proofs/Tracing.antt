@@ -11,24 +11,26 @@ use Rattle.jr_model.specs.declared.event.GateAct.TheVariants.{Enter, Leave}
 use Rattle.jr_model.specs.Calls.{Call, Ran}
 use Rattle.jr_model.specs.Frames.{Frames}
 use Rattle.jr_model.specs.History.{Did, PassView, state}
-use Rattle.jr_model.specs.Objects as objects
 use Rattle.jr_model.specs.Parts as parts
-use Rattle.jr_model.specs.References as references
+use Rattle.jr_model.specs.Programs.{handed_none, handed_one, work_of}
+use Rattle.jr_model.specs.References.{made}
+use Rattle.jr_model.specs.CallPrograms as programs
 use Rattle.jr_model.proofs.Stays.{did_then}
 use Rattle.jr_gate.specs.Performing.{ThreadState}
 use Rattle.jr_weak.specs.declared.collecting.Collected.{Collected}
 use Rattle.jr_env.specs.Collections.{announced_collection}
 use Rattle.jr_env.specs.Deeds.{Deed, delete_reference, done, get_object_ref_type, is_same_object, new_array}
-use Rattle.jr_env.specs.Deeds.{new_reference, pop_local_frame, push_local_frame, set_array_region, call_by, ◌>>=◌, ◌>>◌}
-use Rattle.jr_env.specs.Requests.{packed, making_steps}
+use Rattle.jr_env.specs.Deeds.{new_reference, pop_local_frame, push_local_frame, set_array_region, whole, ◌>>=◌, ◌>>◌}
+use Rattle.jr_env.specs.Requests.{asks, for_delete_reference, for_get_object_ref_type, for_is_same_object}
+use Rattle.jr_env.specs.Requests.{for_new_array, for_new_reference, for_pop_local_frame, making_steps, packed}
 use Rattle.jr_env.specs.Remedies.{collection_in_turn, refused_once, served_now, tried_last}
 use Rattle.first_room.specs.declared.TheConstants.{TRIES}
 use Rattle.first_room.specs.Calls.{Findings, Shared, clearing, collecting_in_turn, collecting_twice}
 use Rattle.first_room.specs.Calls.{is_kept_out, preparing, sharing, word_made}
 use Rattle.first_room.proofs.Answered.{MakesOne, ints_written, made_one, one_between, stayed}
 use Rattle.first_room.proofs.Ints.{HasInts}
-use Rattle.first_room.proofs.Spared.{Spared, answered_spared, array_spared, both_done, deleted_spared, made_quiet}
-use Rattle.first_room.proofs.Spared.{pop_spared, push_spared, reference_spared, same_spared, spared_then, typed_spared}
+use Rattle.first_room.proofs.Spared.{Spared, answered_spared, apart_spared, both_done, made_quiet, spared_then}
+use Rattle.first_room.proofs.Spared.{whole_spared}
 use Rattle.first_room.proofs.Sparing.{Spares, Untouching, collect_announced_spares, collect_spares}
 use Rattle.first_room.proofs.Traces.{IsQuiet, IsTraced, quiet_then}
 
@@ -53,8 +55,10 @@ abbrev making : Deed (ℕ × ℕ)
 making = new_array Long 4 >>= losing
 
 shared_spared : (weak : Option HandleWord) (array : HandleWord) → Spared (sharing_it weak array)
-shared_spared weak array = spared_then (new_reference Global array.0) (popping weak) (reference_spared Global array.0)
-    (λ global. answered_spared (λ _. (word_made weak, word_made global)) (pop_local_frame 0) (pop_spared 0))
+shared_spared weak array = spared_then (new_reference Global array.0) (popping weak)
+    (whole_spared (for_new_reference Global array.0) (λ a. refl))
+    (λ global. answered_spared (λ _. (word_made weak, word_made global)) (pop_local_frame 0)
+    (whole_spared (for_pop_local_frame 0) (λ a. refl)))
 
 -- AN ARRAY OF INTS
 record HasMade (old new : PassView) : Type 0 where
@@ -69,10 +73,10 @@ has_made old new array was =
     let c = old.pass.config in
     let last = old.pass.last in
     let t = old.pass.thread in
-    let n = both_done (call_by (making_steps 3) (λ c last t s. references.new_array c last t Int 3))
-    (λ h. done (packed h)) old new array was in
+    let n = both_done (whole (asks (making_steps 3) handed_none (programs.new_array Int 3))) (λ h. done (packed h)) old
+    new array was in
     let r = n.one.0.ran in
-    let st = stayed (references.made c last t Int (replicate 3 0)) old.frames (n.mid).frames r.acts n.x r.is in
+    let st = stayed (made c last t Int (replicate 3 0)) old.frames (n.mid).frames r.acts n.x r.is in
     let m = made_one c last t (replicate 3 0) old.frames (n.mid).frames st.0 n.x st.2 in
     let makes = one_between m.0 (Gate Enter ∷ []) st.0 (Gate Leave ∷ []) (refl, tt) m.1 (refl, tt) in
     record {
@@ -99,7 +103,8 @@ has_filled w old new was =
     let s = state new.pass.seen in
     let ws : List ℕ = 10 ∷ 20 ∷ 30 ∷ [] in
     let r = was.2.0.ran in
-    let st = stayed (objects.part_writing c last t s Int was.0 0 ws) old.frames new.frames r.acts tt r.is in
+    let st = stayed (work_of c last t s (handed_one was.0) (programs.set_array_region Int 0 ws)) old.frames new.frames
+    r.acts tt r.is in
     let n = ints_written c last t s was.0 ws old.frames new.frames st.0 st.2 in
     record {
       p = n.0;
@@ -123,8 +128,9 @@ traced old new x was =
     let s4 = both_done (new_array Int 3) (filling s3.x) s3.mid new x s3.two in
     let s5 =
     both_done (set_array_region Int s4.x.0 0 (10 ∷ 20 ∷ 30 ∷ [])) (λ _. sharing_it s3.x s4.x) s4.mid new x s4.two in
-    let begins = quiet_then (push_spared 4 old s1.mid (Ok s1.x) s1.one) (quiet_then (array_spared Long 4 refl s1.mid
-    s2.mid (Ok s2.x) s2.one) (reference_spared Weak s2.x.0 s2.mid s3.mid (Ok s3.x) s3.one)) in
+    let begins = quiet_then (apart_spared (programs.push_local_frame 4) refl old s1.mid (Ok s1.x) s1.one) (quiet_then
+    (whole_spared (for_new_array Long 4) refl s1.mid s2.mid (Ok s2.x) s2.one)
+    (whole_spared (for_new_reference Weak s2.x.0) (λ a. refl) s2.mid s3.mid (Ok s3.x) s3.one)) in
     let m = has_made s3.mid s4.mid s4.x s4.one in
     let f = has_filled s4.x.0 s4.mid s5.mid s5.one in
     let writes = Write f.p 0 10 ∷ Write f.p 1 20 ∷ Write f.p 2 30 ∷ Gate Leave ∷ [] in
@@ -180,9 +186,11 @@ cleared_spared : (weak global : ℕ) → Spared (clearing weak global)
 cleared_spared weak global =
     let ends : Bool → Deed (Bool × ℕ) = λ cleared. get_object_ref_type global >>= (λ kind. done (cleared, kind)) in
     spared_then (is_same_object weak 0) (λ cleared. delete_reference Global global >> ends cleared)
-    (same_spared weak 0) (λ cleared. spared_then (delete_reference Global global) (λ _. ends cleared)
-    (deleted_spared Global global) (λ _. answered_spared (λ kind. (cleared, kind)) (get_object_ref_type global)
-    (typed_spared global)))
+    (whole_spared (for_is_same_object weak 0) (λ a b. refl)) (λ cleared.
+    spared_then (delete_reference Global global) (λ _. ends cleared)
+    (whole_spared (for_delete_reference Global global) (λ a. refl)) (λ _.
+    answered_spared (λ kind. (cleared, kind)) (get_object_ref_type global)
+    (whole_spared (for_get_object_ref_type global) (λ a. refl))))
 
 -- ALL THAT IT DID: it prepared, and then nothing does
 pub record HasShared (old new : PassView) : Type 0 where

@@ -6,14 +6,17 @@ use Rattle.jr_word.specs.declared.kind.Kind.TheVariants.{Int}
 use Rattle.jr_model.specs.declared.event.Act.TheVariants.{Gate, Read}
 use Rattle.jr_model.specs.declared.event.GateAct.TheVariants.{Leave}
 use Rattle.jr_model.specs.History.{Did, History, state}
-use Rattle.jr_model.specs.Objects as objects
+use Rattle.jr_model.specs.Parts.{region_release}
+use Rattle.jr_model.specs.Programs.{at_object, handed_one, none_known}
+use Rattle.jr_model.specs.CallPrograms.{get_array_critical, region_get}
 use Rattle.jr_gate.specs.Performing.{HasLearned, ThreadState}
+use Rattle.jr_critical.specs.Levels.{opened_by}
 use Rattle.jr_env.specs.Deeds.{Deed, done, ◌>>=◌, ◌>>◌, within_by}
 use Rattle.first_room.specs.Calls.{Findings, HasPrepared, Visited, is_handed, making_own, opens_region}
 use Rattle.first_room.specs.Calls.{reading_within, visiting}
 use Rattle.first_room.proofs.Answered.{ints_read}
 use Rattle.first_room.proofs.Spared.{both_done, made_quiet, own_spared}
-use Rattle.first_room.proofs.Sparing.{opened_spares, opening_spares}
+use Rattle.first_room.proofs.Sparing.{opened_spares, program_spares}
 use Rattle.first_room.proofs.Traces.{HasRead, quiet_then}
 
 -- its calls once it was handed the word
@@ -53,18 +56,20 @@ pub has_read : (w x : ℕ) (old new : ThreadState) → rest_of_visit w old (Ok (
     → HasRead x old.pass new.pass
 has_read w x old new was =
     let y : Findings = Visited x in
-    let ends : ℕ → Deed ℕ = λ v. within_by (λ c. 0) (λ c last t s. objects.region_release 1) >> done v in
-    let gets : ℕ → Deed ℕ = λ o. within_by (λ c. 0) (λ c last t s. objects.region_get c last t s Int o 1) in
+    let ends : ℕ → Deed ℕ = λ v. within_by (λ c. 0) (λ c last t s. region_release 1) >> done v in
+    let gets : ℕ → Deed ℕ = λ o. within_by (λ c. 0) (λ c last t s. at_object c last t s o (region_get Int 1)) in
     let tells : ℕ → Deed Findings = λ word. done (Visited word) in
     let s1 = both_done making_own (λ _. reading_within w >>= tells) old new y was in
     let s2 = both_done (reading_within w) tells s1.mid new y s1.two in
     let s3 = both_done (opens_region w) (λ o. gets o >>= ends) s1.mid s2.mid s2.x s2.one in
     let s4 = both_done (gets s3.x) ends s3.mid s2.mid s2.x s3.two in
-    let s5 = both_done (within_by (λ c. 0) (λ c last t s. objects.region_release 1)) (λ _. done s4.x) s4.mid s2.mid s2.x
+    let s5 = both_done (within_by (λ c. 0) (λ c last t s. region_release 1)) (λ _. done s4.x) s4.mid s2.mid s2.x
     s4.two in
     let c = s1.mid.pass in
-    let opens = made_quiet (objects.get_array_critical c.config c.last c.thread (state s3.mid.pass.seen) s3.one.0)
-    (opened_spares _ (opening_spares c.config c.last c.thread (state s3.mid.pass.seen) s3.one.0)) s3.one.2 in
+    let there = state s3.mid.pass.seen in
+    let opens = made_quiet (opened_by (get_array_critical 0) c.config c.last c.thread there s3.one.0) (opened_spares _
+    (program_spares c.config c.last c.thread there (handed_one s3.one.0) (get_array_critical 0) none_known 0 (λ k n.
+    refl))) s3.one.2 in
     let quiet = quiet_then (own_spared old s1.mid (Ok s1.x) s1.one) opens in
     let d = s3.mid.pass in
     let q = s4.one.ran in

@@ -8,8 +8,11 @@ use Rattle.jr_word.specs.declared.handle.RefKind.TheVariants.{Global, Weak}
 use Rattle.jr_word.specs.declared.kind.Kind.TheVariants.{Int, Long}
 use Rattle.jr_model.specs.Checks.{Word}
 use Rattle.jr_model.specs.History.{History}
-use Rattle.jr_model.specs.Objects.{get_array_critical, region_get, region_release}
+use Rattle.jr_model.specs.Parts.{region_release}
+use Rattle.jr_model.specs.Programs.{at_object}
+use Rattle.jr_model.specs.CallPrograms.{get_array_critical, region_get}
 use Rattle.jr_frames.specs.Reading.{IsReadAs}
+use Rattle.jr_critical.specs.Levels.{opened_by}
 use Rattle.jr_gate.specs.Performing.{HasLearned}
 use Rattle.jr_weak.specs.declared.collecting.Collected.{Collected}
 use Rattle.jr_env.specs.Collections.{collection}
@@ -87,13 +90,14 @@ is_handed old answer new = (w : ℕ) × (answer ≡ Ok w) × (noted : History)
 -- a critical region is opened over the array that a word names: its object
 abbrev pub opens_region : ℕ → Deed ℕ
 opens_region w old answer new =
-    (a : Word) × IsReadAs w a × within_by (λ c. 1) (λ c last t s. get_array_critical c last t s a) old answer new
+    (a : Word) × IsReadAs w a × within_by (λ c. 1) (λ c last t s.
+    opened_by (get_array_critical 0) c last t s a) old answer new
 
 -- an element of the array that a word names is read in a critical region: the element's word
 abbrev pub reading_within : ℕ → Deed ℕ
 reading_within global = do
   o ← opens_region global
-  word ← within_by (λ c. 0) (λ c last t s. region_get c last t s Int o 1)
+  word ← within_by (λ c. 0) (λ c last t s. at_object c last t s o (region_get Int 1))
   within_by (λ c. 0) (λ c last t s. region_release 1)
   done word
 

@@ -10,7 +10,7 @@ use Rattle.jr_model.specs.declared.event.GateAct.TheVariants.{Leave}
 use Rattle.jr_model.specs.Calls.{Ran}
 use Rattle.jr_model.specs.Frames.{Frames}
 use Rattle.jr_model.specs.History.{PassView, IsLegal}
-use Rattle.jr_model.specs.Objects.{region_release}
+use Rattle.jr_model.specs.Parts.{region_release}
 use Rattle.jr_model.proofs.Runs.{ran_done}
 use Rattle.jr_steps.specs.declared.known.Known.{Known}
 use Rattle.jr_steps.specs.Knowing.{AreOf, Facts, Holds, Leads, anything, view, lets_go, Took}

@@ -7,7 +7,10 @@ use Rattle.jr_word.specs.Kind.{word_limit}
 use Rattle.jr_model.specs.declared.event.Role.TheVariants.{Within}
 use Rattle.jr_model.specs.declared.event.Act.TheVariants.{Read, Write}
 use Rattle.jr_model.specs.Frames.{Frames}
-use Rattle.jr_model.specs.Calls.{for_object}
+use Rattle.jr_model.specs.Calls.{act, for_object, some_act}
+use Rattle.jr_model.specs.CallPrograms.{get_tests, set_tests}
+use Rattle.jr_model.proofs.Runs.{ran_act, ran_some_act}
+use Rattle.jr_model.proofs.Tests.{ran_stopped, ran_tested}
 use Rattle.jr_model.specs.Checks.{is_read_as, is_text}
 use Rattle.jr_steps.specs.declared.known.Known.{Known}
 use Rattle.jr_steps.specs.Knowing.{AreOf, Facts, MayKnow, keeps, IsWordNow, KnowsHeader, Took}
@@ -18,9 +21,8 @@ use Rattle.jr_critical.specs.declared.level.Level.{Level}
 use Rattle.jr_critical.specs.declared.levels.Levels.{Levels}
 use Rattle.jr_critical.specs.Levels.{KnowsLevels, Stand, level_at, objects_of}
 use Rattle.jr_critical.proofs.LevelFound.{is_less, no_less}
-use Rattle.jr_critical.proofs.Reaching.{get_work, get_other, get_past, get_there, h_of, may_at, o_of}
-use Rattle.jr_critical.proofs.Reaching.{reaches, reaches_not, same_kind_of, set_other, set_past}
-use Rattle.jr_critical.proofs.Reaching.{set_text, set_there, set_work, stand_reached, word_fits}
+use Rattle.jr_critical.proofs.Reaching.{get_work, h_of, may_at, o_of, reaches, reaches_not, same_kind_of, set_work}
+use Rattle.jr_critical.proofs.Reaching.{stand_reached, word_fits}
 
 module _ (v : Levels) (level : ℕ) {x : Level} (is : x ≡ level_at v level) where
   -- what is known of the level that was read, at the level itself
@@ -56,34 +58,41 @@ module _ {S : Type 0} {facts : S → Facts} (fits : AreOf facts) (v : Levels) (l
     pub gets_other : is_read_as k x.header.kind ≡ false → Performed facts a a f f 0 (KnowsLevels v f) (λ s. for_object s
         (o_of v level) (get_work kind (o_of v level) i)) (Err WrongElement) (λ j k. keeps j k × KnowsLevels v f k)
     gets_other e = reaches_not fits v level inside a f (get_work kind (o_of v level) i) (Err WrongElement) (λ p l.
-        get_other p f l kind (h_of v level).kind (o_of v level) i (h_of v level).length (read_as v level is same e))
+        ran_stopped p f (get_tests kind i (h_of v level).kind (h_of v level).length) (some_act (Read (o_of v level) i))
+        (refl, (refl, tt)) (rw (read_as v level is same e) refl) l)
 
     pub gets_past : is_read_as k x.header.kind ≡ true → x.header.length ≤ i
         → Performed facts a a f f 0 (KnowsLevels v f) (λ s.
         for_object s (o_of v level) (get_work kind (o_of v level) i)) (Err Range) (λ j k. keeps j k × KnowsLevels v f k)
     gets_past e far = reaches_not fits v level inside a f (get_work kind (o_of v level) i) (Err Range) (λ p l.
-        get_past p f l kind (h_of v level).kind (o_of v level) i (h_of v level).length (read_as v level is same e)
-        (no_less (h_of v level).length i (past v level is i far)))
+        ran_stopped p f (get_tests kind i (h_of v level).kind (h_of v level).length) (some_act (Read (o_of v level) i))
+        (refl, (refl, tt))
+        (rw (read_as v level is same e, no_less (h_of v level).length i (past v level is i far)) refl) l)
 
     module _ (w : ℕ) where
       pub sets_text : is_text x.header.kind ≡ true → Performed facts a a f f 0 (KnowsLevels v f) (λ s. for_object s
           (o_of v level) (set_work kind (o_of v level) i w)) (Err NotArray) (λ j k. keeps j k × KnowsLevels v f k)
       sets_text t = reaches_not fits v level inside a f (set_work kind (o_of v level) i w) (Err NotArray) (λ p l.
-          set_text p f l kind (h_of v level).kind (o_of v level) i (h_of v level).length w (text_is v level is t))
+          ran_stopped p f (set_tests kind i (h_of v level).kind (h_of v level).length) (act (Write (o_of v level) i w))
+          (refl, (refl, (refl, tt))) (rw (text_is v level is t) refl) l)
 
       pub sets_other : is_text x.header.kind ≡ false → is_read_as k x.header.kind ≡ false
           → Performed facts a a f f 0 (KnowsLevels v f) (λ s. for_object s (o_of v level)
           (set_work kind (o_of v level) i w)) (Err WrongElement) (λ j k. keeps j k × KnowsLevels v f k)
       sets_other t e = reaches_not fits v level inside a f (set_work kind (o_of v level) i w) (Err WrongElement) (λ p l.
-          set_other p f l kind (h_of v level).kind (o_of v level) i (h_of v level).length w (text_is v level is t)
-          (read_as v level is same e))
+          ran_stopped p f (set_tests kind i (h_of v level).kind (h_of v level).length) (act (Write (o_of v level) i w))
+          (refl, (refl, (refl, tt))) (rw (text_is v level is t, read_as v level is same e) refl) l)
 
       pub sets_past : is_text x.header.kind ≡ false → is_read_as k x.header.kind ≡ true → x.header.length ≤ i
           → Performed facts a a f f 0 (KnowsLevels v f) (λ s. for_object s (o_of v level)
           (set_work kind (o_of v level) i w)) (Err Range) (λ j k. keeps j k × KnowsLevels v f k)
       sets_past t e far = reaches_not fits v level inside a f (set_work kind (o_of v level) i w) (Err Range) (λ p l.
-          set_past p f l kind (h_of v level).kind (o_of v level) i (h_of v level).length w (text_is v level is t)
-          (read_as v level is same e) (no_less (h_of v level).length i (past v level is i far)))
+          ran_stopped p f (set_tests kind i (h_of v level).kind (h_of v level).length) (act (Write (o_of v level) i w))
+          (refl, (refl, (refl, tt))) (rw (
+            text_is v level is t,
+            read_as v level is same e,
+            no_less (h_of v level).length i (past v level is i far),
+          ) refl) l)
 
   module _ {a b : S} {w : ℕ}
       (took : Took facts a b (Read x.object i w ∷ []) (KnowsHeader x.object x.header) keeps) where
@@ -99,8 +108,10 @@ module _ {S : Type 0} {facts : S → Facts} (fits : AreOf facts) (v : Levels) (l
         for_object s (o_of v level) (get_work kind (o_of v level) i)) (Ok n) (λ j k. keeps j k × KnowsLevels v f k)) one
         (reaches fits v level inside (λ k m. m.known) read_there (λ e. cc) refl refl within (λ n i. refl) f
         (get_work kind (o_of v level) i) (Ok w)
-        (λ p q d. get_there f kind (h_of v level).kind (o_of v level) i (h_of v level).length w
-        (read_as v level is same e) (is_less (h_of v level).length i (there v level is i near)) d))
+        (λ p q d. ran_tested (get_tests kind i (h_of v level).kind (h_of v level).length)
+        (some_act (Read (o_of v level) i))
+        (rw (read_as v level is same e, is_less (h_of v level).length i (there v level is i near)) refl)
+        (ran_some_act f (λ n. Read (o_of v level) i n) w tt tt d)))
 
     pub stand_got : {t : Table} → Stand facts v a t → Stand facts v b t
     stand_got s = stand_reached fits v level inside (λ k m. m.known) read_there (λ e. cc) refl refl s.ready.role_is s
@@ -133,8 +144,13 @@ module _ {S : Type 0} {facts : S → Facts} (fits : AreOf facts) (v : Levels) (l
           (reaches fits v level inside (λ k m. (m.known, may_store v level is same w word one below none e k))
           written_there (λ e. cc) refl refl within (λ n i. refl) f (set_work kind (o_of v level) i w) (Ok tt)
           (λ p q d.
-          set_there f kind (h_of v level).kind (o_of v level) i (h_of v level).length w (text_is v level is none)
-          (read_as v level is same e) (is_less (h_of v level).length i (there v level is i near)) d))
+          ran_tested (set_tests kind i (h_of v level).kind (h_of v level).length) (act (Write (o_of v level) i w))
+          (rw (
+            text_is v level is none,
+            read_as v level is same e,
+            is_less (h_of v level).length i (there v level is i near),
+          ) refl)
+          (ran_act f (Write (o_of v level) i w) tt tt d)))
 
       pub stand_set : {t : Table} → Stand facts v a t → Stand facts v b t
       stand_set s =

@@ -13,8 +13,10 @@ use Rattle.jr_model.specs.State.{State}
 use Rattle.jr_model.specs.Frames.{Frames}
 use Rattle.jr_model.specs.Calls.{Ran}
 use Rattle.jr_model.specs.Checks.{Word}
-use Rattle.jr_model.specs.Objects.{nested}
-use Rattle.jr_model.proofs.OpenStays.{level_array_stays, level_string_stays}
+use Rattle.jr_model.specs.Parts.{nested}
+use Rattle.jr_model.specs.Programs.{handed_one, none_known}
+use Rattle.jr_model.specs.CallPrograms.{get_array_critical, get_string_critical}
+use Rattle.jr_model.proofs.EachCall.{program_stays}
 use Rattle.jr_model.proofs.Lawful.{NoLeave}
 use Rattle.jr_model.proofs.Runs.{ran_err, ran_give}
 use Rattle.jr_steps.specs.declared.known.Known.{Known}
@@ -41,8 +43,10 @@ use Rattle.jr_critical.proofs.KnownLevels.{known_later, known_more}
 -- to find the object of a level takes no leave
 level_stays : (wanted : Wanted) (c : Config) (last t : ℕ) (s : State) (n : ℕ) (a : Word) (f g : Frames)
     (acts : List Act) (answer : Result ℕ Fault) → level_work wanted c last t s n a f acts answer g → NoLeave acts
-level_stays Array c last t s n a f g acts answer is = level_array_stays c last t s n a f g acts answer is
-level_stays Text c last t s n a f g acts answer is = level_string_stays c last t s n a f g acts answer is
+level_stays Array c last t s n a f g acts answer is =
+    program_stays c last t s (handed_one a) (get_array_critical n) none_known 0 f g acts answer is
+level_stays Text c last t s n a f g acts answer is =
+    program_stays c last t s (handed_one a) (get_string_critical n) none_known 0 f g acts answer is
 
 -- what is learned of a level, and what a refusal leaves, lets each header be known that was
 still_knowing : (r : Result Level Fault) (j k : Known) → LearnsLevel r j k → GoesOnKnowing j k
@@ -95,7 +99,7 @@ module _ {S : Type 0} {facts : S → Facts} (fits : AreOf facts) {a b : S} {t : 
               x.2.ran in (
                 x.0,
                 x.1,
-                made_of (spending x.2) (ran_err (nested c last thread (state_of x.0) (objects_of v)) e run),
+                made_of (spending x.2) (ran_err (nested (objects_of v)) e run),
                 (known_still k s m, x.3.1),
               );
         })

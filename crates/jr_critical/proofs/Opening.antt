@@ -15,8 +15,10 @@ use Rattle.jr_model.specs.State.{State}
 use Rattle.jr_model.specs.Frames.{Frames}
 use Rattle.jr_model.specs.History.{PassView}
 use Rattle.jr_model.specs.Windows.{IsWindow, Stepped}
-use Rattle.jr_model.specs.Calls.{Call, Ran, entered, for_object, opened}
+use Rattle.jr_model.specs.Calls.{Call, Ran, entered, opened}
 use Rattle.jr_model.specs.Checks.{Word}
+use Rattle.jr_model.specs.Programs.{handed_one, none_known}
+use Rattle.jr_model.specs.CallPrograms.{get_array_critical, get_string_critical}
 use Rattle.jr_model.proofs.Moments.{prefix_self}
 use Rattle.jr_model.proofs.Stays.{did_then}
 use Rattle.jr_model.proofs.Windows.{window_then}
@@ -31,17 +33,17 @@ use Rattle.jr_heap.specs.Heap.{Learns}
 use Rattle.jr_heap.proofs.Headers.{learnt}
 use Rattle.jr_frames.specs.OverSteps.{CallsWhole}
 use Rattle.jr_frames.specs.Ready.{StandsReady}
-use Rattle.jr_frames.specs.Steady.{IsSteady}
 use Rattle.jr_frames.specs.Table.{Table}
 use Rattle.jr_frames.proofs.FoundObject.{learns_since}
 use Rattle.jr_frames.proofs.FramesAgree.{holds_did}
-use Rattle.jr_frames.proofs.Steady.{steady_at, steady_for}
+use Rattle.jr_frames.proofs.Steady.{IsSteady, steady_program}
 use Rattle.jr_frames.proofs.StillReady.{ready_after, ready_entered, same_owner}
 use Rattle.jr_frames.proofs.WholeCalls.{calls_barred, calls_entered}
 use Rattle.jr_critical.specs.declared.level.Level.{Level}
 use Rattle.jr_critical.specs.declared.level.Wanted.{Wanted}
+use Rattle.jr_critical.specs.declared.level.Wanted.TheVariants.{Array, Text}
 use Rattle.jr_critical.specs.declared.levels.Levels.{Levels}
-use Rattle.jr_critical.specs.Finding.{level_checks, level_work, FindsLevel, LearnsLevel}
+use Rattle.jr_critical.specs.Finding.{level_work, FindsLevel, LearnsLevel}
 use Rattle.jr_critical.specs.Levels.{AreKnown, HasOpened, LearnsFirst, Stand, object_opened, objects_of}
 use Rattle.jr_critical.proofs.KnownLevels.{blank}
 
@@ -83,8 +85,8 @@ abbrev first_work : Wanted → Word → Config → ℕ → ℕ → State → Cal
 first_work wanted w c last t s = level_work wanted c last t s 0 w
 
 steady_level : (wanted : Wanted) (w : Word) (c : Config) (last t : ℕ) → IsSteady (first_work wanted w c last t)
-steady_level wanted w c last t = steady_at c last t w (λ s o. for_object s o (λ k m. level_checks wanted k 0 o)) (λ o.
-    steady_for o (λ k m. level_checks wanted k 0 o))
+steady_level Array w c last t = steady_program c last t (handed_one w) (get_array_critical 0) none_known 0
+steady_level Text w c last t = steady_program c last t (handed_one w) (get_string_critical 0) none_known 0
 
 module _ {S : Type 0} {facts : S → Facts} where
   whole_more : {A : Type 0} {a b : S} {f g : Frames} {call : State → Call A} {answer : Result A Fault}

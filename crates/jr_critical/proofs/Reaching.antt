@@ -1,11 +1,10 @@
 -- Calls at an element of a level's object.
-use Rattle.std.proofs.Common.{◌≡◌, ◌≢◌, ◌<◌, ℕ, true, false, not, nat_le, length}
-use Rattle.std.proofs.Common.{[], ◌∷◌, Result, Ok, Err, refl, sym, ap, ◌∙◌}
+use Rattle.std.proofs.Common.{◌≡◌, ◌≢◌, ◌<◌, ℕ, true, false, length}
+use Rattle.std.proofs.Common.{[], ◌∷◌, Result, Ok, refl, sym, ap, ◌∙◌}
 use Rattle.std.proofs.Math.Logic.{∥∥₁_elim}
 use Rattle.std.proofs.Props.{props}
 use mathlib.Core.Logic.{∥∥₁_map}
 use Rattle.jr_word.specs.declared.fault.Fault.{Fault}
-use Rattle.jr_word.specs.declared.fault.Fault.TheVariants.{NotArray, WrongElement, Range}
 use Rattle.jr_word.specs.declared.header.HeaderParts.{HeaderParts}
 use Rattle.jr_word.specs.declared.kind.Kind.{Kind}
 use Rattle.jr_word.specs.declared.kind.Kind.TheVariants as kind
@@ -16,10 +15,11 @@ use Rattle.jr_model.specs.declared.event.Act.TheVariants.{Gate, Read, Write}
 use Rattle.jr_model.specs.declared.event.GateAct.TheVariants.{Leave}
 use Rattle.jr_model.specs.History.{PassView, IsLegal, Did}
 use Rattle.jr_model.specs.Frames.{Frames}
-use Rattle.jr_model.specs.Calls.{Call, Ran, act, for_object, refuse_if, some_act, ◌>>=◌}
+use Rattle.jr_model.specs.Calls.{Call, Ran, act, for_object, some_act}
 use Rattle.jr_model.specs.Checks.{is_read_as, is_text, same_element}
+use Rattle.jr_model.specs.Tests.{tested}
+use Rattle.jr_model.specs.CallPrograms.{get_tests, set_tests}
 use Rattle.jr_model.proofs.Agreement.{spares_places}
-use Rattle.jr_model.proofs.Runs.{ran_act, ran_some_act}
 use Rattle.jr_steps.specs.declared.known.Known.{Known}
 use Rattle.jr_steps.specs.Knowing.{AreOf, Facts, MayKnow, Standing, keeps, view}
 use Rattle.jr_steps.specs.Knowing.{state_of, standing_after, KnowsHeader, Took}
@@ -35,7 +35,6 @@ use Rattle.jr_heap.proofs.StayFacts.{object_later}
 use Rattle.jr_frames.specs.Table.{Table}
 use Rattle.jr_frames.proofs.FoundObject.{ran_for}
 use Rattle.jr_frames.proofs.FramesAgree.{holds_did}
-use Rattle.jr_frames.proofs.Reading.{ran_refused, ran_passed}
 use Rattle.jr_critical.specs.declared.levels.Levels.{Levels}
 use Rattle.jr_critical.specs.Levels.{AreKnown, KnowsLevels, Stand, TellsKind, TellsLength, level_at, objects_of}
 use Rattle.jr_critical.proofs.KnownLevels.{is_level, known_at, known_later}
@@ -54,43 +53,11 @@ tells_length v i l c last t k f known =
 
 -- CHECKS
 
--- what follows the check of the kind
-abbrev get_rest : ℕ → ℕ → ℕ → Call ℕ
-get_rest o i n = refuse_if (nat_le n i) Range >>= (λ u. some_act (Read o i))
-
 abbrev pub get_work : Kind → ℕ → ℕ → Kind → ℕ → Call ℕ
-get_work k o i l n = refuse_if (not (is_read_as k l)) WrongElement >>= (λ u. get_rest o i n)
-
-abbrev set_last : ℕ → ℕ → ℕ → ℕ → Call (Unit {0})
-set_last o i v n = refuse_if (nat_le n i) Range >>= (λ u. act (Write o i v))
-
-abbrev set_rest : Kind → ℕ → ℕ → ℕ → Kind → ℕ → Call (Unit {0})
-set_rest k o i v l n = refuse_if (not (is_read_as k l)) WrongElement >>= (λ u. set_last o i v n)
+get_work k o i l n = tested (get_tests k i l n) (some_act (Read o i))
 
 abbrev pub set_work : Kind → ℕ → ℕ → ℕ → Kind → ℕ → Call (Unit {0})
-set_work k o i v l n = refuse_if (is_text l) NotArray >>= (λ u. set_rest k o i v l n)
-
-module _ (p : PassView) (f : Frames) (l : IsLegal p.config p.last p.seen) (k kind : Kind) (o i n : ℕ) where
-  pub get_other : is_read_as k kind ≡ false → Ran p p f f (get_work k o i kind n) (Err WrongElement)
-  get_other e = ran_refused p f (not (is_read_as k kind)) WrongElement (λ u. get_rest o i n) (ap not e) tt l
-
-  pub get_past : is_read_as k kind ≡ true → nat_le n i ≡ true → Ran p p f f (get_work k o i kind n) (Err Range)
-  get_past e past = ran_passed (not (is_read_as k kind)) WrongElement (λ u. get_rest o i n) (ap not e)
-      (ran_refused p f (nat_le n i) Range (λ u. some_act (Read o i)) past tt l)
-
-  pub set_text : (v : ℕ) → is_text kind ≡ true → Ran p p f f (set_work k o i v kind n) (Err NotArray)
-  set_text v e = ran_refused p f (is_text kind) NotArray (λ u. set_rest k o i v kind n) e tt l
-
-  pub set_other : (v : ℕ) → is_text kind ≡ false → is_read_as k kind ≡ false
-      → Ran p p f f (set_work k o i v kind n) (Err WrongElement)
-  set_other v t e = ran_passed (is_text kind) NotArray (λ u. set_rest k o i v kind n) t
-      (ran_refused p f (not (is_read_as k kind)) WrongElement (λ u. set_last o i v n) (ap not e) tt l)
-
-  pub set_past : (v : ℕ) → is_text kind ≡ false → is_read_as k kind ≡ true → nat_le n i ≡ true
-      → Ran p p f f (set_work k o i v kind n) (Err Range)
-  set_past v t e past = ran_passed (is_text kind) NotArray (λ u. set_rest k o i v kind n) t
-      (ran_passed (not (is_read_as k kind)) WrongElement (λ u. set_last o i v n) (ap not e)
-      (ran_refused p f (nat_le n i) Range (λ u. act (Write o i v)) past tt l))
+set_work k o i v l n = tested (set_tests k i l n) (act (Write o i v))
 
 -- an object that is read as an element's kind, and is no string, has elements of that kind
 pub same_kind_of : (k l : Kind) → is_text l ≡ false → is_read_as k l ≡ true → same_element k l ≡ true
@@ -98,18 +65,6 @@ same_kind_of kind.Char kind.Text t e = absurd cc
 same_kind_of kind.Char kind.Char t e = e
 same_kind_of kind.Char _ t e = absurd cc
 same_kind_of _ l t e = e
-
-module _ {p q : PassView} (f : Frames) (k kind : Kind) (o i n v : ℕ) where
-  pub get_there : is_read_as k kind ≡ true → nat_le n i ≡ false → Did p q (Read o i v ∷ [])
-      → Ran p q f f (get_work k o i kind n) (Ok v)
-  get_there e near d = ran_passed (not (is_read_as k kind)) WrongElement (λ u. get_rest o i n) (ap not e)
-      (ran_passed (nat_le n i) Range (λ u. some_act (Read o i)) near (ran_some_act f (λ x. Read o i x) v tt tt d))
-
-  pub set_there : is_text kind ≡ false → is_read_as k kind ≡ true → nat_le n i ≡ false → Did p q (Write o i v ∷ [])
-      → Ran p q f f (set_work k o i v kind n) (Ok tt)
-  set_there t e near d = ran_passed (is_text kind) NotArray (λ u. set_rest k o i v kind n) t
-      (ran_passed (not (is_read_as k kind)) WrongElement (λ u. set_last o i v n) (ap not e)
-      (ran_passed (nat_le n i) Range (λ u. act (Write o i v)) near (ran_act f (Write o i v) tt tt d)))
 
 -- THE STEPS
 

@@ -10,8 +10,7 @@ use Rattle.jr_model.specs.State.{State}
 use Rattle.jr_model.specs.Frames.{Frames}
 use Rattle.jr_model.specs.Calls.{Call, done, for_object, refuse_if, ◌>>=◌, ◌>>◌}
 use Rattle.jr_model.specs.Checks.{Word, is_array, is_primitive, is_text}
-use Rattle.jr_model.specs.Objects.{nested}
-use Rattle.jr_model.specs.Parts.{not_null}
+use Rattle.jr_model.specs.Parts.{nested, not_null}
 use Rattle.jr_model.specs.References.{resolved}
 use Rattle.jr_steps.specs.declared.known.Known.{Known}
 use Rattle.jr_steps.specs.Knowing.{Facts, Holds}
@@ -54,7 +53,7 @@ level_work wanted c last t s n a = do
 abbrev pub level_nesting : Wanted → Config → ℕ → ℕ → State → List ℕ → Word → Call (ℕ × List ℕ)
 level_nesting wanted c last t s levels a = do
   o ← level_work wanted c last t s (length levels) a
-  nested c last t s levels o
+  nested levels o
 
 -- the object of a level that was found, as the call answers it
 abbrev pub object_found : Result Level Fault → Result ℕ Fault

@@ -13,7 +13,10 @@ use Rattle.jr_model.specs.State.{State}
 use Rattle.jr_model.specs.Frames.{Frames}
 use Rattle.jr_model.specs.Calls.{Call}
 use Rattle.jr_model.specs.Checks.{Word}
-use Rattle.jr_model.specs.Objects.{region_get, region_kind, region_length, region_release, region_set}
+use Rattle.jr_model.specs.Parts.{region_release}
+use Rattle.jr_model.specs.Programs.{Program, at_object, handed_one, object, work_of}
+use Rattle.jr_model.specs.CallPrograms.{region_get, region_kind, region_length, region_set}
+use Rattle.jr_model.specs.AllCalls.{means, nests, opens}
 use Rattle.jr_steps.specs.declared.known.Known.{Known}
 use Rattle.jr_steps.specs.declared.steps.Steps.{Ghosts}
 use Rattle.jr_steps.specs.Knowing.{Facts, Leads, MayKnow, state_of, keeps, lets_go, Holds}
@@ -27,6 +30,16 @@ use Rattle.jr_frames.specs.Ready.{StandsReady}
 use Rattle.jr_frames.specs.Table.{Table}
 use Rattle.jr_critical.specs.declared.level.Level.{Level}
 use Rattle.jr_critical.specs.declared.levels.Levels.{Levels}
+
+-- what it means to open a region by a program at a word, to open one in a stay that goes on, and to add a level
+abbrev pub opened_by : Program 0 object → Config → ℕ → ℕ → State → Word → Call ℕ
+opened_by p c last t s a = means c last t s (opens (handed_one a) p)
+
+abbrev pub opened_within : Program 0 object → Config → ℕ → ℕ → State → Word → Call ℕ
+opened_within p c last t s a = work_of c last t s (handed_one a) p
+
+abbrev pub nested_by : (ℕ → Program 0 object) → Config → ℕ → ℕ → State → List ℕ → Word → Call (ℕ × List ℕ)
+nested_by p c last t s levels a = means c last t s (nests levels (handed_one a) (p (length levels)))
 
 -- the objects of the levels, the first first
 abbrev pub objects_of : Levels → List ℕ
@@ -113,12 +126,12 @@ pub record WasAdded (v w : Levels) (n : ℕ) : Type 0 where
 -- whatever is known with the headers of the levels: this is the kind of the level's object still
 abbrev pub TellsKind : Levels → ℕ → Kind → Type 0
 TellsKind v i kind = (c : Config) (last t : ℕ) (k : Known) (f : Frames) → AreKnown v.levels.items k
-    → region_kind c last t (state_of k) (level_object v i) f [] (Ok kind) f
+    → at_object c last t (state_of k) (level_object v i) region_kind f [] (Ok kind) f
 
 -- and this is its length
 abbrev pub TellsLength : Levels → ℕ → ℕ → Type 0
 TellsLength v i n = (c : Config) (last t : ℕ) (k : Known) (f : Frames) → AreKnown v.levels.items k
-    → region_length c last t (state_of k) (level_object v i) f [] (Ok n) f
+    → at_object c last t (state_of k) (level_object v i) region_length f [] (Ok n) f
 
 module _ {S : Type 0} (facts : S → Facts) where
   -- THE LEVELS STAND over these steps and frames: the stay is the steps' own, there is a level at least, the
@@ -211,12 +224,12 @@ module _ {S : Type 0} {G : Ghosts S} where
   -- AN ELEMENT OF A LEVEL WAS READ as one of this kind, or refused
   abbrev pub ReadsAt : Held S G → Held S G → Levels → ℕ → Kind → ℕ → Result ℕ Fault → Type 0
   ReadsAt old new v level kind index answer = Reaches G.facts old.steps new.steps old.frames.frames v
-      (λ c last t s. region_get c last t s kind (level_object v level) index) answer
+      (λ c last t s. at_object c last t s (level_object v level) (region_get kind index)) answer
 
   -- AN ELEMENT OF A LEVEL WAS WRITTEN as one of this kind, or refused
   abbrev pub WritesAt : Held S G → Held S G → Levels → ℕ → Kind → ℕ → ℕ → Result (Unit {0}) Fault → Type 0
   WritesAt old new v level kind index word answer = Reaches G.facts old.steps new.steps old.frames.frames v
-      (λ c last t s. region_set c last t s kind (level_object v level) index word) answer
+      (λ c last t s. at_object c last t s (level_object v level) (region_set kind index word)) answer
 
   -- the last level was given up
   abbrev pub GivesUpLastOver : Held S G → Held S G → Levels → Option Levels → Type 0

@@ -76,10 +76,10 @@ fn open_within<S: Steps>(
 impl Levels {
     ghost use Rattle.std.specs.Prelude.{◌≡◌, ◌<◌, ◌≤◌, IfOk, IfErr, IfSome, IfNone, length};
     ghost use Rattle.jr_model.specs.declared.frames.TheConstants.{LEVELS};
-    ghost use Rattle.jr_model.specs.Objects.{get_array_critical, get_string_critical, level_array, level_string, nest_array, nest_string};
+    ghost use Rattle.jr_model.specs.CallPrograms.{get_array_critical, get_string_critical};
     ghost use Rattle.jr_gate.specs.Stays.{IsOwnStay};
     ghost use Rattle.jr_critical.specs.Finding.{level_nesting};
-    ghost use Rattle.jr_critical.specs.Levels.{objects_of, level_object, level_at, in_words, stay_of, without_stay, OpensOver, OpensWithinOver, NestsOver, ReadsAt, WritesAt, GivesUpAllOver, GivesUpLastOver, LeavesBefore, StandOver, StandsOutside, StandsWithin, TellsKind, TellsLength, WasAdded};
+    ghost use Rattle.jr_critical.specs.Levels.{objects_of, level_object, level_at, in_words, nested_by, opened_by, opened_within, stay_of, without_stay, OpensOver, OpensWithinOver, NestsOver, ReadsAt, WritesAt, GivesUpAllOver, GivesUpLastOver, LeavesBefore, StandOver, StandsOutside, StandsWithin, TellsKind, TellsLength, WasAdded};
 
     /// Enters the gate, and opens the first level over an array whose elements are no objects. The thread has to stand outside. (JNI Specification, chapter 4, "GetPrimitiveArrayCritical")
     ///
@@ -95,7 +95,7 @@ impl Levels {
     #[inline(always)]
     pub fn open_array<S: Steps>(held: &mut Held<S>, handle: Handle) -> Result<Levels, Fault>
         requires { StandsOutside held.old }
-        ensures call { OpensOver held.old held.new handle.0 get_array_critical result }
+        ensures call { OpensOver held.old held.new handle.0 (opened_by (get_array_critical 0)) result }
         ensures frames { held.new.frames ≡ held.old.frames }
         ensures ok { IfOk result (λ v. StandOver v held.new × (length (objects_of v) ≡ 1)) }
         ensures err { IfErr result (λ _. StandsOutside held.new) }
@@ -117,7 +117,7 @@ impl Levels {
     #[inline(always)]
     pub fn open_string<S: Steps>(held: &mut Held<S>, handle: Handle) -> Result<Levels, Fault>
         requires { StandsOutside held.old }
-        ensures call { OpensOver held.old held.new handle.0 get_string_critical result }
+        ensures call { OpensOver held.old held.new handle.0 (opened_by (get_string_critical 0)) result }
         ensures frames { held.new.frames ≡ held.old.frames }
         ensures ok { IfOk result (λ v. StandOver v held.new × (length (objects_of v) ≡ 1)) }
         ensures err { IfErr result (λ _. StandsOutside held.new) }
@@ -144,7 +144,7 @@ impl Levels {
     ) -> Result<Levels, (Inside, Fault)>
         requires stay { IsOwnStay inside (S.facts held.old.steps).stands }
         requires ready { StandsWithin held.old }
-        ensures call { OpensWithinOver held.old held.new handle.0 (λ c last t s a. level_array c last t s 0 a) (without_stay result) }
+        ensures call { OpensWithinOver held.old held.new handle.0 (opened_within (get_array_critical 0)) (without_stay result) }
         ensures frames { held.new.frames ≡ held.old.frames }
         ensures ok { IfOk result (λ v. StandOver v held.new × (length (objects_of v) ≡ 1)) }
         ensures err { IfErr result (λ e. IsOwnStay e.0 (S.facts held.new.steps).stands × StandsWithin held.new) }
@@ -171,7 +171,7 @@ impl Levels {
     ) -> Result<Levels, (Inside, Fault)>
         requires stay { IsOwnStay inside (S.facts held.old.steps).stands }
         requires ready { StandsWithin held.old }
-        ensures call { OpensWithinOver held.old held.new handle.0 (λ c last t s a. level_string c last t s 0 a) (without_stay result) }
+        ensures call { OpensWithinOver held.old held.new handle.0 (opened_within (get_string_critical 0)) (without_stay result) }
         ensures frames { held.new.frames ≡ held.old.frames }
         ensures ok { IfOk result (λ v. StandOver v held.new × (length (objects_of v) ≡ 1)) }
         ensures err { IfErr result (λ e. IsOwnStay e.0 (S.facts held.new.steps).stands × StandsWithin held.new) }
@@ -237,7 +237,7 @@ impl Levels {
         handle: Handle,
     ) -> Result<usize, Fault>
         requires { StandOver self.old held.old }
-        ensures call { NestsOver held.old held.new handle.0 nest_array self.old self.new result }
+        ensures call { NestsOver held.old held.new handle.0 (nested_by get_array_critical) self.old self.new result }
         ensures frames { held.new.frames ≡ held.old.frames }
         ensures stand { StandOver self.new held.new }
         ensures added { IfOk result (λ n. WasAdded self.old self.new n) }
@@ -263,7 +263,7 @@ impl Levels {
         handle: Handle,
     ) -> Result<usize, Fault>
         requires { StandOver self.old held.old }
-        ensures call { NestsOver held.old held.new handle.0 nest_string self.old self.new result }
+        ensures call { NestsOver held.old held.new handle.0 (nested_by get_string_critical) self.old self.new result }
         ensures frames { held.new.frames ≡ held.old.frames }
         ensures stand { StandOver self.new held.new }
         ensures added { IfOk result (λ n. WasAdded self.old self.new n) }

@@ -7,7 +7,7 @@ use Rattle.jr_word.specs.declared.fault.Fault.{Fault}
 use Rattle.jr_word.specs.declared.fault.Fault.TheVariants.{Range}
 use Rattle.jr_model.specs.Frames.{Frames}
 use Rattle.jr_model.specs.Calls.{refuse_if}
-use Rattle.jr_model.specs.Objects.{elements_set}
+use Rattle.jr_model.specs.Parts.{elements_set}
 use Rattle.jr_elements.specs.Copies.{AnswersAs}
 
 -- a test that fails lets the call pass

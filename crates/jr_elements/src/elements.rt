@@ -54,7 +54,7 @@ pub fn discard_left<E: Elem>(
 impl<E: Elem> Elements<E> {
     ghost use Rattle.std.specs.Prelude.{◌≡◌, ◌<◌, ◌≤◌, true, Ok, IfOk, IfErr, length, map, slice_index_or, slice_set};
     ghost use Rattle.jr_word.specs.declared.fault.Fault.TheVariants.{Range};
-    ghost use Rattle.jr_model.specs.Objects.{elements_get, elements_set, elements_length};
+    ghost use Rattle.jr_model.specs.Parts.{elements_get, elements_set, elements_length};
     ghost use Rattle.std.specs.Borrow.{sem};
     ghost use Rattle.jr_elements.specs.Copies.{AnswersAs, answer_in, kept};
     ghost use Rattle.jr_elements.specs.LentElements.{lends_elements};

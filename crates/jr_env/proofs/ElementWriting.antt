@@ -3,7 +3,6 @@ use Rattle.std.proofs.Common.{◌≡◌, ℕ, Option, Some, None, [], ◌∷◌,
 use Rattle.std.specs.Result.{IsErrAnd}
 use Rattle.std.proofs.lemmas.List.{append-nil}
 use mathlib.Core.Logic.{∥∥₁_map}
-use Rattle.jr_word.specs.declared.config.Config.{Config}
 use Rattle.jr_word.specs.declared.fault.Fault.{Fault}
 use Rattle.jr_word.specs.declared.fault.Fault.TheVariants.{Null}
 use Rattle.jr_word.specs.declared.header.HeaderParts.{HeaderParts}
@@ -14,11 +13,14 @@ use Rattle.jr_model.specs.State.{State}
 use Rattle.jr_model.specs.History.{PassView, role_of, Did}
 use Rattle.jr_model.specs.Windows.{IsWindow}
 use Rattle.jr_model.specs.Frames.{Frames}
-use Rattle.jr_model.specs.Calls.{Call, Ran, act, ◌>>=◌}
+use Rattle.jr_model.specs.Calls.{Call, Ran, act, for_object, ◌>>=◌}
 use Rattle.jr_model.specs.Checks.{Word, element_word}
 use Rattle.jr_model.specs.Parts.{header, not_null}
 use Rattle.jr_model.specs.References.{resolved_both}
-use Rattle.jr_model.specs.Objects.{element_writing}
+use Rattle.jr_model.specs.Tests.{refused_by, tested}
+use Rattle.jr_model.specs.Programs.{at_both, work_of}
+use Rattle.jr_model.specs.CallPrograms.{element_tests, set_object_array_element}
+use Rattle.jr_model.proofs.EachCall.{program_stays}
 use Rattle.jr_model.proofs.Runs.{did_legal, ran_act, ran_done, ran_err, ran_refuse, ran_then}
 use Rattle.jr_model.proofs.Stays.{did_then}
 use Rattle.jr_model.proofs.Windows.{window_then, window_within}
@@ -35,12 +37,9 @@ use Rattle.jr_heap.proofs.Headers.{learnt}
 use Rattle.jr_heap.proofs.StayFacts.{object_later}
 use Rattle.jr_frames.specs.OverSteps.{ResolvesBoth}
 use Rattle.jr_frames.proofs.FramesAgree.{holds_did}
-use Rattle.jr_env.specs.Elements.{element_checks}
-use Rattle.jr_frames.specs.Steady.{IsSteady}
-use Rattle.jr_env.proofs.ElementChecks.{checks_passed, ran_checks}
-use Rattle.jr_env.proofs.ElementReading.{element_at, element_refused, steady_element}
+use Rattle.jr_env.proofs.AtObjects.{behind_tests, looked_by, stopped}
+use Rattle.jr_env.proofs.ElementChecks.{element_passed}
 use Rattle.jr_frames.proofs.FoundObject.{ran_for, spend_look}
-use Rattle.jr_frames.proofs.Steady.{steady_same, steady_then}
 
 -- what was seen after a call within a stay, with no act
 ran_ahead : {A : Type 0} {p q r : PassView} {f g : Frames} {call : Call A} (x : A) → Ran p q f g call (Ok x)
@@ -56,23 +55,16 @@ ran_ahead {p = p} {r = r} x a d within =
       grounds = tt;
     }
 
--- what follows the checks of a writing
-abbrev pub element_put : ℕ → Option ℕ → ℕ → Call (Unit {0})
-element_put i z o = act (Write o i (element_word z))
-
--- what follows the resolution of both references
-abbrev pub put_at : ℕ → State → Option ℕ × Option ℕ → Call (Unit {0})
-put_at i s x = not_null x.0 >>= element_at i (element_put i x.1) s
-
-module _ (c : Config) (last t : ℕ) (v w : Word) (i : ℕ) where
-  pub steady_writing : IsSteady (λ s. element_writing c last t s v i w)
-  steady_writing = steady_then (λ s. resolved_both c last t v w) (put_at i) (steady_same (resolved_both c last t v w))
-      (λ x. steady_then (λ s. not_null x.0) (λ s o. element_at i (element_put i x.1) s o) (steady_same (not_null x.0))
-      (λ o. steady_element i (element_put i x.1) o))
-
 -- the resolution of two references
 abbrev pub resolving_both : {S : Type 0} → (S → Facts) → S → Word → Word → Call (Option ℕ × Option ℕ)
 resolving_both facts a v w = resolved_both (facts a).stands.config (facts a).stands.last (facts a).stands.thread v w
+
+-- what follows it
+abbrev put_there : ℕ → State → ℕ → Option ℕ → Call (Unit {0})
+put_there i s o z = for_object s o (λ k n. tested (element_tests i k n) (act (Write o i (element_word z))))
+
+abbrev put_at : ℕ → State → Option ℕ × Option ℕ → Call (Unit {0})
+put_at i s x = not_null x.0 >>= (λ o. put_there i s o x.1)
 
 -- the word that an element becomes is 0 or names a present object
 named_word : (z : Option ℕ) (k : Known) → HasOptional z k → IsWordNow Objects (element_word z) k
@@ -87,8 +79,8 @@ optional_later k k' (Some o) d w p = present_stays k k' [] o d w tt p
 -- the work of a writing
 abbrev Writes : {S : Type 0} → (S → Facts) → S → S → Frames → Word → ℕ → Word → Result (Unit {0}) Fault → Type 0
 Writes facts a b f v i w answer = Performed facts a b f f 1 (Holds f)
-    (λ s. element_writing (facts a).stands.config (facts a).stands.last (facts a).stands.thread s v i w) answer (λ j k.
-    Unit {0} × Holds f k)
+    (λ s. work_of (facts a).stands.config (facts a).stands.last (facts a).stands.thread s (at_both v w)
+    (set_object_array_element i)) answer (λ j k. Unit {0} × Holds f k)
 
 module _ {S : Type 0} {facts : S → Facts} {a b : S} {f : Frames} (v w : Word) (i : ℕ) where
   pub writes_no_reference : {e : Fault} (answer : Result (Unit {0}) Fault) → IsErrAnd answer (λ y. y ≡ e)
@@ -109,7 +101,7 @@ module _ {S : Type 0} {facts : S → Facts} {a b : S} {f : Frames} (v w : Word) 
               x.0,
               x.1,
               made_of (spend_more 1 (spending x.2)) (ran_then {next = put_at i (state_of x.0)} (None, z) x.2.ran
-                  (ran_err (element_at i (element_put i z) (state_of x.0)) Null (ran_refuse (view x.0) f Null tt l))),
+                  (ran_err (λ q. put_there i (state_of x.0) q z) Null (ran_refuse (view x.0) f Null tt l))),
               (tt, x.3.1),
             );
       }
@@ -132,6 +124,15 @@ module _ {S : Type 0} {facts : S → Facts} (fits : AreOf facts) {a b c : S} {f 
     (same : (facts c).stands ≡ (facts b).stands)
     (look : Called facts b c (HasObject o) (λ j k. header (state_of k) o) (Ok (h.kind, h.length))
     (by_steps 1 (Learns o h))) where
+  -- what is written is a word of the array
+  named_now : refused_by (element_tests i h.kind h.length) ≡ Ok tt → {n : ℕ} → n ≡ element_word z → (k : Known)
+      → Looked o h z f k → KnowsHeader o h k × IsWordNow h.kind n k
+  named_now checks {n} word k m = (
+    m.0.known,
+    subst (λ q. IsWordNow q n k) (sym (element_passed i h.kind h.length checks).0)
+        (subst (λ q. IsWordNow Objects q k) (sym word) (named_word z k m.1)),
+  )
+
   resolves_there : ResolvesBoth facts a b f (resolving_both facts a v w) (Ok (Some o, z))
   resolves_there = subst (λ q. ResolvesBoth facts a b f (resolving_both facts a v w) (Ok (q, z))) is both
 
@@ -154,64 +155,61 @@ module _ {S : Type 0} {facts : S → Facts} (fits : AreOf facts) {a b c : S} {f 
         );
   }
 
-  pub may_write : ((g : Frames) → element_checks h.kind h.length i g [] (Ok tt) g) → {n : ℕ} → n ≡ element_word z
+  pub may_write : refused_by (element_tests i h.kind h.length) ≡ Ok tt → {n : ℕ} → n ≡ element_word z
       → MayKnow facts a (Holds f) → MayKnow facts c (λ k. KnowsHeader o h k × IsWordNow h.kind n k)
-  may_write checks {n} word some = ∥∥₁_map some (λ k.
-      let x = looked.ran k.0 k.1 k.2 in (
-        x.0,
-        x.1,
-        (
-          x.3.0.known,
-          subst (λ q. IsWordNow q n x.0) (sym (checks_passed h.kind h.length i checks).0)
-              (subst (λ q. IsWordNow Objects q x.0) (sym word) (named_word z x.0 x.3.1)),
-        ),
-      ))
+  may_write checks word some = ∥∥₁_map some (λ k. let x = looked.ran k.0 k.1 k.2 in
+      (x.0, x.1, named_now checks word x.0 x.3))
 
-  -- there is no such element
-  pub writes_nothing : {e : Fault} (answer : Result (Unit {0}) Fault) → IsErrAnd answer (λ y. y ≡ e)
-      → ((g : Frames) → element_checks h.kind h.length i g [] (Err e) g) → Writes facts a c f v i w answer
-  writes_nothing {e} answer given checks = handed_on answer given
-      (let q = element_refused i (element_put i z) {facts = facts} fits c f o h e checks in record {
-        stands_is = looked.stands_is;
+  -- what is done at the array, once its header is known
+  done_there : {d : S} {answer : Result (Unit {0}) Fault}
+      → Performed facts c d f f 0 (Looked o h z f)
+      (λ s. tested (element_tests i h.kind h.length) (act (Write o i (element_word z)))) answer (λ j k. Holds f k)
+      → Writes facts a d f v i w answer
+  done_there {d} {answer} q =
+      let at = (facts a).stands in
+      record {
+        stands_is = still_before looked.stands_is q.stands_is;
         ran = λ k s m.
             let x = looked.ran k s m in
-            let u = q.ran x.0 x.1 (x.3.0, x.3.2) in
-            let l = did_legal x.2.ran.acts x.2.ran.did in (
+            let u = q.ran x.0 x.1 x.3 in
+            let r = u.2.ran in
+            let to = state_of u.0 in
+            let l = did_legal x.2.ran.acts x.2.ran.did in
+            let role = (fits c x.0 x.1).role ∙ (looked.stands_is.role ∙ within) in
+            let stays = program_stays at.config at.last at.thread to (at_both v w)
+            (looked_by (set_object_array_element i) h.kind h.length) (at_both (Some o) z) o f f r.acts answer r.is in
+            let shown = object_later x.0 u.0 r.acts r.did role stays o h x.3.0.shown in (
               u.0,
               u.1,
               made_of (spend_first (spending x.2) (spending u.2))
-                  (ran_then {next = put_at i (state_of u.0)} (Some o, z) x.2.ran (ran_then
-                  {next = element_at i (element_put i z) (state_of u.0)} o (ran_done (view x.0) f o l) u.2.ran)),
-              (tt, u.3.1),
+                  (ran_then {next = put_at i to} (Some o, z) x.2.ran
+                  (ran_then {next = λ q. put_there i to q z} o (ran_done (view x.0) f o l) (ran_for u.0 o h (λ l n.
+                  tested (element_tests i l n) (act (Write o i (element_word z)))) shown r))),
+              (tt, u.3),
             );
-      })
+      }
 
-  pub writes_element : {d : S} {n : ℕ} → ((g : Frames) → element_checks h.kind h.length i g [] (Ok tt) g)
+  -- there is no such element
+  pub writes_nothing : {e : Fault} (answer : Result (Unit {0}) Fault) → IsErrAnd answer (λ y. y ≡ e)
+      → refused_by (element_tests i h.kind h.length) ≡ Err e → Writes facts a c f v i w answer
+  writes_nothing answer given is = done_there (handed_on answer given (stopped (element_tests i h.kind h.length)
+      (λ s. act (Write o i (element_word z))) fits (refl, (refl, (refl, tt))) is (λ k m. m.2)))
+
+  pub writes_element : {d : S} {n : ℕ} → refused_by (element_tests i h.kind h.length) ≡ Ok tt
       → n ≡ element_word z → Took facts c d (Write o i n ∷ []) (λ k. KnowsHeader o h k × IsWordNow h.kind n k) keeps
       → Writes facts a d f v i w (Ok tt)
-  writes_element {d} {n} checks word t = record {
-    stands_is = still_before looked.stands_is (as_before _ t.stands_is);
-    ran = λ k s m.
-        let x = looked.ran k s m in
-        let met : KnowsHeader o h x.0 × IsWordNow h.kind n x.0 = (
-          x.3.0.known,
-          subst (λ q. IsWordNow q n x.0) (sym (checks_passed h.kind h.length i checks).0)
-              (subst (λ q. IsWordNow Objects q x.0) (sym word) (named_word z x.0 x.3.1)),
-        ) in
-        let u = t.goes x.0 x.1 met in
-        let did = goes_did u.2 in
-        let role = (fits c x.0 x.1).role ∙ (looked.stands_is.role ∙ within) in
-        let shown = object_later x.0 u.0 (Write o i n ∷ []) did role ((λ e. cc), tt) o h x.3.0.shown in
-        let l = did_legal x.2.ran.acts x.2.ran.did in
-        let put = subst (λ q. Ran (view x.0) (view u.0) f f (act (Write o i q)) (Ok tt)) word
-        (ran_act f (Write o i n) tt tt did) in (
-          u.0,
-          u.1,
-          made_of (spend_first (spending x.2) (spend_step t (λ n i. refl) x.0 x.1 met f f))
-              (ran_then {next = put_at i (state_of u.0)} (Some o, z) x.2.ran
-              (ran_then {next = element_at i (element_put i z) (state_of u.0)} o (ran_done (view x.0) f o l)
-              (ran_then {next = λ q. element_put i z o} tt (ran_for u.0 o h (λ k n. element_checks k n i) shown
-              (ran_checks h.kind h.length i (view x.0) f l checks)) put))),
-          (tt, holds_did x.0 u.0 f (Write o i n ∷ []) did (refl, tt) x.3.2),
-        );
-  }
+  writes_element {d} {n} checks word t = done_there (behind_tests (element_tests i h.kind h.length)
+      (λ s. act (Write o i (element_word z))) checks (record {
+        stands_is = as_before _ t.stands_is;
+        ran = λ k s m.
+            let met = named_now checks word k m in
+            let u = t.goes k s met in
+            let did = goes_did u.2 in (
+              u.0,
+              u.1,
+              made_of (spend_step t (λ n i. refl) k s met f f)
+                  (subst (λ q. Ran (view k) (view u.0) f f (act (Write o i q)) (Ok tt)) word
+                  (ran_act f (Write o i n) tt tt did)),
+              holds_did k u.0 f (Write o i n ∷ []) did (refl, tt) m.2,
+            );
+      }))

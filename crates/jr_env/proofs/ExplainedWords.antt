@@ -17,6 +17,7 @@ use Rattle.jr_model.specs.Calls.{Ran, done, entered}
 use Rattle.jr_model.specs.Checks.{Word, Nothing, Malformed, Parts, is_local, is_out_of_bounds}
 use Rattle.jr_model.specs.OpenStays.{NoneLeaves}
 use Rattle.jr_model.proofs.Moments.{prefix_self, prefix_trans}
+use Rattle.jr_model.proofs.EachCall.{Stays}
 use Rattle.jr_model.proofs.Runs.{ran_entered}
 use Rattle.jr_steps.specs.declared.known.Known.{Known}
 use Rattle.jr_steps.specs.declared.steps.Steps.{Ghosts}
@@ -38,7 +39,6 @@ use Rattle.jr_env.specs.Deeds.{DoesDeed, DoesOutside}
 use Rattle.jr_env.specs.declared.env.Env.{Env}
 use Rattle.jr_env.specs.LentStays.{DoesInside}
 use Rattle.jr_env.specs.OpenStays.{StaysOn}
-use Rattle.jr_env.specs.Requests.{IsInStay}
 use Rattle.jr_env.specs.Words.{WasExplained, explained_by_call, explaining}
 use Rattle.jr_env.specs.Works.{EndsStay}
 use Rattle.jr_env.proofs.Carrying.{own_call}
@@ -140,8 +140,8 @@ module _ {S : Type 0} {facts : S → Facts} (fits : AreOf facts) where
       (refl, why.1)).ready
 
 -- the one look is no exit
-glance_in_stay : (w : Word) → IsInStay (λ c last t s. glance {A = Explanation} c w)
-glance_in_stay w c last t s f g acts answer is = subst NoneLeaves (sym is.2) (go w is.0)
+glance_stays : (w : Word) (c : Config) → Stays (glance {A = Explanation} c w)
+glance_stays w c f g acts answer is = subst NoneLeaves (sym is.2) (go w is.0)
   where
     looking : (b : Bool) (h : Handle) (r : Found) → NoneLeaves (cond b [] (Look h r ∷ []))
     looking true h r = tt
@@ -158,7 +158,7 @@ module _ {S : Type 0} {G : Ghosts S} (fits : AreOf G.facts) where
       → ExplainsWord G.facts old.steps new.steps old.frames.frames w e → StaysOn old new
   explains_on old new w e same p =
       let told = told_by G.facts old.steps old.frames.frames w e in
-      performs_on fits old new 1 told (λ c last t s. glance c w) (glance_in_stay w) (subst (λ (t : Table).
+      performs_on fits old new 1 told (λ c last t s. glance c w) (λ c last t s. glance_stays w c) (subst (λ (t : Table).
       Performed G.facts old.steps new.steps old.frames.frames t.frames 1 (Holds old.frames.frames)
       (λ s. glance (G.facts old.steps).stands.config w) (Ok e) (λ j k. told j k × Holds t.frames k)) (sym same) p)
 

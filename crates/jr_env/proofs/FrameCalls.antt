@@ -1,19 +1,23 @@
 -- The calls that enter no gate.
-use Rattle.std.proofs.Common.{◌≡◌, ◌⊎◌, ◌≤◌, ◌<◌, ◌==◌, ℕ, Bool, true, false, nat_lt, nat_le, List, [], ◌∷◌}
-use Rattle.std.proofs.Common.{◌++◌, Result, Ok, Err, IfErr, length, inl, inr, refl, sym, ap, subst, ◌∙◌, arith}
+use Rattle.std.proofs.Common.{◌≡◌, ◌≤◌, ◌<◌, ◌==◌, ℕ, Bool, true, false, nat_lt, nat_le, []}
+use Rattle.std.proofs.Common.{Result, Ok, Err, IfErr, length, inl, inr, refl, sym, ap, subst, ◌∙◌, arith}
 use Rattle.std.proofs.lemmas.Bool.Decides.{nat_tests}
 use mathlib.Core.Logic.{∥∥₁_map}
 use Rattle.jr_word.specs.declared.config.Config.{Config}
 use Rattle.jr_word.specs.declared.fault.Fault.{Fault}
 use Rattle.jr_word.specs.declared.fault.Fault.TheVariants.{LocalsFull}
 use Rattle.jr_model.specs.declared.event.Role.{Role}
-use Rattle.jr_model.specs.declared.frames.LocalRef.{LocalRef}
 use Rattle.jr_model.specs.declared.frames.TheConstants.{FRAMES}
-use Rattle.jr_model.specs.History.{PassView}
+use Rattle.jr_model.specs.State.{State}
+use Rattle.jr_model.specs.History.{PassView, state}
 use Rattle.jr_model.specs.Frames.{Frames, object_where, pushed, free_places}
 use Rattle.jr_model.specs.Refusals.{Grounds}
-use Rattle.jr_model.specs.Calls.{Call, Ran, refuse_if}
-use Rattle.jr_model.specs.References.{ensure_local_capacity, push_local_frame}
+use Rattle.jr_model.specs.Calls.{Call, Ran, refuse_if, ◌>>◌}
+use Rattle.jr_model.specs.Parts.{new_frame}
+use Rattle.jr_model.specs.References.{room_for}
+use Rattle.jr_model.specs.Programs.{AnswerKind, AnswerOf, Program}
+use Rattle.jr_model.specs.CallPrograms.{ensure_local_capacity, push_local_frame}
+use Rattle.jr_model.specs.AllCalls.{means, stays_out}
 use Rattle.jr_model.proofs.Agreement.{joined_push}
 use Rattle.jr_model.proofs.Stays.{did_nothing}
 use Rattle.jr_model.proofs.Windows.{window_nothing}
@@ -28,13 +32,22 @@ use Rattle.jr_env.specs.Works.{EndsStay}
 use Rattle.jr_env.proofs.EnvCalls.{did_left}
 
 -- a test that refuses, and one that is passed
-refused_by : (b : Bool) (e : Fault) (f : Frames) → b ≡ true → refuse_if b e f [] (Err e) f
-refused_by true e f is = (refl, refl, refl)
-refused_by false e f is = absurd cc
+stops : (b : Bool) (e : Fault) (f : Frames) → b ≡ true → refuse_if b e f [] (Err e) f
+stops true e f is = (refl, refl, refl)
+stops false e f is = absurd cc
 
-passed_by : (b : Bool) (e : Fault) (f : Frames) → b ≡ false → refuse_if b e f [] (Ok tt) f
-passed_by false e f is = (refl, refl, refl)
-passed_by true e f is = absurd cc
+goes_on : (b : Bool) (e : Fault) (f : Frames) → b ≡ false → refuse_if b e f [] (Ok tt) f
+goes_on false e f is = (refl, refl, refl)
+goes_on true e f is = absurd cc
+
+-- the same, with what follows
+stops_first : (b : Bool) (e : Fault) (next : Call (Unit {0})) (f : Frames) → b ≡ true
+    → (refuse_if b e >> next) f [] (Err e) f
+stops_first b e next f is = inr (e, refl, stops b e f is)
+
+goes_past : (b : Bool) (e : Fault) (next : Call (Unit {0})) (f : Frames) {g : Frames} {answer : Result (Unit {0}) Fault}
+    → b ≡ false → next f [] answer g → (refuse_if b e >> next) f [] answer g
+goes_past b e next f is rest = inl (tt, f, [], [], refl, goes_on b e f is, rest)
 
 lacks_room : (n free : ℕ) → (n ≤ free → ⊥) → nat_lt free n ≡ true
 lacks_room n free lacks = grind (arith, nat_tests)
@@ -82,19 +95,21 @@ module _ {S : Type 0} {facts : S → Facts} where
   }
 
   module _ (fits : AreOf facts) {o a : S} {r t : Table} (ended : EndsStay facts o a r t) where
-    does_apart : {A : Type 0} {g : Frames} {answer : Result A Fault} (work : Config → ℕ → ℕ → Call A)
-        → ((c : Config) (thread : ℕ) → work c t.last thread t.frames [] answer g)
-        → ((p : PassView) → IfErr answer (Grounds p.seen p)) → ((k : Known) → Holds t.frames k → Holds g k)
-        → DoesOutside facts o a r.frames g (call_apart work) answer
-    does_apart {A} {g} {answer} work is grounds holds = does_from ended (record {
+    does_apart : {n : ℕ} {x : AnswerKind} {g : Frames} {answer : Result (AnswerOf x) Fault} (p : Program n x)
+        → ((c : Config) (thread : ℕ) (s : State) → means c t.last thread s (stays_out p) t.frames [] answer g)
+        → ((v : PassView) → IfErr answer (Grounds v.seen v)) → ((k : Known) → Holds t.frames k → Holds g k)
+        → DoesOutside facts o a r.frames g (call_apart p) answer
+    does_apart {g = g} {answer = answer} p is grounds holds = does_from ended (record {
       stands_is = nothing_changed;
       did = λ k s m.
           let i = fits a k s in
           let last : t.last ≡ k.last = ended.ready.own.last ∙ sym i.last in
-          let ran : Ran (view k) (view k) t.frames g (work k.config k.last k.thread) answer = record {
+          let to = state k.seen in
+          let ran : Ran (view k) (view k) t.frames g (means k.config k.last k.thread to (stays_out p)) answer = record {
             acts = [];
             did = did_nothing (view k) i.legal;
-            is = subst (λ l. work k.config l k.thread t.frames [] answer g) last (is k.config k.thread);
+            is = subst (λ l. means k.config l k.thread to (stays_out p) t.frames [] answer g) last
+                (is k.config k.thread to);
             begun = k.seen;
             window = window_nothing (view k);
             grounds = grounds (view k);
@@ -102,66 +117,36 @@ module _ {S : Type 0} {facts : S → Facts} where
           (k, s, holds k m, (made_of (spend_none (facts a) k t.frames g i.legal) ran, refl));
     })
 
-    pub ensures_room : (n : ℕ) → n ≤ free_places t.last t.frames → DoesOutside facts o a r.frames t.frames
-        (call_apart (λ c last thread. ensure_local_capacity c last thread n)) (Ok tt)
-    ensures_room n l = does_apart (λ c last thread. ensure_local_capacity c last thread n) (λ c thread.
-        passed_by (nat_lt (free_places t.last t.frames) n) LocalsFull t.frames (leaves_room n _ l)) (λ p. tt) (λ k m. m)
+    pub ensures_room : (n : ℕ) → n ≤ free_places t.last t.frames
+        → DoesOutside facts o a r.frames t.frames (call_apart (ensure_local_capacity n)) (Ok tt)
+    ensures_room n l = does_apart (ensure_local_capacity n) (λ c thread s.
+        goes_on (nat_lt (free_places t.last t.frames) n) LocalsFull t.frames (leaves_room n _ l)) (λ v. tt) (λ k m. m)
 
-    pub lacks_places : (n : ℕ) → (n ≤ free_places t.last t.frames → ⊥) → DoesOutside facts o a r.frames t.frames
-        (call_apart (λ c last thread. ensure_local_capacity c last thread n)) (Err LocalsFull)
-    lacks_places n lacks = does_apart (λ c last thread. ensure_local_capacity c last thread n) (λ c thread. refused_by
-        (nat_lt (free_places t.last t.frames) n) LocalsFull t.frames (lacks_room n _ lacks)) (λ p. tt) (λ k m. m)
+    pub lacks_places : (n : ℕ) → (n ≤ free_places t.last t.frames → ⊥)
+        → DoesOutside facts o a r.frames t.frames (call_apart (ensure_local_capacity n)) (Err LocalsFull)
+    lacks_places n lacks = does_apart (ensure_local_capacity n) (λ c thread s.
+        stops (nat_lt (free_places t.last t.frames) n) LocalsFull t.frames (lacks_room n _ lacks)) (λ v. tt) (λ k m. m)
 
-    -- too many frames, or too few places
-    pub pushes_none : (n : ℕ) → (FRAMES ≤ length t.frames.frames) ⊎ (n ≤ free_places t.last t.frames → ⊥)
-        → DoesOutside facts o a r.frames t.frames (call_apart (λ c last thread. push_local_frame c last thread n)) (Err
-        LocalsFull)
-    pushes_none n (inl many) = does_apart (λ c last thread. push_local_frame c last thread n) (λ c thread. inr
-        (LocalsFull, refl, refused_by (nat_le FRAMES (length t.frames.frames)) LocalsFull t.frames (at_most _ many)))
-        (λ p. tt) (λ k m. m)
-    pushes_none n (inr lacks) = go (nat_le FRAMES (length t.frames.frames)) refl
-      where
-        go : (b : Bool) → nat_le FRAMES (length t.frames.frames) ≡ b → DoesOutside facts o a r.frames t.frames
-            (call_apart (λ c last thread. push_local_frame c last thread n)) (Err LocalsFull)
-        go true e = does_apart (λ c last thread. push_local_frame c last thread n) (λ c thread.
-            inr (LocalsFull, refl, refused_by (nat_le FRAMES (length t.frames.frames)) LocalsFull t.frames e)) (λ p. tt)
-            (λ k m. m)
-        go false e = does_apart (λ c last thread. push_local_frame c last thread n)
-            (λ c thread. inl (
-              tt,
-              t.frames,
-              [],
-              [],
-              refl,
-              passed_by (nat_le FRAMES (length t.frames.frames)) LocalsFull t.frames e,
-              inr (
-                LocalsFull,
-                refl,
-                refused_by (nat_lt (free_places t.last t.frames) n) LocalsFull t.frames (lacks_room n _ lacks),
-              ),
-            )) (λ p. tt) (λ k m. m)
+    -- too many frames
+    pub pushes_no_frame : (n : ℕ) → FRAMES ≤ length t.frames.frames
+        → DoesOutside facts o a r.frames t.frames (call_apart (push_local_frame n)) (Err LocalsFull)
+    pushes_no_frame n many = does_apart (push_local_frame n) (λ c thread s.
+        stops_first (nat_le FRAMES (length t.frames.frames)) LocalsFull (room_for c t.last thread n >> new_frame)
+        t.frames (at_most _ many)) (λ v. tt) (λ k m. m)
 
-    pub pushes : (n : ℕ) {u : Table} → length t.frames.frames < FRAMES → n ≤ free_places t.last t.frames
-        → u ≡ with_frames t (pushed t.frames)
-        → DoesOutside facts o a r.frames u.frames (call_apart (λ c last thread. push_local_frame c last thread n)) (Ok
-        tt)
-    pushes n few l is = subst (λ (x : Table). DoesOutside facts o a r.frames x.frames
-        (call_apart (λ c last thread. push_local_frame c last thread n)) (Ok tt)) (sym is)
-        (does_apart (λ c last thread. push_local_frame c last thread n)
-        (λ c thread. inl (
-          tt,
-          t.frames,
-          [],
-          [],
-          refl,
-          passed_by (nat_le FRAMES (length t.frames.frames)) LocalsFull t.frames (fewer_frames _ few),
-          inl (
-            tt,
-            t.frames,
-            [],
-            [],
-            refl,
-            passed_by (nat_lt (free_places t.last t.frames) n) LocalsFull t.frames (leaves_room n _ l),
-            (refl, refl, refl),
-          ),
-        )) (λ p. tt) (λ k m. holds_pushed t.frames k m))
+    module _ (n : ℕ) (few : length t.frames.frames < FRAMES) where
+      -- not too many, but too few places
+      pub pushes_no_places : (n ≤ free_places t.last t.frames → ⊥)
+          → DoesOutside facts o a r.frames t.frames (call_apart (push_local_frame n)) (Err LocalsFull)
+      pushes_no_places lacks = does_apart (push_local_frame n) (λ c thread s.
+          goes_past (nat_le FRAMES (length t.frames.frames)) LocalsFull (room_for c t.last thread n >> new_frame)
+          t.frames (fewer_frames _ few) (stops_first (nat_lt (free_places t.last t.frames) n) LocalsFull new_frame
+          t.frames (lacks_room n _ lacks))) (λ v. tt) (λ k m. m)
+
+      pub pushes : {u : Table} → n ≤ free_places t.last t.frames → u ≡ with_frames t (pushed t.frames)
+          → DoesOutside facts o a r.frames u.frames (call_apart (push_local_frame n)) (Ok tt)
+      pushes l is = subst (λ (x : Table). DoesOutside facts o a r.frames x.frames (call_apart (push_local_frame n))
+          (Ok tt)) (sym is) (does_apart (push_local_frame n) (λ c thread s.
+          goes_past (nat_le FRAMES (length t.frames.frames)) LocalsFull (room_for c t.last thread n >> new_frame)
+          t.frames (fewer_frames _ few) (goes_past (nat_lt (free_places t.last t.frames) n) LocalsFull new_frame
+          t.frames (leaves_room n _ l) (refl, refl, refl))) (λ v. tt) (λ k m. holds_pushed t.frames k m))

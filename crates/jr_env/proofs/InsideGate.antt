@@ -10,6 +10,8 @@ use Rattle.jr_model.specs.declared.event.GateAct.TheVariants.{Enter, Knock, Leav
 use Rattle.jr_model.specs.State.{State}
 use Rattle.jr_model.specs.Frames.{Frames}
 use Rattle.jr_model.specs.Calls.{Call, entered}
+use Rattle.jr_model.specs.Checks.{Word}
+use Rattle.jr_model.specs.Programs.{AnswerKind, AnswerOf, Program, Which, none_known, work_of}
 use Rattle.jr_steps.specs.declared.known.Known.{Known}
 use Rattle.jr_steps.specs.Knowing.{AreOf, Facts, Standing, anything, keeps, lets_go, Holds, Took}
 use Rattle.jr_gate.specs.Acting.{ActedTo, LetsGoInTwo}
@@ -17,7 +19,7 @@ use Rattle.jr_frames.specs.Table.{Table}
 use Rattle.jr_gate.specs.Performing.{Performed}
 use Rattle.jr_frames.specs.Ready.{StandsReady, KeepsOwner}
 use Rattle.jr_frames.proofs.StillReady.{same_owner, ready_after}
-use Rattle.jr_frames.specs.Steady.{IsSteady}
+use Rattle.jr_frames.proofs.Steady.{steady_program}
 use Rattle.jr_env.specs.Works.{Completes, EndsStay}
 use Rattle.jr_frames.specs.OverSteps.{CallsWhole}
 use Rattle.jr_frames.proofs.WholeCalls.{calls_barred, calls_entered}
@@ -41,6 +43,22 @@ module _ {S : Type 0} {facts : S → Facts} where
     ready = p.ready;
   }
 
+  -- a program between an entry and its exit
+  pub completes : {n : ℕ} {r : AnswerKind} (words : Which → Word) (p : Program n r) {a b c d : S} {t u : Table}
+      (fits : AreOf facts) (silent : Config → ℕ) {so : Known → Known → Type 0} {answer : Result (AnswerOf r) Fault}
+      → StandsReady facts Outside a t → Took facts a b (Gate Enter ∷ []) anything keeps
+      → Performed facts b c t.frames u.frames (silent (facts b).stands.config) (Holds t.frames) (λ s. work_of
+      (facts b).stands.config (facts b).stands.last (facts b).stands.thread s words p) answer (λ j k. so j k
+      × Holds u.frames k)
+      → KeepsOwner t u → Took facts c d (Gate Leave ∷ []) anything lets_go
+      → Completes facts a d t u (silent (facts a).stands.config)
+      (λ s. entered (work_of (facts a).stands.config (facts a).stands.last (facts a).stands.thread s words p)) answer
+  completes words p {b = b} fits silent {so = so} r e q o l =
+      let at = (facts b).stands in
+      let whole = calls_entered (λ c last t s. work_of c last t s words p) fits silent {so = so} r.role_is e q
+      (steady_program at.config at.last at.thread words p none_known 0) l in
+      record { call = λ out. whole; left = λ no. absurd (no r.role_is); ready = ready_after {so = lets_go} r o whole }
+
   module _ {A : Type 0} (work : Config → ℕ → ℕ → State → Call A) where
     -- an entry that found the gate shut
     pub completes_barred : {a b : S} {t : Table} {e : Fault} → StandsReady facts Outside a t → (answer : Result A Fault)
@@ -56,19 +74,6 @@ module _ {S : Type 0} {facts : S → Facts} where
           left = λ no. absurd (no r.role_is);
           ready = ready_after {so = lets_go} r (same_owner t) p;
         }
-
-    -- work between an entry and its exit
-    pub completes : {a b c d : S} {t u : Table} (fits : AreOf facts) (silent : Config → ℕ) {so : Known → Known → Type 0}
-        {answer : Result A Fault} → StandsReady facts Outside a t → Took facts a b (Gate Enter ∷ []) anything keeps
-        → Performed facts b c t.frames u.frames (silent (facts b).stands.config) (Holds t.frames) (work
-        (facts b).stands.config (facts b).stands.last (facts b).stands.thread) answer (λ j k. so j k × Holds u.frames k)
-        → IsSteady (work (facts b).stands.config (facts b).stands.last (facts b).stands.thread) → KeepsOwner t u
-        → Took facts c d (Gate Leave ∷ []) anything lets_go
-        → Completes facts a d t u (silent (facts a).stands.config)
-        (λ s. entered (work (facts a).stands.config (facts a).stands.last (facts a).stands.thread s)) answer
-    completes fits silent {so = so} r e p steady o l =
-        let q = calls_entered work fits silent {so = so} r.role_is e p steady l in
-        record { call = λ out. q; left = λ no. absurd (no r.role_is); ready = ready_after {so = lets_go} r o q }
 
     -- the same, once a stay that was left has been ended
     pub completes_from : {o a b : S} {r t u : Table} (silent : Config → ℕ) {answer : Result A Fault}

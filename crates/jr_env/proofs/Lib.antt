@@ -14,7 +14,7 @@ pub mod Served
 pub mod MadeAgain
 pub mod GivingBack
 pub mod FrameCalls
-pub mod ObjectLooks
+pub mod AtObjects
 pub mod ElementChecks
 pub mod ElementReading
 pub mod ArrayParts

@@ -2,14 +2,16 @@
 use Rattle.std.proofs.Common.{ℕ, List, Ok, Err, inl, inr, sym, subst}
 use Rattle.jr_word.specs.declared.config.Config.{Config}
 use Rattle.jr_model.specs.declared.event.Act.{Act}
-use Rattle.jr_model.specs.State.{State}
-use Rattle.jr_model.specs.History.{state}
+use Rattle.jr_model.specs.History.{PassView, state}
 use Rattle.jr_model.specs.Frames.{Frames, LeadsTo}
-use Rattle.jr_model.specs.Calls.{Call, entered}
+use Rattle.jr_model.specs.Calls.{entered}
+use Rattle.jr_model.specs.Checks.{Word}
+use Rattle.jr_model.specs.Programs.{AnswerKind, AnswerOf, Program, Which, none_known, work_of}
+use Rattle.jr_model.proofs.EachCall.{program_moves}
 use Rattle.jr_model.proofs.Lawful.{same_leads}
 use Rattle.jr_gate.specs.Performing.{ThreadState}
 use Rattle.jr_elements.specs.Copies.{answer_in}
-use Rattle.jr_env.specs.Requests.{IsLawfulWork, Request, asks, gives, named, on_word, on_words, told_by}
+use Rattle.jr_env.specs.Requests.{Request, asks, gives, named, on_word, on_words, told_by}
 use Rattle.jr_env.specs.Deeds.{Deed, How, after_exit, answered_by, call_by, deed_of, whole, within_by}
 use Rattle.jr_env.specs.Moving.{DeedMovesFrames, RequestMovesFrames}
 
@@ -20,12 +22,12 @@ in_form form deed moves old new answer (inl d) =
     (moves old d.1 (Ok d.0) d.2)
 in_form form deed moves old new answer (inr d) = moves old new (Err d.0) d.2
 
--- a request moves the frames where work by the laws does, however it becomes a deed
+-- a request moves the frames where programs do, however it becomes a deed
 each : {A : Type 0} (how : How)
-    → ((B : Type 0) (silent : Config → ℕ) (work : Config → ℕ → ℕ → State → Call B) → IsLawfulWork work
-    → DeedMovesFrames (how B silent work))
+    → ((n : ℕ) (r : AnswerKind) (silent : Config → ℕ) (words : Which → Word) (p : Program n r)
+    → DeedMovesFrames (how (AnswerOf r) silent (λ c last t s. work_of c last t s words p)))
     → (request : Request A) → DeedMovesFrames (deed_of how request)
-each how moved (asks silent work law) old new answer d = moved _ silent work law old new answer d
+each how moved (asks silent words p) old new answer d = moved _ _ silent words p old new answer d
 each how moved (on_word w next) old new answer d = each how moved (next d.0) old new answer d.2
 each how moved (on_words v w next) old new answer d = each how moved (next d.0 d.1) old new answer d.4
 each how moved (gives form first) old new answer d =
@@ -34,14 +36,18 @@ each how moved (told_by form first) old new answer d = each how moved first old 
 each how moved (named name first) old new answer d = each how moved first old new answer d
 
 -- a whole call does: its entry and its exit leave the frames, and so does a shut gate
-whole_moves : {A : Type 0} (silent : Config → ℕ) (work : Config → ℕ → ℕ → State → Call A) → IsLawfulWork work
-    → DeedMovesFrames (call_by silent (λ c last t s. entered (work c last t s)))
-whole_moves silent work law old new answer d = go d.0.ran.is
+whole_moves : (n : ℕ) (r : AnswerKind) (silent : Config → ℕ) (words : Which → Word) (p : Program n r)
+    → DeedMovesFrames (call_by silent (λ c last t s. entered (work_of c last t s words p)))
+whole_moves n r silent words p old new answer d = go d.0.ran.is
   where
-    go : {acts : List Act} → entered (work old.pass.config old.pass.last old.pass.thread (state new.pass.seen))
-        old.frames acts answer new.frames → LeadsTo old.pass.last old.pass.thread old.frames new.frames
+    at : PassView
+    at = old.pass
+
+    go : {acts : List Act} → entered (work_of at.config at.last at.thread (state new.pass.seen) words p)
+        old.frames acts answer new.frames → LeadsTo at.last at.thread old.frames new.frames
     go (inl barred) = same_leads barred.2
-    go (inr x) = (law.moves _ _ _ _).leads _ _ x.0 answer x.2
+    go (inr x) = (program_moves at.config at.last at.thread (state new.pass.seen) words p none_known 0).leads _ _
+        x.0 answer x.2
 
 -- what is left of a stay is the thread's and its frames'
 exit_moves : {A : Type 0} (deed : Deed A) → DeedMovesFrames deed → DeedMovesFrames (after_exit deed)
@@ -53,11 +59,11 @@ exit_moves deed moves old new answer d =
 
 pub request_moves : {A : Type 0} (request : Request A) → RequestMovesFrames request
 request_moves request =
-    let made = each (λ A silent work. call_by silent (λ c last t s. entered (work c last t s))) (λ A. whole_moves)
-    request in
+    let made = each (λ A silent work. call_by silent (λ c last t s. entered (work c last t s))) whole_moves request in
     record {
       made_whole = made;
       behind_exit = exit_moves (whole request) made;
-      within = each (λ A silent work. within_by silent work) (λ A silent work law old new answer d.
-          (law.moves _ _ _ _).leads _ _ _ answer d.ran.is) request;
+      within = each (λ A silent work. within_by silent work) (λ n r silent words p old new answer d.
+          (program_moves old.pass.config old.pass.last old.pass.thread (state new.pass.seen) words p none_known 0).leads
+          _ _ _ answer d.ran.is) request;
     }

@@ -18,7 +18,7 @@ use Rattle.jr_model.specs.History.{PassView, Did}
 use Rattle.jr_model.specs.Frames.{Frames, IsAdded, free_places, object_at}
 use Rattle.jr_model.specs.Calls.{Call, Ran, ◌>>=◌, ◌>>◌}
 use Rattle.jr_model.specs.Parts.{publish, reserve}
-use Rattle.jr_model.specs.References.{added, made, making}
+use Rattle.jr_model.specs.References.{added, made}
 use Rattle.jr_model.proofs.Agreement.{spares_places}
 use Rattle.jr_model.proofs.Windows.{window_act}
 use Rattle.jr_model.proofs.Runs.{ran_then, ran_err}
@@ -50,7 +50,7 @@ module _ (c : Config) (last t : ℕ) where
   -- a plain object needs no words
   plain_ran : {p q : PassView} (f : Frames) {g : Frames} {answer : Result Handle Fault}
       → nat_lt (free_places last f) 1 ≡ false → Ran p q f g (publish Plain [] >>= added c last t) answer
-      → Ran p q f g (making c last t) answer
+      → Ran p q f g (made c last t Plain []) answer
   plain_ran f room r = roomy f Plain [] room (record {
     acts = r.acts;
     did = r.did;
@@ -184,7 +184,7 @@ module _ {S : Type 0} (facts : S → Facts) where
   -- a plain object and a local reference to it were made in a stay
   abbrev pub MakesPlain : S → S → Frames → Frames → Result Handle Fault → Type 0
   MakesPlain old new f g answer = Performed facts old new f g (facts old).stands.config.objects (Holds f)
-      (λ s. making (facts old).stands.config (facts old).stands.last (facts old).stands.thread) answer (λ j k.
+      (λ s. made (facts old).stands.config (facts old).stands.last (facts old).stands.thread Plain []) answer (λ j k.
       LearnsNew (object_made g answer) j k × Holds g k)
 
 module _ {S : Type 0} {facts : S → Facts} where

@@ -13,6 +13,7 @@ use Rattle.jr_model.specs.Windows.{Ends, IsWindow, Stepped}
 use Rattle.jr_model.specs.Calls.{Call, Ran, done}
 use Rattle.jr_model.specs.Parts.{enter}
 use Rattle.jr_model.specs.OpenStays.{HasStayed}
+use Rattle.jr_model.proofs.EachCall.{Stays}
 use Rattle.jr_model.proofs.OpenStays.{one_stay, one_stay_left, stays_more}
 use Rattle.jr_model.proofs.Moments.{prefix_self}
 use Rattle.jr_steps.specs.declared.known.Known.{Known}
@@ -31,7 +32,6 @@ use Rattle.jr_frames.proofs.FramesAgree.{holds_did}
 use Rattle.jr_frames.proofs.StillReady.{one_act, ready_entered}
 use Rattle.jr_elements.specs.Copies.{answer_in}
 use Rattle.jr_env.specs.Calling.{CanCall}
-use Rattle.jr_env.specs.Requests.{IsInStay}
 use Rattle.jr_env.specs.OpenStays.{BehindExit, EndsAsOneStay, Enters, EntersOver, StaysOn, StaysSince}
 use Rattle.jr_env.specs.Works.{EndsStayOver}
 use Rattle.jr_env.proofs.EndedStays.{can_call, leaves}
@@ -199,7 +199,7 @@ module _ {S : Type 0} {G : Ghosts S} where
   module _ (fits : AreOf G.facts) (old new : Held S G) where
     -- a work in a stay, with which it goes on
     pub performs_on : {A : Type 0} (silent : ℕ) (so : Known → Known → Type 0) (asked : Config → ℕ → ℕ → State → Call A)
-        {answer : Result A Fault} → IsInStay asked
+        {answer : Result A Fault} → ((c : Config) (last t : ℕ) (s : State) → Stays (asked c last t s))
         → Performed G.facts old.steps new.steps old.frames.frames new.frames.frames silent (Holds old.frames.frames)
         (asked (G.facts old.steps).stands.config (G.facts old.steps).stands.last (G.facts old.steps).stands.thread)
         answer (λ j k. so j k × Holds new.frames.frames k)

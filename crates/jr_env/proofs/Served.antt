@@ -10,6 +10,8 @@ use Rattle.jr_model.specs.declared.event.GateAct.TheVariants.{Enter, Knock, Leav
 use Rattle.jr_model.specs.State.{State}
 use Rattle.jr_model.specs.Frames.{Frames}
 use Rattle.jr_model.specs.Calls.{Call, entered}
+use Rattle.jr_model.specs.Programs.{none_known, work_of}
+use Rattle.jr_model.proofs.EachCall.{program_stays}
 use Rattle.jr_steps.specs.declared.known.Known.{Known}
 use Rattle.jr_steps.specs.declared.steps.Steps.{Ghosts}
 use Rattle.jr_steps.specs.Knowing.{AreOf, Facts, Standing, anything, keeps, lets_go, Holds, Took}
@@ -21,7 +23,6 @@ use Rattle.jr_elements.specs.Copies.{answer_in}
 use Rattle.jr_frames.specs.declared.held.Held.{Held}
 use Rattle.jr_frames.specs.Table.{Table}
 use Rattle.jr_frames.specs.Ready.{StandsReady, KeepsOwner}
-use Rattle.jr_frames.specs.Steady.{IsSteady}
 use Rattle.jr_frames.proofs.StillReady.{ready_after}
 use Rattle.jr_env.specs.Requests.{Request, asks, gives, named, on_word, on_words, told_by}
 use Rattle.jr_env.specs.Deeds.{DoesDeed, DoesOutside, answered_by, whole, in_a_stay}
@@ -37,7 +38,7 @@ use Rattle.jr_env.proofs.ReadWords.{read}
 pub refused_is : {A : Type 0} {e : Fault} (answer : Result A Fault) → IsErrAnd answer (λ y. y ≡ e) → answer ≡ Err e
 refused_is answer given = let why = err_from_is_err_and answer given in why.1 ∙ ap (λ (v : Fault). Err v) why.2
 
-kept_is : {A B : Type 0} (e : Fault) (form : A → B) (answer : Result A Fault) → IsErrAnd answer (λ y. y ≡ e)
+pub kept_is : {A B : Type 0} (e : Fault) (form : A → B) (answer : Result A Fault) → IsErrAnd answer (λ y. y ≡ e)
     → IsErrAnd (answer_in form answer) (λ y. y ≡ e)
 kept_is y form (Err e) given = given
 kept_is y form (Ok x) given = absurd given
@@ -69,14 +70,6 @@ module _ {S : Type 0} {facts : S → Facts} where
     ran = λ k s m. let x = p.ran k s m in (x.0, x.1, x.2, (tt, x.3.1));
   }
 
-  -- the same of work that names no state, which is steady
-  pub plainly : {A : Type 0} {a b : S} {f g : Frames} {silent : ℕ} {met : Known → Type 0} {so : Known → Known → Type 0}
-      {call : Call A} {answer : Result A Fault}
-      → Performed facts a b f g silent met (λ s. call) answer (λ j k. so j k × Holds g k)
-      → (Performed facts a b f g silent met (λ s. call) answer (λ j k. Unit {0} × Holds g k))
-      × IsSteady (λ (s : State). call)
-  plainly p = (forgets p, λ s s' k f g acts answer is. is)
-
   -- the answer of a deed in another form
   does_found : {A B : Type 0} {a b : S} {f g : Frames} (form : B → A) (request : Request B) {answer : Result A Fault}
       (found : Result B Fault) → answer ≡ answer_in form found → DoesOutside facts a b f g (whole request) found
@@ -100,7 +93,7 @@ module _ {S : Type 0} {facts : S → Facts} where
   pub ready_served : {A : Type 0} {a b : S} {t u : Table} (request : Request A) (answer : Result A Fault)
       → StandsReady facts Within a t → KeepsOwner t u → Serves facts a b t.frames u.frames request answer
       → StandsReady facts Within b u
-  ready_served (asks silent work stays) answer r o p = ready_after {so = λ j k. Unit {0}} r o p.0
+  ready_served (asks silent words p) answer r o q = ready_after {so = λ j k. Unit {0}} r o q
   ready_served (on_word w next) answer r o p = ready_served (next p.0) answer r o p.2
   ready_served (on_words v w next) answer r o p = ready_served (next p.0 p.1) answer r o p.4
   ready_served (gives form first) answer r o p = ready_served first p.0 r o p.2
@@ -114,9 +107,10 @@ module _ {S : Type 0} {facts : S → Facts} where
         → Serves facts b c t.frames u.frames request answer → KeepsOwner t u
         → Took facts c d (Gate Leave ∷ []) anything lets_go
         → DoesOutside facts o d r.frames u.frames (whole request) answer
-    does_served (asks silent work stays) answer ended e p own l =
-        does_call_by fits silent (λ c last s x. entered (work c last s x)) (completes_from work silent ended
-        (completes work fits silent {so = λ j k. Unit {0}} ended.ready e p.0 p.1 own l))
+    does_served (asks silent words p) answer ended e q own l =
+        does_call_by fits silent (λ c last t s. entered (work_of c last t s words p))
+        (completes_from (λ c last t s. work_of c last t s words p) silent ended
+        (completes words p fits silent {so = λ j k. Unit {0}} ended.ready e q own l))
     does_served (on_word w next) answer ended e p own l =
         does_more (λ k m x. (p.0, p.1, x)) (does_served (next p.0) answer ended e p.2 own l)
     does_served (on_words v w next) answer ended e p own l =
@@ -132,9 +126,10 @@ module _ {S : Type 0} {facts : S → Facts} where
         → EndsStay facts o a r t → IsErrAnd answer (λ y. y ≡ e)
         → (e ≡ Barred) × ActedTo facts a b (Gate Knock ∷ Gate Withdraw ∷ []) anything LetsGoInTwo
         → DoesOutside facts o b r.frames t.frames (whole request) answer
-    does_barred (asks silent work stays) answer ended given why =
-        does_call_by fits silent (λ c last s x. entered (work c last s x)) (completes_from work silent ended
-        (completes_more _ (completes_barred work ended.ready answer given why)))
+    does_barred (asks silent words p) answer ended given why =
+        does_call_by fits silent (λ c last t s. entered (work_of c last t s words p))
+        (completes_from (λ c last t s. work_of c last t s words p) silent ended
+        (completes_more _ (completes_barred (λ c last t s. work_of c last t s words p) ended.ready answer given why)))
     does_barred (on_word w next) answer ended given why =
         let a = read w in does_more (λ k m x. (a.0, a.1, x)) (does_barred (next a.0) answer ended given why)
     does_barred (on_words v w next) answer ended given why =
@@ -150,7 +145,8 @@ module _ {S : Type 0} {facts : S → Facts} where
     -- a request that was served in a stay
     pub did_served : {A : Type 0} {a b : S} {f g : Frames} (request : Request A) (answer : Result A Fault)
         → Serves facts a b f g request answer → DoesDeed facts a b f g (in_a_stay request) answer
-    did_served (asks silent work stays) answer p = did_call facts fits silent work (λ j k x. x.1) p.0
+    did_served (asks silent words p) answer q =
+        did_call facts fits silent (λ c last t s. work_of c last t s words p) (λ j k x. x.1) q
     did_served (on_word w next) answer p = did_more (λ k m x. (p.0, p.1, x)) (did_served (next p.0) answer p.2)
     did_served (on_words v w next) answer p =
         did_more (λ k m x. (p.0, p.1, p.2, p.3, x)) (did_served (next p.0 p.1) answer p.4)
@@ -168,7 +164,9 @@ module _ {S : Type 0} {G : Ghosts S} (fits : AreOf G.facts) (old new : Held S G)
   -- and the stay goes on
   pub on_served : {A : Type 0} (request : Request A) (answer : Result A Fault)
       → Serves G.facts old.steps new.steps old.frames.frames new.frames.frames request answer → StaysOn old new
-  on_served (asks silent work law) answer p = performs_on fits old new _ (λ j k. Unit {0}) work law.stays p.0
+  on_served (asks silent words p) answer q =
+      performs_on fits old new _ (λ j k. Unit {0}) (λ c last t s. work_of c last t s words p)
+      (λ c last t s. program_stays c last t s words p none_known 0) q
   on_served (on_word w next) answer p = on_served (next p.0) answer p.2
   on_served (on_words v w next) answer p = on_served (next p.0 p.1) answer p.4
   on_served (gives form first) answer p = on_served first p.0 p.2

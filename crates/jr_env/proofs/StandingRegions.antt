@@ -1,10 +1,9 @@
 -- The calls of a region, for whatever was known, make one stay, which no collection disturbs.
-use Rattle.std.proofs.Common.{◌≡◌, ◌≤◌, ◌+◌, ◌∷◌, [], ℕ, zero, suc, length, List, Option, Some, None}
+use Rattle.std.proofs.Common.{◌≡◌, ◌≤◌, ◌+◌, ◌∷◌, ◌++◌, [], ℕ, zero, suc, length, List, Option, Some, None}
 use Rattle.std.proofs.Common.{Result, Ok, Err, IfErr, IfOk, IfNone, IfSome, inl, inr, refl, sym, ap, subst, ◌∙◌, arith}
-use Rattle.std.proofs.lemmas.List.{length-append, length-map}
+use Rattle.std.proofs.lemmas.List.{append-nil, length-append, length-map}
 use Rattle.jr_word.specs.declared.config.Config.{Config}
 use Rattle.jr_word.specs.declared.fault.Fault.{Fault}
-use Rattle.jr_word.specs.declared.kind.Kind.{Kind}
 use Rattle.jr_model.specs.declared.event.Role.TheVariants.{Outside}
 use Rattle.jr_model.specs.declared.event.Act.{Act}
 use Rattle.jr_model.specs.declared.event.Act.TheVariants.{Gate}
@@ -12,16 +11,15 @@ use Rattle.jr_model.specs.declared.event.GateAct.TheVariants.{Leave}
 use Rattle.jr_model.specs.State.{State}
 use Rattle.jr_model.specs.Frames.{Frames}
 use Rattle.jr_model.specs.History.{by, Did, PassView}
-use Rattle.jr_model.specs.Calls.{Call, Ran, opened}
+use Rattle.jr_model.specs.Calls.{Call, Ran, opened, ◌>>=◌}
 use Rattle.jr_model.specs.Checks.{Word}
-use Rattle.jr_model.specs.Objects.{get_array_critical, get_string_critical, level_array, level_string}
-use Rattle.jr_model.specs.Objects.{nest_array, nest_string, region_get, region_set, region_release}
+use Rattle.jr_model.specs.Parts.{nested, region_release}
+use Rattle.jr_model.specs.Programs.{AnswerKind, AnswerOf, Program, at_object, handed_none, handed_one, none_known}
+use Rattle.jr_model.specs.Programs.{object, work_of}
 use Rattle.jr_model.specs.Windows.{Ends as Last}
 use Rattle.jr_model.specs.OpenStays.{HasStayed, IsOneStay, NoneLeaves}
-use Rattle.jr_model.proofs.OpenStays.{Stays, level_array_stays, level_string_stays, one_stay, one_stay_left, stays_more}
-use Rattle.jr_model.proofs.ShownRefusals.{words_alone}
-use Rattle.jr_model.proofs.EachCall.{get_work, nest_array_work, nest_string_work, set_work}
-use Rattle.jr_model.proofs.Lawful.{work_stays}
+use Rattle.jr_model.proofs.OpenStays.{one_stay, one_stay_left, stays_more}
+use Rattle.jr_model.proofs.EachCall.{Stays, program_stays}
 use Rattle.jr_steps.specs.declared.known.Known.{Known}
 use Rattle.jr_steps.specs.declared.steps.Steps.{Ghosts}
 use Rattle.jr_steps.specs.Knowing.{Facts, Leads, view, state_of, Holds}
@@ -30,11 +28,13 @@ use Rattle.jr_frames.specs.Table.{Table}
 use Rattle.jr_critical.specs.declared.level.Level.{Level}
 use Rattle.jr_critical.specs.declared.levels.Levels.{Levels}
 use Rattle.jr_critical.specs.Levels.{GivesUpAll, GivesUpAllOver, GivesUpLast, GivesUpLastOver, KnowsLevels}
-use Rattle.jr_critical.specs.Levels.{LeavesBefore, Nests, NestsOver, Opens, OpensOver, Reaches, ReadsAt}
-use Rattle.jr_critical.specs.Levels.{StandOver, StandsOutside, WritesAt, level_nested, level_object, objects_of}
+use Rattle.jr_critical.specs.Levels.{LeavesBefore, Nests, NestsOver, Opens, OpensOver, Reaches}
+use Rattle.jr_critical.specs.Levels.{StandOver, StandsOutside, level_nested, level_object, nested_by, objects_of}
+use Rattle.jr_critical.specs.Levels.{opened_by}
 use Rattle.jr_env.specs.StandingRegions.{EndsUndisturbed, StandsOn, StandsSince}
+use Rattle.jr_env.specs.declared.critical_region.Region.{Region}
 use Rattle.jr_env.specs.declared.env.Env.{Env}
-use Rattle.jr_env.specs.Criticals.{HasEntered, WasRefused}
+use Rattle.jr_env.specs.Criticals.{HasEntered, WasRefused, env_of, held_of, levels_of}
 use Rattle.jr_env.specs.Envs.{IsOutside}
 use Rattle.jr_env.specs.OpenStays.{BehindExit}
 use Rattle.jr_env.specs.Works.{EndsStayOver}
@@ -54,6 +54,12 @@ record Continues (j k : Known) : Type 0 where
   acts : List Act
   did : Did (view j) (view k) acts
   stays : NoneLeaves acts
+
+-- a level more adds no act
+nests_stay : (levels : List ℕ) (first : Call ℕ) → Stays first → Stays (first >>= nested levels)
+nests_stay levels first stays f g acts answer (inl y) =
+    subst NoneLeaves (sym (y.4 ∙ (ap (λ l. y.2 ++ l) y.6.0 ∙ append-nil y.2))) (stays f y.1 y.2 (Ok y.0) y.5)
+nests_stay levels first stays f g acts answer (inr y) = stays f g acts (Err y.0) y.2
 
 -- with a level left, a release is no exit
 gives_up : (f g : Frames) (acts : List Act) (n : ℕ) → 2 ≤ n → region_release n f acts (Ok tt) g → NoneLeaves acts
@@ -133,70 +139,36 @@ module _ {S : Type 0} (facts : S → Facts) where
           (x.3.0.0, x.3.1),
         )
 
-    opens_at_array : (w : ℕ) → Opens facts a b f w get_array_critical (Ok v) → Since a b f f v
-    opens_at_array w p j s m =
-        let x = p.2.ran j s m in
+    opens_at : (p : Program 0 object) (w : ℕ) → Opens facts a b f w (opened_by p) (Ok v) → Since a b f f v
+    opens_at p w e j s m =
+        let x = e.2.ran j s m in
         let at = (facts a).stands in
-        let stay = was_opened (level_array at.config at.last at.thread (state_of x.0) 0 p.0)
-        (level_array_stays at.config at.last at.thread (state_of x.0) 0 p.0) x.2.ran in
+        let to = state_of x.0 in
+        let stay = was_opened (work_of at.config at.last at.thread to (handed_one e.0) p)
+        (program_stays at.config at.last at.thread to (handed_one e.0) p none_known 0) x.2.ran in
         (x.0, x.1, stay, (one_stay stay, (x.3.0.0, x.3.1)))
 
-    opens_at_string : (w : ℕ) → Opens facts a b f w get_string_critical (Ok v) → Since a b f f v
-    opens_at_string w p j s m =
-        let x = p.2.ran j s m in
-        let at = (facts a).stands in
-        let stay = was_opened (level_string at.config at.last at.thread (state_of x.0) 0 p.0)
-        (level_string_stays at.config at.last at.thread (state_of x.0) 0 p.0) x.2.ran in
-        (x.0, x.1, stay, (one_stay stay, (x.3.0.0, x.3.1)))
-
-    array_nests : (w : ℕ) (u : Levels) (answer : Result ℕ Fault) → Nests facts a b f w nest_array v u answer
-        → Further a b f v u
-    array_nests w u answer e j s m =
+    level_nests : (p : ℕ → Program 0 object) (w : ℕ) (u : Levels) (answer : Result ℕ Fault)
+        → Nests facts a b f w (nested_by p) v u answer → Further a b f v u
+    level_nests p w u answer e j s m =
         let x = e.2.ran j s m in
         let r = x.2.ran in
         let at = (facts a).stands in
-        let none =
-        work_stays (nest_array_work {asked = words_alone 0}
-        at.config at.last at.thread (state_of x.0) (objects_of v) e.0) f f
-        r.acts (level_nested answer u) r.is in
+        let to = state_of x.0 in
+        let q = p (length (objects_of v)) in
+        let none = nests_stay (objects_of v) (work_of at.config at.last at.thread to (handed_one e.0) q) (program_stays
+        at.config at.last at.thread to (handed_one e.0) q none_known 0) f f r.acts (level_nested answer u) r.is in
         (x.0, x.1, record { acts = r.acts; did = r.did; stays = none }, x.3)
 
-    string_nests : (w : ℕ) (u : Levels) (answer : Result ℕ Fault) → Nests facts a b f w nest_string v u answer
-        → Further a b f v u
-    string_nests w u answer e j s m =
-        let x = e.2.ran j s m in
-        let r = x.2.ran in
-        let at = (facts a).stands in
-        let none =
-        work_stays (nest_string_work {asked = words_alone 0}
-        at.config at.last at.thread (state_of x.0) (objects_of v) e.0) f f
-        r.acts (level_nested answer u) r.is in
-        (x.0, x.1, record { acts = r.acts; did = r.did; stays = none }, x.3)
-
-    level_gets : (level i : ℕ) (kind : Kind) (answer : Result ℕ Fault)
-        → Reaches facts a b f v (λ c last t s. region_get c last t s kind (level_object v level) i) answer
+    level_reached : {n : ℕ} {r : AnswerKind} (p : Program n r) (level : ℕ) (answer : Result (AnswerOf r) Fault)
+        → Reaches facts a b f v (λ c last t s. at_object c last t s (level_object v level) p) answer
         → Further a b f v v
-    level_gets level i kind answer e j s m =
+    level_reached p level answer e j s m =
         let x = e.ran j s m in
         let r = x.2.ran in
         let at = (facts a).stands in
-        let none =
-        work_stays (get_work {asked = words_alone 0}
-        at.config at.last at.thread (state_of x.0) kind (level_object v level) i) f f
-        r.acts answer r.is in
-        (x.0, x.1, record { acts = r.acts; did = r.did; stays = none }, x.3.1)
-
-    level_sets : (level i word : ℕ) (kind : Kind) (answer : Result (Unit {0}) Fault)
-        → Reaches facts a b f v (λ c last t s. region_set c last t s kind (level_object v level) i word) answer
-        → Further a b f v v
-    level_sets level i word kind answer e j s m =
-        let x = e.ran j s m in
-        let r = x.2.ran in
-        let at = (facts a).stands in
-        let none =
-        work_stays (set_work {asked = words_alone 0}
-        at.config at.last at.thread (state_of x.0) kind (level_object v level) i word)
-        f f r.acts answer r.is in
+        let none = program_stays at.config at.last at.thread (state_of x.0) handed_none p none_known
+        (level_object v level) f f r.acts answer r.is in
         (x.0, x.1, record { acts = r.acts; did = r.did; stays = none }, x.3.1)
 
 -- THE CALLS OF AN ENV, whose frames stay as they were
@@ -225,45 +197,33 @@ module _ {S : Type 0} {G : Ghosts S} (old new : Held S G) (same : new.frames ≡
   stands_before (Some w) before stand e =
       goes w (level_gives_up G.facts old.steps new.steps old.frames.frames v w before stand.some e)
 
-  pub stands_over_array : (w : ℕ) (u : Levels) (answer : Result ℕ Fault) → NestsOver old new w nest_array v u answer
-      → StandsOn old new v u
-  stands_over_array w u answer e = goes u (array_nests G.facts old.steps new.steps old.frames.frames v w u answer e)
+  pub stands_over : (p : ℕ → Program 0 object) (w : ℕ) (u : Levels) (answer : Result ℕ Fault)
+      → NestsOver old new w (nested_by p) v u answer → StandsOn old new v u
+  stands_over p w u answer e = goes u (level_nests G.facts old.steps new.steps old.frames.frames v p w u answer e)
 
-  pub stands_over_string : (w : ℕ) (u : Levels) (answer : Result ℕ Fault) → NestsOver old new w nest_string v u answer
-      → StandsOn old new v u
-  stands_over_string w u answer e = goes u (string_nests G.facts old.steps new.steps old.frames.frames v w u answer e)
-
-  pub stands_read : (level i : ℕ) (kind : Kind) (answer : Result ℕ Fault) → ReadsAt old new v level kind i answer
+  pub stands_reached : {n : ℕ} {r : AnswerKind} (p : Program n r) (level : ℕ) (answer : Result (AnswerOf r) Fault)
+      → Reaches G.facts old.steps new.steps old.frames.frames v
+      (λ c last t s. at_object c last t s (level_object v level) p) answer
       → StandsOn old new v v
-  stands_read level i kind answer e =
-      goes v (level_gets G.facts old.steps new.steps old.frames.frames v level i kind answer e)
-
-  pub stands_written : (level i word : ℕ) (kind : Kind) (answer : Result (Unit {0}) Fault)
-      → WritesAt old new v level kind i word answer → StandsOn old new v v
-  stands_written level i word kind answer e =
-      goes v (level_sets G.facts old.steps new.steps old.frames.frames v level i word kind answer e)
+  stands_reached p level answer e =
+      goes v (level_reached G.facts old.steps new.steps old.frames.frames v p level answer e)
 
 -- the opening, once a stay that was left has been ended
 module _ {S : Type 0} {G : Ghosts S} (old mid new : Held S G) (ended : EndsStayOver old mid)
     (same : new.frames ≡ mid.frames) where
-  stands_from : (call : Config → ℕ → ℕ → State → Word → Call ℕ) (w : ℕ) (v : Levels)
-      → ((a : S) (f : Frames) → Opens G.facts a new.steps f w call (Ok v) → Since G.facts a new.steps f f v)
-      → OpensOver mid new w call (Ok v) → (G.facts old.steps).stands.role ≡ Outside → StandsSince old new v
-  stands_from call w v opens p out =
+  stands_from : (p : Program 0 object) (w : ℕ) (v : Levels) → OpensOver mid new w (opened_by p) (Ok v)
+      → (G.facts old.steps).stands.role ≡ Outside → StandsSince old new v
+  stands_from p w v opens out =
       subst (λ (a : S). Since G.facts a new.steps old.frames.frames new.frames.frames v) (ended.same out)
       (subst (λ (t : Table). Since G.facts mid.steps new.steps t.frames new.frames.frames v) ended.frames
       (subst (λ (t : Table). Since G.facts mid.steps new.steps mid.frames.frames t.frames v) (sym same)
-      (opens mid.steps mid.frames.frames p)))
+      (opens_at G.facts mid.steps new.steps mid.frames.frames v p w opens)))
 
-  pub stands_at_array : (w : ℕ) (answer : Result Levels Fault) → OpensOver mid new w get_array_critical answer
+  pub stands_at : (p : Program 0 object) (w : ℕ) (answer : Result Levels Fault)
+      → OpensOver mid new w (opened_by p) answer
       → IfOk answer (λ v. (G.facts old.steps).stands.role ≡ Outside → StandsSince old new v)
-  stands_at_array w (Ok v) p = stands_from get_array_critical w v (λ a f. opens_at_array G.facts a new.steps f v w) p
-  stands_at_array w (Err e) p = tt
-
-  pub stands_at_string : (w : ℕ) (answer : Result Levels Fault) → OpensOver mid new w get_string_critical answer
-      → IfOk answer (λ v. (G.facts old.steps).stands.role ≡ Outside → StandsSince old new v)
-  stands_at_string w (Ok v) p = stands_from get_string_critical w v (λ a f. opens_at_string G.facts a new.steps f v w) p
-  stands_at_string w (Err e) p = tt
+  stands_at p w (Ok v) opens = stands_from p w v opens
+  stands_at p w (Err e) opens = tt
 
 -- what such an opening left, over an env
 module _ {S : Type 0} {G : Ghosts S} (old new : Env S G) (mid : Held S G) (ended : EndsStayOver old.held mid)
@@ -303,3 +263,10 @@ module _ {S : Type 0} {G : Ghosts S} (old new : Env S G) (mid : Held S G) (ended
     frames = same ∙ ended.frames;
     outside = err.role_is;
   }
+
+-- a region over an env and levels which stand since an entry stands since then
+pub since_over : {S : Type 0} {G : Ghosts S} (begun : Held S G) (env : Env S G) (v : Levels) (r : Region S G)
+    → (env_of r).now ≡ env → levels_of r ≡ v → StandsSince begun env.held v
+    → StandsSince begun (held_of r) (levels_of r)
+since_over {S} {G} begun env v r same levels =
+    subst (λ (x : Env S G × Levels). StandsSince begun (x.0).held x.1) (λ i. (sym same i, sym levels i))

@@ -5,15 +5,17 @@ use Rattle.jr_word.specs.declared.fault.Fault.{Fault}
 use Rattle.jr_model.specs.State.{State}
 use Rattle.jr_model.specs.Calls.{Call}
 use Rattle.jr_model.specs.Checks.{Word}
-use Rattle.jr_model.specs.Objects.{level_array, level_string}
-use Rattle.jr_model.proofs.OpenStays.{Stays, level_array_stays, level_string_stays, one_stay, stays_more}
+use Rattle.jr_model.specs.Programs.{Program, handed_one, none_known, object}
+use Rattle.jr_model.proofs.EachCall.{program_stays}
+use Rattle.jr_model.proofs.OpenStays.{one_stay, stays_more}
 use Rattle.jr_steps.specs.declared.steps.Steps.{Ghosts}
 use Rattle.jr_steps.specs.Knowing.{state_of, Holds}
 use Rattle.jr_gate.specs.declared.inside.Inside.{Inside}
 use Rattle.jr_frames.specs.declared.held.Held.{Held}
 use Rattle.jr_frames.specs.Table.{Table}
 use Rattle.jr_critical.specs.declared.levels.Levels.{Levels}
-use Rattle.jr_critical.specs.Levels.{level_object, objects_of, without_stay, KnowsLevels, OpensWithinOver, StandOver}
+use Rattle.jr_critical.specs.Levels.{level_object, objects_of, opened_within, without_stay, KnowsLevels}
+use Rattle.jr_critical.specs.Levels.{OpensWithinOver, StandOver}
 use Rattle.jr_env.specs.declared.critical_region.Region.{Region}
 use Rattle.jr_env.specs.declared.env.Env.{Env}
 use Rattle.jr_env.specs.declared.stay.Stay.{Stay}
@@ -22,61 +24,39 @@ use Rattle.jr_env.specs.LentStays.{env_in, frames_in, held_in}
 use Rattle.jr_env.specs.OpenStays.{StaysOn}
 use Rattle.jr_env.specs.StayLevels.{StaysWith, StaysWithout, WasNotOpenedIn, WasOpenedIn}
 
-module _ {S : Type 0} {G : Ghosts S} (old new : Held S G) where
-  module _ (same : new.frames ≡ old.frames) (w : ℕ) (call : Config → ℕ → ℕ → State → Word → Call ℕ)
-      (law : (c : Config) (last t : ℕ) (s : State) (a : Word) → Stays (call c last t s a)) where
-    with_level : (v : Levels) → OpensWithinOver old new w call (Ok v) → StaysWith old new v
-    with_level v p begun since i s m =
-        let x = since i s m in
-        let y = p.2.ran x.0 x.1 x.3.1 in
-        let r = y.2.ran in
-        let at = (G.facts old.steps).stands in
-        let none = law at.config at.last at.thread (state_of y.0) p.0 old.frames.frames old.frames.frames r.acts
-        (Ok (level_object v 0)) r.is in
-        let stay = stays_more x.2 r.acts r.did none in
-        (y.0, y.1, stay, (one_stay stay, subst (λ (t : Table). KnowsLevels v t.frames y.0) (sym same) y.3))
+module _ {S : Type 0} {G : Ghosts S} (old new : Held S G) (same : new.frames ≡ old.frames) (w : ℕ)
+    (p : Program 0 object) where
+  with_level : (v : Levels) → OpensWithinOver old new w (opened_within p) (Ok v) → StaysWith old new v
+  with_level v e begun since i s m =
+      let x = since i s m in
+      let y = e.2.ran x.0 x.1 x.3.1 in
+      let r = y.2.ran in
+      let at = (G.facts old.steps).stands in
+      let none = program_stays at.config at.last at.thread (state_of y.0) (handed_one e.0) p none_known 0
+      old.frames.frames old.frames.frames r.acts (Ok (level_object v 0)) r.is in
+      let stay = stays_more x.2 r.acts r.did none in
+      (y.0, y.1, stay, (one_stay stay, subst (λ (t : Table). KnowsLevels v t.frames y.0) (sym same) y.3))
 
-    without_level : (e : Fault) → OpensWithinOver old new w call (Err e) → StaysOn old new
-    without_level e p begun since i s m =
-        let x = since i s m in
-        let y = p.2.ran x.0 x.1 x.3.1 in
-        let r = y.2.ran in
-        let at = (G.facts old.steps).stands in
-        let none =
-        law at.config at.last at.thread (state_of y.0) p.0 old.frames.frames old.frames.frames r.acts (Err e) r.is in
-        let stay = stays_more x.2 r.acts r.did none in
-        (y.0, y.1, stay, (one_stay stay, subst (λ (t : Table). Holds t.frames y.0) (sym same) y.3))
+  without_level : (d : Fault) → OpensWithinOver old new w (opened_within p) (Err d) → StaysOn old new
+  without_level d e begun since i s m =
+      let x = since i s m in
+      let y = e.2.ran x.0 x.1 x.3.1 in
+      let r = y.2.ran in
+      let at = (G.facts old.steps).stands in
+      let none = program_stays at.config at.last at.thread (state_of y.0) (handed_one e.0) p none_known 0
+      old.frames.frames old.frames.frames r.acts (Err d) r.is in
+      let stay = stays_more x.2 r.acts r.did none in
+      (y.0, y.1, stay, (one_stay stay, subst (λ (t : Table). Holds t.frames y.0) (sym same) y.3))
 
-    opened_by : (answer : Result Levels (Inside × Fault)) → OpensWithinOver old new w call (without_stay answer)
-        → IfOk answer (λ v. StaysWith old new v)
-    opened_by (Ok v) p = with_level v p
-    opened_by (Err e) p = tt
+  pub level_opened : (answer : Result Levels (Inside × Fault))
+      → OpensWithinOver old new w (opened_within p) (without_stay answer) → IfOk answer (λ v. StaysWith old new v)
+  level_opened (Ok v) e = with_level v e
+  level_opened (Err d) e = tt
 
-    refused_by : (answer : Result Levels (Inside × Fault)) → OpensWithinOver old new w call (without_stay answer)
-        → IfErr answer (λ e. StaysOn old new)
-    refused_by (Ok v) p = tt
-    refused_by (Err e) p = without_level e.1 p
-
-  module _ (same : new.frames ≡ old.frames) (w : ℕ) (answer : Result Levels (Inside × Fault)) where
-    pub array_opened : OpensWithinOver old new w (λ c last t s a. level_array c last t s 0 a) (without_stay answer)
-        → IfOk answer (λ v. StaysWith old new v)
-    array_opened p = opened_by same w (λ c last t s a. level_array c last t s 0 a)
-        (λ c last t s a. level_array_stays c last t s 0 a) answer p
-
-    pub array_refused : OpensWithinOver old new w (λ c last t s a. level_array c last t s 0 a) (without_stay answer)
-        → IfErr answer (λ e. StaysOn old new)
-    array_refused p = refused_by same w (λ c last t s a. level_array c last t s 0 a)
-        (λ c last t s a. level_array_stays c last t s 0 a) answer p
-
-    pub string_opened : OpensWithinOver old new w (λ c last t s a. level_string c last t s 0 a) (without_stay answer)
-        → IfOk answer (λ v. StaysWith old new v)
-    string_opened p = opened_by same w (λ c last t s a. level_string c last t s 0 a)
-        (λ c last t s a. level_string_stays c last t s 0 a) answer p
-
-    pub string_refused : OpensWithinOver old new w (λ c last t s a. level_string c last t s 0 a) (without_stay answer)
-        → IfErr answer (λ e. StaysOn old new)
-    string_refused p = refused_by same w (λ c last t s a. level_string c last t s 0 a)
-        (λ c last t s a. level_string_stays c last t s 0 a) answer p
+  pub level_refused : (answer : Result Levels (Inside × Fault))
+      → OpensWithinOver old new w (opened_within p) (without_stay answer) → IfErr answer (λ d. StaysOn old new)
+  level_refused (Ok v) e = tt
+  level_refused (Err d) e = without_level d.1 e
 
 -- the levels are given up, and the stay goes on
 pub given_up : {S : Type 0} {G : Ghosts S} (old : Held S G) (v : Levels) → StaysWithout old old v

@@ -10,13 +10,14 @@ use Rattle.jr_model.specs.declared.event.Role.TheVariants.{Outside}
 use Rattle.jr_model.specs.declared.frames.Mode.{Mode}
 use Rattle.jr_model.specs.declared.frames.Mode.TheVariants.{Copy, Commit, Abort}
 use Rattle.jr_model.specs.State.{State}
-use Rattle.jr_model.specs.References as references
-use Rattle.jr_model.specs.Objects as objects
 use Rattle.jr_model.specs.History.{state}
 use Rattle.jr_model.specs.Frames.{Frames}
 use Rattle.jr_model.specs.Calls.{Call, entered}
 use Rattle.jr_model.specs.Checks.{Word}
 use Rattle.jr_model.specs.Parts.{leave}
+use Rattle.jr_model.specs.Programs.{AnswerKind, AnswerOf, Program, handed_one, work_of}
+use Rattle.jr_model.specs.CallPrograms as programs
+use Rattle.jr_model.specs.AllCalls.{keeps, means, stays_out}
 use Rattle.jr_steps.specs.declared.known.Known.{Known}
 use Rattle.jr_steps.specs.Holdings.{empty}
 use Rattle.jr_steps.specs.Knowing.{Facts, Leads, Holds}
@@ -41,8 +42,9 @@ abbrev pub call : {A : Type 0} → (Config → ℕ → ℕ → State → Call A)
 call asked = call_by (λ c. 0) asked
 
 -- a call that enters no gate: it takes no operation and sees nothing, and but for the frames all is as it was
-abbrev pub call_apart : {A : Type 0} → (Config → ℕ → ℕ → Call A) → Deed A
-call_apart asked old answer new = IsMade 0 old new (asked old.pass.config old.pass.last old.pass.thread) answer
+abbrev pub call_apart : {n : ℕ} {a : AnswerKind} → Program n a → Deed (AnswerOf a)
+call_apart p old answer new = IsMade 0 old new
+    (means old.pass.config old.pass.last old.pass.thread (state new.pass.seen) (stays_out p)) answer
     × (new ≡ record old { frames = new.frames })
 
 -- work in a stay that goes on: its events, and the answer that it may have;
@@ -55,12 +57,6 @@ within_by silent asked old answer new = IsMade (silent old.pass.config) old new
 abbrev pub call_on_by : {A : Type 0} → (Config → ℕ) → ℕ → (Config → ℕ → ℕ → State → Word → Call A) → Deed A
 call_on_by silent w asked old answer new =
     (a : Word) × IsReadAs w a × call_by silent (λ c last t s. asked c last t s a) old answer new
-
--- a call that is handed two reference words, and takes at most so many operations beside its events
-abbrev pub call_on_both_by : {A : Type 0} → (Config → ℕ) → ℕ → ℕ → (Config → ℕ → ℕ → State → Word → Word → Call A)
-    → Deed A
-call_on_both_by silent v w asked old answer new =
-    (a b : Word) × IsReadAs v a × IsReadAs w b × call_by silent (λ c last t s. asked c last t s a b) old answer new
 
 -- an answer, with no event
 abbrev pub done : {A : Type 0} → A → Deed A
@@ -95,7 +91,7 @@ How = (A : Type 0) → (Config → ℕ) → (Config → ℕ → ℕ → State �
 
 -- the deed of a request, by how its work becomes one
 abbrev pub deed_of : {A : Type 0} → How → Request A → Deed A
-deed_of how (asks silent work stays) = how _ silent work
+deed_of how (asks silent words p) = how _ silent (λ c last t s. work_of c last t s words p)
 deed_of how (on_word w next) = λ old answer new. (a : Word) × IsReadAs w a × deed_of how (next a) old answer new
 deed_of how (on_words v w next) =
     λ old answer new. (a b : Word) × IsReadAs v a × IsReadAs w b × deed_of how (next a b) old answer new
@@ -154,11 +150,11 @@ get_object_ref_type w = whole (requests.for_get_object_ref_type w)
 
 -- EnsureLocalCapacity
 abbrev pub ensure_local_capacity : ℕ → Deed (Unit {0})
-ensure_local_capacity n = call_apart (λ c last t. references.ensure_local_capacity c last t n)
+ensure_local_capacity n = call_apart (programs.ensure_local_capacity n)
 
 -- PushLocalFrame
 abbrev pub push_local_frame : ℕ → Deed (Unit {0})
-push_local_frame n = call_apart (λ c last t. references.push_local_frame c last t n)
+push_local_frame n = call_apart (programs.push_local_frame n)
 
 -- PopLocalFrame
 abbrev pub pop_local_frame : ℕ → Deed (Option HandleWord)
@@ -208,10 +204,10 @@ get_string_chars w = whole (requests.for_get_string_chars w)
 -- ReleaseBooleanArrayElements and its like, of elements with these words: the words of those that are
 -- kept, if they are. To abort looks at no reference, takes no operation, sees nothing, and changes nothing
 abbrev pub release_array_elements : Kind → ℕ → List ℕ → Mode → Deed (Option (List ℕ))
-release_array_elements kind w vs Copy =
-    call_on_by (λ c. 1) w (λ c last t s a. objects.release_array_elements c last t s kind a vs Copy)
-release_array_elements kind w vs Commit =
-    call_on_by (λ c. 1) w (λ c last t s a. objects.release_array_elements c last t s kind a vs Commit)
+release_array_elements kind w vs Copy = call_on_by (λ c. 1) w (λ c last t s a.
+    means c last t s (keeps None (handed_one a) (programs.release_array_elements kind vs)))
+release_array_elements kind w vs Commit = call_on_by (λ c. 1) w (λ c last t s a.
+    means c last t s (keeps (Some vs) (handed_one a) (programs.release_array_elements kind vs)))
 release_array_elements kind w vs Abort = done None
 
 -- the same in a stay

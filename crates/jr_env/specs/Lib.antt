@@ -17,6 +17,4 @@ pub mod Watching
 pub mod LentStays
 pub mod Moving
 pub mod StayLevels
-pub mod Elements
 pub mod Calling
-pub mod ArrayParts

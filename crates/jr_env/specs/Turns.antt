@@ -8,9 +8,10 @@ use Rattle.jr_model.specs.declared.frames.Mode.{Mode}
 use Rattle.jr_model.specs.State.{State}
 use Rattle.jr_model.specs.Calls.{Call}
 use Rattle.jr_model.specs.Checks.{Word}
-use Rattle.jr_model.specs.Objects.{get_array_critical, get_string_critical}
+use Rattle.jr_model.specs.CallPrograms.{get_array_critical, get_string_critical}
 use Rattle.jr_steps.specs.declared.steps.Steps as steps
 use Rattle.jr_critical.specs.declared.levels.Levels.{Levels}
+use Rattle.jr_critical.specs.Levels.{opened_by}
 use Rattle.jr_env.specs.declared.env.Env.{Env}
 use Rattle.jr_env.specs.contracts.env.Env as env
 use Rattle.jr_env.specs.declared.critical_region.Region.{Region}
@@ -33,8 +34,8 @@ first_word (Text h) = h.0
 
 -- the call that opens it
 abbrev pub first_call : First → Config → ℕ → ℕ → State → Word → Call ℕ
-first_call (Array h) = get_array_critical
-first_call (Text h) = get_string_critical
+first_call (Array h) = opened_by (get_array_critical 0)
+first_call (Text h) = opened_by (get_string_critical 0)
 
 module _ {S : Type 0} {G : steps.Ghosts S} where
   -- a try to enter a stay: it was entered, or the entry was barred

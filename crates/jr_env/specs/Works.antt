@@ -11,6 +11,7 @@ use Rattle.jr_model.specs.Frames.{Frames, object_at}
 use Rattle.jr_model.specs.Calls.{Call, ◌>>=◌}
 use Rattle.jr_model.specs.Checks.{Word}
 use Rattle.jr_model.specs.Parts.{publish}
+use Rattle.jr_model.specs.Programs.{work_of}
 use Rattle.jr_model.specs.References.{added, made}
 use Rattle.jr_steps.specs.declared.known.Known.{Known}
 use Rattle.jr_steps.specs.declared.steps.Steps.{Ghosts}
@@ -23,7 +24,6 @@ use Rattle.jr_frames.specs.Table.{Table}
 use Rattle.jr_frames.specs.OverSteps.{CallsWhole}
 use Rattle.jr_frames.specs.Ready.{StandsReady}
 use Rattle.jr_frames.specs.Reading.{IsReadAs}
-use Rattle.jr_frames.specs.Steady.{IsSteady}
 use Rattle.jr_elements.specs.Copies.{answer_in}
 use Rattle.jr_env.specs.Requests.{Request, asks, gives, named, on_word, on_words, told_by, making_steps}
 use Rattle.jr_env.specs.Deeds.{DoesDeed, DoesOutside, whole, in_a_stay}
@@ -62,14 +62,13 @@ module _ {S : Type 0} (facts : S → Facts) where
       (λ s. made (facts old).stands.config (facts old).stands.last (facts old).stands.thread kind words) answer (λ j k.
       Unit {0} × Holds g k)
 
-  -- A REQUEST WAS SERVED in a stay, with this answer: the words were read so, its work was done by so many operations
-  -- beside its acts, and is steady; and the frames go on agreeing with the locals
+  -- A REQUEST WAS SERVED in a stay, with this answer: the words were read so, its program was done
+  -- by so many operations beside its acts, and the frames go on agreeing with the locals
   abbrev pub Serves : {A : Type 0} → S → S → Frames → Frames → Request A → Result A Fault → Type 0
-  Serves old new f g (asks silent work stays) answer =
+  Serves old new f g (asks silent words p) answer =
       Performed facts old new f g (silent (facts old).stands.config) (Holds f)
-      (work (facts old).stands.config (facts old).stands.last (facts old).stands.thread) answer (λ j k.
-      Unit {0} × Holds g k)
-      × IsSteady (work (facts old).stands.config (facts old).stands.last (facts old).stands.thread)
+      (λ s. work_of (facts old).stands.config (facts old).stands.last (facts old).stands.thread s words p) answer
+      (λ j k. Unit {0} × Holds g k)
   Serves old new f g (on_word w next) answer = (a : Word) × IsReadAs w a × Serves old new f g (next a) answer
   Serves old new f g (on_words v w next) answer =
       (a b : Word) × IsReadAs v a × IsReadAs w b × Serves old new f g (next a b) answer

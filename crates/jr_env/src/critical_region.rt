@@ -20,8 +20,8 @@ impl<'e, S: Steps> Region<'e, S> {
     ghost use Rattle.std.specs.Prelude.{◌≡◌, ◌<◌, ◌≤◌, ◌+◌, IfErr, IfOk, IfSome, Some, false, length};
     ghost use Rattle.std.specs.Borrow.{sem};
     ghost use Rattle.jr_word.specs.declared.fault.Fault.TheVariants.{Stale};
-    ghost use Rattle.jr_model.specs.Objects.{nest_array, nest_string};
-    ghost use Rattle.jr_critical.specs.Levels.{objects_of, in_words, GivesUpAllOver, GivesUpLastOver, LeavesBefore, NestsOver, ReadsAt, TellsKind, TellsLength, WasAdded, WritesAt};
+    ghost use Rattle.jr_model.specs.CallPrograms.{get_array_critical, get_string_critical};
+    ghost use Rattle.jr_critical.specs.Levels.{objects_of, in_words, nested_by, GivesUpAllOver, GivesUpLastOver, LeavesBefore, NestsOver, ReadsAt, TellsKind, TellsLength, WasAdded, WritesAt};
     ghost use Rattle.jr_env.specs.Envs.{IsOutside};
     ghost use Rattle.jr_env.specs.StandingRegions.{EndsUndisturbed, StandsOn};
     ghost use Rattle.jr_env.specs.Criticals.{env_of, levels_of, held_of, frames_of, rests_in_left, AtLevel};
@@ -52,7 +52,7 @@ impl<'e, S: Steps> Region<'e, S> {
     /// At most 2: a look at the slot of a global or weak handle, and one at the array's header. It takes none at the gate.
     pub fn nest_array(&mut self, array: Handle) -> Result<usize, Fault>
         ensures same_reference { (env_of self.new).ghost_name ≡ (env_of self.old).ghost_name }
-        ensures call { NestsOver (held_of self.old) (held_of self.new) array.0 nest_array (levels_of self.old) (levels_of self.new) result }
+        ensures call { NestsOver (held_of self.old) (held_of self.new) array.0 (nested_by get_array_critical) (levels_of self.old) (levels_of self.new) result }
         ensures region { StandsOn (held_of self.old) (held_of self.new) (levels_of self.old) (levels_of self.new) }
         ensures frames { frames_of self.new ≡ frames_of self.old }
         ensures added { IfOk result (λ n. WasAdded (levels_of self.old) (levels_of self.new) n) }
@@ -74,7 +74,7 @@ impl<'e, S: Steps> Region<'e, S> {
     /// At most 2: a look at the slot of a global or weak handle, and one at the string's header. It takes none at the gate.
     pub fn nest_string(&mut self, string: Handle) -> Result<usize, Fault>
         ensures same_reference { (env_of self.new).ghost_name ≡ (env_of self.old).ghost_name }
-        ensures call { NestsOver (held_of self.old) (held_of self.new) string.0 nest_string (levels_of self.old) (levels_of self.new) result }
+        ensures call { NestsOver (held_of self.old) (held_of self.new) string.0 (nested_by get_string_critical) (levels_of self.old) (levels_of self.new) result }
         ensures region { StandsOn (held_of self.old) (held_of self.new) (levels_of self.old) (levels_of self.new) }
         ensures frames { frames_of self.new ≡ frames_of self.old }
         ensures added { IfOk result (λ n. WasAdded (levels_of self.old) (levels_of self.new) n) }

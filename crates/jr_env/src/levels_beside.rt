@@ -2,8 +2,8 @@
 //!
 //! The levels have to be closed on the env that opened them, the last first. Each other call of the env ends the stay that they stand in.
 ghost use Rattle.std.specs.Prelude.{◌≡◌, ◌<◌, IfErr, IfOk, length, IfNone, IfSome};
-ghost use Rattle.jr_model.specs.Objects.{get_array_critical, get_string_critical, nest_array, nest_string};
-ghost use Rattle.jr_critical.specs.Levels.{objects_of, in_words, GivesUpAllOver, GivesUpLastOver, LeavesBefore, NestsOver, ReadsAt, StandOver, WasAdded, WritesAt};
+ghost use Rattle.jr_model.specs.CallPrograms.{get_array_critical, get_string_critical};
+ghost use Rattle.jr_critical.specs.Levels.{objects_of, in_words, nested_by, opened_by, GivesUpAllOver, GivesUpLastOver, LeavesBefore, NestsOver, ReadsAt, StandOver, WasAdded, WritesAt};
 ghost use Rattle.jr_env.specs.Envs.{IsOutside};
 ghost use Rattle.jr_env.specs.StandingRegions.{EndsUndisturbed, StandsOn, StandsSince};
 ghost use Rattle.jr_env.specs.Criticals.{HasEntered, WasRefused};
@@ -30,9 +30,9 @@ use jr_word::{Elem, Fault, Handle};
 /// At most 3: the entry, a look at the slot of a global or weak handle, and one at the array's header. Where it is refused, the exit too.
 #[inline(always)]
 pub fn open_array<S: Steps>(env: &mut Env<S>, array: Handle) -> Result<Levels, Fault>
-    ensures entered { IfOk result (λ v. HasEntered env.old env.new v array.0 get_array_critical) }
+    ensures entered { IfOk result (λ v. HasEntered env.old env.new v array.0 (opened_by (get_array_critical 0))) }
     ensures region { IfOk result (λ v. IsOutside env.old → StandsSince env.old.held env.new.held v) }
-    ensures refused { IfErr result (λ e. WasRefused env.old env.new array.0 get_array_critical e) }
+    ensures refused { IfErr result (λ e. WasRefused env.old env.new array.0 (opened_by (get_array_critical 0)) e) }
 {
     outside(&mut env.held);
     Levels::open_array(&mut env.held, array)
@@ -51,9 +51,9 @@ pub fn open_array<S: Steps>(env: &mut Env<S>, array: Handle) -> Result<Levels, F
 /// At most 3: the entry, a look at the slot of a global or weak handle, and one at the string's header. Where it is refused, the exit too.
 #[inline(always)]
 pub fn open_string<S: Steps>(env: &mut Env<S>, string: Handle) -> Result<Levels, Fault>
-    ensures entered { IfOk result (λ v. HasEntered env.old env.new v string.0 get_string_critical) }
+    ensures entered { IfOk result (λ v. HasEntered env.old env.new v string.0 (opened_by (get_string_critical 0))) }
     ensures region { IfOk result (λ v. IsOutside env.old → StandsSince env.old.held env.new.held v) }
-    ensures refused { IfErr result (λ e. WasRefused env.old env.new string.0 get_string_critical e) }
+    ensures refused { IfErr result (λ e. WasRefused env.old env.new string.0 (opened_by (get_string_critical 0)) e) }
 {
     outside(&mut env.held);
     Levels::open_string(&mut env.held, string)
@@ -118,7 +118,7 @@ pub fn nest_array<S: Steps>(
     array: Handle,
 ) -> Result<usize, Fault>
     requires { StandOver levels.old env.old.held }
-    ensures call { NestsOver env.old.held env.new.held array.0 nest_array levels.old levels.new result }
+    ensures call { NestsOver env.old.held env.new.held array.0 (nested_by get_array_critical) levels.old levels.new result }
     ensures region { StandsOn env.old.held env.new.held levels.old levels.new }
     ensures frames { env.new.held.frames ≡ env.old.held.frames }
     ensures stand { StandOver levels.new env.new.held }
@@ -145,7 +145,7 @@ pub fn nest_string<S: Steps>(
     string: Handle,
 ) -> Result<usize, Fault>
     requires { StandOver levels.old env.old.held }
-    ensures call { NestsOver env.old.held env.new.held string.0 nest_string levels.old levels.new result }
+    ensures call { NestsOver env.old.held env.new.held string.0 (nested_by get_string_critical) levels.old levels.new result }
     ensures region { StandsOn env.old.held env.new.held levels.old levels.new }
     ensures frames { env.new.held.frames ≡ env.old.held.frames }
     ensures stand { StandOver levels.new env.new.held }

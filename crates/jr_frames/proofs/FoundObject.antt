@@ -202,15 +202,6 @@ ran_for {f = f} {g = g} k o h next {answer} x r =
       grounds = r.grounds;
     }
 
-pub performed_for : {S A : Type 0} {facts : S → Facts} {b c : S} {f g : Frames} {n : ℕ} {met : Known → Type 0} (o : ℕ)
-    (h : HeaderParts) (next : Kind → ℕ → Call A) {answer : Result A Fault}
-    → Performed facts b c f g n met (λ s. next h.kind h.length) answer (λ j k. ShowsObject o h k × Holds g k)
-    → Performed facts b c f g n met (λ s. for_object s o next) answer (λ j k. ShowsObject o h k × Holds g k)
-performed_for o h next p = record {
-  stands_is = p.stands_is;
-  ran = λ k s m. let x = p.ran k s m in (x.0, x.1, made_of (spending x.2) (ran_for x.0 o h next x.3.0 x.2.ran), x.3);
-}
-
 -- the resolution of a reference
 abbrev pub resolving : {S : Type 0} → (S → Facts) → S → Word → Call (Option ℕ)
 resolving facts a w = resolved (facts a).stands.config (facts a).stands.last (facts a).stands.thread w
@@ -327,13 +318,3 @@ module _ {S : Type 0} {facts : S → Facts} {a b : S} {f : Frames} (w : Word) wh
           (tt, y.3.1),
         );
   }
-
-  -- the same, where what follows asks for the object's kind and length: it has them still in the state that is left
-  pub finds_then : {A : Type 0} {c : S} {g : Frames} {o : ℕ} {h : HeaderParts} (n : ℕ) (next : ℕ → Kind → ℕ → Call A)
-      {answer : Result A Fault} → Finds facts a b f w (Ok (o, h))
-      → Performed facts b c f g n (λ k. HoldsHeader o h k × Holds f k) (λ s. next o h.kind h.length) answer (λ j k.
-      ShowsObject o h k × Holds g k)
-      → Performed facts a c f g (1 + n) (Holds f) (work_at facts a w (λ s q. for_object s q (next q))) answer (λ j k.
-      Unit {0} × Holds g k)
-  finds_then {o = o} {h = h} n next p q =
-      finds_next {so = λ j k. ShowsObject o h k} n (λ s q. for_object s q (next q)) p (performed_for o h (next o) q)

@@ -21,7 +21,7 @@ use Rattle.jr_gate.specs.Performing.{Performed, IsAsBefore}
 use Rattle.jr_gate.proofs.SameRoom.{as_before}
 use Rattle.jr_gate.proofs.Spending.{made_of, spending, spend_first, spend_last, spend_step, spend_barred}
 use Rattle.jr_frames.specs.OverSteps.{CallsWhole}
-use Rattle.jr_frames.specs.Steady.{IsSteady, KeepsObjects}
+use Rattle.jr_frames.proofs.Steady.{IsSteady, KeepsObjects}
 use Rattle.jr_frames.proofs.FramesAgree.{holds_did}
 use Rattle.std.proofs.lemmas.List.{append-nil}
 use Rattle.jr_model.specs.History.{History, PassView, by, state, IsLegal}

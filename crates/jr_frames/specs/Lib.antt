@@ -9,5 +9,4 @@ pub mod Finding
 pub mod Explaining
 pub mod Ready
 pub mod Dropping
-pub mod Steady
 pub mod Giving

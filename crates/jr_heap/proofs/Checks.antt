@@ -1,26 +1,12 @@
--- What a call refuses before its acts.
-use Rattle.std.proofs.Common.{◌≡◌, ◌<◌, ◌≤◌, ◌^◌, ℕ, Bool, true, false, nat_lt}
-use Rattle.std.proofs.Common.{nat_le, List, [], Result, Err, inl, inr, refl, arith}
+-- What the tests at an element say.
+use Rattle.std.proofs.Common.{◌≡◌, ◌<◌, ◌≤◌, ◌^◌, ℕ, true, false, nat_lt}
+use Rattle.std.proofs.Common.{nat_le, refl, arith}
 use Rattle.std.proofs.lemmas.Bool.{ltb-true}
 use Rattle.std.proofs.lemmas.Bool.Decides.{nat_tests}
-use Rattle.jr_word.specs.declared.fault.Fault.{Fault}
 use Rattle.jr_word.specs.declared.kind.Kind.{Kind}
 use Rattle.jr_word.specs.declared.kind.Kind.TheVariants.{Plain, Boolean, Byte, Char, Short, Int, Long, Objects, Text}
-use Rattle.jr_model.specs.declared.event.Act.{Act}
 use Rattle.jr_model.specs.State.{State, IsWord}
-use Rattle.jr_model.specs.Frames.{Frames}
-use Rattle.jr_model.specs.Calls.{Call, ◌>>◌, refuse_if}
 use Rattle.jr_model.specs.Checks.{is_value}
-
-pub stop : {A : Type 0} (b : Bool) (e : Fault) (next : Call A) (f : Frames) → b ≡ true
-    → (refuse_if b e >> next) f [] (Err e) f
-stop true e next f is = inr (e, refl, (refl, refl, refl))
-stop false e next f is = absurd cc
-
-pub pass : {A : Type 0} (b : Bool) (e : Fault) (next : Call A) (f : Frames) (acts : List Act) (answer : Result A Fault)
-    → b ≡ false → next f acts answer f → (refuse_if b e >> next) f acts answer f
-pass true e next f acts answer is p = absurd cc
-pass false e next f acts answer is p = inl (tt, f, [], acts, refl, (refl, refl, refl), p)
 
 pub beyond : (n i : ℕ) → n ≤ i → nat_le n i ≡ true
 beyond n i l = grind (arith, nat_tests)

@@ -1,5 +1,5 @@
 -- Elements are read and written where the header of their object is known.
-use Rattle.std.proofs.Common.{◌≡◌, ◌≢◌, ◌<◌, ◌≤◌, ◌||◌, not, ℕ, true, false, nat_le, length}
+use Rattle.std.proofs.Common.{◌≡◌, ◌≢◌, ◌<◌, ◌≤◌, ◌||◌, ℕ, true, false, length}
 use Rattle.std.proofs.Common.{Some, [], ◌∷◌, ◌++◌, Result, Ok, Err, refl, ap, ◌∙◌, subst, sym}
 use mathlib.Core.Logic.{∥∥₁_map}
 use Rattle.std.proofs.Math.Logic.{∥∥₁_elim}
@@ -12,17 +12,19 @@ use Rattle.jr_model.specs.declared.event.Role.TheVariants.{Within}
 use Rattle.jr_model.specs.declared.event.Act.{Act}
 use Rattle.jr_model.specs.declared.event.Act.TheVariants.{Gate, Read, Write}
 use Rattle.jr_model.specs.declared.event.GateAct.TheVariants.{Leave}
-use Rattle.jr_model.specs.State.{Contents, State, IsWord}
+use Rattle.jr_model.specs.State.{State, IsWord}
 use Rattle.jr_model.specs.History.{by, state, IsLegal, PassView}
 use Rattle.jr_model.specs.Frames.{Frames}
 use Rattle.jr_model.specs.Refusals.{Grounds}
-use Rattle.jr_model.specs.Calls.{Call, ◌>>◌, act, some_act, refuse_if}
+use Rattle.jr_model.specs.Calls.{Call, act, for_object, some_act}
+use Rattle.jr_model.specs.Tests.{Tests, refused_by, tested}
 use Rattle.jr_model.proofs.Histories.{legal_push, state_push}
 use Rattle.jr_model.proofs.Gates.{apart_state}
 use Rattle.jr_model.proofs.Words.{elements_are_words}
 use Rattle.jr_model.proofs.Stays.{did_nothing}
 use Rattle.jr_model.proofs.Windows.{window_act, window_nothing}
-use Rattle.jr_model.specs.Parts.{read_element, write_element}
+use Rattle.jr_model.specs.Parts.{read_element, read_tests, write_element, write_tests}
+use Rattle.jr_model.proofs.Tests.{tests_pass, tests_refuse}
 use Rattle.jr_model.specs.Checks.{is_plain, is_text, is_value}
 use Rattle.jr_steps.specs.declared.known.Known.{Known}
 use Rattle.jr_steps.specs.Knowing.{AreOf, Facts, MayKnow, keeps, view, state_of}
@@ -31,57 +33,7 @@ use Rattle.jr_steps.proofs.StepFacts.{goes_did}
 use Rattle.jr_heap.specs.Heap.{Called, by_steps, HoldsHeader, LeavesObject, MayBeNamed, ReadsOfKind}
 use Rattle.jr_heap.proofs.Calling.{no_step, called_by}
 use Rattle.jr_heap.proofs.StayFacts.{kind_in, object_later, header_later}
-use Rattle.jr_heap.proofs.Checks.{stop, pass, beyond, inside, word_is, value_is}
-
--- what follows the check of the kind, in an object of n elements
-abbrev pub read_rest : ℕ → ℕ → ℕ → Call ℕ
-read_rest o i n = refuse_if (nat_le n i) Range >> some_act (Read o i)
-
-abbrev pub write_last : Kind → ℕ → ℕ → ℕ → Call (Unit {0})
-write_last kind o i v = refuse_if (not (is_value kind v)) Value >> act (Write o i v)
-
-abbrev pub write_rest : Kind → ℕ → ℕ → ℕ → ℕ → Call (Unit {0})
-write_rest kind o i v n = refuse_if (nat_le n i) Range >> write_last kind o i v
-
--- how the checks end
-no_elements : (o i n : ℕ) (kind : Kind) (f : Frames) → is_plain kind ≡ true
-    → (refuse_if (is_plain kind) NotArray >> read_rest o i n) f [] (Err NotArray) f
-no_elements o i n kind f is = stop (is_plain kind) NotArray (read_rest o i n) f is
-
-too_far : (o i n : ℕ) (kind : Kind) (f : Frames) → is_plain kind ≡ false → n ≤ i
-    → (refuse_if (is_plain kind) NotArray >> read_rest o i n) f [] (Err Range) f
-too_far o i n kind f is l = pass (is_plain kind) NotArray (read_rest o i n) f [] (Err Range) is
-    (stop (nat_le n i) Range (some_act (Read o i)) f (beyond n i l))
-
-is_read : (o i v n : ℕ) (kind : Kind) (f : Frames) → is_plain kind ≡ false → i < n
-    → (refuse_if (is_plain kind) NotArray >> read_rest o i n) f (Read o i v ∷ []) (Ok v) f
-is_read o i v n kind f is l = pass (is_plain kind) NotArray (read_rest o i n) f (Read o i v ∷ []) (Ok v) is
-    (pass (nat_le n i) Range (some_act (Read o i)) f (Read o i v ∷ []) (Ok v) (inside n i l) (v, refl, refl, refl))
-
-no_array : (o i v n : ℕ) (kind : Kind) (f : Frames) → (is_plain kind || is_text kind) ≡ true
-    → (refuse_if (is_plain kind || is_text kind) NotArray >> write_rest kind o i v n) f [] (Err NotArray) f
-no_array o i v n kind f is = stop (is_plain kind || is_text kind) NotArray (write_rest kind o i v n) f is
-
-too_far_to_write : (o i v n : ℕ) (kind : Kind) (f : Frames) → (is_plain kind || is_text kind) ≡ false → n ≤ i
-    → (refuse_if (is_plain kind || is_text kind) NotArray >> write_rest kind o i v n) f [] (Err Range) f
-too_far_to_write o i v n kind f is l = pass (is_plain kind || is_text kind) NotArray (write_rest kind o i v n) f []
-    (Err Range) is (stop (nat_le n i) Range (write_last kind o i v) f (beyond n i l))
-
-no_value : (o i v n : ℕ) (kind : Kind) (f : Frames) → (is_plain kind || is_text kind) ≡ false → i < n
-    → is_value kind v ≡ false
-    → (refuse_if (is_plain kind || is_text kind) NotArray >> write_rest kind o i v n) f [] (Err Value) f
-no_value o i v n kind f is l bad =
-    pass (is_plain kind || is_text kind) NotArray (write_rest kind o i v n) f [] (Err Value) is
-    (pass (nat_le n i) Range (write_last kind o i v) f [] (Err Value) (inside n i l)
-    (stop (not (is_value kind v)) Value (act (Write o i v)) f (ap not bad)))
-
-is_written : (o i v n : ℕ) (kind : Kind) (f : Frames) → (is_plain kind || is_text kind) ≡ false → i < n
-    → is_value kind v ≡ true
-    → (refuse_if (is_plain kind || is_text kind) NotArray >> write_rest kind o i v n) f (Write o i v ∷ []) (Ok tt) f
-is_written o i v n kind f is l good =
-    pass (is_plain kind || is_text kind) NotArray (write_rest kind o i v n) f (Write o i v ∷ []) (Ok tt) is
-    (pass (nat_le n i) Range (write_last kind o i v) f (Write o i v ∷ []) (Ok tt) (inside n i l) (pass
-    (not (is_value kind v)) Value (act (Write o i v)) f (Write o i v ∷ []) (Ok tt) (ap not good) (refl, refl, refl)))
+use Rattle.jr_heap.proofs.Checks.{beyond, inside, word_is, value_is}
 
 -- an element that was read is a word of its object's kind
 pub read_word : {k k' : Known} (o i v : ℕ) (h : HeaderParts) → Goes k (Read o i v ∷ []) k' → ShowsObject o h k'
@@ -104,19 +56,25 @@ abbrev Finds : ℕ → HeaderParts → Result ℕ Fault → Known → Known → 
 Finds o h answer j k = LeavesObject o h j k × ReadsOfKind h.kind answer k
 
 module _ {S : Type 0} {facts : S → Facts} (fits : AreOf facts) (o : ℕ) (h : HeaderParts) (i : ℕ) where
-  -- a refusal, before any act
-  refused : {A : Type 0} (a : S) (e : Fault) (met : Known → Type 0) (call : Known → Known → Call A)
+  -- a refusal by tests of the object, before any act
+  refused : {A : Type 0} (a : S) (ts : Kind → ℕ → Tests) (next : Call A) (e : Fault) (met : Known → Type 0)
       (shows : Known → Known → Type 0) → ((k : Known) → LeavesObject o h k k → shows k k)
       → ((k : Known) → met k → HoldsHeader o h k) → ((p : PassView) → Grounds p.seen p e)
-      → ((k : Known) → (x : Contents) → (state_of k).objects o ≡ Some x → x.kind ≡ h.kind → length x.words ≡ h.length
-      → (f : Frames) → call k k f [] (Err e) f) → Called facts a a met call (Err e) (by_steps 0 shows)
-  refused a e met call shows leaves holds grounds is = called_by refl (λ k s m. let x = (holds k m).shown in (
+      → refused_by (ts h.kind h.length) ≡ Err e
+      → Called facts a a met (λ j k. for_object (state_of k) o (λ l n. tested (ts l n) next)) (Err e) (by_steps 0 shows)
+  refused a ts next e met shows leaves holds grounds is = called_by refl (λ k s m. let x = (holds k m).shown in (
     k,
     s,
     [],
     record {
       did = did_nothing (view k) (fits a k s).legal;
-      is = is k x.contents x.is x.says.kind x.says.long;
+      is = λ f. (
+        x.contents,
+        x.is,
+        tests_refuse (ts x.contents.kind (length x.contents.words)) next f
+            (ap (λ l. refused_by (ts l (length x.contents.words))) x.says.kind
+            ∙ (ap (λ n. refused_by (ts h.kind n)) x.says.long ∙ is)),
+      );
       window = window_nothing (view k);
       grounds = grounds (view k);
       shows = (leaves k (x, refl), no_step k);
@@ -126,17 +84,14 @@ module _ {S : Type 0} {facts : S → Facts} (fits : AreOf facts) (o : ℕ) (h : 
   pub read_plain : (a : S) → is_plain h.kind ≡ true
       → Called facts a a (HoldsHeader o h) (λ j k. read_element (state_of k) o i) (Err NotArray) (by_steps 0
       (Finds o h (Err NotArray)))
-  read_plain a plain = refused a NotArray (HoldsHeader o h) (λ j k. read_element (state_of k) o i)
-      (Finds o h (Err NotArray)) (λ k l. (l, tt)) (λ k m. m) (λ p. tt) (λ k x there kind long f.
-      (x, there, no_elements o i (length x.words) x.kind f (ap is_plain kind ∙ plain)))
+  read_plain a plain = refused a (read_tests i) (some_act (Read o i)) NotArray (HoldsHeader o h)
+      (Finds o h (Err NotArray)) (λ k l. (l, tt)) (λ k m. m) (λ p. tt) (rw plain refl)
 
   pub read_beyond : (a : S) → is_plain h.kind ≡ false → h.length ≤ i
       → Called facts a a (HoldsHeader o h) (λ j k. read_element (state_of k) o i) (Err Range) (by_steps 0
       (Finds o h (Err Range)))
-  read_beyond a plain l = refused a Range (HoldsHeader o h) (λ j k. read_element (state_of k) o i)
-      (Finds o h (Err Range)) (λ k l. (l, tt)) (λ k m. m) (λ p. tt)
-      (λ k x there kind long f.
-      (x, there, too_far o i (length x.words) x.kind f (ap is_plain kind ∙ plain) (subst (λ n. n ≤ i) (sym long) l)))
+  read_beyond a plain l = refused a (read_tests i) (some_act (Read o i)) Range (HoldsHeader o h)
+      (Finds o h (Err Range)) (λ k l. (l, tt)) (λ k m. m) (λ p. tt) (rw (plain, beyond h.length i l) refl)
 
   pub read_found : {a b : S} (v : ℕ) → (facts a).stands.role ≡ Within → is_plain h.kind ≡ false → i < h.length
       → Took facts a b (Read o i v ∷ []) (KnowsHeader o h) keeps
@@ -148,8 +103,9 @@ module _ {S : Type 0} {facts : S → Facts} (fits : AreOf facts) (o : ℕ) (h : 
       let is : (f : Frames) → read_element (state_of g.0) o i f (Read o i v ∷ []) (Ok v) f = λ f. (
         x.contents,
         x.is,
-        is_read o i v (length x.contents.words) x.contents.kind f (ap is_plain x.says.kind ∙ plain)
-            (subst (λ n. i < n) (sym x.says.long) l),
+        tests_pass (read_tests i x.contents.kind (length x.contents.words)) (some_act (Read o i)) f f
+            (Read o i v ∷ []) (Ok v) (rw (x.says.kind, x.says.long, plain, inside h.length i l) refl)
+            (v, refl, refl, refl),
       ) in (
         g.0,
         g.1,
@@ -186,34 +142,20 @@ module _ {S : Type 0} {facts : S → Facts} (fits : AreOf facts) (o : ℕ) (h : 
   pub write_no_array : (a : S) → (is_plain h.kind || is_text h.kind) ≡ true
       → Called facts a a (MayWrite o h v) (λ j k. write_element (state_of k) o i v) (Err NotArray) (by_steps 0
       (LeavesObject o h))
-  write_no_array a plain = refused fits o h i a NotArray (MayWrite o h v) (λ j k. write_element (state_of k) o i v)
-      (LeavesObject o h) (λ k l. l) (λ k m. m.0) (λ p. tt)
-      (λ k x there kind long f.
-      (x, there, no_array o i v (length x.words) x.kind f (ap (λ z. is_plain z || is_text z) kind ∙ plain)))
+  write_no_array a plain = refused fits o h i a (write_tests i v) (act (Write o i v)) NotArray (MayWrite o h v)
+      (LeavesObject o h) (λ k l. l) (λ k m. m.0) (λ p. tt) (rw plain refl)
 
   pub write_beyond : (a : S) → (is_plain h.kind || is_text h.kind) ≡ false → h.length ≤ i
       → Called facts a a (MayWrite o h v) (λ j k. write_element (state_of k) o i v) (Err Range) (by_steps 0
       (LeavesObject o h))
-  write_beyond a plain l = refused fits o h i a Range (MayWrite o h v) (λ j k. write_element (state_of k) o i v)
-      (LeavesObject o h) (λ k l. l) (λ k m. m.0) (λ p. tt)
-      (λ k x there kind long f. (
-        x,
-        there,
-        too_far_to_write o i v (length x.words) x.kind f (ap (λ z. is_plain z || is_text z) kind ∙ plain)
-            (subst (λ n. n ≤ i) (sym long) l),
-      ))
+  write_beyond a plain l = refused fits o h i a (write_tests i v) (act (Write o i v)) Range (MayWrite o h v)
+      (LeavesObject o h) (λ k l. l) (λ k m. m.0) (λ p. tt) (rw (plain, beyond h.length i l) refl)
 
   pub write_value : (a : S) → (is_plain h.kind || is_text h.kind) ≡ false → i < h.length → is_value h.kind v ≡ false
       → Called facts a a (MayWrite o h v) (λ j k. write_element (state_of k) o i v) (Err Value) (by_steps 0
       (LeavesObject o h))
-  write_value a plain l bad = refused fits o h i a Value (MayWrite o h v) (λ j k. write_element (state_of k) o i v)
-      (LeavesObject o h) (λ k l. l) (λ k m. m.0) (λ p. tt)
-      (λ k x there kind long f. (
-        x,
-        there,
-        no_value o i v (length x.words) x.kind f (ap (λ z. is_plain z || is_text z) kind ∙ plain)
-            (subst (λ n. i < n) (sym long) l) (ap (λ z. is_value z v) kind ∙ bad),
-      ))
+  write_value a plain l bad = refused fits o h i a (write_tests i v) (act (Write o i v)) Value (MayWrite o h v)
+      (LeavesObject o h) (λ k l. l) (λ k m. m.0) (λ p. tt) (rw (plain, inside h.length i l, bad) refl)
 
   pub write_stored : {a b : S} → (facts a).stands.role ≡ Within → (is_plain h.kind || is_text h.kind) ≡ false
       → i < h.length → is_value h.kind v ≡ true
@@ -228,8 +170,9 @@ module _ {S : Type 0} {facts : S → Facts} (fits : AreOf facts) (o : ℕ) (h : 
       = λ f. (
         x.contents,
         x.is,
-        is_written o i v (length x.contents.words) x.contents.kind f (ap (λ z. is_plain z || is_text z) x.says.kind
-            ∙ plain) (subst (λ n. i < n) (sym x.says.long) l) (ap (λ z. is_value z v) x.says.kind ∙ good),
+        tests_pass (write_tests i v x.contents.kind (length x.contents.words)) (act (Write o i v)) f f
+            (Write o i v ∷ []) (Ok tt) (rw (x.says.kind, x.says.long, plain, inside h.length i l, good) refl)
+            (refl, refl, refl),
       ) in (
         g.0,
         g.1,

@@ -9,7 +9,7 @@ use Rattle.jr_word.specs.declared.kind.Kind.TheVariants.{Boolean, Byte, Char, Sh
 use Rattle.jr_word.specs.Kind.{word_limit}
 use Rattle.jr_model.specs.declared.event.Role.TheVariants.{Within}
 use Rattle.jr_model.specs.declared.event.Act.{Act}
-use Rattle.jr_model.specs.declared.event.Act.TheVariants.{Gate, Read, Write}
+use Rattle.jr_model.specs.declared.event.Act.TheVariants.{Gate, Write}
 use Rattle.jr_model.specs.declared.event.GateAct.TheVariants.{Leave}
 use Rattle.jr_model.specs.State.{State, IsWord}
 use Rattle.jr_model.specs.History.{Did}
@@ -28,14 +28,6 @@ use Rattle.jr_heap.proofs.Calling.{called_by}
 use Rattle.jr_heap.proofs.StayFacts.{object_later}
 
 -- ACTS, one more at the end
-
-pub read_acts_more : (o start : ℕ) (vs : List ℕ) (v : ℕ)
-    → read_acts o start (vs ++ v ∷ []) ≡ read_acts o start vs ++ Read o (start + length vs) v ∷ []
-read_acts_more o start [] v = let e : start ≡ start + 0 = omega arith in ap (λ i. Read o i v ∷ []) e
-read_acts_more o start (x ∷ vs) v =
-    let e : start + 1 + length vs ≡ start + suc (length vs) = omega arith in
-    ap (λ acts. Read o start x ∷ acts) (read_acts_more o (start + 1) vs v
-    ∙ ap (λ i. read_acts o (start + 1) vs ++ Read o i v ∷ []) e)
 
 pub write_acts_more : (o start : ℕ) (vs : List ℕ) (v : ℕ)
     → write_acts o start (vs ++ v ∷ []) ≡ write_acts o start vs ++ Write o (start + length vs) v ∷ []

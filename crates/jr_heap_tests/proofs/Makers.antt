@@ -1,9 +1,8 @@
 -- Tests make objects of a kind, and read and write them.
-use Rattle.std.proofs.Common.{zero, suc, ◌≡◌, ◌++◌, ℕ, Bool, true, false, not, nat_le, length, ◌||◌, Option, Some}
+use Rattle.std.proofs.Common.{zero, suc, ◌≡◌, ◌++◌, ℕ, Bool, true, false, length, Option, Some}
 use Rattle.std.proofs.Common.{None, IsSome, List, [], ◌∷◌, Result, Ok, Err, IfOk, inl, inr, refl, sym, ap, subst, ◌∙◌}
 use mathlib.Core.Logic.{∥∥₁_map}
 use Rattle.jr_word.specs.declared.fault.Fault.{Fault}
-use Rattle.jr_word.specs.declared.fault.Fault.TheVariants.{NotArray, Range, Value}
 use Rattle.jr_word.specs.declared.kind.Kind.{Kind}
 use Rattle.jr_word.specs.declared.kind.Kind.TheVariants.{Plain}
 use Rattle.jr_model.specs.declared.event.Role.TheVariants.{Within}
@@ -13,13 +12,13 @@ use Rattle.jr_model.specs.State.{Contents, State}
 use Rattle.jr_model.specs.Frames.{Frames}
 use Rattle.jr_model.specs.Calls.{Call, ◌>>◌, act, some_act, refuse_if}
 use Rattle.jr_model.specs.History.{role_of, Did}
-use Rattle.jr_model.specs.Parts.{header, publish, read_element, write_element}
-use Rattle.jr_model.specs.Checks.{is_plain, is_text, is_value}
+use Rattle.jr_model.specs.Parts.{header, publish, read_element, read_tests, write_element, write_tests}
+use Rattle.jr_model.specs.Tests.{Tests, tested}
+use Rattle.jr_model.proofs.EachCall.{Stays}
 use Rattle.jr_steps.specs.declared.known.Known.{Known}
 use Rattle.jr_steps.specs.Knowing.{AreOf, Facts, MayKnow, view, state_of, HasObject}
 use Rattle.jr_heap.specs.Heap.{Called, HasKind, IsOwn, IsReady, Publishes}
 use Rattle.jr_heap.specs.Heap.{own_words, Relearns, MayBeNamed, MayBeNamedIn}
-use Rattle.jr_heap.proofs.Elements.{read_rest, write_rest, write_last}
 use Rattle.jr_heap.proofs.StayFacts.{NoLeave, still}
 
 read_stays_in : (o i v : ℕ) → NoLeave (Read o i v ∷ [])
@@ -40,23 +39,18 @@ rest_stays b e next f g acts answer stays (inl p) =
     subst NoLeave (sym (p.4 ∙ ap (λ xs. xs ++ p.3) (refused_none b e f p.1 p.2 (Ok p.0) p.5))) (stays p.1 p.3 p.6)
 rest_stays b e next f g acts answer stays (inr p) = subst NoLeave (sym (refused_none b e f g acts (Err p.0) p.2)) tt
 
-read_stays : (s : State) (o i : ℕ) (f g : Frames) (acts : List Act) (answer : Result ℕ Fault)
-    → read_element s o i f acts answer g → NoLeave acts
-read_stays s o i f g acts answer p =
-    let n = length p.0.words in
-    rest_stays (is_plain p.0.kind) NotArray (read_rest o i n) f g acts answer
-    (λ h xs q. rest_stays (nat_le n i) Range (some_act (Read o i)) h g xs answer
-    (λ h' ys r. subst NoLeave (sym r.1) (read_stays_in o i r.0)) q) p.2
+tested_stays : {A : Type 0} (ts : Tests) (next : Call A) → Stays next → Stays (tested ts next)
+tested_stays [] next stays f g acts answer p = stays f g acts answer p
+tested_stays ((b, e) ∷ ts) next stays f g acts answer p =
+    rest_stays b e (tested ts next) f g acts answer (λ h xs. tested_stays ts next stays h g xs answer) p
 
-write_stays : (s : State) (o i v : ℕ) (f g : Frames) (acts : List Act) (answer : Result (Unit {0}) Fault)
-    → write_element s o i v f acts answer g → NoLeave acts
-write_stays s o i v f g acts answer p =
-    let n = length p.0.words in
-    let kind = p.0.kind in
-    rest_stays (is_plain kind || is_text kind) NotArray (write_rest kind o i v n) f g acts answer
-    (λ h xs q. rest_stays (nat_le n i) Range (write_last kind o i v) h g xs answer
-    (λ h' ys r. rest_stays (not (is_value kind v)) Value (act (Write o i v)) h' g ys answer
-    (λ h2 zs t. subst NoLeave (sym t.0) (write_stays_in o i v)) r) q) p.2
+read_stays : (s : State) (o i : ℕ) → Stays (read_element s o i)
+read_stays s o i f g acts answer p = tested_stays (read_tests i p.0.kind (length p.0.words)) (some_act (Read o i))
+    (λ h k xs x r. subst NoLeave (sym r.1) (read_stays_in o i r.0)) f g acts answer p.2
+
+write_stays : (s : State) (o i v : ℕ) → Stays (write_element s o i v)
+write_stays s o i v f g acts answer p = tested_stays (write_tests i v p.0.kind (length p.0.words)) (act (Write o i v))
+    (λ h k xs x r. subst NoLeave (sym r.0) (write_stays_in o i v)) f g acts answer p.2
 
 kind_later : (k k' : Known) (acts : List Act) (o : ℕ) (kind : Kind) → Did (view k) (view k') acts
     → role_of (view k) ≡ Within → NoLeave acts → HasKind o kind k → HasKind o kind k'

@@ -13,12 +13,11 @@ use Rattle.jr_model.specs.declared.event.GateAct.TheVariants.{Enter, Leave}
 use Rattle.jr_word.specs.declared.handle.RefKind.TheVariants.{Global, Weak}
 use Rattle.jr_model.specs.Frames.{Frames}
 use Rattle.jr_model.specs.Checks.{Word, is_array, is_primitive, is_text, Nothing, Malformed, Parts, type_found}
-use Rattle.jr_model.specs.References.{new_array, delete_reference}
-use Rattle.jr_model.specs.References.{room_for, resolved, resolved_both, comparison, creation, made}
-use Rattle.jr_model.specs.References.{get_object_ref_type, pop_local_frame}
-use Rattle.jr_model.specs.Objects.{length_reading, get_array_length, nest_array, nest_string}
-use Rattle.jr_model.specs.Objects.{elements_get, elements_set}
-use Rattle.jr_model.specs.Parts.{looked, not_null, reserve}
+use Rattle.jr_model.specs.References.{room_for, resolved, resolved_both}
+use Rattle.jr_model.specs.Parts.{elements_get, elements_set, looked, not_null, reserve}
+use Rattle.jr_model.specs.Programs.{AnswerKind, AnswerOf, Program, Which, at_both, handed_none, handed_one, work_of}
+use Rattle.jr_model.specs.CallPrograms.{delete_reference, get_array_critical, get_array_length, get_object_ref_type}
+use Rattle.jr_model.specs.CallPrograms.{get_string_critical, is_same_object, new_array, new_reference, pop_local_frame}
 use Rattle.jr_model.specs.Calls.{Call, ◌>>=◌, ◌>>◌, decided, done, refuse, refuse_if, some_act, entered, for_object}
 use Rattle.jr_model.specs.State.{Contents, opening}
 use Rattle.jr_model.specs.declared.frames.TheConstants.{LEVELS}
@@ -28,7 +27,7 @@ use Rattle.jr_model.proofs.OwnActs.{IsAmong}
 use Rattle.jr_model.proofs.Lawful.{in_stay}
 use Rattle.jr_model.proofs.EachCall.{alike_work}
 use Rattle.jr_model.specs.CallExamples.{quiet_room, fresh, LengthOfNothing, TypeOfNothing, CallsOnCleared, CallsOnNull}
-use Rattle.jr_model.specs.CallExamples.{named, never_given, past_the_row, of_another, with_text}
+use Rattle.jr_model.specs.CallExamples.{called, named, next_level, never_given, past_the_row, of_another, with_text}
 use Rattle.jr_model.specs.CallExamples.{SecondLevel, CopiedElements, ArrayLacksSpace}
 
 -- that a call may do this, as a search finds it
@@ -81,12 +80,15 @@ ruleset derivations = (quiet, then_rest, refused, silent, whole, finds, answers)
 null_resolved : Derives (resolved quiet_room last_serial 0 Nothing) fresh [] (Ok None) fresh
 null_resolved = search derivations depth 12
 
+abbrev work : {n : ℕ} {a : AnswerKind} → (Which → Word) → Program n a → Call (AnswerOf a)
+work words p = work_of quiet_room last_serial 0 opening words p
+
 abbrev length : Word → Call ℕ
-length = get_array_length quiet_room last_serial 0 opening
+length a = called (handed_one a) get_array_length
 
 pub length_of_nothing : LengthOfNothing
 length_of_nothing = record {
-  null = within (length_reading quiet_room last_serial 0 opening is_array fault.NotArray Nothing) []
+  null = within (work (handed_one Nothing) get_array_length) []
       (silent None null_resolved (refused answers));
   malformed = of (length Malformed) (search derivations depth 12);
   outside = of (length (Parts past_the_row)) (search derivations depth 12);
@@ -104,7 +106,7 @@ type_of_nothing = record {
   foreign = inr ([], refl, (refl, refl, refl));
 }
 
-type_only : (n : ℕ) (g : Frames) → get_object_ref_type quiet_room last_serial 0 (Parts w) fresh
+type_only : (n : ℕ) (g : Frames) → called (handed_one (Parts w)) get_object_ref_type fresh
     (Gate Enter ∷ Look w Cleared ∷ Gate Leave ∷ []) (Ok n) g → n ≡ 3
 type_only n g (inl r) = absurd (let bad = r.1 in cc)
 type_only n g (inr (inside, acts, inr q)) = absurd (let bad = q.1 in cc)
@@ -123,9 +125,9 @@ pub calls_on_cleared : CallsOnCleared
 calls_on_cleared = record {
   type = inr (looks, refl, inl (Cleared, fresh, looks, [], refl, (Cleared, refl, refl, refl), (refl, refl, refl)));
   type_only = type_only;
-  same = within (comparison quiet_room last_serial 0 (Parts w) Nothing) looks (whole (None, None) both answers);
-  global = within (creation quiet_room last_serial 0 Global (Parts w)) looks (whole None found answers);
-  other_kind = of (delete_reference quiet_room last_serial 0 Global (Parts w)) (search derivations depth 12);
+  same = within (work (at_both (Parts w) Nothing) is_same_object) looks (whole (None, None) both answers);
+  global = within (work (handed_one (Parts w)) (new_reference Global)) looks (whole None found answers);
+  other_kind = of (called (handed_one (Parts w)) (delete_reference Global)) (search derivations depth 12);
 }
   where
     looked_up : Derives (looked (Parts w)) fresh looks (Ok None) fresh
@@ -140,17 +142,17 @@ calls_on_cleared = record {
 
 pub calls_on_null : CallsOnNull
 calls_on_null = record {
-  delete = of (delete_reference quiet_room last_serial 0 Weak Nothing) (search derivations depth 12);
-  pop = of (pop_local_frame quiet_room last_serial 0 Nothing) (search derivations depth 12);
+  delete = of (called (handed_one Nothing) (delete_reference Weak)) (search derivations depth 12);
+  pop = of (called (handed_one Nothing) pop_local_frame) (search derivations depth 12);
 }
 
 pub second_level : SecondLevel
 second_level = record {
-  nested = of (nest_string quiet_room last_serial 0 with_text (5 ∷ []) (Parts never_given))
+  nested = of (next_level (5 ∷ []) get_string_critical)
       (silent 3 (found (text_level 1) (then_rest (then_rest answers))) answers);
-  full = of (nest_string quiet_room last_serial 0 with_text (replicate 16 5) (Parts never_given))
+  full = of (next_level (replicate 16 5) get_string_critical)
       (refused (found (text_level 16) (then_rest (refused answers))));
-  array = of (nest_array quiet_room last_serial 0 with_text (5 ∷ []) (Parts never_given))
+  array = of (next_level (5 ∷ []) get_array_critical)
       (refused (found array_level (refused answers)));
   kind = (string, refl, (refl, refl, refl));
   long = (string, refl, (refl, refl, refl));
@@ -186,7 +188,7 @@ copied_elements = record {
 }
 
 refused_for : (u : ℕ) (g : Frames) (acts : List Act)
-    → new_array quiet_room last_serial 0 Int 20 fresh acts (Err (fault.SpaceFull u)) g → IsAmong (ReserveFull 20 u) acts
+    → called handed_none (new_array Int 20) fresh acts (Err (fault.SpaceFull u)) g → IsAmong (ReserveFull 20 u) acts
 refused_for u g acts r =
     ((in_stay (alike_work quiet_room last_serial 0 Int 20 0)).fails fresh g acts (fault.SpaceFull u) r).shown.0
 
@@ -209,7 +211,7 @@ none_among u (x ∷ y ∷ front) rest is = nil_behind front (ReserveFull 20 u) r
 pub array_lacks_space : ArrayLacksSpace
 unfolding sum_below
 array_lacks_space = record {
-  refused = within (made quiet_room last_serial 0 Int (replicate 20 0)) (ReserveFull 20 3 ∷ [])
+  refused = within (work handed_none (new_array Int 20)) (ReserveFull 20 3 ∷ [])
       (silent tt room (refused full));
   found_only = λ u g r. let a = refused_for u g _ r in found_among u a.0 a.1 a.2;
   asks_first = λ u g r. let a = refused_for u g _ r in none_among u a.0 a.1 a.2;

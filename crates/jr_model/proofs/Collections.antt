@@ -1,21 +1,18 @@
 -- What a collection keeps: what is reached stays reached, with its elements, and nothing else becomes reached.
-use Rattle.std.proofs.Common.{◌≡◌, ◌≢◌, ℕ, Option, Some, None, IsSome, [], ◌∷◌, refl, sym, ap, subst, nat_eq}
-use Rattle.std.specs.List.{AllByRecursion}
+use Rattle.std.proofs.Common.{◌≡◌, ℕ, Option, Some, None, IsSome, refl, sym, ap, subst, nat_eq}
 use Rattle.jr_word.specs.declared.config.Config.{Config}
 use Rattle.jr_word.specs.declared.handle.RefKind.TheVariants.{Global, Weak}
 use Rattle.jr_model.specs.declared.event.Role.TheVariants.{Collecting}
 use Rattle.jr_model.specs.declared.event.Found.TheVariants.{Object, Cleared}
 use Rattle.jr_model.specs.declared.event.Act.{Act}
-use Rattle.jr_model.specs.declared.event.Act.TheVariants.{Gate, Create, Delete, Clear, LocalPut}
+use Rattle.jr_model.specs.declared.event.Act.TheVariants.{Create, Delete, Clear, LocalPut}
 use Rattle.jr_model.specs.declared.event.Act.TheVariants.{LocalDrop, New, Write, Drop}
-use Rattle.jr_model.specs.declared.event.GateAct.TheVariants.{Reopen}
 use Rattle.jr_model.specs.Maps.{update}
 use Rattle.jr_model.specs.State.{Handle, same_handle, Contents, State, IsPresent}
 use Rattle.jr_model.specs.State.{IsReached, from_global, from_local, from_element}
-use Rattle.jr_model.specs.Steps.{ActNeeds, act_after, after}
-use Rattle.jr_model.specs.History.{History, by, state_from, IsLegalFrom}
+use Rattle.jr_model.specs.Steps.{ActNeeds, act_after}
 use Rattle.jr_model.proofs.Updates.{at_number, at_handle}
-use Rattle.jr_model.proofs.Gates.{IsApart, apart_after, collection_act}
+use Rattle.jr_model.proofs.Gates.{IsApart}
 
 pub contents : (x : Option Contents) → IsSome x → (y : Contents) × (x ≡ Some y)
 contents None p = absurd cc
@@ -43,12 +40,6 @@ reached_mono s s' k (from_element a i x r e kind at p) =
 pub record IsSameReach (s s' : State) : Type 0 where
   pub forth : IsKeptFrom s s'
   pub back : IsKeptFrom s' s
-
-pub same_self : (s : State) → IsSameReach s s
-same_self s = record {
-  forth = record { globals = λ h o g r. r; locals = λ t p o r. r; objects = λ o x r e. e };
-  back = record { globals = λ h o g r. r; locals = λ t p o r. r; objects = λ o x r e. e };
-}
 
 kept_trans : (r s t : State) → IsKeptFrom r s → IsKeptFrom s t → IsKeptFrom r t
 kept_trans r s t p q = record {
@@ -109,13 +100,3 @@ module _ (c : Config) (last : ℕ) where
     forth = record { globals = λ h o g r. r; locals = λ v p o r. r; objects = λ o x r e. e };
     back = record { globals = λ h o g r. r; locals = λ v p o r. r; objects = λ o x r e. e };
   }
-
-  -- while t collects, the objects that are reached are the same, with their kinds and elements
-  pub same_reach_along : (t : ℕ) (s : State) (es : History) → IsApart s.role → s.role t ≡ Collecting
-      → AllByRecursion (λ e. e ≢ by t (Gate Reopen)) es → IsLegalFrom c last s es → IsSameReach s (state_from s es)
-  same_reach_along t s [] i w q l = same_self s
-  same_reach_along t s (e ∷ es) i w q l =
-      let r = collection_act c last t s e.thread e.act i w q.0 l.0.1 in
-      same_trans s (after s e) (state_from (after s e) es)
-      (same_reach_act t s e.thread e.act i w l.0.1)
-      (same_reach_along t (after s e) es (apart_after c last s e i l.0) r.0 q.1 l.1)

@@ -1,53 +1,53 @@
 -- Each call, by the laws over all calls: it moves the frames, its refusals change nothing, and they are true.
-use Rattle.std.proofs.Common.{◌≡◌, ◌≢◌, ℕ, zero, suc, ◌<◌, ◌+◌, ◌==◌, ◌||◌, Bool, true, false, not, nat_le, Option}
+use Rattle.std.proofs.Common.{◌≡◌, ◌≢◌, ℕ, zero, suc, ◌<◌, ◌+◌, ◌||◌, Bool, true, false, not, nat_le, Option}
 use Rattle.std.proofs.Common.{Some, None, List, [], ◌∷◌, ◌++◌, length, map, replicate, Result, refl, sym, ap}
 use Rattle.std.proofs.Common.{subst, ◌∙◌}
 use Rattle.std.proofs.lemmas.List.{append-nil, length-replicate}
 use Rattle.std.specs.List.{AllByRecursion}
 use Rattle.jr_word.specs.declared.fault.Fault.{Fault}
-use Rattle.jr_word.specs.declared.fault.Fault.TheVariants.{Barred, Busy, NotArray, WrongElement}
-use Rattle.jr_word.specs.declared.fault.Fault.TheVariants.{WrongKind, Range, Value}
+use Rattle.jr_word.specs.declared.fault.Fault.TheVariants.{Barred, Busy, NotArray, Range, Value}
 use Rattle.jr_word.specs.declared.fault.Fault.TheVariants as fault
 use Rattle.jr_word.specs.declared.config.Config.{Config}
 use Rattle.jr_word.specs.declared.handle.RefKind.{RefKind}
 use Rattle.jr_word.specs.declared.kind.Kind.{Kind}
-use Rattle.jr_word.specs.declared.kind.Kind.TheVariants.{Plain, Objects, Text}
 use Rattle.jr_model.specs.declared.event.Act.{Act}
 use Rattle.jr_model.specs.declared.event.Act.TheVariants.{Clear, Delete, DeleteStale, Drop, Gate, New, Read, Reserve}
 use Rattle.jr_model.specs.declared.event.Act.TheVariants.{ReserveFull, ReserveLost, Settle, ShutBusy, Write}
 use Rattle.jr_model.specs.declared.event.GateAct.TheVariants.{Cancel, Enter, Knock, Leave, Reopen, Withdraw}
 use Rattle.jr_model.specs.declared.event.Found.{Found}
 use Rattle.jr_model.specs.declared.event.Found.TheVariants.{Object, Cleared, Stale}
-use Rattle.jr_model.specs.declared.frames.Mode.{Mode}
-use Rattle.jr_model.specs.declared.frames.Mode.TheVariants.{Copy, Commit, Abort}
 use Rattle.jr_model.specs.State.{Handle, State}
 use Rattle.jr_model.specs.Frames.{Frames, stays}
-use Rattle.jr_model.specs.Calls.{◌>>=◌, ◌>>◌, act, one_of, refuse, some_act}
-use Rattle.jr_model.specs.Checks.{Word, Nothing, Malformed, Parts, is_array, is_plain}
-use Rattle.jr_model.specs.Checks.{is_read_as, is_text, is_value, same_element}
+use Rattle.jr_model.specs.Calls.{Call, ◌>>=◌, ◌>>◌, act, one_of, refuse, some_act}
+use Rattle.jr_model.specs.Checks.{Word, Nothing, Malformed, Parts, is_plain, is_text, is_value}
 use Rattle.jr_model.specs.Parts.{collect, collect_announced, collected, create, created}
 use Rattle.jr_model.specs.Parts.{delete, delete_at, delete_found, delete_local_at, enter}
-use Rattle.jr_model.specs.Parts.{publish, read, read_acts, reserve, write, write_acts}
+use Rattle.jr_model.specs.Parts.{publish, read, read_acts, region_release, reserve, write, write_acts}
 use Rattle.jr_model.specs.References.{delete_local, made}
-use Rattle.jr_model.specs.Objects.{copying_back, length_reading, nest_array, nest_string}
-use Rattle.jr_model.specs.Objects.{region_get, region_release, region_set, release_array_elements}
 use Rattle.jr_model.specs.CollectionCalls.{collection_acts}
-use Rattle.jr_model.specs.AllCalls.{AnswerKind, AnswerOf, CallOf, PartOf, means}
+use Rattle.jr_model.specs.Programs.{AnswerKind, Which, one, other, at_both, handed_none, none_known, set_known}
+use Rattle.jr_model.specs.Programs.{Ending, Program, ends, names, names_both, wants, looks, tests}
+use Rattle.jr_model.specs.Programs.{finds, gives_kind, gives_number, gives_object, compares, types}
+use Rattle.jr_model.specs.Programs.{creates, refers, deletes, deletes_local, asks_room, pushes, pops_to, frees, makes}
+use Rattle.jr_model.specs.Programs.{fills, reads, reads_from, copies, writes, writes_to, writes_from, ended}
+use Rattle.jr_model.specs.Programs.{call_of}
+use Rattle.jr_model.specs.Tests.{AreSilent, Tests, tested}
+use Rattle.jr_model.specs.AllCalls.{CallOf, enters, stays_out, opens, nests, keeps, aborts, PartOf, means}
 use Rattle.jr_model.specs.AllCalls.{part_means, words_asked, words_asked_by_part}
-use Rattle.jr_model.specs.Moves.{CallsMoveFrames}
+use Rattle.jr_model.specs.Moves.{CallsMoveFrames, MovesFrames}
 use Rattle.jr_model.specs.RefusedCalls.{RefusalsChangeNothing, RefusedPartsChangeNothing}
 use Rattle.jr_model.specs.TrueRefusals.{CallsRefuseTruly, PartsRefuseTruly}
 use Rattle.jr_model.proofs.Exactly.{all_map, append_all}
 use Rattle.jr_model.proofs.Composed.{Gives, Refusing, act_gives, act_then, at_most_gives}
 use Rattle.jr_model.proofs.Composed.{bind_gives, cond_gives, done_gives, either_gives, object_gives}
 use Rattle.jr_model.proofs.Composed.{refuse_gives, some_act_gives, some_act_then, weaker_gives}
-use Rattle.jr_model.proofs.ShownRefusals.{LosesOnly, LoseOnly, Purpose, is_unshown, words_alone}
+use Rattle.jr_model.proofs.ShownRefusals.{LosesOnly, LoseOnly, Purpose, silent_unshown, words_alone}
 use Rattle.jr_model.proofs.Lawful.{IsInside, IsLawful, IsPrelude, IsWork, Moved, NoLeave, Precede, Refused, answered}
-use Rattle.jr_model.proofs.Lawful.{before, bind_prelude, in_memory, in_region, in_stay, leads_then, leaves_once, moved}
+use Rattle.jr_model.proofs.Lawful.{before, bind_prelude, in_memory, in_region, in_stay, leads_then, moved}
 use Rattle.jr_model.proofs.Lawful.{moves, one_act, outside, prelude, safe, same_leads, some_act_of, sure, surely}
+use Rattle.jr_model.proofs.Lawful.{work_stays}
 use Rattle.jr_model.proofs.Preludes.{act_prelude, announce_prelude, both_prelude, check, closed_prelude, done_prelude}
-use Rattle.jr_model.proofs.Preludes.{element_prelude, level_array_prelude, level_string_prelude, look_prelude}
-use Rattle.jr_model.proofs.Preludes.{looked_at_prelude, not_null_prelude, part_prelude, probes_prelude, refuse_prelude}
+use Rattle.jr_model.proofs.Preludes.{look_prelude, looked_at_prelude, not_null_prelude, probes_prelude, refuse_prelude}
 use Rattle.jr_model.proofs.Preludes.{resolved_prelude, room_prelude, shuts_prelude, some_act_prelude, type_prelude}
 use Rattle.jr_model.proofs.TrueRefusals.{truly}
 use Rattle.jr_model.proofs.Moves.{added_sure, drop_sure, freeing_sure, new_local_work}
@@ -161,7 +161,7 @@ module _ {asked : Purpose} {last thread : ℕ} where
       })))))
 
   leave_lawful : IsLawful asked last thread (act (Gate Leave))
-  leave_lawful = act_gives (Gate Leave) (λ f. record { leads = stays; lose = (tt, tt); are = λ inside is. absurd cc })
+  leave_lawful = act_gives (Gate Leave) (λ f. record { leads = stays; lose = (tt, tt); are = tt })
 
   released_lawful : (levels : ℕ) → IsLawful asked last thread (region_release levels)
   released_lawful zero = outside (prelude (done_prelude tt))
@@ -237,44 +237,68 @@ pub alike_work : (c : Config) (last thread : ℕ) (k : Kind) (n v : ℕ)
 alike_work c last thread k n v = subst (λ m. IsWork (words_alone m) last thread (made c last thread k (replicate n v)))
     (length-replicate n v) (made_work c last thread k (replicate n v))
 
-module _ {asked : Purpose} (c : Config) (last thread : ℕ) (s : State) where
-  length_work : (p : Kind → Bool) (e : Fault) → is_unshown e ≡ true → (a : Word)
-      → IsWork asked last thread (length_reading c last thread s p e a)
-  length_work p e none a =
-      before (resolved_prelude c last thread a) (λ x. before (not_null_prelude x) (λ o.
-      object_gives s o (λ k n. before (check (not (p k)) e none) (λ y. prelude (done_prelude n)))))
+-- a call that never leaves the gate
+abbrev pub Stays : {A : Type 0} → Call A → Type 0
+Stays {A} call = (f g : Frames) (acts : List Act) (answer : Result A Fault) → call f acts answer g → NoLeave acts
 
-  back_work : (k : Kind) (a : Word) (buffer : List ℕ)
-      → IsWork asked last thread (copying_back c last thread s k a buffer)
-  back_work k a buffer =
-      before (resolved_prelude c last thread a) (λ x. before (not_null_prelude x) (λ o. object_gives s o (λ l n.
-      before (check (not (is_array l)) NotArray refl) (λ y. before (check (not (same_element k l)) WrongElement refl)
-      (λ z. before (check (not (n == length buffer)) Range refl) (λ u. write_work o 0 buffer))))))
+-- EACH PROGRAM
 
-  release_lawful : (k : Kind) (a : Word) (buffer : List ℕ) (mode : Mode)
-      → IsLawful asked last thread (release_array_elements c last thread s k a buffer mode)
-  release_lawful k a buffer Copy = answered (in_stay (back_work k a buffer)) (λ x. None)
-  release_lawful k a buffer Commit = answered (in_stay (back_work k a buffer)) (λ x. Some buffer)
-  release_lawful k a buffer Abort = outside (prelude (done_prelude None))
+module _ {asked : Purpose} {last thread : ℕ} where
+  tested_work : {A : Type 0} (ts : Tests) {next : Call A} → AreSilent ts → IsWork asked last thread next
+      → IsWork asked last thread (tested ts next)
+  tested_work [] are work = work
+  tested_work ((b, e) ∷ ts) are work = before (check b e (silent_unshown e are.0)) (λ x. tested_work ts are.1 work)
 
-  -- a level is added to others
-  pub nest_array_work : (levels : List ℕ) (a : Word) → IsWork asked last thread (nest_array c last thread s levels a)
-  nest_array_work levels a =
-      prelude (bind_prelude (level_array_prelude c last thread s (length levels) a) (λ o. done_prelude _))
+module _ (c : Config) (last thread : ℕ) (words : Which → Word) where
+  ended_work : {n : ℕ} {a : AnswerKind} (e : Ending n a) (known : Which → Option ℕ) (o : ℕ)
+      → IsWork (words_alone n) last thread (ended c last thread words e known o)
+  ended_work (gives_kind k) known o = prelude (done_prelude k)
+  ended_work (gives_number n) known o = prelude (done_prelude n)
+  ended_work gives_object known o = prelude (done_prelude o)
+  ended_work compares known o = prelude (done_prelude _)
+  ended_work (types w) known o = prelude (cond_gives _ (done_prelude 0) (type_prelude (words w)))
+  ended_work (creates k w) known o = created_work c.slots k (known w)
+  ended_work (refers w) known o = new_local_work c last thread (known w)
+  ended_work (deletes k w) known o = before (check _ _ refl) (λ x.
+      before (check _ _ refl) (λ y. before (check _ _ refl) (λ z. delete_at_work (words w))))
+  ended_work (deletes_local w) known o = before (check _ _ refl) (λ x.
+      before (check _ _ refl) (λ y. delete_local_work c last thread (words w)))
+  ended_work (asks_room n) known o = prelude (room_prelude c last thread n)
+  ended_work (pushes n) known o = pushing_work c last thread n
+  ended_work (pops_to w) known o = resolved_popping c last thread (words w)
+  ended_work frees known o = sure freeing_sure
+  ended_work (makes k ws) known o = made_work c last thread k ws
+  ended_work (fills k n w) known o = alike_work c last thread k n _
+  ended_work (reads i) known o = some_act_of (Read o i) (λ v. tt)
+  ended_work (reads_from start n) known o = read_work o start n
+  ended_work (copies n) known o = in_memory n (read_work o 0 n)
+  ended_work (writes i v) known o = one_act (Write o i v) tt
+  ended_work (writes_to i w) known o = one_act (Write o i _) tt
+  ended_work (writes_from start vs) known o = write_work o start vs
 
-  pub nest_string_work : (levels : List ℕ) (a : Word) → IsWork asked last thread (nest_string c last thread s levels a)
-  nest_string_work levels a =
-      prelude (bind_prelude (level_string_prelude c last thread s (length levels) a) (λ o. done_prelude _))
+module _ (c : Config) (last thread : ℕ) (s : State) (words : Which → Word) where
+  program_work : {n : ℕ} {a : AnswerKind} (p : Program n a) (known : Which → Option ℕ) (o : ℕ)
+      → IsWork (words_alone n) last thread (call_of c last thread s words p known o)
+  program_work (ends e) known o = ended_work c last thread words e known o
+  program_work (names w p) known o = before (resolved_prelude c last thread (words w)) (λ x.
+      program_work p (set_known known w x) o)
+  program_work (names_both p) known o = before (both_prelude c last thread (words one) (words other)) (λ x.
+      program_work p (at_both x.0 x.1) o)
+  program_work (wants w p) known o = before (not_null_prelude (known w)) (λ q. program_work p known q)
+  program_work (looks next) known o = object_gives s o (λ k n. program_work (next k n) known o)
+  program_work (tests ts silent p) known o = tested_work ts silent (program_work p known o)
+  program_work (finds i p) known o = before (some_act_prelude (Read o i) (λ v. refl) (λ v. tt)) (λ v.
+      program_work p (set_known known one _) o)
 
-  -- an element of a level is read, and written
-  pub get_work : (k : Kind) (o i : ℕ) → IsWork asked last thread (region_get c last thread s k o i)
-  get_work k o i = object_gives s o (λ l n. before (check (not (is_read_as k l)) WrongElement refl) (λ y.
-      before (check (nat_le n i) Range refl) (λ z. some_act_of (Read o i) (λ v. tt))))
+  -- no program leaves the gate
+  pub program_stays : {n : ℕ} {a : AnswerKind} (p : Program n a) (known : Which → Option ℕ) (o : ℕ)
+      → Stays (call_of c last thread s words p known o)
+  program_stays p known o = work_stays (program_work p known o)
 
-  pub set_work : (k : Kind) (o i v : ℕ) → IsWork asked last thread (region_set c last thread s k o i v)
-  set_work k o i v = object_gives s o (λ l n.
-      before (check (is_text l) NotArray refl) (λ y. before (check (not (is_read_as k l)) WrongElement refl) (λ z.
-      before (check (nat_le n i) Range refl) (λ u. one_act (Write o i v) tt))))
+  -- each moves the frames as a thread may
+  pub program_moves : {n : ℕ} {a : AnswerKind} (p : Program n a) (known : Which → Option ℕ) (o : ℕ)
+      → MovesFrames last thread (call_of c last thread s words p known o)
+  program_moves p known o = moves (outside (program_work p known o))
 
 -- whether a call announces a collection
 abbrev announces : {a : AnswerKind} → PartOf a → Bool
@@ -286,49 +310,14 @@ module _ (c : Config) (last thread : ℕ) (s : State) where
   -- EACH CALL OF AN ENV
   pub lawful : {a : AnswerKind} (x : CallOf a)
       → IsLawful (words_alone (words_asked x)) last thread (means c last thread s x)
-  lawful (CallOf.new_reference k a) = in_stay (before (resolved_prelude c last thread a) (created_work c.slots k))
-  lawful (CallOf.new_local_ref a) = in_stay (before (resolved_prelude c last thread a) (new_local_work c last thread))
-  lawful (CallOf.delete_reference k a) = in_stay
-      (before (check _ _ refl) (λ x. before (check _ _ refl) (λ y. before (check _ _ refl) (λ z. delete_at_work a))))
-  lawful (CallOf.delete_local_ref a) =
-      in_stay (before (check _ _ refl) (λ x. before (check _ _ refl) (λ y. delete_local_work c last thread a)))
-  lawful (CallOf.is_same_object a b) = in_stay (before (both_prelude c last thread a b) (λ x. prelude (done_prelude _)))
-  lawful (CallOf.get_object_ref_type a) = in_stay (prelude (cond_gives _ (done_prelude 0) (type_prelude a)))
-  lawful (CallOf.ensure_local_capacity n) = outside (prelude (room_prelude c last thread n))
-  lawful (CallOf.push_local_frame n) = outside (pushing_work c last thread n)
-  lawful (CallOf.pop_local_frame a) = in_stay (resolved_popping c last thread a)
-  lawful CallOf.new_plain = in_stay (made_work c last thread Plain [])
-  lawful (CallOf.new_array k n) = in_stay (alike_work c last thread k n 0)
-  lawful (CallOf.new_object_array n a) =
-      in_stay (before (resolved_prelude c last thread a) (λ x. alike_work c last thread Objects n _))
-  lawful (CallOf.new_string units) = in_stay (made_work c last thread Text units)
-  lawful CallOf.free_locals = in_stay (sure freeing_sure)
-  lawful CallOf.into_pass = outside (prelude (done_prelude tt))
-  lawful (CallOf.kind_of a) = in_stay (before (resolved_prelude c last thread a) (λ x.
-      before (not_null_prelude x) (λ o. object_gives s o (λ k n. prelude (done_prelude k)))))
-  lawful (CallOf.get_array_length a) = in_stay (length_work c last thread s _ _ refl a)
-  lawful (CallOf.get_string_length a) = in_stay (length_work c last thread s _ _ refl a)
-  lawful (CallOf.get_object_array_element a i) = in_stay (before (resolved_prelude c last thread a) (λ x.
-      before (not_null_prelude x) (λ o. before (element_prelude c last thread s o i) (λ y.
-      before (some_act_prelude (Read o i) (λ v. refl) (λ v. tt)) (λ v. new_local_work c last thread _)))))
-  lawful (CallOf.set_object_array_element a i b) = in_stay (before (both_prelude c last thread a b) (λ x.
-      before (not_null_prelude x.0) (λ o. before (element_prelude c last thread s o i) (λ y. one_act _ tt))))
-  lawful (CallOf.get_array_region k a start n) =
-      in_stay (before (part_prelude c last thread s k start n a) (λ o. read_work o start n))
-  lawful (CallOf.set_array_region k a start vs) =
-      in_stay (before (part_prelude c last thread s k start (length vs) a) (λ o. write_work o start vs))
-  lawful (CallOf.get_array_elements k a) = in_stay
-      (before (resolved_prelude c last thread a) (λ x. before (not_null_prelude x) (λ o. object_gives s o (λ l n.
-      before (check (not (is_array l)) NotArray refl) (λ y.
-      before (check (not (same_element k l)) WrongElement refl) (λ z. in_memory n (read_work o 0 n)))))))
-  lawful (CallOf.get_string_chars a) = in_stay
-      (before (resolved_prelude c last thread a) (λ x. before (not_null_prelude x) (λ o. object_gives s o (λ l n.
-      before (check (not (is_text l)) WrongKind refl) (λ y. in_memory n (read_work o 0 n))))))
-  lawful (CallOf.release_array_elements k a buffer mode) = release_lawful c last thread s k a buffer mode
-  lawful (CallOf.get_array_critical a) = in_region (prelude (level_array_prelude c last thread s 0 a))
-  lawful (CallOf.get_string_critical a) = in_region (prelude (level_string_prelude c last thread s 0 a))
-  lawful (CallOf.nest_array levels a) = outside (nest_array_work c last thread s levels a)
-  lawful (CallOf.nest_string levels a) = outside (nest_string_work c last thread s levels a)
+  lawful (enters words p) = in_stay (program_work c last thread s words p none_known 0)
+  lawful (stays_out p) = outside (program_work c last thread s handed_none p none_known 0)
+  lawful (opens words p) = in_region (program_work c last thread s words p none_known 0)
+  lawful (nests levels words p) = outside
+      (answered (program_work c last thread s words p none_known 0) (λ o. (length levels, levels ++ o ∷ [])))
+  lawful (keeps elements words p) = answered (in_stay (program_work c last thread s words p none_known 0))
+      (λ x. elements)
+  lawful aborts = outside (prelude (done_prelude None))
 
   -- EACH OTHER CALL
   pub part_lawful : {a : AnswerKind} (x : PartOf a)
@@ -354,10 +343,7 @@ module _ (c : Config) (last thread : ℕ) (s : State) where
   part_lawful (PartOf.delete_local a) = outside (delete_local_work c last thread a)
   part_lawful (PartOf.pop_frame o) = outside (popping_work c last thread o)
   part_lawful PartOf.freeing = outside (sure freeing_sure)
-  part_lawful (PartOf.region_kind o) = outside (object_gives s o (λ k n. prelude (done_prelude k)))
-  part_lawful (PartOf.region_length o) = outside (object_gives s o (λ k n. prelude (done_prelude n)))
-  part_lawful (PartOf.region_get k o i) = outside (get_work c last thread s k o i)
-  part_lawful (PartOf.region_set k o i v) = outside (set_work c last thread s k o i v)
+  part_lawful (PartOf.at_level o p) = outside (program_work c last thread s handed_none p none_known o)
   part_lawful (PartOf.region_release levels) = released_lawful levels
   part_lawful (PartOf.elements_get buffer i) =
       outside (before (check (nat_le (length buffer) i) Range refl) (λ x. prelude (done_prelude _)))
@@ -385,10 +371,3 @@ module _ (c : Config) (last thread : ℕ) (s : State) where
 
   pub parts_refuse_truly : PartsRefuseTruly c last thread s
   parts_refuse_truly a x = truly (part_lawful x)
-
-  -- between the entry and the exit of a whole call it doesn't leave
-  pub whole_stays : {a : AnswerKind} (x : CallOf a) (f g : Frames) (acts : List Act)
-      (answer : Result (AnswerOf a) Fault) → means c last thread s x f (Gate Enter ∷ acts ++ Gate Leave ∷ []) answer g
-      → NoLeave acts
-  whole_stays x f g acts answer is =
-      leaves_once (lawful x) f g (Gate Enter ∷ acts ++ Gate Leave ∷ []) answer is acts refl

@@ -1,6 +1,6 @@
 -- What a refused creation tells of the room is so, and calls are their stays.
 use Rattle.std.proofs.Common.{◌≡◌, ◌⊎◌, ⊎_elim, inl, inr, ℕ, Bool, ◌<◌, List, ◌∷◌, ◌++◌}
-use Rattle.std.proofs.Common.{Some, None, Result, Ok, Err, ap, refl, sym, subst, ◌∙◌}
+use Rattle.std.proofs.Common.{Result, Ok, Err, ap, refl, sym, subst, ◌∙◌}
 use Rattle.std.proofs.lemmas.List.{append-nil}
 use Rattle.jr_word.specs.declared.config.Config.{Config}
 use Rattle.jr_word.specs.declared.fault.Fault.{Fault}
@@ -8,14 +8,13 @@ use Rattle.jr_word.specs.declared.fault.Fault.TheVariants.{RowFull, Barred}
 use Rattle.jr_model.specs.declared.event.Act.{Act}
 use Rattle.jr_model.specs.declared.event.Act.TheVariants.{Gate, Probe}
 use Rattle.jr_model.specs.declared.event.GateAct.TheVariants.{Enter, Knock, Leave, Withdraw}
-use Rattle.jr_model.specs.declared.frames.Mode.TheVariants.{Copy, Commit, Abort}
 use Rattle.jr_model.specs.History.{History, by, state, PassView}
 use Rattle.jr_model.specs.Frames.{Frames}
 use Rattle.jr_model.specs.Windows.{IsBehind, IsLastSeen, Begins, Ends}
 use Rattle.jr_model.specs.Refusals.{RowWasFull}
 use Rattle.jr_model.specs.Calls.{Call, Ran, done, entered, ◌>>◌}
-use Rattle.jr_model.specs.Objects.{copying_back}
-use Rattle.jr_model.specs.AllCalls.{CallOf}
+use Rattle.jr_model.specs.Programs.{work_of}
+use Rattle.jr_model.specs.AllCalls.{aborts, enters, keeps, nests, opens, stays_out}
 use Rattle.jr_model.specs.Grounded.{RefusedInItsStay, EachIsProbed, IsItsStay, CallsAreTheirStays}
 use Rattle.jr_model.proofs.Moments.{prefix_trans}
 use Rattle.jr_model.proofs.OwnActs.{seen_among}
@@ -92,16 +91,10 @@ its_stay_then old new work b f g answer r = stay_then old new f g work b answer 
 
 module _ (c : Config) (last thread : ℕ) (old new : PassView) where
   pub calls_are_their_stays : CallsAreTheirStays c last thread old new
-  calls_are_their_stays _ (CallOf.ensure_local_capacity n) own = absurd (let bad = own in cc)
-  calls_are_their_stays _ (CallOf.push_local_frame n) own = absurd (let bad = own in cc)
-  calls_are_their_stays _ CallOf.into_pass own = absurd (let bad = own in cc)
-  calls_are_their_stays _ (CallOf.release_array_elements k a buffer Copy) own =
-      its_stay_then old new (copying_back c last thread (state new.seen) k a buffer) None
-  calls_are_their_stays _ (CallOf.release_array_elements k a buffer Commit) own =
-      its_stay_then old new (copying_back c last thread (state new.seen) k a buffer) (Some buffer)
-  calls_are_their_stays _ (CallOf.release_array_elements k a buffer Abort) own = absurd (let bad = own in cc)
-  calls_are_their_stays _ (CallOf.get_array_critical a) own = absurd (let bad = own in cc)
-  calls_are_their_stays _ (CallOf.get_string_critical a) own = absurd (let bad = own in cc)
-  calls_are_their_stays _ (CallOf.nest_array levels a) own = absurd (let bad = own in cc)
-  calls_are_their_stays _ (CallOf.nest_string levels a) own = absurd (let bad = own in cc)
-  calls_are_their_stays _ _ own = its_stay old new _
+  calls_are_their_stays _ (enters words p) own = its_stay old new _
+  calls_are_their_stays _ (keeps elements words p) own =
+      its_stay_then old new (work_of c last thread (state new.seen) words p) elements
+  calls_are_their_stays _ (stays_out p) own = absurd (let bad = own in cc)
+  calls_are_their_stays _ (opens words p) own = absurd (let bad = own in cc)
+  calls_are_their_stays _ (nests levels words p) own = absurd (let bad = own in cc)
+  calls_are_their_stays _ aborts own = absurd (let bad = own in cc)

@@ -1,5 +1,5 @@
 -- What the laws over all calls ask of each: it moves the frames, changes nothing where it
--- is refused, shows why, and leaves once; and how that is put together from its parts.
+-- is refused, and shows why; what a program doesn't do: it leaves no gate; and how that is put together from its parts.
 use Rattle.std.proofs.Common.{◌≡◌, ◌≢◌, ℕ, true, List, [], ◌∷◌, ◌++◌, None, Result, Ok, Err, refl, sym, ap, subst, ◌∙◌}
 use Rattle.std.proofs.lemmas.List.{append-nil}
 use Rattle.std.specs.List.{AllByRecursion}
@@ -50,10 +50,6 @@ all_precede e (a ∷ acts) h = (precedes e a h.0, all_precede e acts h.1)
 abbrev pub NoLeave : List Act → Type 0
 NoLeave acts = AllByRecursion (λ a. a ≢ Gate Leave) acts
 
--- what stands in them between an entry and the exit that ends them has no exit
-abbrev pub LeaveOnce : List Act → Type 0
-LeaveOnce acts = (inside : List Act) → acts ≡ Gate Enter ∷ inside ++ Gate Leave ∷ [] → NoLeave inside
-
 -- an act within a stay: no exit, and no reservation that was lost
 abbrev pub IsInside : Act → Type 0
 IsInside (ReserveLost n l f) = ⊥
@@ -70,24 +66,6 @@ pub inside_all : (acts : List Act) → AllByRecursion IsInside acts → LoseOnly
 inside_all [] inside = (tt, tt)
 inside_all (a ∷ acts) inside =
     let one = inside_parts a inside.0 in let rest = inside_all acts inside.1 in ((one.0, rest.0), (one.1, rest.1))
-
-leave_among : (acts : List Act) → NoLeave (acts ++ Gate Leave ∷ []) → ⊥
-leave_among [] none = none.0 refl
-leave_among (a ∷ acts) none = leave_among acts none.1
-
-pub none_once : (acts : List Act) → NoLeave acts → LeaveOnce acts
-none_once acts none inside is = absurd (leave_among inside (subst NoLeave is none).1)
-
-snoc_cancel : {A : Type 0} (xs ys : List A) (a : A) → xs ++ a ∷ [] ≡ ys ++ a ∷ [] → xs ≡ ys
-snoc_cancel [] [] a e = refl
-snoc_cancel [] (y ∷ []) a e = absurd cc
-snoc_cancel [] (y ∷ z ∷ ys) a e = absurd cc
-snoc_cancel (x ∷ []) [] a e = absurd cc
-snoc_cancel (x ∷ z ∷ xs) [] a e = absurd cc
-snoc_cancel (x ∷ xs) (y ∷ ys) a e = let rest = snoc_cancel xs ys a cc in cc
-
-stay_once : (acts : List Act) → NoLeave acts → LeaveOnce (Gate Enter ∷ acts ++ Gate Leave ∷ [])
-stay_once acts none inside is = subst NoLeave (snoc_cancel acts inside (Gate Leave) cc) none
 
 -- WHAT A PART OR A CALL GIVES
 
@@ -125,9 +103,13 @@ IsWork asked last thread call = Gives (Moved NoLeave last thread) (Refused NoLea
 abbrev pub IsSure : {A : Type 0} → ℕ → ℕ → Call A → Type 0
 IsSure last thread call = Gives (Moved NoLeave last thread) Never call
 
+-- whatever the acts are
+abbrev pub AnyActs : List Act → Type 0
+AnyActs acts = Unit {0}
+
 -- A CALL BY THE LAWS
 abbrev pub IsLawful : {A : Type 0} → Purpose → ℕ → ℕ → Call A → Type 0
-IsLawful asked last thread call = Gives (Moved LeaveOnce last thread) (Refused LeaveOnce asked) call
+IsLawful asked last thread call = Gives (Moved AnyActs last thread) (Refused AnyActs asked) call
 
 -- no act, and the frames as they were
 abbrev pub Still : Going
@@ -202,22 +184,22 @@ module _ {asked : Purpose} where
 
   -- it was refused in a stay of its own
   refused_in_stay : (f g : Frames) (xs : List Act) (e : Fault) → Refused NoLeave asked f xs e g
-      → Refused LeaveOnce asked f (Gate Enter ∷ xs ++ Gate Leave ∷ []) e g
+      → Refused AnyActs asked f (Gate Enter ∷ xs ++ Gate Leave ∷ []) e g
   refused_in_stay f g xs e q = record {
     same = q.same;
     before = append_all (λ a. may_precede e a ≡ true) (Gate Enter ∷ xs) (Gate Leave ∷ [])
         (precedes e (Gate Enter) refl, q.before) (precedes e (Gate Leave) refl, tt);
     shown = shown_behind asked e (Gate Enter ∷ []) (xs ++ Gate Leave ∷ []) (tt, tt)
         (shown_before asked e xs (Gate Leave ∷ []) (tt, tt) q.shown);
-    are = stay_once xs q.are;
+    are = tt;
   }
 
-  barred : (f : Frames) → Refused LeaveOnce asked f (Gate Knock ∷ Gate Withdraw ∷ []) Barred f
+  barred : (f : Frames) → Refused AnyActs asked f (Gate Knock ∷ Gate Withdraw ∷ []) Barred f
   barred f = record {
     same = refl;
     before = (refl, (refl, tt));
     shown = (([], Gate Withdraw ∷ [], refl), (tt, (tt, tt)), tt);
-    are = none_once (Gate Knock ∷ Gate Withdraw ∷ []) ((λ e. cc), ((λ e. cc), tt));
+    are = tt;
   }
 
 module _ {asked : Purpose} {last thread : ℕ} where
@@ -249,21 +231,21 @@ module _ {asked : Purpose} {last thread : ℕ} where
 
   -- a call that has no stay of its own
   pub outside : {A : Type 0} {call : Call A} → IsWork asked last thread call → IsLawful asked last thread call
-  outside p = weaker_gives (λ f g xs q. record { leads = q.leads; lose = q.lose; are = none_once xs q.are })
-      (λ f g xs e q. record { same = q.same; before = q.before; shown = q.shown; are = none_once xs q.are }) p
+  outside p = weaker_gives (λ f g xs q. record { leads = q.leads; lose = q.lose; are = tt })
+      (λ f g xs e q. record { same = q.same; before = q.before; shown = q.shown; are = tt }) p
 
   pub in_stay : {A : Type 0} {work : Call A} → IsWork asked last thread work → IsLawful asked last thread (entered work)
   in_stay p = entered_gives
       (λ f g xs q. record {
         leads = q.leads;
         lose = append_all (LosesOnly None) (Gate Enter ∷ xs) (Gate Leave ∷ []) (tt, q.lose) (tt, tt);
-        are = stay_once xs q.are;
+        are = tt;
       }) refused_in_stay barred p
 
   pub in_region : {A : Type 0} {work : Call A} → IsWork asked last thread work
       → IsLawful asked last thread (opened work)
   in_region p = opened_gives (λ f g xs q.
-      record { leads = q.leads; lose = (tt, q.lose); are = none_once (Gate Enter ∷ xs) ((λ e. cc), q.are) })
+      record { leads = q.leads; lose = (tt, q.lose); are = tt })
       refused_in_stay barred p
 
   -- WHAT IT IS BY EACH LAW
@@ -281,11 +263,6 @@ module _ {asked : Purpose} {last thread : ℕ} where
     frames = λ old new acts e r. (p.fails old new acts e r).same;
     acts = λ old new acts e r. (p.fails old new acts e r).before;
   }
-
-  pub leaves_once : {A : Type 0} {call : Call A} → IsLawful asked last thread call
-      → (old new : Frames) (acts : List Act) (answer : Result A Fault) → call old acts answer new → LeaveOnce acts
-  leaves_once p old new acts (Ok x) r = (p.goes old new acts x r).are
-  leaves_once p old new acts (Err e) r = (p.fails old new acts e r).are
 
   pub work_stays : {A : Type 0} {call : Call A} → IsWork asked last thread call
       → (old new : Frames) (acts : List Act) (answer : Result A Fault) → call old acts answer new → NoLeave acts

@@ -21,7 +21,7 @@ use Rattle.jr_model.proofs.Agreement.{other_than}
 use Rattle.jr_model.proofs.Exactly.{all_map}
 use Rattle.jr_model.proofs.Gone.{has}
 use Rattle.jr_model.proofs.Composed.{Gives, Never, bind_gives, framed_gives, weaker_gives}
-use Rattle.jr_model.proofs.ShownRefusals.{Purpose, is_unshown, words_alone}
+use Rattle.jr_model.proofs.ShownRefusals.{Purpose, words_alone, is_unshown}
 use Rattle.jr_model.proofs.Lawful.{IsInside, IsPrelude, IsSure, IsWork, Moved, NoLeave, Quiet, Refused, answered}
 use Rattle.jr_model.proofs.Lawful.{before, both_moved, moved, prelude, quiet_moved, quiet_refused, same_leads, sure}
 use Rattle.jr_model.proofs.Preludes.{check, done_prelude, resolved_prelude, room_prelude}

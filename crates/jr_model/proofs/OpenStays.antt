@@ -1,47 +1,21 @@
 -- A stay that stands is one stay of its history, without a step of a collection.
-use Rattle.std.proofs.Common.{◌≡◌, ◌≢◌, ℕ, List, [], ◌∷◌, ◌++◌, Result, refl, sym, ap, subst, ◌∙◌, append_assoc}
+use Rattle.std.proofs.Common.{◌≡◌, ◌≢◌, ℕ, List, [], ◌∷◌, ◌++◌, refl, sym, ap, subst, ◌∙◌, append_assoc}
 use Rattle.std.proofs.lemmas.List.{append-nil}
 use Rattle.std.specs.List.{AllByRecursion}
-use Rattle.jr_word.specs.declared.config.Config.{Config}
-use Rattle.jr_word.specs.declared.fault.Fault.{Fault}
 use Rattle.jr_model.specs.declared.event.Act.{Act}
 use Rattle.jr_model.specs.declared.event.Act.TheVariants.{Gate}
 use Rattle.jr_model.specs.declared.event.GateAct.TheVariants.{Enter, Leave}
-use Rattle.jr_model.specs.State.{State}
-use Rattle.jr_model.specs.Frames.{Frames}
 use Rattle.jr_model.specs.History.{History, by, mine, IsLegal, IsStay, PassView, Did}
 use Rattle.jr_model.specs.Windows.{IsLastSeen}
-use Rattle.jr_model.specs.Calls.{Call}
-use Rattle.jr_model.specs.Checks.{Word}
-use Rattle.jr_model.specs.Objects.{level_array, level_string}
 use Rattle.jr_model.specs.OpenStays.{GoesOnWithItsActs, HasStayed, IsOneStay, NoneLeaves}
 use Rattle.jr_model.specs.OpenStays.{NoCollectionInOpenStay, NoCollectionUpToExit}
-use Rattle.jr_model.proofs.ShownRefusals.{words_alone}
-use Rattle.jr_model.proofs.Lawful.{NoLeave, prelude, work_stays}
-use Rattle.jr_model.proofs.Preludes.{level_array_prelude, level_string_prelude}
+use Rattle.jr_model.proofs.Lawful.{NoLeave}
 use Rattle.jr_model.proofs.Exactly.{append_all}
 use Rattle.jr_model.proofs.Gates.{no_collection_inside}
 use Rattle.jr_model.proofs.Histories.{mine_append, mine_push}
 use Rattle.jr_model.proofs.Moments.{FirstAct, first_act}
 use Rattle.jr_model.proofs.Stays.{did_then, mine_did, never}
 use Rattle.jr_model.proofs.Windows.{stepped_last}
-
--- NO LEAVE
-
--- a call that never leaves the gate
-abbrev pub Stays : {A : Type 0} → Call A → Type 0
-Stays {A} call = (f g : Frames) (acts : List Act) (answer : Result A Fault) → call f acts answer g → NoLeave acts
-
-module _ (c : Config) (last thread : ℕ) (s : State) where
-  pub level_array_stays : (levels : ℕ) (a : Word) → Stays (level_array c last thread s levels a)
-  level_array_stays levels a =
-      work_stays (prelude {asked = words_alone 0} {last = last} {thread = thread}
-      (level_array_prelude c last thread s levels a))
-
-  pub level_string_stays : (levels : ℕ) (a : Word) → Stays (level_string c last thread s levels a)
-  level_string_stays levels a =
-      work_stays (prelude {asked = words_alone 0} {last = last} {thread = thread}
-      (level_string_prelude c last thread s levels a))
 
 -- WHAT A STAY DID
 

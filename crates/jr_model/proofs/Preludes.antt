@@ -1,31 +1,26 @@
 -- The parts of calls that come before anything is changed.
-use Rattle.std.proofs.Common.{◌≡◌, ℕ, ◌+◌, ◌==◌, Bool, true, not, nat_lt, nat_le, Option}
+use Rattle.std.proofs.Common.{◌≡◌, ℕ, Bool, true, nat_lt, Option}
 use Rattle.std.proofs.Common.{Some, None, List, [], ◌∷◌, map, refl, sym, subst}
 use Rattle.jr_word.specs.declared.fault.Fault.{Fault}
-use Rattle.jr_word.specs.declared.fault.Fault.TheVariants.{Busy, Moved, LocalsFull, NotArray}
-use Rattle.jr_word.specs.declared.fault.Fault.TheVariants.{WrongElement, WrongKind, Range, Size}
+use Rattle.jr_word.specs.declared.fault.Fault.TheVariants.{Busy, Moved, LocalsFull}
 use Rattle.jr_word.specs.declared.config.Config.{Config}
-use Rattle.jr_word.specs.declared.kind.Kind.{Kind}
 use Rattle.jr_model.specs.declared.event.Act.{Act}
 use Rattle.jr_model.specs.declared.event.Act.TheVariants.{Gate, ShutBusy, Meet, Look, Probe}
 use Rattle.jr_model.specs.declared.event.GateAct.TheVariants.{Announce}
 use Rattle.jr_model.specs.declared.event.Found.{Found}
 use Rattle.jr_model.specs.declared.event.Found.TheVariants.{Object, Cleared, Stale}
-use Rattle.jr_model.specs.declared.frames.TheConstants.{LEVELS}
-use Rattle.jr_model.specs.State.{Handle, State}
-use Rattle.jr_model.specs.Frames.{Frames, free_places, object_of, popped}
-use Rattle.jr_model.specs.Calls.{◌>>◌, act, done, refuse, refuse_if, some_act, for_object}
-use Rattle.jr_model.specs.Checks.{Word, Nothing, Malformed, Parts, is_array, is_local}
-use Rattle.jr_model.specs.Checks.{is_objects, is_primitive, is_text, same_element, type_local}
+use Rattle.jr_model.specs.State.{Handle}
+use Rattle.jr_model.specs.Frames.{Frames, free_places, object_of}
+use Rattle.jr_model.specs.Calls.{act, done, refuse, refuse_if, some_act}
+use Rattle.jr_model.specs.Checks.{Word, Nothing, Malformed, Parts, is_local, type_local}
 use Rattle.jr_model.specs.Parts.{announce, found_closed, found_moved, found_object}
 use Rattle.jr_model.specs.Parts.{local_object, look, looked, looked_at, not_null, probes, refused_shuts, type_at}
-use Rattle.jr_model.specs.References.{resolved, resolved_both, room_for, room_after}
-use Rattle.jr_model.specs.Objects.{part_of, level_array, level_string}
+use Rattle.jr_model.specs.References.{resolved, resolved_both, room_for}
 use Rattle.jr_model.specs.RefusedCalls.{is_harmless}
 use Rattle.jr_model.proofs.Exactly.{all_map}
 use Rattle.jr_model.proofs.Composed.{act_gives, cond_gives, done_gives, either_gives, framed_gives}
-use Rattle.jr_model.proofs.Composed.{object_gives, refuse_gives, refuse_if_gives, some_act_gives, some_act_then}
-use Rattle.jr_model.proofs.ShownRefusals.{LoseOnly, Purpose, is_unshown, unshown_is}
+use Rattle.jr_model.proofs.Composed.{refuse_gives, refuse_if_gives, some_act_gives, some_act_then}
+use Rattle.jr_model.proofs.ShownRefusals.{LoseOnly, Purpose, unshown_is, is_unshown}
 use Rattle.jr_model.proofs.Lawful.{AreHarmless, IsInside, IsPrelude, NoLeave, Quiet, Refused, bind_prelude, inside_all}
 
 all_probes : (looks : List (ℕ × Bool)) → AreHarmless (map (λ l. Probe l.0 l.1) looks)
@@ -160,36 +155,3 @@ module _ {asked : Purpose} where
     pub room_prelude : (n : ℕ) → IsPrelude asked (room_for c last thread n)
     room_prelude n = framed_gives (λ old. refuse_if (nat_lt (free_places last old) n) LocalsFull) (λ f.
         check (nat_lt (free_places last f) n) LocalsFull refl)
-
-    pub after_prelude : (o : Option ℕ) → IsPrelude asked (room_after c last thread o)
-    after_prelude None = framed_gives (λ old. done tt) (λ f. done_prelude tt)
-    after_prelude (Some o) = framed_gives (λ old. refuse_if (free_places last (popped old) == 0) LocalsFull) (λ f.
-        check (free_places last (popped f) == 0) LocalsFull refl)
-
-    -- OBJECTS
-
-    module _ (s : State) where
-      pub part_prelude : (k : Kind) (start n : ℕ) (a : Word) → IsPrelude asked (part_of c last thread s k start n a)
-      part_prelude k start n a =
-          bind_prelude (resolved_prelude a) (λ x. bind_prelude (not_null_prelude x) (λ o. object_gives s o (λ l m.
-          bind_prelude (check (not (is_array l)) NotArray refl) (λ y.
-          bind_prelude (check (not (same_element k l)) WrongElement refl) (λ z.
-          bind_prelude (check (nat_lt m (start + n)) Range refl) (λ u. done_prelude o))))))
-
-      pub level_array_prelude : (levels : ℕ) (a : Word) → IsPrelude asked (level_array c last thread s levels a)
-      level_array_prelude levels a =
-          bind_prelude (resolved_prelude a) (λ x. bind_prelude (not_null_prelude x) (λ o. object_gives s o (λ k n.
-          bind_prelude (check (not (is_array k)) NotArray refl) (λ y.
-          bind_prelude (check (not (is_primitive k)) WrongElement refl) (λ z.
-          bind_prelude (check (nat_le LEVELS levels) Size refl) (λ u. done_prelude o))))))
-
-      pub level_string_prelude : (levels : ℕ) (a : Word) → IsPrelude asked (level_string c last thread s levels a)
-      level_string_prelude levels a =
-          bind_prelude (resolved_prelude a) (λ x. bind_prelude (not_null_prelude x) (λ o. object_gives s o (λ k n.
-          bind_prelude (check (not (is_text k)) WrongKind refl) (λ y.
-          bind_prelude (check (nat_le LEVELS levels) Size refl) (λ z. done_prelude o)))))
-
-      pub element_prelude : (o i : ℕ) → IsPrelude asked (for_object s o (λ k n. refuse_if (not (is_array k)) NotArray
-          >> (refuse_if (not (is_objects k)) WrongElement >> refuse_if (nat_le n i) Range)))
-      element_prelude o i = object_gives s o (λ k n. bind_prelude (check (not (is_array k)) NotArray refl) (λ x.
-          bind_prelude (check (not (is_objects k)) WrongElement refl) (λ y. check (nat_le n i) Range refl)))

@@ -1,5 +1,5 @@
 -- What the acts of a call show of its refusal.
-use Rattle.std.proofs.Common.{◌≡◌, ℕ, Bool, true, false, Option, Some, None, List, [], ◌∷◌, ◌++◌, sym, ap, ◌∙◌}
+use Rattle.std.proofs.Common.{◌≡◌, ℕ, Bool, true, false, Option, Some, None, List, [], ◌∷◌, ◌++◌, refl, sym, ap, ◌∙◌}
 use Rattle.std.proofs.Common.{append_assoc}
 use Rattle.std.specs.List.{AllByRecursion}
 use Rattle.jr_word.specs.declared.fault.Fault.{Fault}
@@ -7,6 +7,7 @@ use Rattle.jr_word.specs.declared.fault.Fault.TheVariants.{SpaceFull, Raced, Bar
 use Rattle.jr_model.specs.declared.event.Act.{Act}
 use Rattle.jr_model.specs.declared.event.Act.TheVariants.{Gate, ShutBusy, ReserveFull, ReserveLost}
 use Rattle.jr_model.specs.declared.event.GateAct.TheVariants.{Knock}
+use Rattle.jr_model.specs.Tests.{is_silent}
 use Rattle.jr_model.proofs.Exactly.{append_all}
 use Rattle.jr_model.proofs.OwnActs.{IsAmong}
 
@@ -60,6 +61,14 @@ is_unshown Barred = false
 is_unshown (Busy n) = false
 is_unshown (Moved l f) = false
 is_unshown _ = true
+
+-- who says nothing of the room is not shown
+pub silent_unshown : (e : Fault) → is_silent e ≡ true → is_unshown e ≡ true
+silent_unshown (SpaceFull used) is = absurd cc
+silent_unshown Barred is = absurd cc
+silent_unshown (Busy n) is = absurd cc
+silent_unshown (Moved l f) is = absurd cc
+silent_unshown _ is = refl
 
 pub unshown_is : (asked : Purpose) (e : Fault) → is_unshown e ≡ true → IsShown asked e []
 unshown_is asked (SpaceFull used) is = absurd cc

@@ -5,28 +5,13 @@ use Rattle.std.proofs.lemmas.List.{length-append}
 use Rattle.std.proofs.Math.Seq.{set-append_seam}
 use Rattle.jr_word.specs.declared.kind.Kind.{Kind}
 use Rattle.jr_model.specs.declared.frames.Mode.TheVariants.{Copy, Commit, Abort}
-use Rattle.jr_model.specs.declared.event.Act.TheVariants.{Read, Write}
+use Rattle.jr_model.specs.declared.event.Act.TheVariants.{Write}
 use Rattle.jr_model.specs.State.{Contents, State}
 use Rattle.jr_model.specs.Steps.{act_after, written}
 use Rattle.jr_model.specs.History.{by, state_from}
-use Rattle.jr_model.specs.Parts.{read_acts, write_acts}
+use Rattle.jr_model.specs.Parts.{write_acts}
 use Rattle.jr_model.specs.Laws.{ReleaseLeaves}
 use Rattle.jr_model.proofs.Updates.{at_number_self}
-
--- one element more
-pub read_acts_push : (o start v : ℕ) (vs : List ℕ)
-    → read_acts o start (vs ++ v ∷ []) ≡ read_acts o start vs ++ Read o (start + length vs) v ∷ []
-read_acts_push o start v [] = ap (λ i. Read o i v ∷ []) (omega arith)
-read_acts_push o start v (w ∷ vs) =
-    ap (λ l. Read o start w ∷ l) (read_acts_push o (start + 1) v vs
-    ∙ ap (λ i. read_acts o (start + 1) vs ++ Read o i v ∷ []) (omega arith))
-
-pub write_acts_push : (o start v : ℕ) (vs : List ℕ)
-    → write_acts o start (vs ++ v ∷ []) ≡ write_acts o start vs ++ Write o (start + length vs) v ∷ []
-write_acts_push o start v [] = ap (λ i. Write o i v ∷ []) (omega arith)
-write_acts_push o start v (w ∷ vs) =
-    ap (λ l. Write o start w ∷ l) (write_acts_push o (start + 1) v vs
-    ∙ ap (λ i. write_acts o (start + 1) vs ++ Write o i v ∷ []) (omega arith))
 
 abbrev contents_of : Kind → List ℕ → Option Contents
 contents_of k ws = Some (record { kind = k; words = ws })

@@ -1,79 +1,34 @@
 -- EVERY CALL AS A VALUE, so that a law over all calls is one statement:
 -- what each is handed, what it answers, and what it means.
-use Rattle.std.specs.Prelude.{ℕ, Bool, true, false, Option, List, length}
+use Rattle.std.specs.Prelude.{ℕ, Bool, true, false, Option, None, List}
 use Rattle.jr_word.specs.declared.config.Config.{Config}
 use Rattle.jr_word.specs.declared.handle.RefKind.{RefKind}
 use Rattle.jr_word.specs.declared.kind.Kind.{Kind}
-use Rattle.jr_model.specs.declared.event.Found.{Found}
-use Rattle.jr_model.specs.declared.frames.Mode.{Mode}
-use Rattle.jr_model.specs.declared.frames.Mode.TheVariants.{Abort}
 use Rattle.jr_model.specs.State.{Handle, State}
-use Rattle.jr_model.specs.Calls.{Call}
+use Rattle.jr_model.specs.Calls.{Call, done, entered, opened, ◌>>=◌, ◌>>◌}
 use Rattle.jr_model.specs.Checks.{Word}
 use Rattle.jr_model.specs.Parts as parts
 use Rattle.jr_model.specs.References as references
-use Rattle.jr_model.specs.Objects as objects
+use Rattle.jr_model.specs.Programs.{AnswerKind, AnswerOf, nothing, number, object, object_kind, handle, found, counts}
+use Rattle.jr_model.specs.Programs.{perhaps, several, both, Which, Program, at_object, handed_none, work_of}
 
--- what a call answers, by a name: a law over calls of whatever answer speaks of names, and not of types
-pub data AnswerKind : Type 0 where
-  nothing : AnswerKind
-  truth : AnswerKind
-  number : AnswerKind
-  object_kind : AnswerKind
-  handle : AnswerKind
-  found : AnswerKind
-  counts : AnswerKind
-  perhaps : AnswerKind → AnswerKind
-  several : AnswerKind → AnswerKind
-  both : AnswerKind → AnswerKind → AnswerKind
-
--- the type that the name stands for
-abbrev pub AnswerOf : AnswerKind → Type 0
-AnswerOf nothing = Unit {0}
-AnswerOf truth = Bool
-AnswerOf number = ℕ
-AnswerOf object_kind = Kind
-AnswerOf handle = Handle
-AnswerOf found = Found
-AnswerOf counts = ℕ × ℕ × ℕ
-AnswerOf (perhaps a) = Option (AnswerOf a)
-AnswerOf (several a) = List (AnswerOf a)
-AnswerOf (both a b) = AnswerOf a × AnswerOf b
-
--- A CALL OF AN ENV, with what it is handed. The two that nest a level are handed the objects of the levels that stand
+-- A CALL OF AN ENV: its program with the references that it is handed, by how it stands to the gate
 pub data CallOf : AnswerKind → Type 0 where
-  new_reference : RefKind → Word → CallOf (perhaps handle)
-  new_local_ref : Word → CallOf (perhaps handle)
-  delete_reference : RefKind → Word → CallOf nothing
-  delete_local_ref : Word → CallOf nothing
-  is_same_object : Word → Word → CallOf truth
-  get_object_ref_type : Word → CallOf number
-  ensure_local_capacity : ℕ → CallOf nothing
-  push_local_frame : ℕ → CallOf nothing
-  pop_local_frame : Word → CallOf (perhaps handle)
-  new_plain : CallOf handle
-  new_array : Kind → ℕ → CallOf handle
-  new_object_array : ℕ → Word → CallOf handle
-  new_string : List ℕ → CallOf handle
-  free_locals : CallOf nothing
-  into_pass : CallOf nothing
-  kind_of : Word → CallOf object_kind
-  get_array_length : Word → CallOf number
-  get_string_length : Word → CallOf number
-  get_object_array_element : Word → ℕ → CallOf (perhaps handle)
-  set_object_array_element : Word → ℕ → Word → CallOf nothing
-  get_array_region : Kind → Word → ℕ → ℕ → CallOf (several number)
-  set_array_region : Kind → Word → ℕ → List ℕ → CallOf nothing
-  get_array_elements : Kind → Word → CallOf (several number)
-  get_string_chars : Word → CallOf (several number)
-  release_array_elements : Kind → Word → List ℕ → Mode → CallOf (perhaps (several number))
-  get_array_critical : Word → CallOf number
-  get_string_critical : Word → CallOf number
-  nest_array : List ℕ → Word → CallOf (both number (several number))
-  nest_string : List ℕ → Word → CallOf (both number (several number))
+  -- in a stay of its own
+  enters : {n : ℕ} {a : AnswerKind} → (Which → Word) → Program n a → CallOf a
+  -- with no entry and no exit
+  stays_out : {n : ℕ} {a : AnswerKind} → Program n a → CallOf a
+  -- in a stay that goes on where it isn't refused: the first level of a region
+  opens : {n : ℕ} {a : AnswerKind} → (Which → Word) → Program n a → CallOf a
+  -- in the stay of a region whose levels have these objects: one more level
+  nests : {n : ℕ} → List ℕ → (Which → Word) → Program n object → CallOf (both number (several number))
+  -- in a stay of its own, and then these elements, which are kept, if they are
+  keeps : {n : ℕ} → Option (List ℕ) → (Which → Word) → Program n nothing → CallOf (perhaps (several number))
+  -- copied elements are given up, and nothing is done
+  aborts : CallOf (perhaps (several number))
 
 -- ANY OTHER CALL, with what it is handed: those of the gate, of slots, heap and frames
--- within a stay, of a level of a region, of copied elements, and of the room as a whole
+-- within a stay, at an object of a region, of copied elements, and of the room as a whole
 pub data PartOf : AnswerKind → Type 0 where
   enter : PartOf nothing
   leave : PartOf nothing
@@ -92,10 +47,7 @@ pub data PartOf : AnswerKind → Type 0 where
   delete_local : Word → PartOf nothing
   pop_frame : Option ℕ → PartOf (perhaps handle)
   freeing : PartOf nothing
-  region_kind : ℕ → PartOf object_kind
-  region_length : ℕ → PartOf number
-  region_get : Kind → ℕ → ℕ → PartOf number
-  region_set : Kind → ℕ → ℕ → ℕ → PartOf nothing
+  at_level : {n : ℕ} {a : AnswerKind} → ℕ → Program n a → PartOf a
   region_release : ℕ → PartOf nothing
   elements_get : List ℕ → ℕ → PartOf number
   elements_set : List ℕ → ℕ → ℕ → PartOf (several number)
@@ -108,35 +60,16 @@ pub data PartOf : AnswerKind → Type 0 where
 module _ (c : Config) (last thread : ℕ) (s : State) where
   -- WHAT A CALL OF AN ENV MEANS, where it leaves this state
   abbrev pub means : {a : AnswerKind} → CallOf a → Call (AnswerOf a)
-  means (new_reference k a) = references.new_reference c last thread k a
-  means (new_local_ref a) = references.new_local_ref c last thread a
-  means (delete_reference k a) = references.delete_reference c last thread k a
-  means (delete_local_ref a) = references.delete_local_ref c last thread a
-  means (is_same_object a b) = references.is_same_object c last thread a b
-  means (get_object_ref_type a) = references.get_object_ref_type c last thread a
-  means (ensure_local_capacity n) = references.ensure_local_capacity c last thread n
-  means (push_local_frame n) = references.push_local_frame c last thread n
-  means (pop_local_frame a) = references.pop_local_frame c last thread a
-  means new_plain = references.new_plain c last thread
-  means (new_array k n) = references.new_array c last thread k n
-  means (new_object_array n a) = references.new_object_array c last thread n a
-  means (new_string units) = references.new_string c last thread units
-  means free_locals = references.free_locals
-  means into_pass = references.into_pass
-  means (kind_of a) = objects.kind_of c last thread s a
-  means (get_array_length a) = objects.get_array_length c last thread s a
-  means (get_string_length a) = objects.get_string_length c last thread s a
-  means (get_object_array_element a i) = objects.get_object_array_element c last thread s a i
-  means (set_object_array_element a i b) = objects.set_object_array_element c last thread s a i b
-  means (get_array_region k a start n) = objects.get_array_region c last thread s k a start n
-  means (set_array_region k a start vs) = objects.set_array_region c last thread s k a start vs
-  means (get_array_elements k a) = objects.get_array_elements c last thread s k a
-  means (get_string_chars a) = objects.get_string_chars c last thread s a
-  means (release_array_elements k a buffer mode) = objects.release_array_elements c last thread s k a buffer mode
-  means (get_array_critical a) = objects.get_array_critical c last thread s a
-  means (get_string_critical a) = objects.get_string_critical c last thread s a
-  means (nest_array levels a) = objects.nest_array c last thread s levels a
-  means (nest_string levels a) = objects.nest_string c last thread s levels a
+  means (enters words p) = entered (work_of c last thread s words p)
+  means (stays_out p) = work_of c last thread s handed_none p
+  means (opens words p) = opened (work_of c last thread s words p)
+  means (nests levels words p) = do
+    o ← work_of c last thread s words p
+    parts.nested levels o
+  means (keeps elements words p) = do
+    entered (work_of c last thread s words p)
+    done elements
+  means aborts = done None
 
   -- WHAT ANY OTHER CALL MEANS
   abbrev pub part_means : {a : AnswerKind} → PartOf a → Call (AnswerOf a)
@@ -157,41 +90,33 @@ module _ (c : Config) (last thread : ℕ) (s : State) where
   part_means (delete_local a) = references.delete_local c thread a
   part_means (pop_frame o) = references.pop_frame c last thread o
   part_means freeing = references.freeing
-  part_means (region_kind o) = objects.region_kind c last thread s o
-  part_means (region_length o) = objects.region_length c last thread s o
-  part_means (region_get k o i) = objects.region_get c last thread s k o i
-  part_means (region_set k o i v) = objects.region_set c last thread s k o i v
-  part_means (region_release levels) = objects.region_release levels
-  part_means (elements_get buffer i) = objects.elements_get buffer i
-  part_means (elements_set buffer i v) = objects.elements_set buffer i v
-  part_means (elements_length buffer) = objects.elements_length buffer
+  part_means (at_level o p) = at_object c last thread s o p
+  part_means (region_release levels) = parts.region_release levels
+  part_means (elements_get buffer i) = parts.elements_get buffer i
+  part_means (elements_set buffer i v) = parts.elements_set buffer i v
+  part_means (elements_length buffer) = parts.elements_length buffer
   part_means collect = parts.collect
   part_means announce = parts.announce
   part_means (collect_announced tries) = parts.collect_announced tries
   part_means meet = parts.meet
 
--- the call has a stay of its own, from its entry to its exit:
--- each but those that enter no gate, those at levels of a region, and a release that aborts
+-- the call has a stay of its own, from its entry to its exit
 abbrev pub has_own_stay : {a : AnswerKind} → CallOf a → Bool
-has_own_stay (ensure_local_capacity n) = false
-has_own_stay (push_local_frame n) = false
-has_own_stay into_pass = false
-has_own_stay (release_array_elements k a buffer Abort) = false
-has_own_stay (get_array_critical a) = false
-has_own_stay (get_string_critical a) = false
-has_own_stay (nest_array levels a) = false
-has_own_stay (nest_string levels a) = false
-has_own_stay _ = true
+has_own_stay (enters words p) = true
+has_own_stay (keeps elements words p) = true
+has_own_stay _ = false
 
--- how many words of space the call asks for:
--- what makes an array or a string as many as that has elements or units, and every other call none
+-- how many words of space the call asks for: those of its program
 abbrev pub words_asked : {a : AnswerKind} → CallOf a → ℕ
-words_asked (new_array k n) = n
-words_asked (new_object_array n a) = n
-words_asked (new_string units) = length units
-words_asked _ = 0
+words_asked (enters {n} words p) = n
+words_asked (stays_out {n} p) = n
+words_asked (opens {n} words p) = n
+words_asked (nests {n} levels words p) = n
+words_asked (keeps {n} elements words p) = n
+words_asked aborts = 0
 
--- how many any other call asks for: a reservation its own, and the rest none
+-- how many any other call asks for: a reservation and a program their own, and the rest none
 abbrev pub words_asked_by_part : {a : AnswerKind} → PartOf a → ℕ
 words_asked_by_part (reserve n) = n
+words_asked_by_part (at_level {n} o p) = n
 words_asked_by_part _ = 0

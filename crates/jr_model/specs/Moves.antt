@@ -6,7 +6,8 @@ use Rattle.jr_model.specs.declared.event.Act.{Act}
 use Rattle.jr_model.specs.State.{State}
 use Rattle.jr_model.specs.Frames.{Frames, LeadsTo}
 use Rattle.jr_model.specs.Calls.{Call}
-use Rattle.jr_model.specs.AllCalls.{AnswerKind, CallOf, means}
+use Rattle.jr_model.specs.Programs.{AnswerKind}
+use Rattle.jr_model.specs.AllCalls.{CallOf, means}
 
 -- A CALL MOVES THE FRAMES:
 -- whatever it answers, its frames come from those before it by what a thread may do with frames

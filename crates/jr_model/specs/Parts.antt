@@ -1,6 +1,7 @@
 -- The parts that calls are made of, among them the calls of gate, slots and heap.
 use Rattle.std.specs.Prelude.{◌≡◌, ◌<◌, ◌+◌, ◌||◌, ℕ, zero, suc, Bool, not, cond, nat_lt, nat_le}
-use Rattle.std.specs.Prelude.{Option, Some, None, Result, Ok, Err, List, [], ◌∷◌, map, length}
+use Rattle.std.specs.Prelude.{Option, Some, None, Result, Ok, Err, List, [], ◌∷◌, ◌++◌, map, length}
+use Rattle.std.specs.Prelude.{slice_index, slice_set}
 use Rattle.jr_word.specs.declared.handle.RefKind.{RefKind}
 use Rattle.jr_word.specs.declared.kind.Kind.{Kind}
 use Rattle.jr_word.specs.declared.fault.Fault.{Fault}
@@ -21,6 +22,7 @@ use Rattle.jr_model.specs.Frames.{object_of, pushed, popped, without_local, last
 use Rattle.jr_model.specs.CollectionCalls.{collection_acts}
 use Rattle.jr_model.specs.Calls.{Call, ◌>>=◌, ◌>>◌, act, at_most, decided, done}
 use Rattle.jr_model.specs.Calls.{one_of, refuse, refuse_if, some_act, for_object}
+use Rattle.jr_model.specs.Tests.{Tests, tested}
 use Rattle.jr_model.specs.Checks.{Word, Parts, is_local, is_plain, is_text, is_value, type_found, type_local}
 
 -- THE GATE
@@ -150,20 +152,21 @@ publish k ws = one_of (some_act (λ o. New o k ws)) (refuse ObjectsFull)
 abbrev pub header : State → ℕ → Call (Kind × ℕ)
 header s o = for_object s o (λ k n. done (k, n))
 
+-- what a read of an element asks of its object
+abbrev pub read_tests : ℕ → Kind → ℕ → Tests
+read_tests i k n = (is_plain k, NotArray) ∷ (nat_le n i, Range) ∷ []
+
 -- one element
 abbrev pub read_element : State → ℕ → ℕ → Call ℕ
-read_element s o i = for_object s o (λ k n. do
-  refuse_if (is_plain k) NotArray
-  refuse_if (nat_le n i) Range
-  some_act (Read o i))
+read_element s o i = for_object s o (λ k n. tested (read_tests i k n) (some_act (Read o i)))
+
+-- what a write asks of the object, and of the word
+abbrev pub write_tests : ℕ → ℕ → Kind → ℕ → Tests
+write_tests i v k n = (is_plain k || is_text k, NotArray) ∷ (nat_le n i, Range) ∷ (not (is_value k v), Value) ∷ []
 
 -- one element is written
 abbrev pub write_element : State → ℕ → ℕ → ℕ → Call (Unit {0})
-write_element s o i v = for_object s o (λ k n. do
-  refuse_if (is_plain k || is_text k) NotArray
-  refuse_if (nat_le n i) Range
-  refuse_if (not (is_value k v)) Value
-  act (Write o i v))
+write_element s o i v = for_object s o (λ k n. tested (write_tests i v k n) (act (Write o i v)))
 
 -- the reads that find these words from start on, rising
 abbrev pub read_acts : ℕ → ℕ → List ℕ → List Act
@@ -270,3 +273,34 @@ collect_announced tries = do
 -- what another pass saw is learned
 abbrev pub meet : Call (Unit {0})
 meet = act Meet
+
+-- REGIONS
+
+-- a further level of a region whose levels have these objects: the number of the new level, and the objects then
+abbrev pub nested : List ℕ → ℕ → Call (ℕ × List ℕ)
+nested levels o = done (length levels, levels ++ o ∷ [])
+
+-- the last level of a region is given up, where so many stand: with the first one the stay ends.
+-- A region is no copy, so that no mode writes or keeps anything
+abbrev pub region_release : ℕ → Call (Unit {0})
+region_release (suc zero) = leave
+region_release _ = done tt
+
+-- COPIED ELEMENTS, which a call hands out and takes back:
+-- a list of their own, so that nothing is entered and nothing of the room is looked at
+
+-- one of the copied elements
+abbrev pub elements_get : List ℕ → ℕ → Call ℕ
+elements_get buffer i = do
+  refuse_if (nat_le (length buffer) i) Range
+  done (slice_index buffer i)
+
+-- one of them is set: the elements then
+abbrev pub elements_set : List ℕ → ℕ → ℕ → Call (List ℕ)
+elements_set buffer i v = do
+  refuse_if (nat_le (length buffer) i) Range
+  done (slice_set buffer i v)
+
+-- how many they are
+abbrev pub elements_length : List ℕ → Call ℕ
+elements_length buffer = done (length buffer)

@@ -1,22 +1,18 @@
--- The calls of references and frames, and those that make objects:
--- first what each does within its stay, and then the calls.
-use Rattle.std.specs.Prelude.{◌≡◌, ◌==◌, ◌||◌, ℕ, Bool, not, cond, nat_lt, Option}
-use Rattle.std.specs.Prelude.{Some, None, Ok, List, [], ◌∷◌, length, replicate}
+-- What calls do with references and frames, and where they make objects.
+use Rattle.std.specs.Prelude.{◌≡◌, ◌==◌, ◌||◌, ℕ, not, cond, nat_lt, Option, Some, None, Ok, List, [], ◌∷◌, length}
 use Rattle.jr_word.specs.declared.config.Config.{Config}
 use Rattle.jr_word.specs.declared.handle.RefKind.{RefKind}
 use Rattle.jr_word.specs.declared.handle.RefKind.TheVariants.{Local}
 use Rattle.jr_word.specs.declared.kind.Kind.{Kind}
-use Rattle.jr_word.specs.declared.kind.Kind.TheVariants.{Plain, Objects, Text}
 use Rattle.jr_word.specs.declared.fault.Fault.TheVariants.{Foreign, WrongKind, LocalsFull}
 use Rattle.jr_word.specs.declared.fault.Fault.TheVariants as fault
 use Rattle.jr_model.specs.declared.event.Act.TheVariants.{LocalPut}
 use Rattle.jr_model.specs.State.{Handle}
 use Rattle.jr_model.specs.Frames.{all_refs, drop_all, free_places, popped, freed, IsAdded}
-use Rattle.jr_model.specs.Calls.{Call, done, entered, refuse_if, ◌>>=◌, ◌>>◌}
-use Rattle.jr_model.specs.Checks.{Word, is_foreign, is_malformed, is_of_kind}
-use Rattle.jr_model.specs.Checks.{is_out_of_bounds, same_object, element_word}
-use Rattle.jr_model.specs.Parts.{created, delete_at, delete_local_at, frame_left, frame_to_pop}
-use Rattle.jr_model.specs.Parts.{looked, new_frame, publish, reserve, take_frame, type_at}
+use Rattle.jr_model.specs.Calls.{Call, done, refuse_if, ◌>>=◌, ◌>>◌}
+use Rattle.jr_model.specs.Checks.{Word, is_foreign, is_malformed, is_of_kind, is_out_of_bounds}
+use Rattle.jr_model.specs.Parts.{delete_at, delete_local_at, frame_to_pop}
+use Rattle.jr_model.specs.Parts.{looked, publish, reserve, take_frame, type_at}
 
 -- a deletion by the call of the kind
 abbrev pub removal : Config → RefKind → Word → Call (Unit {0})
@@ -95,20 +91,6 @@ module _ (c : Config) (last thread : ℕ) where
     o ← publish k ws
     added o
 
-  -- a reference of the kind to what is resolved
-  abbrev pub creation : RefKind → Word → Call (Option Handle)
-  creation k a = resolved a >>= created c.slots k
-
-  -- a local reference to what is resolved
-  abbrev pub local_creation : Word → Call (Option Handle)
-  local_creation a = resolved a >>= new_local
-
-  -- whether two references are to one object
-  abbrev pub comparison : Word → Word → Call Bool
-  comparison a b = do
-    x ← resolved_both a b
-    done (same_object x.0 x.1)
-
   -- a place for the result, once those of the last frame are free
   abbrev pub room_after : Option ℕ → Call (Unit {0})
   room_after None old = done tt old
@@ -126,79 +108,3 @@ module _ (c : Config) (last thread : ℕ) where
   pop_frame x = do
     frame_to_pop
     popping x
-
-  -- a plain object, and a local reference to it
-  abbrev pub making : Call Handle
-  making = made Plain []
-
-  -- an object array, n times of what is resolved, and a local reference to it
-  abbrev pub array_making : ℕ → Word → Call Handle
-  array_making n a = do
-    x ← resolved a
-    made Objects (replicate n (element_word x))
-
-  -- NewGlobalRef and NewWeakGlobalRef
-  abbrev pub new_reference : RefKind → Word → Call (Option Handle)
-  new_reference k a = entered (creation k a)
-
-  -- NewLocalRef
-  abbrev pub new_local_ref : Word → Call (Option Handle)
-  new_local_ref a = entered (local_creation a)
-
-  -- DeleteGlobalRef and DeleteWeakGlobalRef
-  abbrev pub delete_reference : RefKind → Word → Call (Unit {0})
-  delete_reference k a = entered (removal c k a)
-
-  -- DeleteLocalRef
-  abbrev pub delete_local_ref : Word → Call (Unit {0})
-  delete_local_ref a = entered (local_removal c thread a)
-
-  -- IsSameObject
-  abbrev pub is_same_object : Word → Word → Call Bool
-  is_same_object a b = entered (comparison a b)
-
-  -- GetObjectRefType
-  abbrev pub get_object_ref_type : Word → Call ℕ
-  get_object_ref_type a = entered (typing c thread a)
-
-  -- EnsureLocalCapacity, which enters no gate
-  abbrev pub ensure_local_capacity : ℕ → Call (Unit {0})
-  ensure_local_capacity n = room_for n
-
-  -- PushLocalFrame, which enters no gate
-  abbrev pub push_local_frame : ℕ → Call (Unit {0})
-  push_local_frame n = do
-    frame_left
-    room_for n
-    new_frame
-
-  -- PopLocalFrame
-  abbrev pub pop_local_frame : Word → Call (Option Handle)
-  pop_local_frame a = entered (do
-    frame_to_pop
-    x ← resolved a
-    popping x)
-
-  -- a new object without elements
-  abbrev pub new_plain : Call Handle
-  new_plain = entered making
-
-  -- NewBooleanArray and its like: n zeros
-  abbrev pub new_array : Kind → ℕ → Call Handle
-  new_array k n = entered (made k (replicate n 0))
-
-  -- NewObjectArray: n times the initial element
-  abbrev pub new_object_array : ℕ → Word → Call Handle
-  new_object_array n a = entered (array_making n a)
-
-  -- NewString
-  abbrev pub new_string : List ℕ → Call Handle
-  new_string units = entered (made Text units)
-
--- at the end of a native method
-abbrev pub free_locals : Call (Unit {0})
-free_locals = entered freeing
-
--- an env is given up: the locals that stand stay in the row
-abbrev pub into_pass : Call (Unit {0})
-into_pass = done tt

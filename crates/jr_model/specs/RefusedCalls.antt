@@ -12,7 +12,8 @@ use Rattle.jr_model.specs.State.{State, HaveSameTables}
 use Rattle.jr_model.specs.Steps.{act_after}
 use Rattle.jr_model.specs.Frames.{Frames}
 use Rattle.jr_model.specs.Calls.{Call}
-use Rattle.jr_model.specs.AllCalls.{AnswerKind, CallOf, PartOf, means, part_means}
+use Rattle.jr_model.specs.Programs.{AnswerKind}
+use Rattle.jr_model.specs.AllCalls.{CallOf, PartOf, means, part_means}
 
 -- the act changes nothing but where its thread stands towards the gate
 abbrev pub is_harmless : Act → Bool

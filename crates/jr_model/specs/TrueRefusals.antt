@@ -7,7 +7,8 @@ use Rattle.jr_model.specs.History.{PassView}
 use Rattle.jr_model.specs.Frames.{Frames}
 use Rattle.jr_model.specs.Refusals.{WasSo}
 use Rattle.jr_model.specs.Calls.{Call, Ran}
-use Rattle.jr_model.specs.AllCalls.{AnswerKind, CallOf, PartOf, words_asked, words_asked_by_part, means, part_means}
+use Rattle.jr_model.specs.Programs.{AnswerKind}
+use Rattle.jr_model.specs.AllCalls.{CallOf, PartOf, words_asked, words_asked_by_part, means, part_means}
 
 -- A CALL THAT ASKS FOR SO MANY WORDS REFUSES TRULY:
 -- whatever it is refused for, and whatever the other threads did, what the refusal says of the room was so in the call

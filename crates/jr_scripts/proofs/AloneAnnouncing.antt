@@ -20,7 +20,7 @@ use Rattle.jr_model.specs.Refusals.{IsOpenWith, Sometime, GateHasMoved, Grounds}
 use Rattle.jr_model.specs.AllCalls.{PartOf}
 use Rattle.jr_model.proofs.Composed.{same_fault}
 use Rattle.jr_model.proofs.EachCall.{part_lawful}
-use Rattle.jr_model.proofs.Moments.{prefix_self, prefix_trans, sometime_wider}
+use Rattle.jr_model.proofs.Moments.{prefix_trans}
 use Rattle.jr_model.proofs.Stays.{mine_did}
 use Rattle.jr_gate.specs.Performing.{ThreadState}
 use Rattle.jr_weak.specs.declared.collecting.Collected.{Collected}

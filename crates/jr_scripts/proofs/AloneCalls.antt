@@ -54,11 +54,6 @@ pub record LeadsAlone {A : Type 0} (deed : Deed A) : Type 0 where
   pub led : (old new : ThreadState) (answer : Result A Fault) → IsAlone new.pass → deed old answer new
       → LedAlone old.pass new.pass answer
 
--- who is alone now was before
-pub alone_before : {old new : PassView} {acts : List Act} → Did old new acts → IsAlone new → IsAlone old
-alone_before d a =
-    record { one = ap (λ (c : Config). c.threads) (sym d.config) ∙ a.one; first = sym d.thread ∙ a.first }
-
 -- WHAT IT DID
 
 module _ (old new : PassView) (acts : List Act) (d : Did old new acts) (alone : IsAlone new) where
@@ -173,7 +168,7 @@ module _ {A : Type 0} {asked : Purpose} {last thread : ℕ} {call : Call A} (law
       let bad = sym silent ∙ announces in absurd cc
   fault_alone silent _ r = tt
 
-  none_lost_by : (answer : Result A Fault) (r : Ran old new f g call answer) → IfErr answer (IsAloneFault new)
+  pub none_lost_by : (answer : Result A Fault) (r : Ran old new f g call answer) → IfErr answer (IsAloneFault new)
       → LoseOnly None r.acts
   none_lost_by (Ok x) r fault = (lawful.goes f g r.acts x r.is).lose
   none_lost_by (Err e) r fault = subst (λ l. LoseOnly l r.acts) (lost_no asked new e fault)

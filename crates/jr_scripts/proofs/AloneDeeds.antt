@@ -1,5 +1,5 @@
 -- What the commands of a thread that is alone lead to, outside a region and in one.
-use Rattle.std.proofs.Common.{ℕ, ℤ, Bool, true, false, if◌then◌else◌, Option, Some, None, List, [], ◌∷◌, length}
+use Rattle.std.proofs.Common.{◌≡◌, ℕ, ℤ, Bool, true, false, if◌then◌else◌, Option, Some, None, List, [], ◌∷◌, length}
 use Rattle.std.proofs.Common.{inl, inr, nat_lt, Result, Ok, Err, IfErr, refl, sym, subst}
 use Rattle.jr_word.specs.declared.fault.Fault.{Fault}
 use Rattle.jr_word.specs.declared.fault.Fault.TheVariants.{Busy, InCritical, Range, Turns, Value}
@@ -11,17 +11,22 @@ use Rattle.jr_word.specs.declared.kind.Kind.TheVariants.{Plain}
 use Rattle.jr_model.specs.declared.frames.Mode.{Mode}
 use Rattle.jr_model.specs.declared.frames.Mode.TheVariants.{Copy, Commit, Abort}
 use Rattle.jr_model.specs.Checks.{Word, Nothing, Malformed, Parts}
-use Rattle.jr_model.specs.AllCalls.{CallOf, PartOf}
+use Rattle.jr_model.specs.Programs.{AnswerKind, Program, handed_one, object}
+use Rattle.jr_model.specs.CallPrograms as programs
+use Rattle.jr_model.specs.AllCalls.{PartOf, keeps, means, nests, opens, stays_out}
 use Rattle.jr_model.specs.History.{PassView, state}
 use Rattle.jr_model.proofs.EachCall.{lawful, part_lawful}
 use Rattle.jr_gate.specs.Performing.{ThreadState}
-use Rattle.jr_env.specs.Requests.{making_steps}
-use Rattle.jr_env.specs.Deeds.{Deed, decided, done, new_array, new_object_array, new_string, get_string_chars}
-use Rattle.jr_env.specs.Deeds.{kind_of, get_array_length, get_string_length, get_object_array_element, free_locals}
-use Rattle.jr_env.specs.Deeds.{set_object_array_element, get_array_region, set_array_region, push_local_frame}
-use Rattle.jr_env.specs.Deeds.{ensure_local_capacity, pop_local_frame, new_plain, new_reference, new_local_ref}
-use Rattle.jr_env.specs.Deeds.{delete_reference, delete_local_ref, is_same_object, get_object_ref_type, ◌>>=◌}
-use Rattle.jr_env.specs.Deeds.{get_array_elements, release_array_elements}
+use Rattle.jr_steps.specs.Holdings.{empty}
+use Rattle.jr_frames.specs.Reading.{IsReadAs}
+use Rattle.jr_critical.specs.Levels.{nested_by, opened_by}
+use Rattle.jr_env.specs.Requests.{for_delete_local_ref, for_delete_reference, for_get_array_elements}
+use Rattle.jr_env.specs.Requests.{for_get_array_length, for_get_array_region, for_get_object_array_element}
+use Rattle.jr_env.specs.Requests.{for_get_object_ref_type, for_get_string_chars, for_get_string_length}
+use Rattle.jr_env.specs.Requests.{for_is_same_object, for_kind_of, for_new_array, for_new_local_ref}
+use Rattle.jr_env.specs.Requests.{for_new_object_array, for_new_plain, for_new_reference, for_new_string}
+use Rattle.jr_env.specs.Requests.{for_pop_local_frame, for_set_array_region, for_set_object_array_element}
+use Rattle.jr_env.specs.Deeds.{Deed, call_apart, call_on_by, decided, done, release_array_elements, within_by, ◌>>=◌}
 use Rattle.jr_syntax.specs.declared.name.Reference.{Reference}
 use Rattle.jr_syntax.specs.declared.command.Command.{Command}
 use Rattle.jr_syntax.specs.declared.command.Command.TheVariants as commands
@@ -36,7 +41,6 @@ use Rattle.jr_syntax.specs.declared.verb.OnNameAt.TheVariants as on_name_at
 use Rattle.jr_syntax.specs.declared.verb.PutAt.TheVariants as put_at
 use Rattle.jr_syntax.specs.declared.verb.Release.TheVariants as release
 use Rattle.jr_syntax.specs.declared.verb.OpenLevel.{OpenLevel}
-use Rattle.jr_syntax.specs.declared.verb.OpenLevel.TheVariants as at
 use Rattle.jr_scripts.specs.declared.reply.Reply.{Reply}
 use Rattle.jr_scripts.specs.declared.reply.Reply.TheVariants as replies
 use Rattle.jr_scripts.specs.declared.binding.Binding.{Binding}
@@ -47,119 +51,58 @@ use Rattle.jr_scripts.specs.Names.{wanted}
 use Rattle.jr_scripts.specs.Numbers.{has_numbers, is_number_of, word_of_number}
 use Rattle.jr_scripts.specs.Places.{Place, by_region, level_wanted, newest, nth_object}
 use Rattle.jr_scripts.specs.Commands.{awaited, collecting, deed, deletion, deleted_as, deleted_of}
-use Rattle.jr_scripts.specs.Commands.{kind_made, making_from, opening_by, the_reference, tried, type_of}
+use Rattle.jr_scripts.specs.Commands.{get_critical, kind_made, making_from, opening_by, the_reference, tried, type_of}
 use Rattle.jr_scripts.specs.RegionCommands.{deed_at, deed_within, giving_up, giving_up_all, kind_of_level}
 use Rattle.jr_scripts.specs.RegionCommands.{level_reading, level_writing, nesting, read_kind}
 use Rattle.jr_scripts.specs.AloneAnswers.{IsAloneFault}
 use Rattle.jr_scripts.proofs.AloneCalls.{IsAlone, LedAlone, LeadsAlone, answered_so, fault_alone, learned_alone}
 use Rattle.jr_scripts.proofs.AloneCalls.{made_alone}
 use Rattle.jr_scripts.proofs.AloneParts.{answered_alone, bind_alone, call_alone, decided_alone, done_alone}
-use Rattle.jr_scripts.proofs.AloneParts.{on_alone, on_both_alone, tried_alone}
+use Rattle.jr_scripts.proofs.AloneParts.{tried_alone, whole_alone}
 use Rattle.jr_scripts.proofs.AloneAnnouncing.{announcing_alone}
 
 -- THE CALLS
 
-pub plain_alone : LeadsAlone new_plain
-plain_alone = answered_alone _ (call_alone (λ c. c.objects) CallOf.new_plain)
-
-pub array_alone : (k : Kind) (n : ℕ) → LeadsAlone (new_array k n)
-array_alone k n = answered_alone _ (call_alone (making_steps n) (CallOf.new_array k n))
-
-pub filled_alone : (n w : ℕ) → LeadsAlone (new_object_array n w)
-filled_alone n w = answered_alone _ (on_alone (making_steps n) w (CallOf.new_object_array n))
-
-pub text_alone : (units : List ℕ) → LeadsAlone (new_string units)
-text_alone units = answered_alone _ (call_alone (making_steps (length units)) (CallOf.new_string units))
-
-pub reference_alone : (k : RefKind) (w : ℕ) → LeadsAlone (new_reference k w)
-reference_alone k w = answered_alone _ (on_alone (λ c. 0) w (CallOf.new_reference k))
-
-pub local_ref_alone : (w : ℕ) → LeadsAlone (new_local_ref w)
-local_ref_alone w = answered_alone _ (on_alone (λ c. 0) w CallOf.new_local_ref)
-
-pub delete_alone : (k : RefKind) (w : ℕ) → LeadsAlone (delete_reference k w)
-delete_alone k w = on_alone (λ c. 0) w (CallOf.delete_reference k)
-
-pub delete_local_alone : (w : ℕ) → LeadsAlone (delete_local_ref w)
-delete_local_alone w = on_alone (λ c. 0) w CallOf.delete_local_ref
-
-pub same_alone : (v w : ℕ) → LeadsAlone (is_same_object v w)
-same_alone v w = on_both_alone (λ c. 0) v w CallOf.is_same_object
-
-pub type_alone : (w : ℕ) → LeadsAlone (get_object_ref_type w)
-type_alone w = on_alone (λ c. 0) w CallOf.get_object_ref_type
-
-pub pop_alone : (w : ℕ) → LeadsAlone (pop_local_frame w)
-pop_alone w = answered_alone _ (on_alone (λ c. 0) w CallOf.pop_local_frame)
-
-pub free_alone : LeadsAlone free_locals
-free_alone = call_alone (λ c. 0) CallOf.free_locals
-
-pub kind_alone : (w : ℕ) → LeadsAlone (kind_of w)
-kind_alone w = on_alone (λ c. 1) w CallOf.kind_of
-
-pub array_length_alone : (w : ℕ) → LeadsAlone (get_array_length w)
-array_length_alone w = on_alone (λ c. 1) w CallOf.get_array_length
-
-pub text_length_alone : (w : ℕ) → LeadsAlone (get_string_length w)
-text_length_alone w = on_alone (λ c. 1) w CallOf.get_string_length
-
-pub get_alone : (w i : ℕ) → LeadsAlone (get_object_array_element w i)
-get_alone w i = answered_alone _ (on_alone (λ c. 1) w (λ a. CallOf.get_object_array_element a i))
-
-pub set_alone : (v i w : ℕ) → LeadsAlone (set_object_array_element v i w)
-set_alone v i w = on_both_alone (λ c. 1) v w (λ a b. CallOf.set_object_array_element a i b)
-
-pub read_alone : (k : Kind) (w i n : ℕ) → LeadsAlone (get_array_region k w i n)
-read_alone k w i n = on_alone (λ c. 1) w (λ a. CallOf.get_array_region k a i n)
-
-pub write_alone : (k : Kind) (w i : ℕ) (vs : List ℕ) → LeadsAlone (set_array_region k w i vs)
-write_alone k w i vs = on_alone (λ c. 1) w (λ a. CallOf.set_array_region k a i vs)
-
-pub elements_alone : (k : Kind) (w : ℕ) → LeadsAlone (get_array_elements k w)
-elements_alone k w = on_alone (λ c. 1) w (CallOf.get_array_elements k)
-
-pub units_alone : (w : ℕ) → LeadsAlone (get_string_chars w)
-units_alone w = on_alone (λ c. 1) w CallOf.get_string_chars
+-- a release that writes elements back, and these are kept, if they are
+kept_alone : (elements : Option (List ℕ)) (k : Kind) (w : ℕ) (vs : List ℕ) → LeadsAlone (call_on_by (λ c. 1) w
+    (λ c last t s a. means c last t s (keeps elements (handed_one a) (programs.release_array_elements k vs))))
+kept_alone elements k w vs = record {
+  led = λ old new answer alone d. (call_alone (λ c. 1)
+      (keeps elements (handed_one d.0) (programs.release_array_elements k vs))).led old new answer alone d.2;
+}
 
 pub release_alone : (k : Kind) (w : ℕ) (vs : List ℕ) (mode : Mode) → LeadsAlone (release_array_elements k w vs mode)
-release_alone k w vs Copy = on_alone (λ c. 1) w (λ a. CallOf.release_array_elements k a vs Copy)
-release_alone k w vs Commit = on_alone (λ c. 1) w (λ a. CallOf.release_array_elements k a vs Commit)
+release_alone k w vs Copy = kept_alone None k w vs
+release_alone k w vs Commit = kept_alone (Some vs) k w vs
 release_alone k w vs Abort = done_alone None
 
 -- the calls that enter no gate
-pub push_alone : (n : ℕ) → LeadsAlone (push_local_frame n)
-push_alone n = record {
-  led = λ old new answer alone d. (made_alone (λ c. 0) (λ c last t s. lawful c last t s (CallOf.push_local_frame n))
-      refl).led old new answer alone d.0;
-}
-
-pub ensure_alone : (n : ℕ) → LeadsAlone (ensure_local_capacity n)
-ensure_alone n = record {
-  led = λ old new answer alone d. (made_alone (λ c. 0)
-      (λ c last t s. lawful c last t s (CallOf.ensure_local_capacity n)) refl).led old new answer alone d.0;
+pub apart_alone : {n : ℕ} {a : AnswerKind} (p : Program n a) → LeadsAlone (call_apart p)
+apart_alone p = record {
+  led = λ old new answer alone d.
+      (made_alone (λ c. 0) (λ c last t s. lawful c last t s (stays_out p)) refl).led old new answer alone d.0;
 }
 
 -- the calls that open a region, and those that add a level to it
-pub opening_alone : (v : OpenLevel) (w : ℕ) → LeadsAlone (opening_by v w)
-opening_alone at.Array w = record {
+opened_alone : (w : ℕ) (p : Program 0 object) → LeadsAlone (λ old answer new. (a : Word) × IsReadAs w a
+    × within_by (λ c. 1) (λ c last t s. opened_by p c last t s a) old answer new × IfErr answer (λ e. new.held ≡ empty))
+opened_alone w p = record {
   led = λ old new answer alone d. (made_alone (λ c. 1)
-      (λ c last t s. lawful c last t s (CallOf.get_array_critical d.0)) refl).led old new answer alone d.2;
+      (λ c last t s. lawful c last t s (opens (handed_one d.0) p)) refl).led old new answer alone d.2;
 }
-opening_alone at.Text w = record {
+
+pub opening_alone : (v : OpenLevel) (w : ℕ) → LeadsAlone (opening_by v w)
+opening_alone v w = opened_alone w (get_critical v 0)
+
+nested_alone : (os : List ℕ) (w : ℕ) (p : ℕ → Program 0 object) → LeadsAlone (λ old answer new. (a : Word)
+    × IsReadAs w a × within_by (λ c. 1) (λ c last t s. nested_by p c last t s os a) old answer new)
+nested_alone os w p = record {
   led = λ old new answer alone d. (made_alone (λ c. 1)
-      (λ c last t s. lawful c last t s (CallOf.get_string_critical d.0)) refl).led old new answer alone d.2;
+      (λ c last t s. lawful c last t s (nests os (handed_one d.0) (p (length os)))) refl).led old new answer alone d.2;
 }
 
 nesting_alone : (v : OpenLevel) (os : List ℕ) (w : ℕ) → LeadsAlone (nesting v os w)
-nesting_alone at.Array os w = record {
-  led = λ old new answer alone d. (made_alone (λ c. 1)
-      (λ c last t s. lawful c last t s (CallOf.nest_array os d.0)) refl).led old new answer alone d.2;
-}
-nesting_alone at.Text os w = record {
-  led = λ old new answer alone d. (made_alone (λ c. 1)
-      (λ c last t s. lawful c last t s (CallOf.nest_string os d.0)) refl).led old new answer alone d.2;
-}
+nesting_alone v os w = nested_alone os w (get_critical v)
 
 -- a collection, which nobody keeps out
 pub never_busy : (old new : ThreadState) (n : ℕ) → IsAlone new.pass → collecting old (Ok (replies.Busy n)) new → ⊥
@@ -255,17 +198,17 @@ awaited_alone = record { led = led }
 
 module _ (turns : ℕ) where
   making_from_alone : (v : MakeFrom) (w : ℕ) → LeadsAlone (making_from turns v w)
-  making_from_alone make_from.Global w = replied _ (reference_alone Global w)
-  making_from_alone make_from.Weak w = replied _ (reference_alone Weak w)
-  making_from_alone make_from.Local w = replied _ (local_ref_alone w)
-  making_from_alone make_from.Pop w = replied _ (pop_alone w)
-  making_from_alone make_from.Elements w = bind_alone (tried_alone (kind_alone w)) (λ k.
-      bind_alone (decided_alone _ (numbers_alone k)) (λ u. replied _ (elements_alone k w)))
+  making_from_alone make_from.Global w = replied _ (whole_alone (for_new_reference Global w))
+  making_from_alone make_from.Weak w = replied _ (whole_alone (for_new_reference Weak w))
+  making_from_alone make_from.Local w = replied _ (whole_alone (for_new_local_ref w))
+  making_from_alone make_from.Pop w = replied _ (whole_alone (for_pop_local_frame w))
+  making_from_alone make_from.Elements w = bind_alone (tried_alone (whole_alone (for_kind_of w))) (λ k.
+      bind_alone (decided_alone _ (numbers_alone k)) (λ u. replied _ (whole_alone (for_get_array_elements k w))))
 
   deleted_of_alone : (k : RefKind) (w : ℕ) → LeadsAlone (deleted_of turns k w)
-  deleted_of_alone Local w = tried_alone (delete_local_alone w)
-  deleted_of_alone Global w = tried_alone (delete_alone Global w)
-  deleted_of_alone Weak w = tried_alone (delete_alone Weak w)
+  deleted_of_alone Local w = tried_alone (whole_alone (for_delete_local_ref w))
+  deleted_of_alone Global w = tried_alone (whole_alone (for_delete_reference Global w))
+  deleted_of_alone Weak w = tried_alone (whole_alone (for_delete_reference Weak w))
 
   deleted_as_alone : (w : ℕ) (a : Word) → LeadsAlone (deleted_as turns w a)
   deleted_as_alone w Nothing = deleted_of_alone Local w
@@ -277,34 +220,43 @@ module _ (turns : ℕ) where
 
   type_of_alone : (h : Option Handle) → LeadsAlone (type_of turns h)
   type_of_alone None = done_alone 0
-  type_of_alone (Some h) = tried_alone (type_alone h.0)
+  type_of_alone (Some h) = tried_alone (whole_alone (for_get_object_ref_type h.0))
 
   deed_alone : (names : Names) (c : Command) → LeadsAlone (deed turns names c)
-  deed_alone names (commands.Make make.Plain n) = replied _ plain_alone
+  deed_alone names (commands.Make make.Plain n) = replied _ (whole_alone for_new_plain)
   deed_alone names (commands.Make make.Wait n) = awaited_alone
   deed_alone names (commands.MakeFrom v n r) = with_reference names r (λ w. making_from_alone v w.0)
   deed_alone names (commands.On on.Drop r) = with_reference names r (λ w. answered_alone _ (deletion_alone w.0))
   deed_alone names (commands.On on.Type r) = bind_alone (decided_alone _ (referred_alone (referent names r))) (λ h.
       answered_alone _ (type_of_alone h))
-  deed_alone names (commands.On on.Len r) = with_reference names r (λ w. replied _ (array_length_alone w.0))
-  deed_alone names (commands.On on.TextLength r) = with_reference names r (λ w. replied _ (text_length_alone w.0))
-  deed_alone names (commands.On on.Chars r) = with_reference names r (λ w. replied _ (units_alone w.0))
+  deed_alone names (commands.On on.Len r) = with_reference names r (λ w. replied _ (whole_alone
+      (for_get_array_length w.0)))
+  deed_alone names (commands.On on.TextLength r) = with_reference names r (λ w. replied _ (whole_alone
+      (for_get_string_length w.0)))
+  deed_alone names (commands.On on.Chars r) = with_reference names r (λ w. replied _ (whole_alone
+      (for_get_string_chars w.0)))
   deed_alone names (commands.OnBoth on_both.Same q r) =
-      with_reference names q (λ v. with_reference names r (λ w. replied _ (same_alone v.0 w.0)))
+      with_reference names q (λ v. with_reference names r (λ w. replied _ (whole_alone (for_is_same_object v.0 w.0))))
   deed_alone names (commands.OnName on_name.Post n) = done_alone _
-  deed_alone names (commands.WithCount with_count.Push n) = replied _ (push_alone n)
-  deed_alone names (commands.WithCount with_count.Ensure n) = replied _ (ensure_alone n)
-  deed_alone names (commands.MakeSized v n len) = replied _ (array_alone (kind_made v) len)
-  deed_alone names (commands.MakeFilled v n len r) = with_reference names r (λ w. replied _ (filled_alone len w.0))
-  deed_alone names (commands.MakeText v n units) = replied _ (text_alone units)
-  deed_alone names (commands.MakeAt v n r i) = with_reference names r (λ w. replied _ (get_alone w.0 i))
-  deed_alone names (commands.OnAt v r i) = with_reference names r (λ w. bind_alone (tried_alone (kind_alone w.0)) (λ k.
-      bind_alone (decided_alone _ (numbers_alone k)) (λ u. replied _ (read_alone k w.0 i 1))))
+  deed_alone names (commands.WithCount with_count.Push n) = replied _ (apart_alone (programs.push_local_frame n))
+  deed_alone names (commands.WithCount with_count.Ensure n) = replied _ (apart_alone (programs.ensure_local_capacity n))
+  deed_alone names (commands.MakeSized v n len) = replied _ (whole_alone (for_new_array (kind_made v) len))
+  deed_alone names (commands.MakeFilled v n len r) = with_reference names r (λ w. replied _ (whole_alone
+      (for_new_object_array len w.0)))
+  deed_alone names (commands.MakeText v n units) = replied _ (whole_alone (for_new_string units))
+  deed_alone names (commands.MakeAt v n r i) = with_reference names r (λ w. replied _ (whole_alone
+      (for_get_object_array_element w.0 i)))
+  deed_alone names (commands.OnAt v r i) = with_reference names r (λ w. bind_alone (tried_alone (whole_alone
+      (for_kind_of w.0))) (λ k.
+      bind_alone (decided_alone _ (numbers_alone k)) (λ u. replied _ (whole_alone (for_get_array_region k w.0 i 1)))))
   deed_alone names (commands.SetAt v r i q) =
-      with_reference names r (λ a. with_reference names q (λ w. replied _ (set_alone a.0 i w.0)))
+      with_reference names r (λ a. with_reference names q (λ w. replied _ (whole_alone
+      (for_set_object_array_element a.0 i w.0))))
   deed_alone names (commands.StoreAt v r i x) = with_reference names r (λ w.
-      bind_alone (tried_alone (kind_alone w.0)) (λ k. bind_alone (decided_alone _ (numbers_alone k)) (λ u.
-      bind_alone (decided_alone _ (word_alone k x)) (λ word. replied _ (write_alone k w.0 i (word ∷ []))))))
+      bind_alone (tried_alone (whole_alone (for_kind_of w.0))) (λ k. bind_alone (decided_alone _ (numbers_alone k))
+      (λ u.
+      bind_alone (decided_alone _ (word_alone k x)) (λ word. replied _ (whole_alone (for_set_array_region k w.0 i
+      (word ∷ [])))))))
   deed_alone names (commands.OpenLevel v n r) =
       answered_alone _ (with_reference names r (λ w. tried_alone (opening_alone v w.0)))
   deed_alone names (commands.CloseLevel v mode) = barred_alone
@@ -329,17 +281,20 @@ giving_up_alone n = record {
 }
 
 level_kind_alone : (o : ℕ) → LeadsAlone (kind_of_level o)
-level_kind_alone o = made_alone (λ c. 0) (λ c last t s. part_lawful c last t s (PartOf.region_kind o)) refl
+level_kind_alone o = made_alone (λ c. 0) (λ c last t s. part_lawful c last t s
+    (PartOf.at_level o programs.region_kind)) refl
 
 level_reading_alone : (o i : ℕ) → LeadsAlone (level_reading o i)
 level_reading_alone o i = bind_alone (level_kind_alone o) (λ k.
     bind_alone (decided_alone _ (numbers_alone (read_kind k))) (λ u. answered_alone _
-    (made_alone (λ c. 0) (λ c last t s. part_lawful c last t s (PartOf.region_get (read_kind k) o i)) refl)))
+    (made_alone (λ c. 0) (λ c last t s. part_lawful c last t s (PartOf.at_level o (programs.region_get
+    (read_kind k) i))) refl)))
 
 level_writing_alone : (o i : ℕ) (x : ℤ) → LeadsAlone (level_writing o i x)
 level_writing_alone o i x = bind_alone (level_kind_alone o) (λ k.
     bind_alone (decided_alone _ (numbers_alone k)) (λ u. bind_alone (decided_alone _ (word_alone k x)) (λ word.
-    answered_alone _ (made_alone (λ c. 0) (λ c last t s. part_lawful c last t s (PartOf.region_set k o i word)) refl))))
+    answered_alone _ (made_alone (λ c. 0) (λ c last t s. part_lawful c last t s (PartOf.at_level o
+    (programs.region_set k i word))) refl))))
 
 in_region_alone : (p : Place) (c : Command) → LeadsAlone (deed_within p c)
 in_region_alone p (commands.OpenLevel v n r) =

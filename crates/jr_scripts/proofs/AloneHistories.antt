@@ -32,10 +32,6 @@ pub all_back : {X : Type 0} (P : X → Type 0) (xs ys : List X) → AllByRecursi
 all_back P [] ys h = h
 all_back P (x ∷ xs) ys h = all_back P xs ys h.1
 
-pub all_prefix : {X : Type 0} (P : X → Type 0) (xs ys : List X) → IsPrefix xs ys → AllByRecursion P ys
-    → AllByRecursion P xs
-all_prefix P xs ys p h = all_front P xs p.0 (subst (AllByRecursion P) (sym p.1) h)
-
 one_act : (P : Act → Type 0) (b : Bool) (a : Act) (acts : List Act) → P a → AllByRecursion P acts
     → AllByRecursion P (cond b (a ∷ acts) acts)
 one_act P true a acts p h = (p, h)

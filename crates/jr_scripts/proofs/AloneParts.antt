@@ -4,12 +4,14 @@ use Rattle.jr_word.specs.declared.config.Config.{Config}
 use Rattle.jr_word.specs.declared.fault.Fault.{Fault}
 use Rattle.jr_word.specs.declared.fault.Fault.TheVariants.{Raced, Barred, Moved, Turns}
 use Rattle.jr_model.specs.History.{PassView}
-use Rattle.jr_model.specs.Checks.{Word}
-use Rattle.jr_model.specs.AllCalls.{AnswerKind, CallOf, means}
+use Rattle.jr_model.specs.Programs.{AnswerKind}
+use Rattle.jr_model.specs.AllCalls.{CallOf, enters, means}
 use Rattle.jr_model.proofs.EachCall.{lawful}
 use Rattle.jr_model.proofs.Moments.{prefix_self, prefix_trans}
 use Rattle.jr_gate.specs.Performing.{ThreadState}
-use Rattle.jr_env.specs.Deeds.{Deed, call_by, call_on_by, call_on_both_by, decided, done, answered_by, ◌>>=◌}
+use Rattle.jr_elements.specs.Copies.{answer_in}
+use Rattle.jr_env.specs.Deeds.{Deed, call_by, decided, done, answered_by, whole, ◌>>=◌}
+use Rattle.jr_env.specs.Requests.{Request, asks, gives, named, on_word, on_words, told_by}
 use Rattle.jr_env.specs.Tries.{is_tried_again}
 use Rattle.jr_scripts.specs.Tries.{Tried, answered, again, gave_up}
 use Rattle.jr_scripts.specs.Commands.{tried}
@@ -68,6 +70,21 @@ bind_alone {A} {B} {first} {next} p q = record { led = led }
 pub answered_alone : {A B : Type 0} (form : A → B) {one : Deed A} → LeadsAlone one → LeadsAlone (answered_by form one)
 answered_alone form p = bind_alone p (λ x. done_alone (form x))
 
+-- an answer that is kept in another form
+told_alone : {A B : Type 0} {p q : PassView} (form : A → B) (answer : Result A Fault)
+    → LedAlone p q (answer_in form answer) → LedAlone p q answer
+told_alone {A} {q = q} form answer x = record {
+  config = x.config;
+  thread = x.thread;
+  begins = x.begins;
+  none_lost = x.none_lost;
+  fault = go answer x.fault;
+}
+  where
+    go : (answer : Result A Fault) → IfErr (answer_in form answer) (IsAloneFault q) → IfErr answer (IsAloneFault q)
+    go (Ok y) fault = tt
+    go (Err e) fault = fault
+
 -- NO CALL OF A LONE THREAD IS MADE AGAIN
 
 pub once_alone : {A : Type 0} (p : PassView) (r : Result A Fault) → is_tried_again r ≡ true → IfErr r (IsAloneFault p)
@@ -90,7 +107,7 @@ pub tried_alone : {A : Type 0} {turns : ℕ} {one : Deed A} → LeadsAlone one �
 tried_alone {turns = turns} p =
     record { led = λ old new answer alone d. tries_alone p turns old new answer alone d }
 
--- THE CALLS OF AN ENV, handed no reference word, one, and two
+-- EACH WHOLE CALL, whatever it requests
 
 pub call_alone : {a : AnswerKind} (silent : Config → ℕ) (x : CallOf a)
     → LeadsAlone (call_by silent (λ c last t s. means c last t s x))
@@ -99,12 +116,15 @@ call_alone silent x = record {
       (made_alone silent (λ c last t s. lawful c last t s x) refl).led old new answer alone d.0;
 }
 
-pub on_alone : {a : AnswerKind} (silent : Config → ℕ) (w : ℕ) (x : Word → CallOf a)
-    → LeadsAlone (call_on_by silent w (λ c last t s b. means c last t s (x b)))
-on_alone silent w x =
-    record { led = λ old new answer alone d. (call_alone silent (x d.0)).led old new answer alone d.2 }
-
-pub on_both_alone : {a : AnswerKind} (silent : Config → ℕ) (v w : ℕ) (x : Word → Word → CallOf a)
-    → LeadsAlone (call_on_both_by silent v w (λ c last t s b d. means c last t s (x b d)))
-on_both_alone silent v w x =
-    record { led = λ old new answer alone d. (call_alone silent (x d.0 d.1)).led old new answer alone d.4 }
+pub whole_alone : {A : Type 0} (r : Request A) → LeadsAlone (whole r)
+whole_alone (asks silent words p) = call_alone silent (enters words p)
+whole_alone (on_word w next) =
+    record { led = λ old new answer alone d. (whole_alone (next d.0)).led old new answer alone d.2 }
+whole_alone (on_words v w next) =
+    record { led = λ old new answer alone d. (whole_alone (next d.0 d.1)).led old new answer alone d.4 }
+whole_alone (gives form first) = answered_alone form (whole_alone first)
+whole_alone (told_by form first) = record {
+  led = λ old new answer alone d.
+      told_alone form answer ((whole_alone first).led old new (answer_in form answer) alone d);
+}
+whole_alone (named name first) = whole_alone first

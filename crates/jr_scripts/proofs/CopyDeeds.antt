@@ -26,9 +26,9 @@ use Rattle.jr_scripts.specs.declared.binding.Binding.{Binding}
 use Rattle.jr_scripts.specs.declared.binding.Binding.TheVariants.{Nothing, Buffer}
 use Rattle.jr_scripts.specs.declared.buffer.CopiedElements.{CopiedElements}
 use Rattle.jr_scripts.specs.Buffers.{Copied, copied_as, copied_in}
-use Rattle.jr_scripts.specs.Names.{Names, getting, names_put, putting, binding, binding_left}
+use Rattle.jr_scripts.specs.Names.{Names, getting, putting, binding, binding_left}
 use Rattle.jr_scripts.specs.Commands.{copying_as, deed, tried}
-use Rattle.jr_scripts.specs.Text.{buffers_after, elements_left, left_by}
+use Rattle.jr_scripts.specs.Text.{elements_left, left_by}
 use Rattle.jr_scripts.specs.Advancing.{got_by, put_by}
 use Rattle.jr_scripts.proofs.Retries.{IsHandedOn}
 use Rattle.jr_scripts.proofs.FormedTries.{tried_told}
@@ -122,12 +122,6 @@ pub release_handed : {A : Type 0} (words : A → List ℕ) (left : Option A)
 release_handed words None = refl
 release_handed words (Some x) = refl
 
--- a release that was done leaves the elements that are kept by mode
-pub kept_left : {A : Type 0} (mode : Mode) (x : A) (r : Reply) → kept mode x ≡ elements_left mode (Ok r) x
-kept_left Copy x r = refl
-kept_left Commit x r = refl
-kept_left Abort x r = refl
-
 -- and one that was refused all of them
 pub all_left : {A : Type 0} (mode : Mode) (x y : A) (e : Fault) → y ≡ x → Some y ≡ elements_left mode (Err e) x
 all_left Copy x y e is = ap (λ z. Some z) is
@@ -174,12 +168,3 @@ module _ {S : Type 0} {facts : S → Facts} {a : S} {f : Frames} (turns : ℕ) (
       → DoesDeed facts a a f f (deed turns names (commands.PutAt v n i x)) answer
   does_put put_at.Put n i x answer is = does_decide (putting i x (binding names n)) (λ _. replies.Done) answer is
   does_put put_at.PutInLevel n i x answer is = does_nothing (λ p. (is, refl))
-
--- the names once a buffer was changed, or that was refused
-pub buffers_put : (names : Names) (n : List ℕ) (i : ℕ) (x : ℤ) (r : Result Binding Fault) (answer : Result Reply Fault)
-    → answer ≡ answer_in (λ _. replies.Done) r → r ≡ putting i x (binding names n)
-    → names_put names n r ≡ buffers_after (commands.PutAt put_at.Put n i x) answer names
-buffers_put names n i x (Ok s) answer is same =
-    ap (names_put names n) same ∙ ap (λ a. buffers_after (commands.PutAt put_at.Put n i x) a names) (sym is)
-buffers_put names n i x (Err e) answer is same =
-    ap (λ a. buffers_after (commands.PutAt put_at.Put n i x) a names) (sym is)

@@ -13,8 +13,10 @@ use Rattle.jr_scripts.specs.AloneAnswers.{AnswersAlone}
 use Rattle.jr_scripts.specs.Runs.{IsFreed}
 use Rattle.jr_scripts.proofs.AloneCalls.{IsAlone, NoneLost}
 use Rattle.jr_scripts.proofs.AloneParts.{was_alone, once_alone, tries_alone}
-use Rattle.jr_scripts.proofs.AloneDeeds.{free_alone, given_up_alone}
+use Rattle.jr_scripts.proofs.AloneDeeds.{given_up_alone}
 use Rattle.jr_scripts.proofs.AloneAnswers.{went_alone}
+use Rattle.jr_env.specs.Requests.{for_free_locals}
+use Rattle.jr_scripts.proofs.AloneParts.{whole_alone}
 
 free_answers : (old new : ThreadState) (answer : Result (Unit {0}) Fault) → free_locals old answer new
     → (answer ≡ Ok tt) ⊎ (answer ≡ Err Barred)
@@ -29,8 +31,8 @@ freed_all : (n : ℕ) (old new : ThreadState) (answer : Result (Unit {0}) Fault)
 freed_all (suc n) old new answer alone (answered d final) some =
     ⊎_elim (λ e. e) (barred_again answer final) (free_answers old new answer d)
 freed_all (suc n) old new answer alone (again {mid = mid} {once = once} d more rest) some =
-    let y = tries_alone free_alone n mid new answer alone rest in
-    let x = free_alone.led old mid once (was_alone y alone) d in
+    let y = tries_alone (whole_alone for_free_locals) n mid new answer alone rest in
+    let x = (whole_alone for_free_locals).led old mid once (was_alone y alone) d in
     absurd (once_alone mid.pass once more x.fault)
 freed_all zero old new answer alone gave_up some = absurd (some refl)
 
@@ -46,7 +48,7 @@ pub ended_alone : {talk : Speech} (turns first : ℕ) (opening told left : Threa
     (text : List ℕ) (e : Explained talk turns first opening commands text told) (f : IsFreed turns told left)
     → IsAlone left.pass → EndedAlone e f
 ended_alone turns first opening told left commands text e f alone =
-    let y = tries_alone free_alone turns told left f.answer alone f.tries in
+    let y = tries_alone (whole_alone for_free_locals) turns told left f.answer alone f.tries in
     let here = was_alone y alone in
     let g = (given_up_alone e.place.objects).led e.done told (Ok tt) here e.ended in
     let x = went_alone turns first opening e.done commands text e.place e.words e.explains (was_alone g here) in

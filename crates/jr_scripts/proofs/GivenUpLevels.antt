@@ -6,7 +6,8 @@ use Rattle.jr_word.specs.declared.fault.Fault.{Fault}
 use Rattle.jr_word.specs.declared.kind.Kind.{Kind}
 use Rattle.jr_model.specs.declared.event.Role.TheVariants.{Outside, Within}
 use Rattle.jr_model.specs.Frames.{Frames}
-use Rattle.jr_model.specs.Objects.{region_get}
+use Rattle.jr_model.specs.Programs.{at_object}
+use Rattle.jr_model.specs.CallPrograms.{region_get}
 use Rattle.jr_steps.specs.Holdings.{empty}
 use Rattle.jr_steps.specs.Knowing.{AreOf, Facts, Holds}
 use Rattle.jr_gate.specs.Performing.{ThreadState}
@@ -73,15 +74,16 @@ module _ {S : Type 0} (facts : S → Facts) (a b : S) (f g : Frames) (v : Levels
 
   module _ (fits : AreOf facts) (t : Table) (stand : Stand facts v a t) (k : Kind) (o i : ℕ) where
     pub did_load : (word : ℕ) (n : ℤ) → n ≡ number_of_word k word
-        → Reaches facts a b f v (λ c last u s. region_get c last u s k o i) (Ok word)
+        → Reaches facts a b f v (λ c last u s. at_object c last u s o (region_get k i)) (Ok word)
         → CarriedOut facts a b f g Within (KnowsLevels v f) (KnowsLevels v g) (reading_as o i k) (Ok (replies.Value n))
     did_load word n is r =
         subst (λ (m : ℤ). CarriedOut facts a b f g Within (KnowsLevels v f) (KnowsLevels v g) (reading_as o i k)
         (Ok (replies.Value m))) (sym is)
         (did_reply (λ x. replies.Value (number_of_word k x)) word
-        (did_reach facts fits (λ c last u s. region_get c last u s k o i) stand same r))
+        (did_reach facts fits (λ c last u s. at_object c last u s o (region_get k i)) stand same r))
 
-    pub did_load_not : (e : Fault) → Reaches facts a b f v (λ c last u s. region_get c last u s k o i) (Err e)
+    pub did_load_not : (e : Fault) → Reaches facts a b f v (λ c last u s. at_object c last u s o (region_get k i))
+        (Err e)
         → CarriedOut facts a b f g Within (KnowsLevels v f) (KnowsLevels v g) (reading_as o i k) (Err e)
     did_load_not e r = did_refused (λ x. done (replies.Value (number_of_word k x))) e
-        (did_reach facts fits (λ c last u s. region_get c last u s k o i) stand same r)
+        (did_reach facts fits (λ c last u s. at_object c last u s o (region_get k i)) stand same r)

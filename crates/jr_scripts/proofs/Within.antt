@@ -12,7 +12,8 @@ use Rattle.jr_model.specs.declared.event.Role.TheVariants.{Within}
 use Rattle.jr_model.specs.State.{State}
 use Rattle.jr_model.specs.Frames.{Frames}
 use Rattle.jr_model.specs.Calls.{Call, Ran}
-use Rattle.jr_model.specs.Objects.{region_kind, region_set}
+use Rattle.jr_model.specs.Programs.{at_object}
+use Rattle.jr_model.specs.CallPrograms.{region_kind, region_set}
 use Rattle.jr_model.proofs.Stays.{did_nothing}
 use Rattle.jr_model.proofs.Windows.{window_nothing}
 use Rattle.jr_steps.specs.declared.known.Known.{Known}
@@ -68,17 +69,19 @@ module _ {S : Type 0} {facts : S → Facts} where
   module _ {a b : S} {f g : Frames} {met shown : Known → Type 0} (o i : ℕ) (x z : ℤ) (k : Kind) (word : ℕ)
       (is : word_of_number k z ≡ Ok word) (same : z ≡ x) where
     pub did_store : CarriedOut facts a b f g Within met shown
-        (within_by (λ c. 0) (λ c last t s. region_set c last t s k o i word)) (Ok tt)
+        (within_by (λ c. 0) (λ c last t s. at_object c last t s o (region_set k i word))) (Ok tt)
         → CarriedOut facts a b f g Within met shown (writing_as o i x k) (Ok replies.Done)
     did_store d =
-        did_decided (λ word. within_by (λ c. 0) (λ c last t s. region_set c last t s k o i word) >> done replies.Done)
+        did_decided (λ word. within_by (λ c. 0) (λ c last t s. at_object c last t s o (region_set k i word))
+        >> done replies.Done)
         (ap (word_of_number k) (sym same) ∙ is) (did_reply (λ _. replies.Done) tt d)
 
     pub did_store_not : (e : Fault) → CarriedOut facts a b f g Within met shown
-        (within_by (λ c. 0) (λ c last t s. region_set c last t s k o i word)) (Err e)
+        (within_by (λ c. 0) (λ c last t s. at_object c last t s o (region_set k i word))) (Err e)
         → CarriedOut facts a b f g Within met shown (writing_as o i x k) (Err e)
     did_store_not e d =
-        did_decided (λ word. within_by (λ c. 0) (λ c last t s. region_set c last t s k o i word) >> done replies.Done)
+        did_decided (λ word. within_by (λ c. 0) (λ c last t s. at_object c last t s o (region_set k i word))
+        >> done replies.Done)
         (ap (word_of_number k) (sym same) ∙ is) (did_refused (λ _. done replies.Done) e d)
 
 module _ {S : Type 0} (facts : S → Facts) (fits : AreOf facts) where
@@ -120,7 +123,8 @@ module _ {S : Type 0} (facts : S → Facts) (fits : AreOf facts) where
     stands_is = role_kept Within stand.ready.role_is;
     did = λ k s m.
         let l = (fits a k s).legal in
-        let ran : Ran (view k) (view k) f f (region_kind k.config k.last k.thread (state_of k) (level_object v i))
+        let ran : Ran (view k) (view k) f f (at_object k.config k.last k.thread (state_of k)
+        (level_object v i) region_kind)
         (Ok kind) = record {
           acts = [];
           did = did_nothing (view k) l;

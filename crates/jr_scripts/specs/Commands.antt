@@ -11,7 +11,8 @@ use Rattle.jr_word.specs.declared.fault.Fault.TheVariants as fault
 use Rattle.jr_model.specs.State.{State}
 use Rattle.jr_model.specs.Calls.{Call}
 use Rattle.jr_model.specs.Checks.{Word, Nothing, Malformed, Parts}
-use Rattle.jr_model.specs.Objects.{get_array_critical, get_string_critical}
+use Rattle.jr_model.specs.Programs.{Program, object}
+use Rattle.jr_model.specs.CallPrograms.{get_array_critical, get_string_critical}
 use Rattle.jr_steps.specs.declared.steps.Steps.{Ghosts}
 use Rattle.jr_steps.specs.Holdings.{empty}
 use Rattle.jr_syntax.specs.declared.name.Reference.{Reference}
@@ -36,6 +37,7 @@ use Rattle.jr_syntax.specs.declared.verb.OpenLevel.TheVariants as at
 use Rattle.jr_scripts.specs.declared.reply.Reply.{Reply}
 use Rattle.jr_scripts.specs.declared.reply.Reply.TheVariants as replies
 use Rattle.jr_frames.specs.Reading.{IsReadAs}
+use Rattle.jr_critical.specs.Levels.{opened_by}
 use Rattle.jr_gate.specs.Performing.{HasLearned}
 use Rattle.jr_scripts.specs.Buffers.{copy_of}
 use Rattle.jr_scripts.specs.Names.{Names, buffer_in, getting, putting, reference_in, referent, binding, wanted}
@@ -155,10 +157,14 @@ module _ (turns : ℕ) where
     decided (has_numbers k)
     storing_as w i v k
 
+-- the call for a new level of a region, where so many stand
+abbrev pub get_critical : OpenLevel → ℕ → Program 0 object
+get_critical at.Array = get_array_critical
+get_critical at.Text = get_string_critical
+
 -- the call that opens a region
 abbrev pub opens : OpenLevel → Config → ℕ → ℕ → State → Word → Call ℕ
-opens at.Array = get_array_critical
-opens at.Text = get_string_critical
+opens v = opened_by (get_critical v 0)
 
 -- a region is opened over what a word names: the object of its first level;
 -- where it is refused the thread holds nothing afterwards

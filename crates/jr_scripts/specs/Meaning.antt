@@ -1,8 +1,8 @@
 -- WHAT A SCRIPT OF ONE THREAD MEANS: its text, by a machine that has no handles, slots, places or object numbers
-use Rattle.std.specs.Prelude.{◌≡◌, ◌≢◌, ◌<◌, ◌≤◌, ◌^◌, ◌+◌, ◌-◌, ◌==◌, ◌&&◌, ℕ, ℤ, zero, suc, Bool, true, false, cond}
+use Rattle.std.specs.Prelude.{◌≡◌, ◌≢◌, ◌<◌, ◌≤◌, ◌^◌, ◌+◌, ◌-◌, ◌==◌, ◌&&◌, ℕ, zero, suc, Bool, true, false, cond}
 use Rattle.std.specs.Prelude.{not, nat_lt, nat_le}
 use Rattle.std.specs.Prelude.{Option, Some, None, is_some, Result, Ok, Err, List, [], ◌∷◌, ◌++◌, map, length, replicate}
-use Rattle.std.specs.Prelude.{drop, slice_index, slice_index_or, slice_set}
+use Rattle.std.specs.Prelude.{drop, take, slice_index, slice_index_or, slice_set}
 use Rattle.std.specs.List.{filter, flat_map, list_any, sum_by}
 use Rattle.jr_word.specs.declared.config.Config.{Config}
 use Rattle.jr_word.specs.declared.fault.Fault.{Fault}
@@ -11,13 +11,26 @@ use Rattle.jr_word.specs.declared.handle.Handle.{Handle}
 use Rattle.jr_word.specs.declared.handle.RefKind.{RefKind}
 use Rattle.jr_word.specs.declared.handle.RefKind.TheVariants.{Local, Global, Weak}
 use Rattle.jr_word.specs.declared.kind.Kind.{Kind}
-use Rattle.jr_word.specs.declared.kind.Kind.TheVariants.{Plain, Objects, Text}
+use Rattle.jr_word.specs.declared.kind.Kind.TheVariants.{Plain}
 use Rattle.jr_model.specs.declared.frames.Mode.{Mode}
 use Rattle.jr_model.specs.declared.frames.Mode.TheVariants.{Abort}
-use Rattle.jr_model.specs.declared.frames.TheConstants.{FRAMES, LEVELS}
+use Rattle.jr_model.specs.declared.frames.TheConstants.{FRAMES}
 use Rattle.jr_model.specs.declared.summary.Summary.{Summary}
 use Rattle.jr_model.specs.State.{Contents, same_kind, length_of}
-use Rattle.jr_model.specs.Checks.{is_array, is_objects, is_primitive, is_text, kind_number, same_element, same_object}
+use Rattle.jr_model.specs.Checks.{is_objects, kind_number, same_object}
+use Rattle.jr_model.specs.Programs.{AnswerKind, nothing, truth, object_kind, handle, perhaps, several}
+use Rattle.jr_model.specs.Programs.{Which, one, other, at_both, none_known, set_known, Ending}
+use Rattle.jr_model.specs.Tests.{refused_by}
+use Rattle.jr_model.specs.Programs.{gives_kind, gives_number, gives_object, compares, types, creates}
+use Rattle.jr_model.specs.Programs.{refers, deletes, deletes_local, asks_room, pushes, pops_to, frees, makes, fills}
+use Rattle.jr_model.specs.Programs.{reads, reads_from, copies, writes, writes_to, writes_from, Program, ends, names}
+use Rattle.jr_model.specs.Programs.{names_both, wants, looks, tests, finds}
+use Rattle.jr_model.specs.CallPrograms.{ensure_local_capacity, get_array_elements, get_array_length, get_array_region}
+use Rattle.jr_model.specs.CallPrograms.{get_object_array_element, get_object_ref_type, get_string_chars}
+use Rattle.jr_model.specs.CallPrograms.{get_string_length, is_same_object, kind_of, new_array, new_local_ref}
+use Rattle.jr_model.specs.CallPrograms.{new_object_array, new_plain, new_reference, new_string, pop_local_frame}
+use Rattle.jr_model.specs.CallPrograms.{push_local_frame, region_get, region_kind, region_set, release_array_elements}
+use Rattle.jr_model.specs.CallPrograms.{set_array_region, set_object_array_element}
 use Rattle.jr_weak.specs.declared.collecting.Collected.{Collected}
 use Rattle.jr_syntax.specs.declared.name.Reference.{Reference}
 use Rattle.jr_syntax.specs.declared.thread.ThreadPart.{ThreadPart}
@@ -33,13 +46,12 @@ use Rattle.jr_syntax.specs.declared.verb.WithCount.TheVariants as with_count
 use Rattle.jr_syntax.specs.declared.verb.OnNameAt.TheVariants as on_name_at
 use Rattle.jr_syntax.specs.declared.verb.PutAt.TheVariants as put_at
 use Rattle.jr_syntax.specs.declared.verb.OpenLevel.{OpenLevel}
-use Rattle.jr_syntax.specs.declared.verb.OpenLevel.TheVariants as at
 use Rattle.jr_scripts.specs.declared.reply.Reply.{Reply}
 use Rattle.jr_scripts.specs.declared.reply.Reply.TheVariants as replies
 use Rattle.jr_scripts.specs.Buffers.{Copied, copy_of}
-use Rattle.jr_scripts.specs.Commands.{kind_made}
-use Rattle.jr_scripts.specs.Names.{Names, binding, buffer_in, getting, putting, reference_in, referent, wanted}
-use Rattle.jr_scripts.specs.Numbers.{has_numbers, number_of_word, word_of_number}
+use Rattle.jr_scripts.specs.Commands.{get_critical, kind_made}
+use Rattle.jr_scripts.specs.Names.{Names, binding, buffer_in, getting, null, putting, reference_in, referent, wanted}
+use Rattle.jr_scripts.specs.Numbers.{first_number, has_numbers, number_of_word, word_of_number}
 use Rattle.jr_scripts.specs.Places.{Place, all_but_last, level_wanted, newest, nowhere, nth_object, place_after}
 use Rattle.jr_scripts.specs.Posting.{ThreadWords, reply_to_wait, word_under, words_after}
 use Rattle.jr_scripts.specs.RegionCommands.{read_kind}
@@ -169,18 +181,18 @@ delete (suc n) = do
     frames = map (filter (λ m. not (m == n))) w.frames;
   })
 
--- whether two references are to one object, or both to none
-abbrev pub same : ℕ → ℕ → Meaning Bool
-same m n = do
+-- the objects of two references, one after the other
+abbrev pub both_objects : ℕ → ℕ → Meaning (Option ℕ × Option ℕ)
+both_objects m n = do
   x ← object m
   y ← object n
-  done (same_object x y)
+  done (x, y)
 
 -- one more reference to an object: the word for it
-abbrev pub new_ref : RefKind → ℕ → Meaning ℕ
+abbrev pub new_ref : RefKind → ℕ → Meaning Handle
 new_ref k o = do
   change (λ w. record w { refs = w.refs ++ Some (record { kind = k; object = Some o }) ∷ [] })
-  ask (λ w. length w.refs)
+  ask (λ w. record { 0 = length w.refs })
 
 -- the last frame
 abbrev pub newest_frame : List (List ℕ) → List ℕ
@@ -195,7 +207,7 @@ put_last (f ∷ []) n = (f ++ n ∷ []) ∷ []
 put_last (f ∷ g ∷ fs) n = f ∷ put_last (g ∷ fs) n
 
 -- one more local reference, in the last frame
-abbrev pub added : ℕ → Meaning ℕ
+abbrev pub added : ℕ → Meaning Handle
 added o = do
   change (λ w. record w { frames = put_last w.frames (length w.refs) })
   new_ref Local o
@@ -205,19 +217,25 @@ module _ (c : Config) where
   abbrev pub room_for : ℕ → Meaning (Unit {0})
   room_for n = refuse_where (λ w. nat_lt c.locals (held w + n)) fault.LocalsFull
 
-  -- a new local reference, NULL to nothing
-  abbrev pub new_local : Option ℕ → Meaning ℕ
-  new_local None = done 0
+  -- a new local reference, none to nothing
+  abbrev pub new_local : Option ℕ → Meaning (Option Handle)
+  new_local None = done None
   new_local (Some o) = do
     room_for 1
-    added o
+    h ← added o
+    done (Some h)
 
-  -- a new global or weak one, NULL to nothing: E8 where every slot has one
-  abbrev pub new_global : RefKind → Option ℕ → Meaning ℕ
-  new_global k None = done 0
-  new_global k (Some o) = do
+  -- a new global or weak one: E8 where every slot has one
+  abbrev pub create : RefKind → ℕ → Meaning Handle
+  create k o = do
     refuse_where (λ w. refs_of Global w + refs_of Weak w == c.slots) fault.RowFull
     new_ref k o
+
+  abbrev pub new_global : RefKind → Option ℕ → Meaning (Option Handle)
+  new_global k None = done None
+  new_global k (Some o) = do
+    h ← create k o
+    done (Some h)
 
   -- FRAMES
 
@@ -229,13 +247,17 @@ module _ (c : Config) where
     change (λ w. record w { frames = w.frames ++ [] ∷ [] })
 
   -- the last frame goes with its references: E15 where none was pushed, E9 where the result then finds no place
-  abbrev pub pop : ℕ → Meaning ℕ
+  abbrev pub pop : ℕ → Meaning (Option Handle)
   pop n = do
     refuse_where (λ w. nat_lt (length w.frames) 2) fault.NoFrame
     o ← object n
     refuse_where (λ w. is_some o && (held w == length (newest_frame w.frames) + c.locals)) fault.LocalsFull
     change (λ w. record w { refs = without (newest_frame w.frames) w.refs; frames = all_but_last w.frames })
     new_local o
+
+  -- all local references go, and one frame stands
+  abbrev pub free : Meaning (Unit {0})
+  free = change (λ w. record w { refs = without (flat_map (λ f. f) w.frames) w.refs; frames = [] ∷ [] })
 
   -- OBJECTS
 
@@ -255,7 +277,7 @@ module _ (c : Config) where
     done o
 
   -- a new object of these words, and a local reference to it; the words stay used where the object is refused
-  abbrev pub made : Kind → List ℕ → Meaning ℕ
+  abbrev pub made : Kind → List ℕ → Meaning Handle
   made k words = do
     room_for 1
     reserve (length words)
@@ -276,54 +298,25 @@ abbrev pub contents_in : Option Contents → Contents
 contents_in None = record { kind = Plain; words = [] }
 contents_in (Some x) = x
 
-abbrev pub contents : ℕ → Meaning Contents
-contents o = ask (λ w. contents_in (standing_at w.objects o))
+abbrev pub contents : World → ℕ → Contents
+contents w o = contents_in (standing_at w.objects o)
 
 -- an object that is wanted: E1 for none
 abbrev pub not_null : Option ℕ → Result ℕ Fault
 not_null None = Err fault.Null
 not_null (Some o) = Ok o
 
-abbrev pub wanted_object : ℕ → Meaning (ℕ × Contents)
-wanted_object n = do
-  o ← object n
-  p ← decided (not_null o)
-  x ← contents p
-  done (p, x)
+-- the words of an object are rewritten
+abbrev pub rewrites : (List ℕ → List ℕ) → ℕ → Meaning (Unit {0})
+rewrites f o = change (λ w. record w {
+  objects = slice_set w.objects o
+      (Some (record { kind = (contents w o).kind; words = f (contents w o).words }));
+})
 
--- .. whose kind passes, or this refusal
-abbrev pub wanted_as : (Kind → Bool) → Fault → ℕ → Meaning (ℕ × Contents)
-wanted_as test e n = do
-  a ← wanted_object n
-  refuse_if (not (test a.1.kind)) e
-  done a
-
--- an array of objects that has the index: E5, E6, E7
-abbrev pub wanted_element : ℕ → ℕ → Meaning (ℕ × Contents)
-wanted_element n i = do
-  a ← wanted_as is_array fault.NotArray n
-  refuse_if (not (is_objects a.1.kind)) fault.WrongElement
-  refuse_if (nat_le (length a.1.words) i) fault.Range
-  done a
-
--- an object has these words now
-abbrev pub rewrites : ℕ → Contents → List ℕ → Meaning (Unit {0})
-rewrites o x words =
-    change (λ w. record w { objects = slice_set w.objects o (Some (record { kind = x.kind; words = words })) })
-
--- a number is read at an index, as of a kind: E7
-abbrev pub reads_number : Kind → List ℕ → ℕ → Meaning Reply
-reads_number k words i = do
-  refuse_if (nat_le (length words) i) fault.Range
-  done (replies.Value (number_of_word k (slice_index words i)))
-
--- a number is written at an index: E18, and then E7
-abbrev pub writes_number : ℕ → Contents → ℕ → ℤ → Meaning Reply
-writes_number o x i number = do
-  word ← decided (word_of_number x.kind number)
-  refuse_if (nat_le (length x.words) i) fault.Range
-  rewrites o x (slice_set x.words i word)
-  done replies.Done
+-- words once these stand from an index on
+abbrev pub overwritten : ℕ → List ℕ → List ℕ → List ℕ
+overwritten i [] words = words
+overwritten i (v ∷ vs) words = overwritten (i + 1) vs (slice_set words i v)
 
 -- a copy of words: E16 where there are some, and it finds no memory
 abbrev pub copy : List ℕ → Meaning (List ℕ)
@@ -332,26 +325,60 @@ copy (word ∷ words) = do
   refuse_where (λ w. not (slice_index_or w.memory 0 true)) fault.Memory
   done (word ∷ words)
 
--- a buffer is copied back to a whole array: E5, E6 for another kind, E7 for another length; to abort does nothing
-abbrev pub copied_back : ℕ → Copied → Mode → Meaning (Unit {0})
-copied_back n b Abort = done tt
-copied_back n b mode = do
-  a ← wanted_as is_array fault.NotArray n
-  refuse_if (not (same_element b.kind a.1.kind)) fault.WrongElement
-  refuse_if (not (length a.1.words == length b.words)) fault.Range
-  rewrites a.0 a.1 b.words
+-- CALLS, which are the machine's, as programs
 
--- the object of a new level of a region, where so many stand: E5 and E6, or E4, and then E17
-abbrev pub level : OpenLevel → ℕ → ℕ → Meaning Reply
-level at.Array levels n = do
-  a ← wanted_as is_array fault.NotArray n
-  refuse_if (not (is_primitive a.1.kind)) fault.WrongElement
-  refuse_if (nat_le LEVELS levels) fault.Size
-  done (replies.Level a.0)
-level at.Text levels n = do
-  a ← wanted_as is_text fault.WrongKind n
-  refuse_if (nat_le LEVELS levels) fault.Size
-  done (replies.Level a.0)
+-- what a call answers here: of an object its number, of a reference its word
+abbrev pub MeantOf : AnswerKind → Type 0
+MeantOf nothing = Unit {0}
+MeantOf truth = Bool
+MeantOf object_kind = Kind
+MeantOf handle = Handle
+MeantOf (perhaps a) = Option (MeantOf a)
+MeantOf (several a) = List (MeantOf a)
+MeantOf _ = ℕ
+
+-- the element that names what is known of a place, 0 for no place
+abbrev pub element_for : (Which → Option ℕ) → Option Which → ℕ
+element_for known None = 0
+element_for known (Some p) = element_to (known p)
+
+module _ (c : Config) (words : Which → ℕ) where
+  -- WHAT A PROGRAM ENDS WITH, where this is known of its places, and this is the object at hand
+  abbrev pub ending_meant : {n : ℕ} {a : AnswerKind} → Ending n a → (Which → Option ℕ) → ℕ → Meaning (MeantOf a)
+  ending_meant (gives_kind k) known o = done k
+  ending_meant (gives_number n) known o = done n
+  ending_meant gives_object known o = done o
+  ending_meant compares known o = done (same_object (known one) (known other))
+  ending_meant (types p) known o = type_meant (words p)
+  ending_meant (creates k p) known o = new_global c k (known p)
+  ending_meant (refers p) known o = new_local c (known p)
+  ending_meant (deletes k p) known o = delete (words p)
+  ending_meant (deletes_local p) known o = delete (words p)
+  ending_meant (asks_room n) known o = room_for c n
+  ending_meant (pushes n) known o = push c n
+  ending_meant (pops_to p) known o = pop c (words p)
+  ending_meant frees known o = free c
+  ending_meant (makes k ws) known o = made c k ws
+  ending_meant (fills k n p) known o = made c k (replicate n (element_for known p))
+  ending_meant (reads i) known o = ask (λ w. slice_index (contents w o).words i)
+  ending_meant (reads_from i n) known o = ask (λ w. take n (drop i (contents w o).words))
+  ending_meant (copies n) known o = ask (λ w. (contents w o).words) >>= copy
+  ending_meant (writes i v) known o = rewrites (overwritten i (v ∷ [])) o
+  ending_meant (writes_to i p) known o = rewrites (overwritten i (element_to (known p) ∷ [])) o
+  ending_meant (writes_from i vs) known o = rewrites (overwritten i vs) o
+
+  -- WHAT A PROGRAM MEANS
+  abbrev pub program_meant : {n : ℕ} {a : AnswerKind} → Program n a → (Which → Option ℕ) → ℕ → Meaning (MeantOf a)
+  program_meant (ends e) known o = ending_meant e known o
+  program_meant (names p next) known o = object (words p) >>= (λ x. program_meant next (set_known known p x) o)
+  program_meant (names_both next) known o =
+      both_objects (words one) (words other) >>= (λ x. program_meant next (at_both x.0 x.1) o)
+  program_meant (wants p next) known o = decided (not_null (known p)) >>= (λ q. program_meant next known q)
+  program_meant (looks next) known o =
+      ask (λ w. contents w o) >>= (λ x. program_meant (next x.kind (length x.words)) known o)
+  program_meant (tests ts silent next) known o = decided (refused_by ts) >> program_meant next known o
+  program_meant (finds i next) known o = ask (λ w. slice_index (contents w o).words i)
+      >>= (λ v. program_meant next (set_known known one (named_by v)) o)
 
 -- COLLECTIONS
 
@@ -413,146 +440,149 @@ told_of old new = record {
 abbrev pub collects : Meaning Reply
 collects w = (Ok (replies.Collected (told_of w (swept (is_found_reached w) w))), swept (is_found_reached w) w)
 
--- THE COMMANDS
+-- THE COMMANDS, by the calls that each makes
 
--- a name's word as a reply, NULL for 0
-abbrev pub reply_made : ℕ → Reply
-reply_made zero = replies.Made None
-reply_made (suc n) = replies.Made (Some (record { 0 = suc n }))
+-- an answer as a reply
+abbrev pub as_reply : {A : Type 0} → (A → Reply) → Meaning A → Meaning Reply
+as_reply form call = do
+  x ← call
+  done (form x)
 
-abbrev pub makes : Meaning ℕ → Meaning Reply
-makes one = do
-  n ← one
-  done (reply_made n)
+-- a command that makes a reference, or NULL
+abbrev pub a_reference : Meaning (Option Handle) → Meaning Reply
+a_reference = as_reply (λ h. replies.Made h)
 
--- the word of a reference that is wanted: E2 where its name stands for nothing, E4 for a buffer
-abbrev pub the : Names → Reference → Meaning ℕ
-the names r = do
-  h ← decided (wanted (referent names r))
-  done h.0
+-- one that makes an object
+abbrev pub an_object : Meaning Handle → Meaning Reply
+an_object = as_reply (λ h. replies.Made (Some h))
 
--- the type of what a name stands for, 0 where it stands for nothing
-abbrev pub type_named : Option Handle → Meaning ℕ
-type_named None = done 0
-type_named (Some h) = type_meant h.0
+-- one that makes nothing
+abbrev pub does : Meaning (Unit {0}) → Meaning Reply
+does = as_reply (λ u. replies.Done)
 
 -- the word that an earlier line posted under a name: E20 where none did
 abbrev pub waits : ThreadWords → List ℕ → Meaning Reply
 waits words n = decided (reply_to_wait (word_under words n))
 
 module _ (c : Config) (names : Names) (words : ThreadWords) where
-  -- what is made of what a word stands for
-  abbrev pub made_from : MakeFrom → ℕ → Meaning Reply
-  made_from make_from.Global n = makes (object n >>= new_global c Global)
-  made_from make_from.Weak n = makes (object n >>= new_global c Weak)
-  made_from make_from.Local n = makes (object n >>= new_local c)
-  made_from make_from.Pop n = makes (pop c n)
-  made_from make_from.Elements n = do
-    a ← wanted_object n
-    decided (has_numbers a.1.kind)
-    copied ← copy a.1.words
-    done (replies.Copied (copy_of a.1.kind copied))
+  -- a call that is handed two references, one, or none, and one at the object of a level
+  abbrev pub call_on_both : {n : ℕ} {a : AnswerKind} → Handle → Handle → Program n a → Meaning (MeantOf a)
+  call_on_both h g p = program_meant c (at_both h.0 g.0) p none_known 0
+
+  abbrev pub call_on : {n : ℕ} {a : AnswerKind} → Handle → Program n a → Meaning (MeantOf a)
+  call_on h p = call_on_both h null p
+
+  abbrev pub call_on_none : {n : ℕ} {a : AnswerKind} → Program n a → Meaning (MeantOf a)
+  call_on_none p = call_on null p
+
+  abbrev pub call_at : {n : ℕ} {a : AnswerKind} → ℕ → Program n a → Meaning (MeantOf a)
+  call_at o p = program_meant c (at_both 0 0) p none_known o
+
+  -- the reference that a command wants: E2 where its name stands for nothing, E4 for a buffer
+  abbrev pub the : Reference → Meaning Handle
+  the r = decided (wanted (referent names r))
+
+  -- what is made of what a reference names
+  abbrev pub made_from : MakeFrom → Handle → Meaning Reply
+  made_from make_from.Global h = a_reference (call_on h (new_reference Global))
+  made_from make_from.Weak h = a_reference (call_on h (new_reference Weak))
+  made_from make_from.Local h = a_reference (call_on h new_local_ref)
+  made_from make_from.Pop h = a_reference (call_on h pop_local_frame)
+  made_from make_from.Elements h = do
+    k ← call_on h kind_of
+    decided (has_numbers k)
+    as_reply (λ copied. replies.Copied (copy_of k copied)) (call_on h (get_array_elements k))
+
+  -- the type of what stands there, 0 for nothing
+  abbrev pub type_there : Option Handle → Meaning ℕ
+  type_there None = done 0
+  type_there (Some h) = call_on h get_object_ref_type
 
   -- what is about one reference
-  abbrev pub about : On → Reference → Meaning Reply
-  about on.Type r = do
-    h ← decided (reference_in (referent names r))
-    k ← type_named h
-    done (replies.Type k)
-  about on.Drop r = do
-    n ← the names r
-    delete n
-    done replies.Done
-  about on.Len r = do
-    a ← the names r >>= wanted_as is_array fault.NotArray
-    done (replies.Length (length a.1.words))
-  about on.TextLength r = do
-    a ← the names r >>= wanted_as is_text fault.WrongKind
-    done (replies.Length (length a.1.words))
-  about on.Chars r = do
-    a ← the names r >>= wanted_as is_text fault.WrongKind
-    units ← copy a.1.words
-    done (replies.Units units)
+  abbrev pub about : On → Handle → Meaning Reply
+  about on.Len h = as_reply (λ n. replies.Length n) (call_on h get_array_length)
+  about on.TextLength h = as_reply (λ n. replies.Length n) (call_on h get_string_length)
+  about on.Chars h = as_reply (λ units. replies.Units units) (call_on h get_string_chars)
+  about _ h = does (delete h.0)
 
-  abbrev pub room_made : WithCount → ℕ → Meaning (Unit {0})
-  room_made with_count.Push n = push c n
-  room_made with_count.Ensure n = room_for c n
+  abbrev pub room_meant : WithCount → ℕ → Meaning (Unit {0})
+  room_meant with_count.Push n = call_on_none (push_local_frame n)
+  room_meant with_count.Ensure n = call_on_none (ensure_local_capacity n)
+
+  -- the object of a new level of a region, where so many stand
+  abbrev pub level : OpenLevel → ℕ → Handle → Meaning ℕ
+  level v levels h = call_on h (get_critical v levels)
+
+  -- a buffer is copied back to an array; to abort does nothing
+  abbrev pub given_back : Mode → Copied → Handle → Meaning (Unit {0})
+  given_back Abort b h = done tt
+  given_back mode b h = call_on h (release_array_elements b.kind b.words)
 
   -- A COMMAND WHERE NO REGION STANDS: E19 for those of a region
   abbrev pub outside : Command → Meaning Reply
-  outside (commands.Make make.Plain n) = makes (made c Plain [])
+  outside (commands.Make make.Plain n) = an_object (call_on_none new_plain)
   outside (commands.Make make.Wait n) = waits words n
-  outside (commands.MakeFrom v n r) = the names r >>= made_from v
-  outside (commands.On v r) = about v r
+  outside (commands.MakeFrom v n r) = the r >>= made_from v
+  outside (commands.On on.Type r) = do
+    h ← decided (reference_in (referent names r))
+    as_reply (λ k. replies.Type k) (type_there h)
+  outside (commands.On v r) = the r >>= about v
   outside (commands.OnBoth v q r) = do
-    m ← the names q
-    n ← the names r
-    b ← same m n
-    done (replies.Same b)
+    h ← the q
+    g ← the r
+    as_reply (λ b. replies.Same b) (call_on_both h g is_same_object)
   outside (commands.OnName v n) = done replies.Done
-  outside (commands.WithCount v n) = do
-    room_made v n
-    done replies.Done
-  outside (commands.MakeSized v n len) = makes (made c (kind_made v) (replicate len 0))
-  outside (commands.MakeFilled v n len r) = makes (do
-    m ← the names r
-    o ← object m
-    made c Objects (replicate len (element_to o)))
-  outside (commands.MakeText v n units) = makes (made c Text units)
-  outside (commands.MakeAt v n r i) = makes (do
-    m ← the names r
-    a ← wanted_element m i
-    new_local c (named_by (slice_index a.1.words i)))
+  outside (commands.WithCount v n) = does (room_meant v n)
+  outside (commands.MakeSized v n len) = an_object (call_on_none (new_array (kind_made v) len))
+  outside (commands.MakeFilled v n len r) = the r >>= (λ h. an_object (call_on h (new_object_array len)))
+  outside (commands.MakeText v n units) = an_object (call_on_none (new_string units))
+  outside (commands.MakeAt v n r i) = the r >>= (λ h. a_reference (call_on h (get_object_array_element i)))
   outside (commands.SetAt v r i q) = do
-    m ← the names r
-    n ← the names q
-    object m
-    o ← object n
-    a ← wanted_element m i
-    rewrites a.0 a.1 (slice_set a.1.words i (element_to o))
-    done replies.Done
+    h ← the r
+    g ← the q
+    does (call_on_both h g (set_object_array_element i))
   outside (commands.OnAt v r i) = do
-    a ← the names r >>= wanted_object
-    decided (has_numbers a.1.kind)
-    reads_number a.1.kind a.1.words i
+    h ← the r
+    k ← call_on h kind_of
+    decided (has_numbers k)
+    as_reply (λ found. replies.Value (first_number k found)) (call_on h (get_array_region k i 1))
   outside (commands.StoreAt v r i x) = do
-    a ← the names r >>= wanted_object
-    decided (has_numbers a.1.kind)
-    writes_number a.0 a.1 i x
-  outside (commands.OpenLevel v n r) = the names r >>= level v 0
+    h ← the r
+    k ← call_on h kind_of
+    decided (has_numbers k)
+    word ← decided (word_of_number k x)
+    does (call_on h (set_array_region k i (word ∷ [])))
+  outside (commands.OpenLevel v n r) = as_reply (λ o. replies.Level o) (the r >>= level v 0)
   outside (commands.OfRoom v) = collects
   outside (commands.WithTries v tries) = collects
-  outside (commands.OnNameAt on_name_at.Get n i) = do
-    x ← decided (getting i (binding names n))
-    done (replies.Value x)
-  outside (commands.PutAt put_at.Put n i x) = do
-    decided (putting i x (binding names n))
-    done replies.Done
+  outside (commands.OnNameAt on_name_at.Get n i) =
+      as_reply (λ x. replies.Value x) (decided (getting i (binding names n)))
+  outside (commands.PutAt put_at.Put n i x) = as_reply (λ b. replies.Done) (decided (putting i x (binding names n)))
   outside (commands.Release v n r mode) = do
     b ← decided (buffer_in (binding names n))
-    m ← the names r
-    copied_back m b mode
-    done replies.Done
+    h ← the r
+    does (given_back mode b h)
   outside _ = decided (Err fault.InCritical)
 
-  -- the object of the level that a name means, where levels of these names have these objects: E2 where none does
-  abbrev pub object_of_level : List (List ℕ) → List ℕ → List ℕ → Meaning (ℕ × Contents)
-  object_of_level levels objects n = do
+  -- what is done at the level that a name means, where levels of these names have these objects: E2 where none does
+  abbrev pub at_level : List (List ℕ) → List ℕ → List ℕ → (ℕ → Meaning Reply) → Meaning Reply
+  at_level levels objects n next = do
     l ← decided (level_wanted (newest levels n))
-    x ← contents (nth_object objects l)
-    done (nth_object objects l, x)
+    next (nth_object objects l)
 
   -- A COMMAND IN A REGION: E19 for those that may not be made there
   abbrev pub within : List (List ℕ) → List ℕ → Command → Meaning Reply
-  within levels objects (commands.OpenLevel v n r) = the names r >>= level v (length objects)
-  within levels objects (commands.OnNameAt on_name_at.GetInLevel n i) = do
-    a ← object_of_level levels objects n
-    decided (has_numbers (read_kind a.1.kind))
-    reads_number (read_kind a.1.kind) a.1.words i
-  within levels objects (commands.PutAt put_at.PutInLevel n i x) = do
-    a ← object_of_level levels objects n
-    decided (has_numbers a.1.kind)
-    writes_number a.0 a.1 i x
+  within levels objects (commands.OpenLevel v n r) =
+      the r >>= (λ h. as_reply (λ o. replies.Level o) (level v (length objects) h))
+  within levels objects (commands.OnNameAt on_name_at.GetInLevel n i) = at_level levels objects n (λ o. do
+    k ← call_at o region_kind
+    decided (has_numbers (read_kind k))
+    as_reply (λ word. replies.Value (number_of_word (read_kind k) word)) (call_at o (region_get (read_kind k) i)))
+  within levels objects (commands.PutAt put_at.PutInLevel n i x) = at_level levels objects n (λ o. do
+    k ← call_at o region_kind
+    decided (has_numbers k)
+    word ← decided (word_of_number k x)
+    does (call_at o (region_set k i word)))
   within levels objects (commands.CloseLevel v mode) = done replies.Done
   within levels objects (commands.OnName v n) = done replies.Done
   within levels objects (commands.Make make.Wait n) = waits words n

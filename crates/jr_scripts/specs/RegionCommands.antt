@@ -7,9 +7,12 @@ use Rattle.jr_word.specs.declared.fault.Fault.TheVariants as fault
 use Rattle.jr_model.specs.State.{State}
 use Rattle.jr_model.specs.Calls.{Call}
 use Rattle.jr_model.specs.Checks.{Word}
-use Rattle.jr_model.specs.Objects.{nest_array, nest_string, region_get, region_kind, region_release, region_set}
+use Rattle.jr_model.specs.Parts.{region_release}
+use Rattle.jr_model.specs.Programs.{at_object}
+use Rattle.jr_model.specs.CallPrograms.{region_get, region_kind, region_set}
 use Rattle.jr_steps.specs.Holdings.{empty}
 use Rattle.jr_frames.specs.Reading.{IsReadAs}
+use Rattle.jr_critical.specs.Levels.{nested_by}
 use Rattle.jr_gate.specs.Performing.{ThreadState}
 use Rattle.jr_env.specs.Deeds.{Deed, decided, done, ◌>>=◌, ◌>>◌, within_by}
 use Rattle.jr_syntax.specs.declared.command.Command.{Command}
@@ -22,17 +25,15 @@ use Rattle.jr_syntax.specs.declared.verb.OnNameAt.TheVariants as on_name_at
 use Rattle.jr_syntax.specs.declared.verb.PutAt.{PutAt}
 use Rattle.jr_syntax.specs.declared.verb.PutAt.TheVariants as put_at
 use Rattle.jr_syntax.specs.declared.verb.OpenLevel.{OpenLevel}
-use Rattle.jr_syntax.specs.declared.verb.OpenLevel.TheVariants as at
 use Rattle.jr_scripts.specs.declared.reply.Reply.{Reply}
 use Rattle.jr_scripts.specs.declared.reply.Reply.TheVariants as replies
 use Rattle.jr_scripts.specs.Numbers.{has_numbers, number_of_word, word_of_number}
 use Rattle.jr_scripts.specs.Places.{Place, by_region, level_wanted, newest, nth_object}
-use Rattle.jr_scripts.specs.Commands.{awaited, deed, the_reference}
+use Rattle.jr_scripts.specs.Commands.{awaited, deed, get_critical, the_reference}
 
 -- the call that adds a level to a region whose levels have these objects
 abbrev pub nests : OpenLevel → Config → ℕ → ℕ → State → List ℕ → Word → Call (ℕ × List ℕ)
-nests at.Array = nest_array
-nests at.Text = nest_string
+nests v = nested_by (get_critical v)
 
 -- a level is added over what a word names: its number, and the objects then
 abbrev pub nesting : OpenLevel → List ℕ → ℕ → Deed (ℕ × List ℕ)
@@ -46,12 +47,12 @@ read_kind k = k
 
 -- the kind of a level's object, which takes no operation
 abbrev pub kind_of_level : ℕ → Deed Kind
-kind_of_level o = within_by (λ c. 0) (λ c last t s. region_kind c last t s o)
+kind_of_level o = within_by (λ c. 0) (λ c last t s. at_object c last t s o region_kind)
 
 -- the number at an index of a level's object that is read as of a kind
 abbrev pub reading_as : ℕ → ℕ → Kind → Deed Reply
 reading_as o i k = do
-  word ← within_by (λ c. 0) (λ c last t s. region_get c last t s k o i)
+  word ← within_by (λ c. 0) (λ c last t s. at_object c last t s o (region_get k i))
   done (replies.Value (number_of_word k word))
 
 -- the number at an index of a level's object
@@ -65,7 +66,7 @@ level_reading o i = do
 abbrev pub writing_as : ℕ → ℕ → ℤ → Kind → Deed Reply
 writing_as o i x k = do
   word ← decided (word_of_number k x)
-  within_by (λ c. 0) (λ c last t s. region_set c last t s k o i word)
+  within_by (λ c. 0) (λ c last t s. at_object c last t s o (region_set k i word))
   done replies.Done
 
 -- a number is stored at an index of a level's array:

@@ -1,17 +1,15 @@
 //! The calls of the Java Native Interface for parts of arrays, over any steps.
-ghost use Rattle.std.specs.Prelude.{◌≡◌, ◌+◌, nat_lt, IfOk, IfErr, map, length};
+ghost use Rattle.std.specs.Prelude.{◌≡◌, ◌+◌, nat_lt, IfErr, map, length};
 ghost use Rattle.jr_gate.specs.Stays.{IsOwnStay};
 ghost use Rattle.jr_model.specs.declared.event.Role.TheVariants.{Within};
 ghost use Rattle.jr_model.specs.Checks.{same_element as same_element_of};
-ghost use Rattle.jr_steps.specs.Knowing.{MayKnow};
-ghost use Rattle.jr_heap.specs.Heap.{HoldsHeader};
+ghost use Rattle.jr_model.specs.Tests.{refused_by};
+ghost use Rattle.jr_model.specs.CallPrograms.{kind_tests, part_tests};
 ghost use Rattle.jr_frames.specs.Ready.{StandsReady};
-ghost use Rattle.jr_frames.specs.Reading.{word_of, OwnerFits};
 ghost use Rattle.jr_env.specs.Requests.{for_get_array_region};
 ghost use Rattle.jr_env.specs.Deeds.{read_answer};
 ghost use Rattle.jr_env.specs.Calling.{CanCall};
 ghost use Rattle.jr_env.specs.OpenStays.{StaysOn};
-ghost use Rattle.jr_env.specs.ArrayParts.{FindsPart};
 ghost use Rattle.jr_env.specs.Works.{Serves, ServesWhole, ServesWithin};
 
 use crate::calls::names;
@@ -55,20 +53,11 @@ impl<S: Steps, E: Elem> NativeCall<S> for SetArrayRegion<'_, E> {
     ) -> Result<(), Fault> {
         let SetArrayRegion(handle, start, elements) = self;
         let array = Reference::of(handle);
-        let part = ArrayPart { array, start };
-        let (object, header) = find_part(steps, inside, frames, part, E::KIND, elements.len())?;
+        let (object, header) = find(steps, inside, frames, array)?;
+        has_part(header, E::KIND, start, elements.len())?;
         write_part(steps, object, header, start, elements);
         Ok(())
     }
-}
-
-/// A part of an array, of as many elements as are handed in beside it.
-#[derive(Clone, Copy)]
-struct ArrayPart {
-    /// The array.
-    array: Reference,
-    /// The index at which the part begins.
-    start: u32,
 }
 
 /// Makes the call that copies a part of an array out: enters the gate, reads, and leaves. A stay that a region left is ended first.
@@ -144,39 +133,44 @@ fn read_into<S: Steps, E: Elem>(
     ensures err { IfErr result (λ _. elements.new ≡ elements.old) }
 {
     let array = Reference::of(handle);
-    let part = ArrayPart { array, start };
-    let (object, header) = find_part(steps, inside, frames, part, E::KIND, elements.len())?;
+    let (object, header) = find(steps, inside, frames, array)?;
+    has_part(header, E::KIND, start, elements.len())?;
     read_part(steps, object, header, start, elements);
     Ok(())
 }
 
-/// The array of a part, and its header, which is known from then on: E1, E2, E3, E5, E6 unless its elements are of the kind, E7 unless so many from its start on lie in it.
+/// Whether objects of the second kind are arrays whose elements are of the first.
+///
+/// # Errors
+///
+/// E5 where they are no arrays, E6 where they are arrays of other elements.
 #[inline(always)]
-fn find_part<S: Steps>(
-    steps: &mut S,
-    inside: &Inside,
-    frames: &Frames,
-    part: ArrayPart,
-    kind: Kind,
-    count: usize,
-) -> Result<(u16, HeaderParts), Fault>
-    requires stay { IsOwnStay inside.now (S.facts steps.old).stands }
-    requires ready { StandsReady S.facts Within steps.old frames.now }
-    requires fits { OwnerFits part.array }
-    ensures call { FindsPart S.facts steps.old steps.new frames.now.frames kind part.start count (word_of part.array) result }
-    ensures known { IfOk result (λ x. MayKnow S.facts steps.new (HoldsHeader x.0 x.1)) }
+pub(crate) fn has_elements(kind: Kind, other: Kind) -> Result<(), Fault>
+    ensures { refused_by (kind_tests kind other) ≡ result }
 {
-    let (object, header) = find(steps, inside, frames, part.array)?;
-    if !is_array(header.kind) {
+    if !is_array(other) {
         return Err(Fault::NotArray);
     }
-    if !same_element(kind, header.kind) {
+    if !same_element(kind, other) {
         return Err(Fault::WrongElement);
     }
-    if lies_past(header.length, part.start, count) {
+    Ok(())
+}
+
+/// Whether so many elements of the kind, from an index on, lie in an array with this header.
+///
+/// # Errors
+///
+/// E5 where it is no array, E6 where it is one of other elements, E7 where they don't all lie in it.
+#[inline(always)]
+fn has_part(header: HeaderParts, kind: Kind, start: u32, count: usize) -> Result<(), Fault>
+    ensures { refused_by (part_tests kind start count header.kind header.length) ≡ result }
+{
+    has_elements(kind, header.kind)?;
+    if lies_past(header.length, start, count) {
         return Err(Fault::Range);
     }
-    Ok((object, header))
+    Ok(())
 }
 
 /// Whether so many elements from an index on don't all lie in an array of this length.
@@ -189,7 +183,7 @@ fn lies_past(length: u32, start: u32, count: usize) -> bool
 
 /// Whether both kinds are one kind of array whose elements are no objects.
 #[inline(always)]
-pub(crate) fn same_element(kind: Kind, other: Kind) -> bool
+fn same_element(kind: Kind, other: Kind) -> bool
     ensures { result ≡ same_element_of kind other }
 {
     match kind {

@@ -1,5 +1,5 @@
 //! The calls of the Java Native Interface that copy all elements of an array or string out, and back, over any steps.
-use crate::calls::array_parts::same_element;
+use crate::calls::array_parts::has_elements;
 use crate::calls::names;
 use crate::env::Env;
 use crate::native_call::{Handed, NativeCall, NativeCaller};
@@ -8,7 +8,7 @@ use crate::work::outside;
 use jr_elements::{Elements, elements_of, put_back, read_all};
 use jr_frames::{Frames, Reference, find};
 use jr_gate::Inside;
-use jr_heap::{Numbers, is_array, is_text};
+use jr_heap::{Numbers, is_text};
 use jr_model::Mode;
 use jr_steps::Steps;
 use jr_word::{Elem, Fault, Handle};
@@ -151,12 +151,7 @@ impl<S: Steps, E: Elem> NativeCall<S> for GetArrayElements<E> {
     ) -> Result<Elements<E>, Fault> {
         let array = Reference::of(self.array);
         let (object, header) = find(steps, inside, frames, array)?;
-        if !is_array(header.kind) {
-            return Err(Fault::NotArray);
-        }
-        if !same_element(E::KIND, header.kind) {
-            return Err(Fault::WrongElement);
-        }
+        has_elements(E::KIND, header.kind)?;
         let items = read_all(self.alloc, steps, object, header)?;
         Ok(elements_of(items))
     }
@@ -246,12 +241,7 @@ impl<S: Steps, E: Elem> NativeCall<S> for CopyBack<'_, E> {
         } = self;
         let array = Reference::of(handle);
         let (object, header) = find(steps, inside, frames, array)?;
-        if !is_array(header.kind) {
-            return Err(Fault::NotArray);
-        }
-        if !same_element(E::KIND, header.kind) {
-            return Err(Fault::WrongElement);
-        }
+        has_elements(E::KIND, header.kind)?;
         if header.length != elements.length() {
             return Err(Fault::Range);
         }

@@ -10,7 +10,8 @@ use jr_word::{Fault, Handle};
 impl<S: Steps> Env<S> {
     ghost use Rattle.std.specs.Prelude.{◌≡◌, Ok, IfOk};
     ghost use Rattle.std.specs.Borrow.{sem};
-    ghost use Rattle.jr_model.specs.Objects.{get_array_critical, get_string_critical};
+    ghost use Rattle.jr_model.specs.CallPrograms.{get_array_critical, get_string_critical};
+    ghost use Rattle.jr_critical.specs.Levels.{opened_by};
     ghost use Rattle.jr_env.specs.declared.levels_beside.First.TheVariants.{Array, Text};
     ghost use Rattle.jr_env.specs.Envs.{IsOutside};
     ghost use Rattle.jr_env.specs.StandingRegions.{StandsSince};
@@ -30,9 +31,9 @@ impl<S: Steps> Env<S> {
     /// At most 3: the entry, a look at the slot of a global or weak handle, and one at the array's header. Where it is refused, the exit too.
     #[inline(always)]
     pub fn get_array_critical(&mut self, array: Handle) -> Result<Region<'_, S>, Fault>
-        ensures* rests { sem 𝓛 (rests_in S.row S.Steps array.0 get_array_critical self.entry result) }
+        ensures* rests { sem 𝓛 (rests_in S.row S.Steps array.0 (opened_by (get_array_critical 0)) self.entry result) }
         ensures same_reference { IfOk result (λ r. (env_of r).ghost_name ≡ self.entry.ghost_name) }
-        ensures opened { IfOk result (λ r. WasOpened self.old r array.0 get_array_critical) }
+        ensures opened { IfOk result (λ r. WasOpened self.old r array.0 (opened_by (get_array_critical 0))) }
         ensures region { IfOk result (λ r. IsOutside self.old → StandsSince self.old.held (held_of r) (levels_of r)) }
     {
         let levels = levels_beside::open_array(self, array)?;
@@ -52,9 +53,9 @@ impl<S: Steps> Env<S> {
     /// At most 3: the entry, a look at the slot of a global or weak handle, and one at the string's header. Where it is refused, the exit too.
     #[inline(always)]
     pub fn get_string_critical(&mut self, string: Handle) -> Result<Region<'_, S>, Fault>
-        ensures* rests { sem 𝓛 (rests_in S.row S.Steps string.0 get_string_critical self.entry result) }
+        ensures* rests { sem 𝓛 (rests_in S.row S.Steps string.0 (opened_by (get_string_critical 0)) self.entry result) }
         ensures same_reference { IfOk result (λ r. (env_of r).ghost_name ≡ self.entry.ghost_name) }
-        ensures opened { IfOk result (λ r. WasOpened self.old r string.0 get_string_critical) }
+        ensures opened { IfOk result (λ r. WasOpened self.old r string.0 (opened_by (get_string_critical 0))) }
         ensures region { IfOk result (λ r. IsOutside self.old → StandsSince self.old.held (held_of r) (levels_of r)) }
     {
         let levels = levels_beside::open_string(self, string)?;

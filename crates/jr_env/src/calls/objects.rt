@@ -1,8 +1,8 @@
 //! The calls of the Java Native Interface that look at objects, over any steps.
-ghost use Rattle.std.specs.Prelude.{◌≡◌, ◌<◌, ◌^◌, []};
-ghost use Rattle.jr_model.specs.Frames.{Frames as LocalFrames};
+ghost use Rattle.std.specs.Prelude.{◌≡◌, ◌<◌, ◌^◌};
 ghost use Rattle.jr_model.specs.Checks.{element_word, object_of_word};
-ghost use Rattle.jr_env.specs.Elements.{element_checks};
+ghost use Rattle.jr_model.specs.Tests.{refused_by};
+ghost use Rattle.jr_model.specs.CallPrograms.{element_tests};
 
 use crate::native_call::{Handed, NativeCall};
 use jr_frames::{Frames, Reference, find, new_local, resolve_both};
@@ -210,7 +210,7 @@ impl<S: Steps> NativeCall<S> for SetObjectArrayElement {
 ///
 /// E5 where it is no array, E6 where it is one of other elements, E7 past its length.
 fn has_element(header: HeaderParts, index: u32) -> Result<(), Fault>
-    ensures { (f : LocalFrames) → element_checks header.kind header.length index f [] result f }
+    ensures { refused_by (element_tests index header.kind header.length) ≡ result }
 {
     if !is_array(header.kind) {
         return Err(Fault::NotArray);

@@ -9,7 +9,8 @@ use jr_word::{Fault, Handle};
 
 impl<'e, S: Steps> Stay<'e, S> {
     ghost use Rattle.std.specs.Prelude.{◌≡◌, IfErr, IfOk};
-    ghost use Rattle.jr_model.specs.Objects.{level_array, level_string};
+    ghost use Rattle.jr_model.specs.CallPrograms.{get_array_critical, get_string_critical};
+    ghost use Rattle.jr_critical.specs.Levels.{opened_within};
     ghost use Rattle.jr_env.specs.Criticals.{env_of};
     ghost use Rattle.jr_env.specs.LentStays.{env_in};
     ghost use Rattle.jr_env.specs.StayLevels.{WasNotOpenedIn, WasOpenedIn};
@@ -28,9 +29,9 @@ impl<'e, S: Steps> Stay<'e, S> {
     #[inline(always)]
     pub fn get_array_critical(self, array: Handle) -> Result<Region<'e, S>, (Stay<'e, S>, Fault)>
         ensures same_reference { IfOk result (λ r. (env_of r).ghost_name ≡ (env_in self.entry).ghost_name) }
-        ensures opened { IfOk result (λ r. WasOpenedIn self.entry r array.0 (λ c last t s a. level_array c last t s 0 a)) }
+        ensures opened { IfOk result (λ r. WasOpenedIn self.entry r array.0 (opened_within (get_array_critical 0))) }
         ensures same_stay { IfErr result (λ e. (env_in e.0).ghost_name ≡ (env_in self.entry).ghost_name) }
-        ensures refused { IfErr result (λ e. WasNotOpenedIn self.entry e.0 array.0 (λ c last t s a. level_array c last t s 0 a) e.1) }
+        ensures refused { IfErr result (λ e. WasNotOpenedIn self.entry e.0 array.0 (opened_within (get_array_critical 0)) e.1) }
     {
         let Stay { env, inside } = self;
         match env.open_array_within(inside, array) {
@@ -53,9 +54,9 @@ impl<'e, S: Steps> Stay<'e, S> {
     #[inline(always)]
     pub fn get_string_critical(self, string: Handle) -> Result<Region<'e, S>, (Stay<'e, S>, Fault)>
         ensures same_reference { IfOk result (λ r. (env_of r).ghost_name ≡ (env_in self.entry).ghost_name) }
-        ensures opened { IfOk result (λ r. WasOpenedIn self.entry r string.0 (λ c last t s a. level_string c last t s 0 a)) }
+        ensures opened { IfOk result (λ r. WasOpenedIn self.entry r string.0 (opened_within (get_string_critical 0))) }
         ensures same_stay { IfErr result (λ e. (env_in e.0).ghost_name ≡ (env_in self.entry).ghost_name) }
-        ensures refused { IfErr result (λ e. WasNotOpenedIn self.entry e.0 string.0 (λ c last t s a. level_string c last t s 0 a) e.1) }
+        ensures refused { IfErr result (λ e. WasNotOpenedIn self.entry e.0 string.0 (opened_within (get_string_critical 0)) e.1) }
     {
         let Stay { env, inside } = self;
         match env.open_string_within(inside, string) {
@@ -67,9 +68,9 @@ impl<'e, S: Steps> Stay<'e, S> {
 
 impl<S: Steps> Env<S> {
     ghost use Rattle.std.specs.Prelude.{◌≡◌, IfErr, IfOk, length};
-    ghost use Rattle.jr_model.specs.Objects.{level_array, level_string};
+    ghost use Rattle.jr_model.specs.CallPrograms.{get_array_critical, get_string_critical};
     ghost use Rattle.jr_gate.specs.Stays.{IsOwnStay};
-    ghost use Rattle.jr_critical.specs.Levels.{objects_of, without_stay, OpensWithinOver, StandOver};
+    ghost use Rattle.jr_critical.specs.Levels.{objects_of, opened_within, without_stay, OpensWithinOver, StandOver};
     ghost use Rattle.jr_env.specs.OpenStays.{StaysOn};
     ghost use Rattle.jr_env.specs.StayLevels.{StaysWith};
 
@@ -81,7 +82,7 @@ impl<S: Steps> Env<S> {
         array: Handle,
     ) -> Result<Levels, (Inside, Fault)>
         requires { IsOwnStay inside (S.facts self.old.held.steps).stands }
-        ensures call { OpensWithinOver self.old.held self.new.held array.0 (λ c last t s a. level_array c last t s 0 a) (without_stay result) }
+        ensures call { OpensWithinOver self.old.held self.new.held array.0 (opened_within (get_array_critical 0)) (without_stay result) }
         ensures frames { self.new.held.frames ≡ self.old.held.frames }
         ensures stand { IfOk result (λ v. StandOver v self.new.held × (length (objects_of v) ≡ 1)) }
         ensures with_level { IfOk result (λ v. StaysWith self.old.held self.new.held v) }
@@ -99,7 +100,7 @@ impl<S: Steps> Env<S> {
         string: Handle,
     ) -> Result<Levels, (Inside, Fault)>
         requires { IsOwnStay inside (S.facts self.old.held.steps).stands }
-        ensures call { OpensWithinOver self.old.held self.new.held string.0 (λ c last t s a. level_string c last t s 0 a) (without_stay result) }
+        ensures call { OpensWithinOver self.old.held self.new.held string.0 (opened_within (get_string_critical 0)) (without_stay result) }
         ensures frames { self.new.held.frames ≡ self.old.held.frames }
         ensures stand { IfOk result (λ v. StandOver v self.new.held × (length (objects_of v) ≡ 1)) }
         ensures with_level { IfOk result (λ v. StaysWith self.old.held self.new.held v) }

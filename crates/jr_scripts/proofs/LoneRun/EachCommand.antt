@@ -1,140 +1,155 @@
 -- What a lone thread's commands mean, outside and in a region.
-use Rattle.std.proofs.Common.{◌≡◌, ◌≢◌, ℕ, ◌<◌, ◌≤◌, ◌^◌, Bool, true, false, List, [], ◌∷◌, ◌++◌, map}
-use Rattle.std.proofs.Common.{Result, Ok, Err, IfErr, refl, sym, ap, subst, ◌∙◌, arith}
-use Rattle.std.specs.List.{AllByRecursion}
+use Rattle.std.proofs.Common.{◌≡◌, ◌≢◌, ℕ, Bool, true, false, List, [], ◌∷◌, ◌++◌, length, slice_index_or, Result}
+use Rattle.std.proofs.Common.{Ok, Err}
+use Rattle.std.proofs.Common.{refl, sym, ap, subst, ◌∙◌}
 use Rattle.jr_word.specs.declared.config.Config.{Config}
 use Rattle.jr_word.specs.declared.fault.Fault.{Fault}
-use Rattle.jr_word.specs.declared.fault.Fault.TheVariants.{InCritical}
-use Rattle.jr_model.specs.declared.event.Act.TheVariants.{Gate}
-use Rattle.jr_model.specs.declared.event.GateAct.TheVariants.{Leave}
-use Rattle.jr_model.specs.History.{by, state, state_from}
-use Rattle.jr_model.proofs.Histories.{state_append}
+use Rattle.jr_model.specs.declared.event.Role.TheVariants.{Within}
+use Rattle.jr_model.specs.History.{state}
 use Rattle.jr_gate.specs.Performing.{ThreadState}
 use Rattle.jr_syntax.specs.declared.command.Command.{Command}
 use Rattle.jr_syntax.specs.declared.command.Command.TheVariants as commands
 use Rattle.jr_syntax.specs.declared.verb.Make.TheVariants as make
-use Rattle.jr_syntax.specs.declared.verb.OnName.TheVariants as on_name
-use Rattle.jr_syntax.specs.declared.verb.OnNameAt.TheVariants as on_name_at
-use Rattle.jr_syntax.specs.declared.verb.PutAt.TheVariants as put_at
-use Rattle.jr_syntax.specs.declared.verb.Release.TheVariants as release
+use Rattle.jr_syntax.specs.declared.verb.MakeFrom.TheVariants as make_from
+use Rattle.jr_syntax.specs.declared.verb.OfRoom.TheVariants as of_room
+use Rattle.jr_syntax.specs.declared.verb.On.TheVariants as on
+use Rattle.jr_syntax.specs.declared.verb.WithTries.TheVariants as with_tries
 use Rattle.jr_scripts.specs.declared.reply.Reply.{Reply}
 use Rattle.jr_scripts.specs.Commands.{deed}
+use Rattle.jr_scripts.specs.Names.{Names}
 use Rattle.jr_scripts.specs.RegionCommands.{deed_at, deed_within, giving_up_all}
-use Rattle.jr_scripts.specs.Places.{Place, by_region}
+use Rattle.jr_scripts.specs.Places.{Place, by_region, objects_after}
 use Rattle.jr_scripts.specs.Posting.{ThreadWords, said_alone}
-use Rattle.jr_scripts.specs.Runs.{IsUnbarred}
-use Rattle.jr_scripts.specs.AloneAnswers.{IsAloneFault}
-use Rattle.jr_scripts.proofs.AloneCalls.{IsAlone, sees_alone}
-use Rattle.jr_scripts.specs.Meaning.{gives_up, World, meaning_at}
+use Rattle.jr_scripts.specs.Meaning.{World, meaning_at, memory_after}
 use Rattle.jr_scripts.specs.Meaning as meaning
-use Rattle.jr_scripts.proofs.LoneRun.MadeCalls.{moment_is}
 use Rattle.jr_scripts.proofs.LoneRun.MeaningFrames.{Pairing}
-use Rattle.jr_scripts.proofs.LoneRun.MeaningFits.{Fits, gone_fits}
-use Rattle.jr_scripts.proofs.LoneRun.MeaningDeeds.{IsPass, now}
-use Rattle.jr_scripts.proofs.LoneRun.MeaningStands.{Stands, Stepped, left_before, left_then, pass_later}
-use Rattle.jr_scripts.proofs.LoneRun.MeaningLevels.{some_too}
-use Rattle.jr_scripts.proofs.LoneRun.CommandSteps.{HasRegion, Turn, still_step}
-use Rattle.jr_scripts.proofs.LoneRun.MeaningCommands.{memory_shown, step}
-use Rattle.jr_scripts.proofs.LoneRun.LevelCommands.{in_close, in_get, in_nest, in_set}
-use Rattle.jr_scripts.proofs.LoneRun.NoteCommands.{post_step, wait_step}
+use Rattle.jr_scripts.proofs.LoneRun.MeaningFits.{Fits}
+use Rattle.jr_scripts.proofs.LoneRun.MeaningObjects.{Remembers, found_by}
+use Rattle.jr_scripts.proofs.LoneRun.MeaningLevels.{AreLevels}
+use Rattle.jr_scripts.proofs.LoneRun.MeaningDeeds.{IsAt, IsLone, IsPass, now}
+use Rattle.jr_scripts.proofs.LoneRun.MeaningReplies.{Stands, Stepped, left_before, stepped}
+use Rattle.jr_scripts.proofs.LoneRun.CommandMeanings.{copies, even, outside_does}
+use Rattle.jr_scripts.proofs.LoneRun.LevelMeanings.{close_does, closed_role, give_up_does, opened_role, within_does}
+use Rattle.jr_scripts.proofs.LoneRun.NoteMeanings.{waited}
+use Rattle.jr_scripts.proofs.LoneRun.CollectionMeanings.{announced_does, collect_does}
 
-fewer_before : (x : Command) (k : ℕ) → k ≤ left_before x k
-fewer_before x k = go (gives_up x)
-  where
-    go : (b : Bool) → k ≤ left_then b k
-    go true = omega arith
-    go false = omega arith
+-- what a command shows of memory: whether its copy found some
+abbrev pub memory_shown : Command → Result Reply Fault → List Bool
+memory_shown (commands.MakeFrom make_from.Elements n r) answer = found_by answer ∷ []
+memory_shown (commands.On on.Chars r) answer = found_by answer ∷ []
+memory_shown _ answer = []
 
--- where a region stands
-within_deed : (turns : ℕ) (p : Place) (x : Command) (old new : ThreadState) (answer : Result Reply Fault) (os : List ℕ)
-    → os ≢ [] → by_region os (deed turns p.names x) (deed_within p x) old answer new → deed_within p x old answer new
-within_deed turns p x old new answer [] some d = absurd (some refl)
-within_deed turns p x old new answer (o ∷ os) some d = d
+-- .. and what is left for those to come
+pub memory_left : (x : Command) (answer : Result Reply Fault) (rest : List Bool)
+    → memory_after x (memory_shown x answer ++ rest) ≡ rest
+memory_left (commands.MakeFrom make_from.Elements n r) answer rest = refl
+memory_left (commands.On on.Chars r) answer rest = refl
+memory_left (commands.MakeFrom _ n r) answer rest = refl
+memory_left (commands.On _ r) answer rest = refl
+memory_left _ answer rest = refl
 
-module _ {c : Config} {last turns k : ℕ} {P : Pairing} {w : World} {old new : ThreadState} {p q : Place}
-    {had told : ThreadWords} where
+remembered : (w : World) (x : Command) (answer : Result Reply Fault) (rest : List Bool)
+    → w.memory ≡ memory_shown x answer ++ rest → Remembers (copies x) w answer
+remembered w (commands.MakeFrom make_from.Elements n r) answer rest is = ap (λ memory. slice_index_or memory 0 true) is
+remembered w (commands.On on.Chars r) answer rest is = ap (λ memory. slice_index_or memory 0 true) is
+remembered w (commands.MakeFrom _ n r) answer rest is = tt
+remembered w (commands.On _ r) answer rest is = tt
+remembered w _ answer rest is = tt
+
+module _ (c : Config) (last : ℕ) (lone : IsLone c last) (turns : ℕ) (some : turns ≢ 0) where
+  -- behind which a region stands, where none stood
+  begun_role : (names : Names) (old new : ThreadState) (x : Command) (answer : Result Reply Fault)
+      → IsPass c last old.pass → deed turns names x old answer new → objects_after x answer [] ≢ []
+      → (state new.pass.seen).role 0 ≡ Within
+  begun_role names old new (commands.OpenLevel v n r) answer pass d begun =
+      opened_role c last lone turns some names v n r old new answer pass d begun
+  begun_role names old new (commands.CloseLevel v mode) (Ok a) pass d begun = absurd (begun refl)
+  begun_role names old new (commands.CloseLevel v mode) (Err e) pass d begun = absurd (begun refl)
+  begun_role names old new x answer pass d begun = absurd (begun refl)
+
+  role_then : (new : ThreadState) (ps os : List ℕ) → ps ≡ os → (x : Command) (answer : Result Reply Fault)
+      → (objects_after x answer os ≢ [] → (state new.pass.seen).role 0 ≡ Within)
+      → objects_after x answer ps ≢ [] → (state new.pass.seen).role 0 ≡ Within
+  role_then new ps os is x answer role =
+      subst (λ os. objects_after x answer os ≢ [] → (state new.pass.seen).role 0 ≡ Within) (sym is) role
+
+at_place : {c : Config} {last : ℕ} {lone : IsLone c last} {j : ℕ} {P : Pairing} {w : World} {old : ThreadState}
+    {p q : Place} {had told : ThreadWords} (inside : Bool) → Stands c last lone j P w old p q had told
+    → (inside ≡ true → (state old.pass.seen).role 0 ≡ Within) → IsAt c last lone inside j P w old
+at_place inside s role = record { pass = s.pass; fits = s.fits; role = role }
+
+module _ (c : Config) (last : ℕ) (lone : IsLone c last) (turns : ℕ) (some : turns ≢ 0) {k : ℕ} {P : Pairing} {w : World}
+    {old new : ThreadState} {p q : Place} {had told : ThreadWords} where
+  -- WHERE NO REGION STANDS
+  outside_step : (x : Command) → Stands c last lone (left_before x k) P w old p q had told → p.objects ≡ []
+      → (answer : Result Reply Fault) → deed turns p.names x old answer new
+      → said_alone p.names had x old.pass.seen answer new.pass.seen → Remembers (copies x) w answer
+      → Stepped c last lone k x new p q had told answer (meaning.outside c q.names told x w)
+  outside_step (commands.Make make.Wait n) s none answer d said so = stepped c last lone (commands.Make make.Wait n) s
+      (waited c last lone even (at_place false s (λ is. absurd cc)) p.names had told s.words n answer said d)
+      (λ left. absurd (left none))
+  outside_step (commands.OfRoom of_room.Collect) s none answer d said so =
+      collect_does c last lone s none even answer d
+  outside_step (commands.WithTries with_tries.CollectAnnounced tries) s none answer d said so =
+      announced_does c last lone s none even turns some tries answer d
+  outside_step x s none answer d said so = stepped c last lone x s
+      ((outside_does c last lone turns some p.names q.names s.names told k x tt).outcome old new answer so
+      (at_place false s (λ is. absurd cc)) d) (role_then c last lone turns some new p.objects [] none x answer
+      (begun_role c last lone turns some p.names old new x answer s.pass d))
+
   -- IN A REGION
-  in_step : (x : Command) (s : Turn true c last turns (left_before x k) k P w old new p q had told)
-      (answer : Result Reply Fault) → deed_within p x old answer new
-      → said_alone p.names had x old.pass.seen answer new.pass.seen
-      → IfErr answer (IsAloneFault new.pass)
-      → Stepped c last k x new p q had told answer (meaning.within c q.names told q.levels q.objects x w)
-  in_step (commands.OpenLevel v n r) s answer d said fault =
-      in_nest s (fewer_before (commands.OpenLevel v n r) k) v n r answer fault d
-  in_step (commands.OnNameAt on_name_at.GetInLevel n i) s answer d said fault =
-      in_get s (fewer_before (commands.OnNameAt on_name_at.GetInLevel n i) k) n i answer fault d
-  in_step (commands.PutAt put_at.PutInLevel n i z) s answer d said fault =
-      in_set s (fewer_before (commands.PutAt put_at.PutInLevel n i z) k) n i z answer fault d
-  in_step (commands.CloseLevel v mode) s answer d said fault =
-      in_close s (fewer_before (commands.CloseLevel v mode) k) v mode answer d
-  in_step (commands.OnName on_name.Post n) s answer d said fault =
-      post_step s (fewer_before (commands.OnName on_name.Post n) k) n answer d
-  in_step (commands.Make make.Wait n) s answer d said fault =
-      wait_step s (fewer_before (commands.Make make.Wait n) k) n answer said d
-  in_step (commands.Release release.Elements n r mode) s answer d said fault =
-      let x = commands.Release release.Elements n r mode in
-      still_step s x answer (Err InCritical) (fewer_before x k) d (λ place ws. (refl, refl))
-  in_step x s answer d said fault =
-      still_step s x answer (Err InCritical) (fewer_before x k) d (λ place ws. (refl, refl))
+  within_step : (x : Command) → Stands c last lone (left_before x k) P w old p q had told → p.objects ≢ []
+      → (answer : Result Reply Fault) → deed_within p x old answer new
+      → said_alone p.names had x old.pass.seen answer new.pass.seen → Remembers (copies x) w answer
+      → Stepped c last lone k x new p q had told answer (meaning.within c q.names told q.levels q.objects x w)
+  within_step (commands.Make make.Wait n) s stands answer d said so =
+      let o = waited c last lone even (at_place true s (λ is. s.role stands)) p.names had told s.words n answer said d
+      in
+      stepped c last lone (commands.Make make.Wait n) s o (λ left. o.stands.role refl)
+  within_step (commands.CloseLevel v mode) s stands answer d said so = stepped c last lone
+      (commands.CloseLevel v mode) s
+      ((close_does c last lone (length p.objects)).outcome old new answer tt
+      (at_place false s (λ is. absurd cc)) d)
+      (closed_role c last lone v mode p.objects old new answer s.pass d (s.role stands))
+  within_step x s stands answer d said so =
+      let o = (within_does c last lone turns some k p q s.names s.levels s.objects told x tt).outcome old new answer so
+      (at_place true s (λ is. s.role stands)) d in
+      stepped c last lone x s o (λ left. o.stands.role refl)
 
   -- ONE COMMAND, wherever the thread stands
-  pub step_at : (x : Command) → turns ≢ 0 → 1 ≤ c.threads → c.locals ≤ 4096 → c.slots ≤ 65536 → last < 2 ^ 32
-      → Stands c last (left_before x k) P w old p q had told → IsAlone new.pass
-      → AllByRecursion IsUnbarred new.pass.seen → (answer : Result Reply Fault) → deed_at turns p x old answer new
-      → said_alone p.names had x old.pass.seen answer new.pass.seen
-      → IfErr answer (IsAloneFault new.pass) → (rest : List Bool)
-      → w.memory ≡ memory_shown x answer ++ rest
-      → Stepped c last k x new p q had told answer (meaning_at c q told q.objects x w)
-  step_at x some_turns some small slots few s alone all answer d said fault rest memory = go p.objects refl
+  pub step_at : (x : Command) → Stands c last lone (left_before x k) P w old p q had told
+      → (answer : Result Reply Fault)
+      → deed_at turns p x old answer new → said_alone p.names had x old.pass.seen answer new.pass.seen
+      → (rest : List Bool) → w.memory ≡ memory_shown x answer ++ rest
+      → Stepped c last lone k x new p q had told answer (meaning_at c q told q.objects x w)
+  step_at x s answer d said rest memory = go p.objects q.objects refl s.objects d
     where
-      turn : (inside : Bool) → HasRegion inside p.objects
-          → Turn inside c last turns (left_before x k) k P w old new p q had told
-      turn inside region = record {
-        some_turns = some_turns;
-        some = some;
-        small = small;
-        slots = slots;
-        few = few;
-        stands = s;
-        region = region;
-        alone = alone;
-        all = all;
-      }
+      so : Remembers (copies x) w answer
+      so = remembered w x answer rest memory
 
-      place_in : (os : List ℕ) → os ≢ []
-          → Stepped c last k x new p q had told answer (meaning.within c q.names told q.levels q.objects x w)
-          → Stepped c last k x new p q had told answer (meaning_at c q told os x w)
-      place_in [] none led = absurd (none refl)
-      place_in (o ∷ os) some' led = led
-
-      go : (ps : List ℕ) → p.objects ≡ ps
-          → Stepped c last k x new p q had told answer (meaning_at c q told q.objects x w)
-      go [] is = step x (turn false is) answer d said fault rest memory
-      go (o ∷ os) is =
-          let region : p.objects ≢ [] = λ none. absurd (let bad = sym is ∙ none in cc) in
-          place_in q.objects (some_too P w p.objects q.objects s.objects region)
-          (in_step x (turn true region) answer (within_deed turns p x old new answer p.objects region d) said fault)
+      go : (ps os : List ℕ) → p.objects ≡ ps → AreLevels P w ps os
+          → by_region ps (deed turns p.names x) (deed_within p x) old answer new
+          → Stepped c last lone k x new p q had told answer (meaning_at c q told os x w)
+      go [] [] is are d = outside_step x s is answer d said so
+      go (a ∷ ps) (b ∷ os) is are d =
+          within_step x s (λ none. absurd (let bad = sym is ∙ none in cc)) answer d said so
+      go _ _ is are d = absurd are
 
 -- AT THE END the levels that stand are given up, which changes nothing else
-pub ended_at : {c : Config} {last k : ℕ} {P : Pairing} {w : World} {done : ThreadState} (told : ThreadState)
-    {p q : Place} {had words : ThreadWords} → Stands c last k P w done p q had words → IsAlone told.pass
-    → giving_up_all p.objects done (Ok tt) told → IsPass c last told.pass × Fits c last k P w (now told)
-ended_at {c} {last} {k} {P} {w} {done} told {p} s alone d = go p.objects d
+pub ended_at : {c : Config} {last k : ℕ} (lone : IsLone c last) {P : Pairing} {w : World}
+    {done : ThreadState} (told : ThreadState) {p q : Place} {had words : ThreadWords}
+    → Stands c last lone k P w done p q had words → giving_up_all p.objects done (Ok tt) told
+    → (Q : Pairing) × IsPass c last told.pass × Fits c last k Q w (now told)
+ended_at {c} {last} {k} lone {P} {w} {done} told {p} s d = go p.objects d
   where
-    go : (os : List ℕ) → giving_up_all os done (Ok tt) told → IsPass c last told.pass × Fits c last k P w (now told)
+    go : (os : List ℕ) → giving_up_all os done (Ok tt) told
+        → (Q : Pairing) × IsPass c last told.pass × Fits c last k Q w (now told)
     go [] d = (
+      P,
       subst (λ (m : ThreadState). IsPass c last m.pass) (sym d.1) s.pass,
       subst (λ (m : ThreadState). Fits c last k P w (now m)) (sym d.1) s.fits,
     )
     go (o ∷ os) d =
-        let ran = d.0.ran in
-        let seen : told.pass.seen ≡ done.pass.seen ++ map (by 0) (Gate Leave ∷ []) =
-        sees_alone done.pass told.pass ran.acts ran.did alone
-        ∙ (ap (λ t. done.pass.seen ++ map (by t) ran.acts) (ran.did.thread ∙ s.pass.thread)
-        ∙ ap (λ l. done.pass.seen ++ map (by 0) l) ran.is.0) in
-        let now_is = moment_is (state told.pass.seen) (state_from (state done.pass.seen) (map (by 0) (Gate Leave ∷ [])))
-        told.frames done.frames (ap state seen ∙ state_append done.pass.seen (map (by 0) (Gate Leave ∷ []))) ran.is.2
-        in (
-          pass_later c last done.pass told.pass ran.acts ran.did s.pass,
-          subst (Fits c last k P w) (sym now_is) (gone_fits (now done) 0 Leave s.fits),
-        )
+        let o = (give_up_does c last lone {k = k} {P = P} {w = w} 1).outcome done told (Ok tt) tt
+        (record { pass = s.pass; fits = s.fits; role = λ is. absurd cc }) d in
+        (o.pairing, o.stands.pass, o.stands.fits)

@@ -9,10 +9,10 @@ use Rattle.jr_word.specs.declared.config.Config.{Config}
 use Rattle.jr_word.specs.declared.fault.Fault.{Fault}
 use Rattle.jr_word.specs.declared.fault.Fault.TheVariants.{Foreign, WrongKind}
 use Rattle.jr_word.specs.declared.fault.Fault.TheVariants as fault
+use Rattle.jr_word.specs.declared.handle.Handle.{Handle as HandleWord}
 use Rattle.jr_word.specs.declared.handle.RefKind.{RefKind}
 use Rattle.jr_word.specs.declared.handle.RefKind.TheVariants.{Local, Global, Weak}
 use Rattle.jr_word.specs.declared.kind.Kind.{Kind}
-use Rattle.jr_word.specs.declared.kind.Kind.TheVariants.{Plain, Objects, Text}
 use Rattle.jr_model.specs.declared.event.Act.TheVariants.{LocalPut, LocalDrop}
 use Rattle.jr_model.specs.declared.event.Found.{Found}
 use Rattle.jr_model.specs.declared.event.Found.TheVariants.{Object, Cleared, Stale}
@@ -30,7 +30,7 @@ use Rattle.jr_model.proofs.Agreement.{added_at, added_sound, deleted_at, deleted
 use Rattle.jr_model.proofs.Gone.{taken_is_gone}
 use Rattle.jr_model.proofs.Locals.{past_move, past_not_new}
 use Rattle.jr_model.proofs.Updates.{eq_true, eq_false, eq_other, eq_self, handle_true, kind_true}
-use Rattle.jr_scripts.specs.Meaning.{World, Meaning, Ref, element_to, goes_on, is_ref_of, object_in, standing_at}
+use Rattle.jr_scripts.specs.Meaning.{World, Ref, element_to, goes_on, is_ref_of, object_in, standing_at}
 use Rattle.jr_scripts.specs.Meaning.{type_in, put_last}
 use Rattle.jr_scripts.specs.Meaning as meaning
 use Rattle.jr_scripts.proofs.LoneRun.MadeCalls.{Moment, looked_first, moment, moment_is, stepped, still}
@@ -38,15 +38,16 @@ use Rattle.jr_scripts.proofs.LoneRun.MeaningCounts.{few_after, found_before, fou
 use Rattle.jr_scripts.proofs.LoneRun.MeaningCounts.{bit_most, less_of, more_of, serial_most}
 use Rattle.jr_scripts.proofs.LoneRun.MeaningFrames.{Pairing, AreFrames, frames_later, frames_less, frames_put}
 use Rattle.jr_scripts.proofs.LoneRun.MeaningFits.{ElementFits, Later, RefFits, IsOwn, IsGiven, by_place, by_row, Fits}
-use Rattle.jr_scripts.proofs.LoneRun.MeaningFits.{Fitting, SameAnswer, IsDone, IsSame, found_local, found_of, found_own}
-use Rattle.jr_scripts.proofs.LoneRun.MeaningFits.{found_row, Means, unmoved, done_means, cond_means, bind_means}
-use Rattle.jr_scripts.proofs.LoneRun.MeaningFits.{bind_spends, else_means, entered_means, form_means, fits_less}
+use Rattle.jr_scripts.proofs.LoneRun.MeaningFits.{Fitting, MeansWhere, SameAnswer, IsDone, IsSame, Told, found_local}
+use Rattle.jr_scripts.proofs.LoneRun.MeaningFits.{found_of, found_own}
+use Rattle.jr_scripts.proofs.LoneRun.MeaningFits.{found_row, Means, unmoved, decided_means, done_means, cond_means}
+use Rattle.jr_scripts.proofs.LoneRun.MeaningFits.{bind_means, then_means}
+use Rattle.jr_scripts.proofs.LoneRun.MeaningFits.{else_means, form_means, means_where, means_always}
 use Rattle.jr_scripts.proofs.LoneRun.MeaningFits.{known_means, given_then, kind_of_ref, not_local, pass_means}
-use Rattle.jr_scripts.proofs.LoneRun.MeaningFits.{slots_count, slots_less, answer_known, goes_on_same, goes_on_twice}
-use Rattle.jr_scripts.proofs.LoneRun.MeaningFits.{means_as}
+use Rattle.jr_scripts.proofs.LoneRun.MeaningFits.{slots_count, slots_less}
 use Rattle.jr_model.proofs.Counts.{bit}
 use Rattle.jr_scripts.proofs.LoneRun.MeaningParts.{Alike, ObjectFits, OptionFits, alike_later, object_later}
-use Rattle.jr_scripts.proofs.LoneRun.MeaningParts.{option_later, object_means, reserve_as_many, room_means}
+use Rattle.jr_scripts.proofs.LoneRun.MeaningParts.{object_means, reserve_as_many, room_means}
 use Rattle.jr_scripts.proofs.LoneRun.MeaningRefs.{less_fit, more_fit, ref_before, ref_here, ref_named}
 
 -- WORDS AND ANSWERS
@@ -65,24 +66,22 @@ word_later l (Parts h) (suc i) fits =
 word_later l _ _ fits = absurd fits
 
 -- a new reference
-abbrev pub NewFits : Fitting Handle ℕ
-NewFits P w h n = (i : ℕ) × (n ≡ suc i) × (i < length w.refs) × (h ≡ P.handle i)
+abbrev pub NewFits : Fitting Handle HandleWord
+NewFits P w h g = (i : ℕ) × (g.0 ≡ suc i) × (i < length w.refs) × (h ≡ P.handle i)
+
+-- what two references are to
+abbrev pub BothFit : Fitting (Option ℕ × Option ℕ) (Option ℕ × Option ℕ)
+BothFit P w x y = OptionFits P w x.0 y.0 × OptionFits P w x.1 y.1
+
+-- something that fits, or none for both
+abbrev pub IfBoth : {A B : Type 0} → (A → B → Type 0) → Option A → Option B → Type 0
+IfBoth V None None = Unit {0}
+IfBoth V (Some x) (Some y) = V x y
+IfBoth V _ _ = ⊥
 
 -- a new reference, or NULL
-abbrev pub MaybeFits : Fitting (Option Handle) ℕ
-MaybeFits P w None zero = Unit {0}
-MaybeFits P w (Some h) (suc i) = (i < length w.refs) × (h ≡ P.handle i)
-MaybeFits P w _ _ = ⊥
-
-pub new_maybe : (Q : Pairing) (v : World) (h : Handle) (n : ℕ) → NewFits Q v h n → MaybeFits Q v (Some h) n
-new_maybe Q v h n fits = subst (MaybeFits Q v (Some h)) (sym fits.1) (fits.2, fits.3)
-
--- what comes of two objects, one after the other
-pub both_in_turn : {A : Type 0} (h : ℕ) (f : Option ℕ × Option ℕ → Meaning A) (r : Result (Option ℕ) Fault × World)
-    → goes_on f (goes_on (λ x z. goes_on (λ y u. (Ok (x, y), u)) (meaning.object h z)) r)
-    ≡ goes_on (λ x z. goes_on (λ y. f (x, y)) (meaning.object h z)) r
-both_in_turn h f r = goes_on_twice (λ x z. goes_on (λ y u. (Ok (x, y), u)) (meaning.object h z)) f r
-    ∙ goes_on_same (λ x z. goes_on_twice (λ y u. (Ok (x, y), u)) f (meaning.object h z)) r
+abbrev pub MaybeFits : Fitting (Option Handle) (Option HandleWord)
+MaybeFits P w = IfBoth (NewFits P w)
 
 module _ (c : Config) (last k : ℕ) where
   -- A NEW LOCAL REFERENCE
@@ -175,12 +174,13 @@ module _ (c : Config) (last k : ℕ) where
               objects = λ q l. refl;
               refs_grow = (let more = ref_longer in omega arith);
               objects_stay = λ q there. there;
+              memory = refl;
             };
             fits = subst (Fits c last k (ref_named c last P w.refs h) with_ref)
                 (sym (moment_is n.state (act_after m.state 0 (LocalPut h.index p)) n.frames n.frames state_is refl))
                 (added_state h m n f a state_is);
             answers = subst (λ z. SameAnswer (NewFits (ref_named c last P w.refs h) with_ref) z
-                (Ok (length with_ref.refs))) (sym (r.is).2) (
+                (Ok (record { 0 = length with_ref.refs }))) (sym (r.is).2) (
                   length w.refs,
                   (let more = ref_longer in omega arith),
                   (let more = ref_longer in omega arith),
@@ -192,14 +192,14 @@ module _ (c : Config) (last k : ℕ) where
   -- to an object, or NULL to nothing
   pub new_local_means : (P : Pairing) (w : World) (x y : Option ℕ) → OptionFits P w x y
       → Means c last k k MaybeFits P w (references.new_local c last 0 x) (meaning.new_local c y)
-  new_local_means P w None None fits = done_means c last {V = MaybeFits} None 0 tt
+  new_local_means P w None None fits = done_means c last {V = MaybeFits} None None tt
   new_local_means P w (Some p) (Some o) fits = bind_means c last (room_means c last k {P = P} {w = w} 1)
-      (λ Q v later u u' _. form_means c last {V = NewFits} {U = MaybeFits} (λ h. Some h)
-      (added_means Q v o p (object_later later fits)) new_maybe)
+      (λ Q v later u u' _. form_means c last {V = NewFits} {U = MaybeFits} (λ h. Some h) (λ h. Some h)
+      (added_means Q v o p (object_later later fits)) (λ R u h g same. same))
   new_local_means P w _ _ fits = absurd fits
 
   -- so many elements that are all alike
-  all_alike : (P : Pairing) (w : World) (kind : Kind) (n word v : ℕ)
+  pub all_alike : (P : Pairing) (w : World) (kind : Kind) (n word v : ℕ)
       → ElementFits P.object w.objects (is_objects kind) v word
       → Alike P w kind (replicate n word) (replicate n v)
   all_alike P w kind n word v fits = record {
@@ -212,7 +212,7 @@ module _ (c : Config) (last k : ℕ) where
         (sym (get_or-replicate n i word 0 small)) fits);
   }
 
-  zeros : (P : Pairing) (w : World) (b : Bool) → ElementFits P.object w.objects b 0 0
+  pub zeros : (P : Pairing) (w : World) (b : Bool) → ElementFits P.object w.objects b 0 0
   zeros P w true = refl
   zeros P w false = refl
 
@@ -222,31 +222,13 @@ module _ (c : Config) (last k : ℕ) where
   element_fits P w (Some p) (Some o) fits = fits
   element_fits P w _ _ fits = absurd fits
 
-  -- NEWPLAIN
   -- a new object of these words, where words that are alike are meant, and a local reference to it
-  made_means : (P : Pairing) (w : World) (kind : Kind) (ws ws' : List ℕ) → Alike P w kind ws ws'
+  pub made_means : (P : Pairing) (w : World) (kind : Kind) (ws ws' : List ℕ) → Alike P w kind ws ws'
       → Means c last k k NewFits P w (references.made c last 0 kind ws) (meaning.made c kind ws')
   made_means P w kind ws ws' alike = bind_means c last (room_means c last k {P = P} {w = w} 1) (λ Q v e x y _.
       bind_means c last (reserve_as_many c last k Q v (length ws) (length ws') alike.long) (λ R u e' x' y' _.
       bind_means c last (object_means c last k kind R u ws ws' (alike_later e' (alike_later e alike))) (λ S z e'' p o
       named. added_means S z o p named)))
-
-  pub plain_means : (P : Pairing) (w : World) → Means c last k k NewFits P w (references.new_plain c last 0)
-      (meaning.made c Plain [])
-  plain_means P w = entered_means c last (made_means P w Plain [] []
-      (record { kind = refl; long = refl; words = λ i l. absurd (omega arith) }))
-
-  -- NEWBOOLEANARRAY and its like
-  pub array_means : (P : Pairing) (w : World) (kind : Kind) (n : ℕ)
-      → Means c last k k NewFits P w (references.new_array c last 0 kind n) (meaning.made c kind (replicate n 0))
-  array_means P w kind n = entered_means c last (made_means P w kind (replicate n 0) (replicate n 0)
-      (all_alike P w kind n 0 0 (zeros P w (is_objects kind))))
-
-  -- NEWSTRING
-  pub string_means : (P : Pairing) (w : World) (units : List ℕ)
-      → Means c last k k NewFits P w (references.new_string c last 0 units) (meaning.made c Text units)
-  string_means P w units = entered_means c last (made_means P w Text units units
-      (record { kind = refl; long = refl; words = λ i l. refl }))
 
   -- WHAT IS HANDED IN
 
@@ -328,16 +310,13 @@ module _ (c : Config) (last k : ℕ) where
       go (by_place own past) = cond_means c last (is_local h) _ (local_is h own.kind) (in_frames own.kind)
       go (by_row is given) = else_means c last (is_local h) _ (not_local h is.0) (in_row is.0)
 
-  -- what is found, in a world that stays
-  abbrev pub FoundFits : World → Fitting (Option ℕ) (Option ℕ)
-  FoundFits w Q v x y = OptionFits Q v x y × (v ≡ w)
-
   found_fits : (P : Pairing) (w : World) (kind : RefKind) (r : Option Ref) (l : Found)
-      → RefFits P.object w.objects kind r l → SameAnswer (FoundFits w P w) (found_answer l) (object_in r)
+      → RefFits P.object w.objects kind r l → SameAnswer (Told OptionFits P w P w) (found_answer l) (object_in r)
   found_fits P w kind (Some r) (Object p) fits =
-      subst (λ z. SameAnswer (FoundFits w P w) (Ok (Some p)) (Ok z)) (sym fits.2) ((fits.3, fits.4), refl)
+      subst (λ z. SameAnswer (Told OptionFits P w P w) (Ok (Some p)) (Ok z)) (sym fits.2)
+      ((fits.3, fits.4), refl, refl)
   found_fits P w kind (Some r) Cleared fits =
-      subst (λ z. SameAnswer (FoundFits w P w) (Ok None) (Ok z)) (sym fits.1) (tt, refl)
+      subst (λ z. SameAnswer (Told OptionFits P w P w) (Ok None) (Ok z)) (sym fits.1) (tt, refl, refl)
   found_fits P w kind None Stale fits = refl
   found_fits P w kind _ _ fits = absurd fits
 
@@ -346,40 +325,24 @@ module _ (c : Config) (last k : ℕ) where
   answer_is (Some p) = refl
 
   pub looked_means : (P : Pairing) (w : World) (a : Word) (g : ℕ) → WordFits P w a g
-      → Means c last k k (FoundFits w) P w (looked a) (meaning.object g)
-  looked_means P w Nothing zero fits = done_means c last {V = FoundFits w} None None (tt, refl)
-  looked_means P w (Parts h) (suc i) fits = read_means {V = FoundFits w} P w h i (λ f. local_answer (object_of f h))
-      found_answer object_in fits (λ f is. answer_is (object_of f h))
+      → Means c last k k (Told OptionFits P w) P w (looked a) (meaning.object g)
+  looked_means P w Nothing zero fits = done_means c last {V = Told OptionFits P w} None None (tt, refl, refl)
+  looked_means P w (Parts h) (suc i) fits = read_means {V = Told OptionFits P w} P w h i
+      (λ f. local_answer (object_of f h)) found_answer object_in fits (λ f is. answer_is (object_of f h))
       (λ l so. found_fits P w h.kind (standing_at w.refs i) l so)
   looked_means P w _ _ fits = absurd fits
 
   pub resolved_means : (P : Pairing) (w : World) (a : Word) (g : ℕ) → 1 ≤ c.threads → WordFits P w a g
-      → Means c last k k (FoundFits w) P w (references.resolved c last 0 a) (meaning.object g)
+      → Means c last k k (Told OptionFits P w) P w (references.resolved c last 0 a) (meaning.object g)
   resolved_means P w a g some fits = known_means c last (λ m f.
       let s = sound P w m a g some f fits in
-      pass_means c last (is_malformed a) fault.Stale s.formed
-      (pass_means c last (is_out_of_bounds c a) fault.Stale s.within
-      (pass_means c last (is_foreign 0 a) Foreign s.mine (looked_means P w a g fits))))
-
-  -- NEWOBJECTARRAY
-  pub filled_means : (P : Pairing) (w : World) (n : ℕ) (a : Word) (g : ℕ) → 1 ≤ c.threads → WordFits P w a g
-      → Means c last k k NewFits P w (references.new_object_array c last 0 n a)
-      (λ z. goes_on (λ o. meaning.made c Objects (replicate n (element_to o))) (meaning.object g z))
-  filled_means P w n a g some fits = entered_means c last (bind_means c last (resolved_means P w a g some fits)
-      (λ Q v later x y same. made_means Q v Objects (replicate n (element_word x)) (replicate n (element_to y))
-      (all_alike Q v Objects n (element_word x) (element_to y) (element_fits Q v x y same.0))))
-
-  -- NEWLOCALREF
-  pub local_means : (P : Pairing) (w : World) (a : Word) (g : ℕ) → 1 ≤ c.threads → WordFits P w a g
-      → Means c last k k MaybeFits P w (references.new_local_ref c last 0 a)
-      (λ z. goes_on (meaning.new_local c) (meaning.object g z))
-  local_means P w a g some fits = entered_means c last (bind_means c last (resolved_means P w a g some fits)
-      (λ Q v later x y same. new_local_means Q v x y same.0))
-
-  -- ISSAMEOBJECT
+      means_always c last (pass_means c last (is_malformed a) fault.Stale (omega arith) s.formed
+      (pass_means c last (is_out_of_bounds c a) fault.Stale (omega arith) s.within
+      (pass_means c last (is_foreign 0 a) Foreign (omega arith) s.mine
+      (means_where c last (looked_means P w a g fits))))))
 
   -- two objects are one where their numbers are
-  same_fits : (P : Pairing) (w : World) (m : Moment) → Fits c last k P w m → (x y x' y' : Option ℕ)
+  pub same_fits : (P : Pairing) (w : World) (m : Moment) → Fits c last k P w m → (x y x' y' : Option ℕ)
       → OptionFits P w x x' → OptionFits P w y y' → same_object x y ≡ same_object x' y'
   same_fits P w m f None None None None one two = refl
   same_fits P w m f None (Some q) None (Some u) one two = refl
@@ -393,40 +356,23 @@ module _ (c : Config) (last k : ℕ) where
   same_fits P w m f (Some p) y None y' one two = absurd one
   same_fits P w m f x _ x' _ one two = absurd two
 
-  -- what two references are to, in a world that stays
-  abbrev pub BothFits : World → ℕ → Fitting (Option ℕ × Option ℕ) (Option ℕ × Option ℕ)
-  BothFits w g Q v x y =
-      OptionFits Q v x.0 y.0 × OptionFits Q v x.1 y.1 × (v ≡ w) × (meaning.object g w ≡ (Ok y.0, w))
-
   pub both_means : (P : Pairing) (w : World) (a b : Word) (g h : ℕ) → 1 ≤ c.threads → WordFits P w a g
       → WordFits P w b h
-      → Means c last k k (BothFits w g) P w (references.resolved_both c last 0 a b)
-      (λ v. goes_on (λ x z. goes_on (λ y u. (Ok (x, y), u)) (meaning.object h z)) (meaning.object g v))
+      → Means c last k k (Told BothFit P w) P w (references.resolved_both c last 0 a b) (meaning.both_objects g h)
   both_means P w a b g h some one two = known_means c last (λ m f.
       let s = sound P w m a g some f one in
       let t = sound P w m b h some f two in
-      pass_means c last (is_malformed a) fault.Stale s.formed
-      (pass_means c last (is_malformed b) fault.Stale t.formed
-      (pass_means c last (is_out_of_bounds c a) fault.Stale s.within
-      (pass_means c last (is_out_of_bounds c b) fault.Stale t.within
-      (pass_means c last (is_foreign 0 a) Foreign s.mine
-      (pass_means c last (is_foreign 0 b) Foreign t.mine
-      (bind_means c last {V = λ Q v x y. FoundFits w Q v x y × (meaning.object g w ≡ (Ok y, v))}
-      {next' = λ x z. goes_on (λ y u. (Ok (x, y), u)) (meaning.object h z)}
-      (answer_known c last (looked_means P w a g one)) (λ Q v later x x' same.
-      bind_means c last {next' = λ y u. (Ok (x', y), u)} (looked_means Q v b h (word_later later b h two))
-      (λ R u later' y y' same'. done_means c last {V = BothFits w g} (x, y) (x', y')
-      (option_later later' x x' same.0.0, same'.0, same'.1 ∙ same.0.1, same.1 ∙ ap (λ z. (Ok x', z)) same.0.1))))))))))
-
-  pub same_means : (P : Pairing) (w : World) (a b : Word) (g h : ℕ) → 1 ≤ c.threads → WordFits P w a g
-      → WordFits P w b h
-      → Means c last k k (IsSame {A = Bool}) P w (references.is_same_object c last 0 a b) (meaning.same g h)
-  same_means P w a b g h some one two = entered_means c last (means_as c last
-      (both_in_turn h (λ y z. (Ok (same_object y.0 y.1), z)) (meaning.object g w))
-      (bind_means c last {V = BothFits w g} {next' = λ y z. (Ok (same_object y.0 y.1), z)}
-      (both_means P w a b g h some one two) (λ Q v later x y same.
-      known_means c last (λ m f. done_means c last {V = IsSame {A = Bool}} (same_object x.0 x.1) (same_object y.0 y.1)
-      (same_fits Q v m f x.0 x.1 y.0 y.1 same.0 same.1)))))
+      means_always c last (pass_means c last (is_malformed a) fault.Stale (omega arith) s.formed
+      (pass_means c last (is_malformed b) fault.Stale (omega arith) t.formed
+      (pass_means c last (is_out_of_bounds c a) fault.Stale (omega arith) s.within
+      (pass_means c last (is_out_of_bounds c b) fault.Stale (omega arith) t.within
+      (pass_means c last (is_foreign 0 a) Foreign (omega arith) s.mine
+      (pass_means c last (is_foreign 0 b) Foreign (omega arith) t.mine
+      (then_means c last {next' = λ x z. goes_on (λ y u. (Ok (x, y), u)) (meaning.object h z)} OptionFits (omega arith)
+      (looked_means P w a g one) (λ x x' same is.
+      then_means c last {next' = λ y u. (Ok (x', y), u)} OptionFits (omega arith) (looked_means P w b h two)
+      (λ y y' same' is'. means_where c last (done_means c last {V = Told BothFit P w} (x, y) (x', y')
+      ((same, same'), refl, refl))))))))))))
 
   -- GETOBJECTREFTYPE
 
@@ -443,15 +389,15 @@ module _ (c : Config) (last k : ℕ) where
   type_is kind (Some p) is = sym (ap (λ z. kind_number z) is)
 
   pub type_means : (P : Pairing) (w : World) (a : Word) (g : ℕ) → 1 ≤ c.threads → WordFits P w a g
-      → Means c last k k (IsSame {A = ℕ}) P w (references.get_object_ref_type c last 0 a) (meaning.type_meant g)
-  type_means P w Nothing zero some fits = entered_means c last (done_means c last {V = IsSame {A = ℕ}} 0 0 refl)
-  type_means P w (Parts h) (suc i) some fits = entered_means c last (known_means c last (λ m f.
+      → Means c last k k (IsSame {A = ℕ}) P w (references.typing c 0 a) (meaning.type_meant g)
+  type_means P w Nothing zero some fits = done_means c last {V = IsSame {A = ℕ}} 0 0 refl
+  type_means P w (Parts h) (suc i) some fits = known_means c last (λ m f.
       let s = sound P w m (Parts h) (suc i) some f fits in
       else_means c last (is_malformed (Parts h) || is_out_of_bounds c (Parts h) || is_foreign 0 (Parts h)) (done 0)
       (rw (s.within, s.mine) refl) (read_means {V = IsSame {A = ℕ}} P w h i (λ f. Ok (type_local (object_of f h)))
       (λ l. Ok (type_found h.kind l)) (λ r. Ok (type_in r)) fits
       (λ f is. ap (λ z. Ok z) (type_is h.kind (object_of f h) is))
-      (λ l so. type_fits P w.objects h.kind (standing_at w.refs i) l so))))
+      (λ l so. type_fits P w.objects h.kind (standing_at w.refs i) l so)))
   type_means P w _ _ some fits = absurd fits
 
 -- A LOCAL REFERENCE IS GIVEN UP
@@ -559,6 +505,7 @@ module _ (c : Config) (last k : ℕ) where
               objects = λ q l. refl;
               refs_grow = (let long = as_long in omega arith);
               objects_stay = λ q there. there;
+              memory = refl;
             };
             fits = subst (Fits c last k P without_ref) (sym (moment_is n.state (act_after m.state 0
                 (LocalDrop (P.handle i).index)) n.frames (without_local m.frames (P.handle i))
@@ -570,37 +517,28 @@ module _ (c : Config) (last k : ℕ) where
           };
     }
 
-  -- nothing is given up
-  pub spent_nothing : {P : Pairing} {w : World}
-      → Means c last (suc k) k (IsDone {A = Unit {0}} {B = Unit {0}}) P w (done tt) (λ v. (Ok tt, v))
-  spent_nothing = record {
-    outcome = λ m n x f r. unmoved c last {V = IsDone {A = Unit {0}} {B = Unit {0}}} m n x (Ok tt) (Ok tt)
-        (fits_less (omega arith) f) (still c last 0 {m = m} {n = n} r.acts (r.is).0 r.leads (r.is).2) (r.is).1 tt;
-  }
-
   was_found : (y : Option ℕ) (r : Option Ref) → object_in r ≡ Ok y → IsSome r
   was_found y None is = absurd cc
   was_found y (Some r) is = refl
 
-  -- DELETELOCALREF
-  pub delete_means : (P : Pairing) (w : World) (a : Word) (g : ℕ) → 1 ≤ c.threads → WordFits P w a g
+  pub delete_local_means : (P : Pairing) (w : World) (a : Word) (g : ℕ) → 1 ≤ c.threads → WordFits P w a g
       → is_of_kind Local a ≡ true
-      → Means c last (suc k) k (IsDone {A = Unit {0}} {B = Unit {0}}) P w (references.delete_local_ref c last 0 a)
+      → Means c last (suc k) k (IsDone {A = Unit {0}} {B = Unit {0}}) P w (references.local_removal c 0 a)
       (meaning.delete g)
-  delete_means P w a g some fits local = entered_means c last (known_means c last (λ m f.
+  delete_local_means P w a g some fits local = known_means c last (λ m f.
       let s = sound c last (suc k) P w m a g some f fits in
-      pass_means c last (is_malformed a) fault.Stale s.formed
-      (pass_means c last (not (is_of_kind Local a)) WrongKind (ap not local)
-      (pass_means c last (is_out_of_bounds c a) fault.Stale s.within
-      (pass_means c last (is_foreign 0 a) Foreign s.mine (here a g fits local))))))
+      means_always c last (pass_means c last (is_malformed a) fault.Stale (omega arith) s.formed
+      (pass_means c last (not (is_of_kind Local a)) WrongKind (omega arith) (ap not local)
+      (pass_means c last (is_out_of_bounds c a) fault.Stale (omega arith) s.within
+      (pass_means c last (is_foreign 0 a) Foreign (omega arith) s.mine (here a g fits local))))))
     where
       here : (a : Word) (g : ℕ) → WordFits P w a g → is_of_kind Local a ≡ true
-          → Means c last (suc k) k (IsDone {A = Unit {0}} {B = Unit {0}}) P w (delete_local_at a) (meaning.delete g)
-      here Nothing zero fits local = spent_nothing
-      here (Parts h) (suc i) fits local = bind_spends c last (suc k) (suc k) k (omega arith)
-          (answer_known c last (looked_means c last (suc k) P w (Parts h) (suc i) fits)) (λ Q v later x y same.
-          let word = word_later later (Parts h) (suc i) fits in
-          drop_means Q v i word.0 (subst (λ (t : World). IsSome (standing_at t.refs i)) (sym same.0.1)
-          (was_found y (standing_at w.refs i) (ap (λ (r : Result (Option ℕ) Fault × World). r.0) same.1))) h word.1
-          (sym (kind_true Local h.kind local)))
+          → MeansWhere c last (λ x. Unit {0}) (suc k) k (IsDone {A = Unit {0}} {B = Unit {0}}) P w (delete_local_at a)
+          (meaning.delete g)
+      here Nothing zero fits local = means_where c last
+          (decided_means c last {V = IsDone {A = Unit {0}} {B = Unit {0}}} (Ok tt) (Ok tt) (omega arith) tt)
+      here (Parts h) (suc i) fits local = then_means c last OptionFits (omega arith)
+          (looked_means c last (suc k) P w (Parts h) (suc i) fits) (λ x y same is. means_where c last
+          (drop_means P w i fits.0 (was_found y (standing_at w.refs i)
+          (ap (λ (r : Result (Option ℕ) Fault × World). r.0) is)) h fits.1 (sym (kind_true Local h.kind local))))
       here _ _ fits local = absurd fits

@@ -33,6 +33,7 @@ pub record Later (P : Pairing) (w : World) (Q : Pairing) (v : World) : Type 0 wh
   pub objects : (o : ℕ) → IsStanding w.objects o → Q.object o ≡ P.object o
   pub refs_grow : length w.refs ≤ length v.refs
   pub objects_stay : (o : ℕ) → IsStanding w.objects o → IsStanding v.objects o
+  pub memory : v.memory ≡ w.memory
 
 -- its handles alone
 pub record HandlesStay (P : Pairing) (w : World) (Q : Pairing) (v : World) : Type 0 where
@@ -48,6 +49,7 @@ later_self P w = record {
   objects = λ o l. refl;
   refs_grow = omega arith;
   objects_stay = λ o there. there;
+  memory = refl;
 }
 
 pub later_then : {P Q R : Pairing} {w v u : World} → Later P w Q v → Later Q v R u → Later P w R u
@@ -56,6 +58,7 @@ later_then {w = w} {v = v} {u = u} a b = record {
   objects = λ o l. b.objects o (a.objects_stay o l) ∙ a.objects o l;
   refs_grow = (let x = a.refs_grow in let y = b.refs_grow in omega arith);
   objects_stay = λ o l. b.objects_stay o (a.objects_stay o l);
+  memory = b.memory ∙ a.memory;
 }
 
 -- what stands at a handle: of a local one in the frames, of any other in the row
@@ -346,16 +349,9 @@ IsDone P w x y = Unit {0}
 abbrev pub IsSame : {A : Type 0} → Fitting A A
 IsSame P w x y = x ≡ y
 
--- one thing after another, put together otherwise
-pub goes_on_twice : {A B C : Type 0} (g : A → Meaning B) (h : B → Meaning C) (r : Result A Fault × World)
-    → goes_on h (goes_on g r) ≡ goes_on (λ x z. goes_on h (g x z)) r
-goes_on_twice g h (Ok x, z) = refl
-goes_on_twice g h (Err e, z) = refl
-
-pub goes_on_same : {A B : Type 0} {f g : A → Meaning B} → ((x : A) (z : World) → f x z ≡ g x z)
-    → (r : Result A Fault × World) → goes_on f r ≡ goes_on g r
-goes_on_same same (Ok x, z) = same x z
-goes_on_same same (Err e, z) = refl
+-- what is told, and that nothing else came of it
+abbrev pub Told : {A B : Type 0} → Fitting A B → Pairing → World → Fitting A B
+Told V P w Q v x y = V P w x y × (Q ≡ P) × (v ≡ w)
 
 module _ (c : Config) (last : ℕ) where
   -- what comes of a call and of what it means:
@@ -372,6 +368,67 @@ module _ (c : Config) (last : ℕ) where
       (q : Meaning B) : Type 0 where
     pub outcome : (m n : Moment) (x : Result A Fault) → Fits c last j P w m → Made c last 0 p m x n
         → Outcome k V P w x (q w) n
+
+  -- the same, where the answer is so
+  pub record MeansWhere {A B : Type 0} (So : Result A Fault → Type 0) (j k : ℕ) (V : Fitting A B) (P : Pairing)
+      (w : World) (p : Call A) (q : Meaning B) : Type 0 where
+    pub outcome : (m n : Moment) (x : Result A Fault) → So x → Fits c last j P w m → Made c last 0 p m x n
+        → Outcome k V P w x (q w) n
+
+  pub means_where : {A B : Type 0} {So : Result A Fault → Type 0} {V : Fitting A B} {P : Pairing} {w : World}
+      {p : Call A} {q : Meaning B} {j k : ℕ} → Means j k V P w p q → MeansWhere So j k V P w p q
+  means_where means = record { outcome = λ m n x so f r. means.outcome m n x f r }
+
+  pub means_always : {A B : Type 0} {V : Fitting A B} {P : Pairing} {w : World} {p : Call A} {q : Meaning B} {j k : ℕ}
+      → MeansWhere (λ x. Unit {0}) j k V P w p q → Means j k V P w p q
+  means_always means = record { outcome = λ m n x f r. means.outcome m n x tt f r }
+
+  -- what is to be shown may use the moment
+  pub known_means : {A B : Type 0} {V : Fitting A B} {P : Pairing} {w : World} {p : Call A} {q : Meaning B} {j k : ℕ}
+      → ((m : Moment) → Fits c last j P w m → Means j k V P w p q) → Means j k V P w p q
+  known_means know = record { outcome = λ m n x f r. (know m f).outcome m n x f r }
+
+  -- nothing happened, and the answers fit
+  pub unmoved : {A B : Type 0} {V : Fitting A B} {P : Pairing} {w : World} {k : ℕ} (m n : Moment)
+      (x x' : Result A Fault)
+      (y : Result B Fault) → Fits c last k P w m → n ≡ m → x ≡ x' → SameAnswer (V P w) x' y → Outcome k V P w x (y, w) n
+  unmoved {V = V} {P = P} {w = w} {k = k} m n x x' y f same is fits = record {
+    pairing = P;
+    later = later_self P w;
+    fits = subst (Fits c last k P w) (sym same) f;
+    answers = subst (λ z. SameAnswer (V P w) z y) (sym is) fits;
+  }
+
+  -- from where more may be given up
+  pub more_means : {A B : Type 0} {V : Fitting A B} {P : Pairing} {w : World} {p : Call A} {q : Meaning B} {i j k : ℕ}
+      → i ≤ j → Means i k V P w p q → Means j k V P w p q
+  more_means le means = record { outcome = λ m n x f r. means.outcome m n x (fits_less le f) r }
+
+  pub decided_means : {A B : Type 0} {V : Fitting A B} {P : Pairing} {w : World} {j k : ℕ} (x : Result A Fault)
+      (y : Result B Fault) → k ≤ j → SameAnswer (V P w) x y → Means j k V P w (decided x) (λ v. (y, v))
+  decided_means {V = V} x y le fits = record {
+    outcome = λ m n z f r. unmoved {V = V} m n z x y (fits_less le f)
+        (still c last 0 r.acts (r.is).0 r.leads (r.is).2) (r.is).1 fits;
+  }
+
+  pub done_means : {A B : Type 0} {V : Fitting A B} {P : Pairing} {w : World} {k : ℕ} (x : A) (y : B) → V P w x y
+      → Means k k V P w (done x) (λ v. (Ok y, v))
+  done_means {V = V} x y fits = decided_means {V = V} (Ok x) (Ok y) (omega arith) fits
+
+  -- a test that holds in both or in neither
+  pub test_means : {P : Pairing} {w : World} {k : ℕ} (b d : Bool) (e : Fault) → b ≡ d
+      → Means {A = Unit {0}} {B = Unit {0}} k k IsDone P w (refuse_if b e) (λ v. (refused_if d e, v))
+  test_means true true e same = decided_means {V = IsDone} (Err e) (Err e) (omega arith) refl
+  test_means false false e same = decided_means {V = IsDone} (Ok tt) (Ok tt) (omega arith) tt
+  test_means _ _ e same = absurd cc
+
+  -- a refusal, after which nothing follows
+  refused : {A A' B B' : Type 0} {V : Fitting A A'} {U : Fitting B B'} {P : Pairing} {w : World} {j k : ℕ}
+      (next' : A' → Meaning B') → k ≤ j → (n : Moment) (e : Fault) (r : Result A' Fault × World)
+      → Outcome j V P w (Err e) r n → Outcome k U P w (Err e) (goes_on next' r) n
+  refused next' le n e (Ok y, v) o = absurd o.answers
+  refused next' le n e (Err d, v) o =
+      record { pairing = o.pairing; later = o.later; fits = fits_less le o.fits; answers = o.answers }
 
   -- ONE CALL AND THEN ANOTHER
   pub bind_spends : {A B A' B' : Type 0} {V : Fitting A A'} {U : Fitting B B'} {P : Pairing} {w : World}
@@ -391,17 +448,11 @@ module _ (c : Config) (last : ℕ) where
           record { pairing = i.pairing; later = later_then o.later i.later; fits = i.fits; answers = i.answers }
       after mid n x z (Err e, v) o made = absurd o.answers
 
-      refused : (n : Moment) (e : Fault) (r : Result A' Fault × World) → Outcome j V P w (Err e) r n
-          → Outcome k U P w (Err e) (goes_on next' r) n
-      refused n e (Ok y, v) o = absurd o.answers
-      refused n e (Err d, v) o =
-          record { pairing = o.pairing; later = o.later; fits = fits_less le o.fits; answers = o.answers }
-
       go : (m n : Moment) (x : Result B Fault) → Fits c last i P w m → WasMadeOf c last 0 first next m x n
           → Outcome k U P w x (goes_on next' (first' w)) n
       go m n x f (inl d) = after d.1 n d.0 x (first' w) (p.outcome m d.1 (Ok d.0) f d.2) d.3
       go m n x f (inr d) = subst (λ z. Outcome k U P w z (goes_on next' (first' w)) n) (sym d.1)
-          (refused n d.0 (first' w) (p.outcome m n (Err d.0) f d.2))
+          (refused next' le n d.0 (first' w) (p.outcome m n (Err d.0) f d.2))
 
   pub bind_means : {A B A' B' : Type 0} {V : Fitting A A'} {U : Fitting B B'} {P : Pairing} {w : World} {first : Call A}
       {first' : Meaning A'} {next : A → Call B} {next' : A' → Meaning B'} {k : ℕ} → Means k k V P w first first'
@@ -410,131 +461,64 @@ module _ (c : Config) (last : ℕ) where
       → Means k k U P w (first >>= next) (λ z. goes_on next' (first' z))
   bind_means {k = k} p q = bind_spends k k k (omega arith) p q
 
-  -- nothing happened, and the answers fit
-  pub unmoved : {A B : Type 0} {V : Fitting A B} {P : Pairing} {w : World} {k : ℕ} (m n : Moment)
-      (x x' : Result A Fault)
-      (y : Result B Fault) → Fits c last k P w m → n ≡ m → x ≡ x' → SameAnswer (V P w) x' y → Outcome k V P w x (y, w) n
-  unmoved {V = V} {P = P} {w = w} {k = k} m n x x' y f same is fits = record {
-    pairing = P;
-    later = later_self P w;
-    fits = subst (Fits c last k P w) (sym same) f;
-    answers = subst (λ z. SameAnswer (V P w) z y) (sym is) fits;
+  -- the answer in another form
+  pub form_means : {A B A' B' : Type 0} {V : Fitting A A'} {U : Fitting B B'} {P : Pairing} {w : World} {p : Call A}
+      {q : Meaning A'} {k : ℕ} (form : A → B) (form' : A' → B') → Means k k V P w p q
+      → ((Q : Pairing) (v : World) (x : A) (y : A') → V Q v x y → U Q v (form x) (form' y))
+      → Means k k U P w (p >>= (λ x. done (form x))) (λ z. goes_on (λ y v. (Ok (form' y), v)) (q z))
+  form_means {U = U} form form' means fits =
+      bind_means means (λ Q v later x y so. done_means {V = U} (form x) (form' y) (fits Q v x y so))
+
+  -- one that only tells something, and then another
+  pub then_means : {A B A' B' : Type 0} {So : Result B Fault → Type 0} {U : Fitting B B'} {P : Pairing} {w : World}
+      {first : Call A} {first' : Meaning A'} {next : A → Call B} {next' : A' → Meaning B'} {j k : ℕ}
+      (V : Fitting A A') → k ≤ j → Means j j (Told V P w) P w first first'
+      → ((x : A) (y : A') → V P w x y → first' w ≡ (Ok y, w) → MeansWhere So j k U P w (next x) (next' y))
+      → MeansWhere So j k U P w (first >>= next) (λ z. goes_on next' (first' z))
+  then_means {A} {B} {A'} {B'} {So} {U} {P} {w} {first} {first'} {next} {next'} {j} {k} V le p q = record {
+    outcome = λ m n x so f r. go m n x so f (split c last 0 first next m n x r);
   }
+    where
+      after : (mid n : Moment) (x : A) (z : Result B Fault) (r : Result A' Fault × World) → first' w ≡ r
+          → Outcome j (Told V P w) P w (Ok x) r mid → So z → Made c last 0 (next x) mid z n
+          → Outcome k U P w z (goes_on next' r) n
+      after mid n x z (Ok y, v) is o so made =
+          let t = o.answers in
+          subst (λ u. Outcome k U P w z (next' y u) n) (sym t.2)
+          ((q x y t.0 (is ∙ ap (λ u. (Ok y, u)) t.2)).outcome mid n z so
+          (subst (λ Q. Fits c last j Q w mid) t.1 (subst (λ u. Fits c last j o.pairing u mid) t.2 o.fits)) made)
+      after mid n x z (Err e, v) is o so made = absurd o.answers
 
-  pub decided_means : {A B : Type 0} {V : Fitting A B} {P : Pairing} {w : World} {k : ℕ} (x : Result A Fault)
-      (y : Result B Fault)
-      → SameAnswer (V P w) x y → Means k k V P w (decided x) (λ v. (y, v))
-  decided_means {V = V} x y fits = record {
-    outcome = λ m n z f r. unmoved {V = V} m n z x y f (still c last 0 r.acts (r.is).0 r.leads (r.is).2) (r.is).1 fits;
-  }
-
-  pub done_means : {A B : Type 0} {V : Fitting A B} {P : Pairing} {w : World} {k : ℕ} (x : A) (y : B) → V P w x y
-      → Means k k V P w (done x) (λ v. (Ok y, v))
-  done_means {V = V} x y fits = decided_means {V = V} (Ok x) (Ok y) fits
-
-  -- a test that holds in both or in neither
-  pub test_means : {P : Pairing} {w : World} {k : ℕ} (b d : Bool) (e : Fault) → b ≡ d
-      → Means {A = Unit {0}} {B = Unit {0}} k k IsDone P w (refuse_if b e) (λ v. (refused_if d e, v))
-  test_means true true e same = decided_means {V = IsDone} (Err e) (Err e) refl
-  test_means false false e same = decided_means {V = IsDone} (Ok tt) (Ok tt) tt
-  test_means _ _ e same = absurd cc
+      go : (m n : Moment) (x : Result B Fault) → So x → Fits c last j P w m → WasMadeOf c last 0 first next m x n
+          → Outcome k U P w x (goes_on next' (first' w)) n
+      go m n x so f (inl d) = after d.1 n d.0 x (first' w) refl (p.outcome m d.1 (Ok d.0) f d.2) so d.3
+      go m n x so f (inr d) = subst (λ z. Outcome k U P w z (goes_on next' (first' w)) n) (sym d.1)
+          (refused next' le n d.0 (first' w) (p.outcome m n (Err d.0) f d.2))
 
   -- an answer that is given, and what follows
-  pub given_means : {A B C : Type 0} {V : Fitting B C} {P : Pairing} {w : World} {y : A} {next : A → Call B}
-      {q : Meaning C} {j k : ℕ} → Means j k V P w (next y) q → Means j k V P w (done y >>= next) q
-  given_means {A} {B} {C} {V} {P} {w} {y} {next} {q} {j} {k} means = record {
-    outcome = λ m n x f r. go m n x f (split c last 0 (done y) next m n x r);
-  }
-    where
-      go : (m n : Moment) (x : Result B Fault) → Fits c last j P w m → WasMadeOf c last 0 (done y) next m x n
-          → Outcome k V P w x (q w) n
-      go m n x f (inl d) =
-          let one = d.2 in
-          let same : d.1 ≡ m = still c last 0 {m = m} {n = d.1} one.acts (one.is).0 one.leads (one.is).2 in
-          let given : d.0 ≡ y = (let is = (one.is).1 in cc) in
-          means.outcome m n x f (subst (λ z. Made c last 0 (next z) m x n) given
-          (subst (λ z. Made c last 0 (next d.0) z x n) same d.3))
-      go m n x f (inr d) = absurd (let bad = (d.2.is).1 in cc)
+  pub given_means : {A B C : Type 0} {So : Result B Fault → Type 0} {V : Fitting B C} {P : Pairing} {w : World} {y : A}
+      {next : A → Call B} {q : Meaning C} {j k : ℕ} → k ≤ j → MeansWhere So j k V P w (next y) q
+      → MeansWhere So j k V P w (done y >>= next) q
+  given_means {A} {B} {C} {So} {V} {P} {w} {y} {next} {q} {j} {k} le means =
+      then_means {first' = λ v. (Ok tt, v)} {next' = λ u. q} (λ Q v x (u : Unit {0}). x ≡ y) le
+      (decided_means {V = Told (λ Q v x (u : Unit {0}). x ≡ y) P w} (Ok y) (Ok tt) (omega arith) (refl, refl, refl))
+      (λ x u same is. subst (λ z. MeansWhere So j k V P w (next z) q) (sym same) means)
 
   -- a test of the call alone, which lets it pass
-  pub pass_means : {A B : Type 0} {V : Fitting A B} {P : Pairing} {w : World} {p : Call A} {q : Meaning B} {j k : ℕ}
-      (b : Bool) (e : Fault) → b ≡ false → Means j k V P w p q → Means j k V P w (refuse_if b e >> p) q
-  pass_means true e is means = absurd cc
-  pass_means {p = p} false e is means = given_means {y = tt} {next = λ u. p} means
+  pub pass_means : {A B : Type 0} {So : Result A Fault → Type 0} {V : Fitting A B} {P : Pairing} {w : World}
+      {p : Call A} {q : Meaning B} {j k : ℕ} (b : Bool) (e : Fault) → k ≤ j → b ≡ false → MeansWhere So j k V P w p q
+      → MeansWhere So j k V P w (refuse_if b e >> p) q
+  pass_means true e le is means = absurd cc
+  pass_means {p = p} false e le is means = given_means {y = tt} {next = λ u. p} le means
 
   -- a refusal, after which nothing follows
-  pub refused_means : {A B C : Type 0} {V : Fitting B C} {P : Pairing} {w : World} {next : A → Call B} {k : ℕ}
-      (e : Fault)
-      → Means k k V P w (refuse e >>= next) (λ v. (Err e, v))
-  refused_means {A} {B} {C} {V} {P} {w} {next} {k} e = record {
-    outcome = λ m n x f r. go m n x f (split c last 0 (refuse e) next m n x r);
-  }
-    where
-      go : (m n : Moment) (x : Result B Fault) → Fits c last k P w m → WasMadeOf c last 0 (refuse e) next m x n
-          → Outcome k V P w x (Err e, w) n
-      go m n x f (inl d) = absurd (let bad = (d.2.is).1 in cc)
-      go m n x f (inr d) =
-          let one = d.2 in
-          let told : ◌≡◌ {A = Fault} d.0 e = (let is = (one.is).1 in cc) in
-          unmoved {V = V} m n x (Err e) (Err e) f
-          (still c last 0 {m = m} {n = n} one.acts (one.is).0 one.leads (one.is).2)
-          (d.1 ∙ ap (λ (z : Fault). Err z) told) refl
-
-  -- what comes to the same
-  pub means_as : {A B : Type 0} {V : Fitting A B} {P : Pairing} {w : World} {p : Call A} {q q' : Meaning B} {j k : ℕ}
-      → q w ≡ q' w → Means j k V P w p q → Means j k V P w p q'
-  means_as {V = V} {P = P} {w = w} {k = k} is means = record {
-    outcome = λ m n x f r. subst (λ z. Outcome k V P w x z n) is (means.outcome m n x f r);
-  }
-
-  -- what follows may use what was answered
-  pub answer_known : {A B : Type 0} {V : Fitting A B} {P : Pairing} {w : World} {p : Call A} {q : Meaning B} {j k : ℕ}
-      → Means j k V P w p q → Means j k (λ Q v x y. V Q v x y × (q w ≡ (Ok y, v))) P w p q
-  answer_known {A} {B} {V} {P} {w} {p} {q} {j} {k} means = record {
-    outcome = λ m n x f r. go n x (q w) refl (means.outcome m n x f r);
-  }
-    where
-      go : (n : Moment) (x : Result A Fault) (r : Result B Fault × World) → q w ≡ r → Outcome k V P w x r n
-          → Outcome k (λ Q v x y. V Q v x y × (q w ≡ (Ok y, v))) P w x r n
-      go n (Ok x) (Ok y, v) is o =
-          record { pairing = o.pairing; later = o.later; fits = o.fits; answers = (o.answers, is) }
-      go n (Err e) (Err d, v) is o =
-          record { pairing = o.pairing; later = o.later; fits = o.fits; answers = o.answers }
-      go n _ _ is o = absurd o.answers
-
-  -- the answer in another form
-  pub form_means : {A B C : Type 0} {V : Fitting A C} {U : Fitting B C} {P : Pairing} {w : World} {p : Call A}
-      {q : Meaning C} {j k : ℕ} (form : A → B) → Means j k V P w p q
-      → ((Q : Pairing) (v : World) (x : A) (y : C) → V Q v x y → U Q v (form x) y)
-      → Means j k U P w (p >>= (λ x. done (form x))) q
-  form_means {A} {B} {C} {V} {U} {P} {w} {p} {q} {j} {k} form means fits = record {
-    outcome = λ m n x f r. go m n x f (split c last 0 p (λ y. done (form y)) m n x r);
-  }
-    where
-      ok : (n : Moment) (x : A) (r : Result C Fault × World) → Outcome k V P w (Ok x) r n
-          → Outcome k U P w (Ok (form x)) r n
-      ok n x (Ok y, v) o = record {
-        pairing = o.pairing;
-        later = o.later;
-        fits = o.fits;
-        answers = fits o.pairing v x y o.answers;
-      }
-      ok n x (Err e, v) o = absurd o.answers
-
-      err : (n : Moment) (e : Fault) (r : Result C Fault × World) → Outcome k V P w (Err e) r n
-          → Outcome k U P w (Err e) r n
-      err n e (Ok y, v) o = absurd o.answers
-      err n e (Err d, v) o = record { pairing = o.pairing; later = o.later; fits = o.fits; answers = o.answers }
-
-      go : (m n : Moment) (x : Result B Fault) → Fits c last j P w m
-          → WasMadeOf c last 0 p (λ y. done (form y)) m x n → Outcome k U P w x (q w) n
-      go m n x f (inl d) =
-          let two = d.3 in
-          let same : n ≡ d.1 = still c last 0 {m = d.1} {n = n} two.acts (two.is).0 two.leads (two.is).2 in
-          subst (λ z. Outcome k U P w z (q w) n) (sym (two.is).1) (ok n d.0 (q w)
-          (subst (λ z. Outcome k V P w (Ok d.0) (q w) z) (sym same) (means.outcome m d.1 (Ok d.0) f d.2)))
-      go m n x f (inr d) = subst (λ z. Outcome k U P w z (q w) n) (sym d.1)
-          (err n d.0 (q w) (means.outcome m n (Err d.0) f d.2))
+  pub refused_means : {A B C : Type 0} {So : Result B Fault → Type 0} {V : Fitting B C} {P : Pairing} {w : World}
+      {next : A → Call B} {j k : ℕ} (e : Fault) → k ≤ j
+      → MeansWhere So j k V P w (refuse e >>= next) (λ v. (Err e, v))
+  refused_means {A} {B} {C} {So} {V} {P} {w} {next} {j} e le =
+      then_means {first' = λ v. (Err e, v)} {next' = λ u v. (Err e, v)} (λ Q v x (u : Unit {0}). Unit {0}) le
+      (decided_means {V = Told (λ Q v x (u : Unit {0}). Unit {0}) P w} (Err e) (Err e) (omega arith) refl)
+      (λ x u same is. absurd (let bad = ap (λ (r : Result (Unit {0}) Fault × World). r.0) is in cc))
 
   -- a choice that is known
   pub cond_means : {A B : Type 0} {V : Fitting A B} {P : Pairing} {w : World} {j k : ℕ} (b : Bool) {p : Call A}
@@ -547,18 +531,13 @@ module _ (c : Config) (last : ℕ) where
   else_means false p is means = means
   else_means true p is means = absurd cc
 
-  -- what is to be shown may use the moment
-  pub known_means : {A B : Type 0} {V : Fitting A B} {P : Pairing} {w : World} {p : Call A} {q : Meaning B} {j k : ℕ}
-      → ((m : Moment) → Fits c last j P w m → Means j k V P w p q) → Means j k V P w p q
-  known_means know = record { outcome = λ m n x f r. (know m f).outcome m n x f r }
-
   -- IN A STAY OF ITS OWN
-  pub entered_means : {A B : Type 0} {V : Fitting A B} {P : Pairing} {w : World} {p : Call A} {q : Meaning B} {j k : ℕ}
-      → Means j k V P w p q → Means j k V P w (entered p) q
-  entered_means {A} {B} {V} {P} {w} {p} {q} {j} {k} means = record {
-    outcome = λ m n x f r.
+  pub entered_means : {A B : Type 0} {So : Result A Fault → Type 0} {V : Fitting A B} {P : Pairing} {w : World}
+      {p : Call A} {q : Meaning B} {j k : ℕ} → MeansWhere So j k V P w p q → MeansWhere So j k V P w (entered p) q
+  entered_means {A} {B} {So} {V} {P} {w} {p} {q} {j} {k} means = record {
+    outcome = λ m n x so f r.
         let i = stayed c last 0 p m n x r in
-        let o = means.outcome (gone c last 0 m Enter) i.end x (gone_fits m 0 Enter f) i.made in
+        let o = means.outcome (gone c last 0 m Enter) i.end x so (gone_fits m 0 Enter f) i.made in
         record {
           pairing = o.pairing;
           later = o.later;

@@ -1,7 +1,7 @@
 -- Frames of local references beside those of what a script means, which are lists of numbers.
 use Rattle.std.proofs.Common.{◌≡◌, ◌≢◌, ℕ, zero, suc, ◌<◌, ◌≤◌, ◌+◌, ◌==◌, ◌&&◌, Bool, true, false, cond, not, nat_le}
 use Rattle.std.proofs.Common.{List, [], ◌∷◌, ◌++◌, map, length, slice_index, refl, sym, ap, ◌∙◌, arith}
-use Rattle.std.specs.List.{AllByRecursion, filter, sum_by}
+use Rattle.std.specs.List.{AllByRecursion, filter, flat_map, sum_by}
 use Rattle.std.proofs.lemmas.List.{length-append}
 use Rattle.std.proofs.lemmas.List.Sums.{sum_by-cons}
 use Rattle.std.proofs.lemmas.Bool.Decides.{nat_tests}
@@ -167,6 +167,17 @@ pub newest_fits : {P : Pairing} {n : ℕ} {fs : List (List ℕ)} {gs : List (Lis
 newest_fits no_frame = no_local
 newest_fits (one_frame here no_frame) = here
 newest_fits (one_frame here (one_frame next rest)) = newest_fits (one_frame next rest)
+
+-- those of all frames
+locals_both : {P : Pairing} {n : ℕ} {is js : List ℕ} {rs ss : List LocalRef} → AreLocals P n is rs → AreLocals P n js ss
+    → AreLocals P n (is ++ js) (rs ++ ss)
+locals_both no_local more = more
+locals_both (one_local small same local rest) more = one_local small same local (locals_both rest more)
+
+pub all_fit : {P : Pairing} {n : ℕ} {fs : List (List ℕ)} {gs : List (List LocalRef)} → AreFrames P n fs gs
+    → AreLocals P n (flat_map (λ f. f) fs) (joined gs)
+all_fit no_frame = no_local
+all_fit (one_frame here rest) = locals_both here (all_fit rest)
 
 -- so many stand in the frames before the last, and in the last
 pub newest_held : {P : Pairing} {n : ℕ} {fs : List (List ℕ)} {gs : List (List LocalRef)} → AreFrames P n fs gs

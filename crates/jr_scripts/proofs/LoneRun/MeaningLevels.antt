@@ -49,17 +49,6 @@ levels_long P w [] [] a = refl
 levels_long P w (p ∷ ps) (o ∷ os) a = ap suc (levels_long P w ps os a.1)
 levels_long P w _ _ a = absurd a
 
--- none stand in both or in neither
-pub none_too : (P : Pairing) (w : World) (ps os : List ℕ) → AreLevels P w ps os → ps ≡ [] → os ≡ []
-none_too P w [] [] a none = refl
-none_too P w (p ∷ ps) os a none = absurd cc
-none_too P w [] (o ∷ os) a none = absurd a
-
-pub some_too : (P : Pairing) (w : World) (ps os : List ℕ) → AreLevels P w ps os → ps ≢ [] → os ≢ []
-some_too P w [] os a some e = some refl
-some_too P w (p ∷ ps) [] a some e = absurd a
-some_too P w (p ∷ ps) (o ∷ os) a some e = absurd cc
-
 -- a level's object is meant, or there is no such level
 pub level_at : (P : Pairing) (w : World) (ps os : List ℕ) → AreLevels P w ps os → (l : ℕ)
     → ObjectFits P w (nth_object ps l) (nth_object os l) ⊎ (nth_object ps l ≡ 0)
@@ -67,10 +56,6 @@ level_at P w [] [] a l = inr refl
 level_at P w (p ∷ ps) (o ∷ os) a zero = inl a.0
 level_at P w (p ∷ ps) (o ∷ os) a (suc l) = level_at P w ps os a.1 l
 level_at P w _ _ a l = absurd a
-
-pub some_put : (ps : List ℕ) (p : ℕ) → ps ++ p ∷ [] ≢ []
-some_put [] p e = absurd cc
-some_put (x ∷ ps) p e = absurd cc
 
 pub level_last : (ps : List ℕ) (p : ℕ) → nth_object (ps ++ p ∷ []) (length ps) ≡ p
 level_last [] p = refl

@@ -308,6 +308,7 @@ module _ (c : Config) (last k : ℕ) where
                 objects = object_before o;
                 refs_grow = omega arith;
                 objects_stay = before_stands ws';
+                memory = refl;
               };
               fits = subst (Fits c last k (object_named o) (with_object ws'))
                   (sym (moment_is n.state (act_after m.state 0 (New o kind ws)) n.frames m.frames
@@ -346,6 +347,7 @@ module _ (c : Config) (last k : ℕ) where
         objects = λ o l. refl;
         refs_grow = omega arith;
         objects_stay = λ q there. there;
+        memory = refl;
       };
       fits = subst (Fits c last k P (with_words n)) (sym (moment_is m'.state
           (record m.state { used = m.state.used + n }) m'.frames m.frames state_is frames_are)) (record {

@@ -8,6 +8,7 @@ use Rattle.jr_word.specs.declared.config.Config.{Config}
 use Rattle.jr_word.specs.declared.fault.Fault.{Fault}
 use Rattle.jr_word.specs.declared.fault.Fault.TheVariants.{RowFull, WrongKind}
 use Rattle.jr_word.specs.declared.fault.Fault.TheVariants as fault
+use Rattle.jr_word.specs.declared.handle.Handle.{Handle as HandleWord}
 use Rattle.jr_word.specs.declared.handle.RefKind.{RefKind}
 use Rattle.jr_word.specs.declared.handle.RefKind.TheVariants.{Local, Global, Weak}
 use Rattle.jr_model.specs.declared.event.Act.TheVariants.{Create, Delete, DeleteStale, Probe}
@@ -35,13 +36,13 @@ use Rattle.jr_scripts.proofs.LoneRun.MeaningFrames.{Pairing, AreFrames, frames_a
 use Rattle.jr_scripts.proofs.LoneRun.MeaningSlots.{all_at, each_taken, in_row, one_free, row_count, row_handle, some_at}
 use Rattle.jr_scripts.proofs.LoneRun.MeaningSlots.{taken_at, taken_count}
 use Rattle.jr_scripts.proofs.LoneRun.MeaningFits.{RefFits, IsGiven, by_place, by_row, SlotsFit, Fits, SameAnswer}
-use Rattle.jr_scripts.proofs.LoneRun.MeaningFits.{IsDone, Means, Outcome, bind_means, done_means, entered_means}
+use Rattle.jr_scripts.proofs.LoneRun.MeaningFits.{IsDone, Means, Outcome, decided_means, done_means, means_always}
+use Rattle.jr_scripts.proofs.LoneRun.MeaningFits.{means_where}
 use Rattle.jr_scripts.proofs.LoneRun.MeaningFits.{fits_less, form_means, found_local, found_of, found_row, given_then}
 use Rattle.jr_scripts.proofs.LoneRun.MeaningFits.{known_means, pass_means, ref_there, slots_count, unmoved}
 use Rattle.jr_scripts.proofs.LoneRun.MeaningParts.{ObjectFits, OptionFits}
 use Rattle.jr_scripts.proofs.LoneRun.MeaningRefs.{less_fit, more_fit, ref_before, ref_here, ref_named}
-use Rattle.jr_scripts.proofs.LoneRun.MeaningCalls.{MaybeFits, NewFits, WordFits, new_maybe, resolved_means, sound}
-use Rattle.jr_scripts.proofs.LoneRun.MeaningCalls.{spent_nothing}
+use Rattle.jr_scripts.proofs.LoneRun.MeaningCalls.{MaybeFits, NewFits, WordFits, sound}
 
 abbrev stands_there : (Handle → Found) → Handle → Bool
 stands_there row h = is_there (row h)
@@ -276,7 +277,7 @@ module _ (c : Config) (last k : ℕ) where
       }
 
     create_means : kind ≢ Local
-        → Means c last k k NewFits P w (create c.slots kind p) (meaning.new_global c kind (Some o))
+        → Means c last k k NewFits P w (create c.slots kind p) (meaning.create c kind o)
     create_means row = record {
       outcome = λ m n x f r.
           go m n x f r.led (split c last 0 probes (λ u. one_of (created_with kind p) (refuse RowFull)) m n x (record {
@@ -290,7 +291,7 @@ module _ (c : Config) (last k : ℕ) where
           })) (refs_of Global w + refs_of Weak w == c.slots) refl;
     }
       where
-        Rest : Unit {0} → Meaning ℕ
+        Rest : Unit {0} → Meaning HandleWord
         Rest u = meaning.new_ref kind o
 
         probed : (m mid : Moment) (y : Result (Unit {0}) Fault) → Made c last 0 probes m y mid → mid ≡ m
@@ -320,12 +321,13 @@ module _ (c : Config) (last k : ℕ) where
                 objects = λ q small. refl;
                 refs_grow = (let long = longer in omega arith);
                 objects_stay = λ q there. there;
+                memory = refl;
               };
               fits = subst (Fits c last k (ref_named c last P w.refs h) with_ref)
                   (sym (moment_is n.state (act_after m.state 0 (Create h p)) n.frames m.frames
                   (stepped c last 0 m n r.acts (Create h p) d.2 r.leads) d.4)) (created_state h m f d.1 needs);
               answers = subst (λ z. SameAnswer (NewFits (ref_named c last P w.refs h) with_ref) z
-                  (Ok (length with_ref.refs))) (sym d.3) (
+                  (Ok (record { 0 = length with_ref.refs }))) (sym d.3) (
                     length w.refs,
                     (let long = longer in omega arith),
                     (let long = longer in omega arith),
@@ -351,20 +353,13 @@ module _ (c : Config) (last k : ℕ) where
             choice m n x f led r r.is b e
         go m n x f led (inr d) b e = absurd (let bad = (d.2.is).2 in cc)
 
-  -- to an object, or NULL to nothing
-  pub new_global_means : (kind : RefKind) → kind ≢ Local → (P : Pairing) (w : World) (x y : Option ℕ)
+  -- one that is created, none to nothing
+  pub created_means : (kind : RefKind) → kind ≢ Local → (P : Pairing) (w : World) (x y : Option ℕ)
       → OptionFits P w x y → Means c last k k MaybeFits P w (created c.slots kind x) (meaning.new_global c kind y)
-  new_global_means kind row P w None None fits = done_means c last {V = MaybeFits} None 0 tt
-  new_global_means kind row P w (Some p) (Some o) fits = form_means c last {V = NewFits} {U = MaybeFits} (λ h. Some h)
-      (create_means kind P w o p fits row) new_maybe
-  new_global_means kind row P w _ _ fits = absurd fits
-
-  -- NEWGLOBALREF and NEWWEAKGLOBALREF
-  pub reference_means : (kind : RefKind) → kind ≢ Local → (P : Pairing) (w : World) (a : Word) (g : ℕ) → 1 ≤ c.threads
-      → WordFits P w a g → Means c last k k MaybeFits P w (references.new_reference c last 0 kind a)
-      (λ z. goes_on (meaning.new_global c kind) (meaning.object g z))
-  reference_means kind row P w a g some fits = entered_means c last (bind_means c last
-      (resolved_means c last k P w a g some fits) (λ Q v later x y same. new_global_means kind row Q v x y same.0))
+  created_means kind row P w None None fits = done_means c last {V = MaybeFits} None None tt
+  created_means kind row P w (Some p) (Some o) fits = form_means c last {V = NewFits} {U = MaybeFits} (λ h. Some h)
+      (λ h. Some h) (create_means kind P w o p fits row) (λ Q v h g same. same)
+  created_means kind row P w _ _ fits = absurd fits
 
   -- A GLOBAL OR WEAK REFERENCE IS GIVEN UP
   module _ (P : Pairing) (w : World) (i : ℕ) (small : i < length w.refs) where
@@ -440,6 +435,7 @@ module _ (c : Config) (last k : ℕ) where
             objects = λ q below. refl;
             refs_grow = (let long = as_long in omega arith);
             objects_stay = λ q there. there;
+            memory = refl;
           };
           fits = subst (Fits c last k P without_ref) (sym (moment_is n.state (act_after m.state 0
               (Delete (P.handle i))) n.frames m.frames (state_is ∙ ap (λ g. act_after m.state 0 (Delete g)) is) d.2))
@@ -481,20 +477,21 @@ module _ (c : Config) (last k : ℕ) where
             deleted h is other m n x f (delete_found h (m.state.refs h)) r (λ e. let bad = sym found ∙ e in cc) d
         go m n x f r _ _ found fits d = absurd fits
 
-  -- DELETEGLOBALREF and DELETEWEAKGLOBALREF
   pub delete_reference_means : (kind : RefKind) → kind ≢ Local → (P : Pairing) (w : World) (a : Word) (g : ℕ)
       → 1 ≤ c.threads → WordFits P w a g → is_of_kind kind a ≡ true
-      → Means c last (suc k) k (IsDone {A = Unit {0}} {B = Unit {0}}) P w
-      (references.delete_reference c last 0 kind a) (meaning.delete g)
-  delete_reference_means kind row P w a g some fits same = entered_means c last (known_means c last (λ m f.
+      → Means c last (suc k) k (IsDone {A = Unit {0}} {B = Unit {0}}) P w (references.removal c kind a)
+      (meaning.delete g)
+  delete_reference_means kind row P w a g some fits same = known_means c last (λ m f.
       let s = sound c last (suc k) P w m a g some f fits in
-      pass_means c last (is_malformed a) fault.Stale s.formed
-      (pass_means c last (not (is_of_kind kind a)) WrongKind (ap not same)
-      (pass_means c last (is_out_of_bounds c a) fault.Stale s.within (here a g fits same)))))
+      means_always c last (pass_means c last (is_malformed a) fault.Stale (omega arith) s.formed
+      (pass_means c last (not (is_of_kind kind a)) WrongKind (omega arith) (ap not same)
+      (pass_means c last (is_out_of_bounds c a) fault.Stale (omega arith) s.within
+      (means_where c last (here a g fits same))))))
     where
       here : (a : Word) (g : ℕ) → WordFits P w a g → is_of_kind kind a ≡ true
           → Means c last (suc k) k (IsDone {A = Unit {0}} {B = Unit {0}}) P w (delete_at a) (meaning.delete g)
-      here Nothing zero fits same = spent_nothing c last k
+      here Nothing zero fits same =
+          decided_means c last {V = IsDone {A = Unit {0}} {B = Unit {0}}} (Ok tt) (Ok tt) (omega arith) tt
       here (Parts h) (suc i) fits same = delete_row_means P w i fits.0 h fits.1
           (λ e. row (kind_true kind h.kind same ∙ e))
       here _ _ fits same = absurd fits

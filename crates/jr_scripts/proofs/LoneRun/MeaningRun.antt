@@ -1,10 +1,10 @@
 -- The text of a run is what its script means.
-use Rattle.std.proofs.Common.{◌≡◌, ◌≢◌, ℕ, zero, suc, ◌<◌, ◌≤◌, ◌+◌, ◌^◌, Bool, true, false, cond, Option, is_some}
-use Rattle.std.proofs.Common.{List, [], ◌∷◌, ◌++◌, map, length, replicate, get_or, Result, Ok, IfErr, refl, sym, ap}
+use Rattle.std.proofs.Common.{◌≡◌, ◌≢◌, ℕ, zero, suc, ◌≤◌, ◌+◌, Bool, true, false, cond, Option, is_some}
+use Rattle.std.proofs.Common.{List, [], ◌∷◌, ◌++◌, map, length, replicate, get_or, Result, refl, sym, ap}
 use Rattle.std.proofs.Common.{subst, ◌∙◌, arith, append_assoc}
 use Rattle.std.proofs.lemmas.List.{length-replicate}
 use Rattle.std.specs.FinMap.{get-empty}
-use Rattle.std.specs.List.{AllByRecursion, filter}
+use Rattle.std.specs.List.{filter}
 use Rattle.jr_word.specs.declared.config.Config.{Config}
 use Rattle.jr_word.specs.declared.fault.Fault.{Fault}
 use Rattle.jr_word.specs.declared.handle.RefKind.{RefKind}
@@ -19,11 +19,16 @@ use Rattle.jr_model.specs.State.{State, is_there, references, summary}
 use Rattle.jr_model.specs.Steps.{act_after}
 use Rattle.jr_model.specs.Frames.{all_refs, drop_all}
 use Rattle.jr_model.specs.History.{PassView, by, state, state_from}
+use Rattle.jr_model.specs.Calls.{entered}
 use Rattle.jr_model.specs.References.{freeing}
-use Rattle.jr_model.specs.References as calls
+use Rattle.jr_model.specs.Programs.{handed_none}
+use Rattle.jr_model.specs.CallPrograms as programs
+use Rattle.jr_model.specs.AllCalls.{enters}
 use Rattle.jr_model.proofs.Agreement.{fresh_are_sound}
+use Rattle.jr_model.proofs.EachCall.{lawful}
 use Rattle.jr_model.proofs.Lengths.{sum_none, sum_zero}
 use Rattle.jr_gate.specs.Performing.{ThreadState}
+use Rattle.jr_env.specs.Deeds.{free_locals}
 use Rattle.jr_syntax.specs.declared.command.Command.{Command}
 use Rattle.jr_syntax.specs.declared.thread.ThreadPart.{ThreadPart}
 use Rattle.jr_scripts.specs.declared.reply.Reply.{Reply}
@@ -33,12 +38,7 @@ use Rattle.jr_scripts.specs.Places.{Place, place_after}
 use Rattle.jr_scripts.specs.Posting.{ThreadWords, said_alone, words_after}
 use Rattle.jr_scripts.specs.Explains.{Explains, nothing, then}
 use Rattle.jr_scripts.specs.Text.{heading, ending, printed}
-use Rattle.jr_scripts.specs.AloneAnswers.{AnswersAlone, IsAloneFault}
-use Rattle.jr_scripts.proofs.AloneCalls.{IsAlone}
-use Rattle.jr_scripts.proofs.AloneDeeds.{free_alone, given_up_alone, place_alone}
-use Rattle.jr_scripts.proofs.AloneParts.{tries_alone, was_alone}
-use Rattle.jr_scripts.specs.Runs.{IsFreed, IsRun, IsUnbarred, opening_moment}
-use Rattle.jr_scripts.proofs.AloneHistories.{all_prefix}
+use Rattle.jr_scripts.specs.Runs.{IsFreed, IsRun, opening_moment}
 use Rattle.jr_scripts.specs.Meaning.{MeansText, World, Told, gives_up, how_many, first_told, meaning_at}
 use Rattle.jr_scripts.specs.Meaning.{refs_of, standing, summary_of, tells, told_after, told_from, text_of_part}
 use Rattle.jr_scripts.specs.Meaning.{first_world, memory_after}
@@ -47,11 +47,11 @@ use Rattle.jr_scripts.proofs.LoneRun.MeaningFrames.{Pairing, no_frame, no_local,
 use Rattle.jr_scripts.proofs.LoneRun.MeaningSlots.{at_index, in_row, taken_at}
 use Rattle.jr_scripts.proofs.LoneRun.MeaningFits.{Fits, counted}
 use Rattle.jr_scripts.proofs.LoneRun.MeaningScopes.{SameTables, drops_keep}
-use Rattle.jr_scripts.proofs.LoneRun.MeaningDeeds.{BindingFits, IsPass, call_made, made_once, now}
-use Rattle.jr_scripts.proofs.LoneRun.MeaningCommands.{memory_left, memory_shown}
-use Rattle.jr_scripts.proofs.LoneRun.EachCommand.{ended_at, step_at}
-use Rattle.jr_scripts.proofs.LoneRun.MeaningLevels.{AreLevels, levels_later}
-use Rattle.jr_scripts.proofs.LoneRun.MeaningStands.{Stands, Stepped, left_before, left_then}
+use Rattle.jr_scripts.proofs.LoneRun.MeaningNames.{BindingFits}
+use Rattle.jr_scripts.proofs.LoneRun.MeaningDeeds.{IsLone, IsPass, WasCalled, now, tried_once, was_called}
+use Rattle.jr_scripts.proofs.LoneRun.MeaningReplies.{Stands, Stepped, left_before, left_then}
+use Rattle.jr_scripts.proofs.LoneRun.EachCommand.{ended_at, memory_left, memory_shown, step_at}
+use Rattle.jr_scripts.proofs.LoneRun.MeaningLevels.{AreLevels}
 
 -- ONE COMMAND MORE
 told_snoc : (c : Config) (line : ℕ) (before : List Command) (x : Command) (t : Told)
@@ -90,11 +90,7 @@ same_summary : (g w l u g' w' l' u' : ℕ) → g ≡ g' → w ≡ w' → l ≡ l
     (record { globals = g'; weaks = w'; live = l'; used = u' })
 same_summary g w l u g' w' l' u' a b x y = cc
 
-module _ (c : Config) (last turns : ℕ) (one : c.threads ≡ 1) (some_turns : turns ≢ 0) (small : c.locals ≤ 4096)
-    (rows : c.slots ≤ 65536) (few : last < 2 ^ 32) where
-  some_threads : 1 ≤ c.threads
-  some_threads = omega arith
-
+module _ (c : Config) (last turns : ℕ) (lone : IsLone c last) (some : turns ≢ 0) where
   first_pairing : Pairing
   first_pairing = record { handle = λ i. record { kind = Local; serial = 0; index = 0; owner = 0 }; object = λ o. o }
 
@@ -146,7 +142,7 @@ module _ (c : Config) (last turns : ℕ) (one : c.threads ≡ 1) (some_turns : t
   record IsTold (memory rest : List Bool) (k : ℕ) (commands : List Command) (text : List ℕ) (new : ThreadState)
       (place : Place) (words : ThreadWords) : Type 0 where
     pub pairing : Pairing
-    pub stands : Stands c last k pairing (told_from c 3 commands (first_told memory)).world new place
+    pub stands : Stands c last lone k pairing (told_from c 3 commands (first_told memory)).world new place
         (told_from c 3 commands (first_told memory)).place words (told_from c 3 commands (first_told memory)).words
     pub text_is : text ≡ (told_from c 3 commands (first_told memory)).text
     pub left : (told_from c 3 commands (first_told memory)).world.memory ≡ rest
@@ -155,23 +151,19 @@ module _ (c : Config) (last turns : ℕ) (one : c.threads ≡ 1) (some_turns : t
   record TellsSo (k : ℕ) (t : Told) (text : List ℕ) (new : ThreadState) (place : Place)
       (words : ThreadWords) : Type 0 where
     pub pairing : Pairing
-    pub stands : Stands c last k pairing t.world new place t.place words t.words
+    pub stands : Stands c last lone k pairing t.world new place t.place words t.words
     pub text_is : text ≡ t.text
 
   -- what is to come of memory is nothing of how a thread stands
   remembers_levels : (P : Pairing) (w : World) (ps os : List ℕ) (memory : List Bool) → AreLevels P w ps os
       → AreLevels P (record w { memory = memory }) ps os
-  remembers_levels P w ps os memory a = levels_later {P = P} {Q = P} {w = w} {v = record w { memory = memory }}
-      (record {
-        handles = λ i l. refl;
-        objects = λ o l. refl;
-        refs_grow = omega arith;
-        objects_stay = λ o l. l;
-      }) ps os a
+  remembers_levels P w [] [] memory a = tt
+  remembers_levels P w (p ∷ ps) (o ∷ os) memory a = (a.0, remembers_levels P w ps os memory a.1)
+  remembers_levels P w _ _ memory a = absurd a
 
   remembers : {k : ℕ} {P : Pairing} {w : World} {m : ThreadState} {p q : Place} {had told : ThreadWords}
-      (memory : List Bool) → Stands c last k P w m p q had told
-      → Stands c last k P (record w { memory = memory }) m p q had told
+      (memory : List Bool) → Stands c last lone k P w m p q had told
+      → Stands c last lone k P (record w { memory = memory }) m p q had told
   remembers {k} {P} {w} {m} {p} {q} memory s =
       let f = s.fits in
       record {
@@ -194,14 +186,14 @@ module _ (c : Config) (last turns : ℕ) (one : c.threads ≡ 1) (some_turns : t
 
   tells_so : (k : ℕ) (t : Told) (line : ℕ) (x : Command) (answer : Result Reply Fault) (text : List ℕ)
       (new : ThreadState) (place : Place) (words : ThreadWords) → text ≡ t.text
-      → Stepped c last k x new place t.place words t.words answer
+      → Stepped c last lone k x new place t.place words t.words answer
       (meaning_at c t.place t.words t.place.objects x t.world)
       → TellsSo k (told_after c line x t) (text ++ printed line x answer) new (place_after x answer place)
       (words_after place.names x answer words)
   tells_so k t line x answer text new place words is stepped =
       go (meaning_at c t.place t.words t.place.objects x t.world) stepped
     where
-      go : (r : Result Reply Fault × World) → Stepped c last k x new place t.place words t.words answer r
+      go : (r : Result Reply Fault × World) → Stepped c last lone k x new place t.place words t.words answer r
           → TellsSo k (tells line x t r) (text ++ printed line x answer) new (place_after x answer place)
           (words_after place.names x answer words)
       go (b, v) s = record {
@@ -217,9 +209,8 @@ module _ (c : Config) (last turns : ℕ) (one : c.threads ≡ 1) (some_turns : t
   all_told : (k : ℕ) (commands : List Command) → how_many gives_up commands + k ≤ last
       → (text : List ℕ) (new : ThreadState) (place : Place)
       (words : ThreadWords) (e : Explains said_alone turns 3 (opening_moment c last) commands text new place words)
-      → AnswersAlone e → IsAlone new.pass → AllByRecursion IsUnbarred new.pass.seen
       → (rest : List Bool) → IsTold (memory_of e ++ rest) rest k commands text new place words
-  all_told k commands le text new place words nothing answers alone all rest = record {
+  all_told k commands le text new place words nothing rest = record {
     pairing = first_pairing;
     stands = record {
       pass = record { config = refl; last_is = refl; thread = refl };
@@ -236,25 +227,20 @@ module _ (c : Config) (last turns : ℕ) (one : c.threads ≡ 1) (some_turns : t
     left = refl;
   }
   all_told k commands le text new place words
-      (then {before = before} {text = lines} {mid = mid} {place = stood} {words = had} x answer done did said) answers
-      alone all
-      rest =
-      let y = (place_alone turns stood x).led mid new answer alone did in
+      (then {before = before} {text = lines} {mid = mid} {place = stood} {words = had} x answer done did said) rest =
       let i = all_told (left_before x k) before (let less : how_many gives_up (before ++ x ∷ []) + k
       ≡ how_many gives_up before + left_before x k = given_up_before x k before in omega arith) lines mid stood had done
-      answers.0 (was_alone y alone) (all_prefix IsUnbarred mid.pass.seen new.pass.seen y.begins all)
       (memory_shown x answer ++ rest) in
       let memory : List Bool = memory_of done ++ (memory_shown x answer ++ rest) in
       let t = told_from c 3 before (first_told memory) in
-      let stepped = step_at {k = k} x some_turns some_threads small rows few i.stands alone all answer did said
-      answers.1 rest i.left in
+      let stepped = step_at c last lone turns some {k = k} x i.stands answer did said rest i.left in
       let so = tells_so k t (3 + length before) x answer lines new stood had i.text_is stepped in
       let whole = told_snoc c 3 before x (first_told memory) in
       subst (λ l. IsTold l rest k (before ++ x ∷ []) (lines ++ printed (3 + length before) x answer) new
       (place_after x answer stood) (words_after stood.names x answer had))
       (sym (append_assoc (memory_of done) (memory_shown x answer) rest)) (record {
         pairing = so.pairing;
-        stands = subst (λ (z : Told). Stands c last k so.pairing z.world new (place_after x answer stood) z.place
+        stands = subst (λ (z : Told). Stands c last lone k so.pairing z.world new (place_after x answer stood) z.place
             (words_after stood.names x answer had) z.words) (sym whole) so.stands;
         text_is = so.text_is ∙ ap (λ (z : Told). z.text) (sym whole);
         left = ap (λ (z : Told). z.world.memory) whole ∙ (tells_left (3 + length before) x t
@@ -264,13 +250,16 @@ module _ (c : Config) (last turns : ℕ) (one : c.threads ≡ 1) (some_turns : t
 
   -- THE END
 
-  freed_tables : (told left : ThreadState) (f : IsFreed turns told left) → f.answer ≡ Ok tt → IsPass c last told.pass
-      → IsAlone left.pass → AllByRecursion IsUnbarred left.pass.seen
+  freed : (old new : ThreadState) (x : Result (Unit {0}) Fault) → IsPass c last old.pass → free_locals old x new
+      → WasCalled c last lone (entered freeing) old new x
+  freed = was_called c last lone (λ z. 0) (λ c last t s. entered freeing)
+      (λ z. lawful c last 0 z (enters handed_none programs.free_locals)) refl free_locals (λ old new x d. d.0)
+
+  freed_tables : (told left : ThreadState) → IsFreed turns told left → IsPass c last told.pass
       → SameTables (state told.pass.seen) (state left.pass.seen)
-  freed_tables told left f is pass alone all =
-      let d = made_once free_alone turns told left f.answer alone some_turns f.tries in
-      let made = call_made c last (λ k l t s. calls.free_locals) told left f.answer pass alone all
-      (subst (λ z. IfErr z (IsAloneFault left.pass)) (sym is) tt) 0 d.0 in
+  freed_tables told left f pass =
+      let made = (freed told left f.answer pass (tried_once c last lone turns some
+      (λ old new x pass d. (freed old new x pass d).fault) told left f.answer pass f.tries)).made in
       let i = stayed c last 0 freeing (now told) (now left) f.answer made in
       let acts : (i.made).acts ≡ drop_all (all_refs told.frames) = ((i.made).is).0 in
       let keep = drops_keep (act_after (state told.pass.seen) 0 (Gate Enter)) (all_refs told.frames) in
@@ -302,21 +291,12 @@ module _ (c : Config) (last turns : ℕ) (one : c.threads ≡ 1) (some_turns : t
       → (memory : List Bool) × (text ≡ text_of_part memory c part)
   run_means part text within r =
       let x = r.explained in
-      let all : AllByRecursion IsUnbarred r.left.pass.seen = subst (λ (p : PassView). AllByRecursion IsUnbarred
-      p.seen) (sym r.saw) r.alone in
-      let alone : IsAlone r.left.pass = subst IsAlone (sym r.saw) (record { one = one; first = refl }) in
-      let y = tries_alone free_alone turns r.told r.left r.freed.answer alone r.freed.tries in
-      let told_alone = was_alone y alone in
-      let told_all = all_prefix IsUnbarred r.told.pass.seen r.left.pass.seen y.begins all in
-      let g = (given_up_alone x.place.objects).led x.done r.told (Ok tt) told_alone x.ended in
-      let i = all_told 0 part.commands (omega arith) r.lines x.done x.place x.words x.explains r.answers
-      (was_alone g told_alone)
-      (all_prefix IsUnbarred x.done.pass.seen r.told.pass.seen g.begins told_all) [] in
+      let i = all_told 0 part.commands (omega arith) r.lines x.done x.place x.words x.explains [] in
       let memory : List Bool = memory_of x.explains ++ [] in
       let t = told_from c 3 part.commands (first_told memory) in
-      let at_end = ended_at {P = i.pairing} {w = t.world} r.told i.stands told_alone x.ended in
-      let same = freed_tables r.told r.left r.freed (r.freed_all some_turns) at_end.0 alone all in
-      let end = ends_so 0 i.pairing t.world (now r.told) (state r.left.pass.seen) at_end.1 same in
+      let at_end = ended_at lone {P = i.pairing} {w = t.world} r.told i.stands x.ended in
+      let same = freed_tables r.told r.left r.freed at_end.1 in
+      let end = ends_so 0 at_end.0 t.world (now r.told) (state r.left.pass.seen) at_end.2 same in
       let seen_is : state r.seen ≡ state r.left.pass.seen = ap (λ (p : PassView). state p.seen) (sym r.saw) in (
         memory,
         r.text_is ∙ (ap (λ l. heading part.name ++ l ++ ending (summary c last (state r.seen))) i.text_is
@@ -327,6 +307,6 @@ module _ (c : Config) (last turns : ℕ) (one : c.threads ≡ 1) (some_turns : t
 pub meant : (turns last : ℕ) (c : Config) (part : ThreadPart) (text : List ℕ) → c.threads ≡ 1 → in_limits c ≡ true
     → IsRun turns last c part text → MeansText turns last c part text
 meant turns last c part text one limits r some few within =
-    let most : c.locals ≤ 4096 = (limited c limits).locals.1 in
-    let rows : c.slots ≤ 65536 = (limited c limits).slots.1 in
-    run_means c last turns one some most rows few part text within r
+    let limits = limited c limits in
+    run_means c last turns (record { one = one; small = limits.locals.1; slots = limits.slots.1; few = few }) some part
+    text within r

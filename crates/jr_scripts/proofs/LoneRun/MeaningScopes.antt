@@ -5,6 +5,7 @@ use Rattle.std.proofs.Common.{slice_index, slice_set, Result, Ok, Err, refl, sym
 use Rattle.std.proofs.Common.{get_or-set_other, get_or-set_same}
 use Rattle.std.proofs.lemmas.List.{length-set}
 use Rattle.std.proofs.lemmas.Bool.Decides.{nat_tests}
+use Rattle.std.specs.List.{flat_map}
 use Rattle.jr_word.specs.declared.config.Config.{Config}
 use Rattle.jr_word.specs.declared.fault.Fault.{Fault}
 use Rattle.jr_word.specs.declared.fault.Fault.TheVariants.{LocalsFull, NoFrame}
@@ -16,13 +17,15 @@ use Rattle.jr_model.specs.declared.frames.TheConstants.{FRAMES}
 use Rattle.jr_model.specs.State.{Handle, State, same_handle, same_kind}
 use Rattle.jr_model.specs.Steps.{act_after}
 use Rattle.jr_model.specs.Frames.{AreTheLocals, Frames, all_refs, drop_all, frames_before, free_places, is_held, joined}
-use Rattle.jr_model.specs.Frames.{last_frame, object_of, object_where, popped, pushed}
+use Rattle.jr_model.specs.Frames.{AreSound, last_frame, object_at, object_of, object_where, popped, pushed}
 use Rattle.jr_model.specs.History.{by, state_from}
-use Rattle.jr_model.specs.Calls.{Call, ◌>>◌, refuse_if}
+use Rattle.jr_model.specs.Calls.{Call, ◌>>=◌, ◌>>◌, refuse_if}
 use Rattle.jr_model.specs.Checks.{Word, is_local}
-use Rattle.jr_model.specs.Parts.{new_frame, take_frame}
+use Rattle.jr_model.specs.Parts.{frame_left, frame_to_pop, new_frame, take_frame}
+use Rattle.jr_model.specs.References.{freeing}
 use Rattle.jr_model.specs.References as references
-use Rattle.jr_model.proofs.Agreement.{joined_before, joined_push, places_from, popped_at, popped_sound, pushed_sound}
+use Rattle.jr_model.proofs.Agreement.{freed_at, freed_sound, joined_before, joined_push, places_from, popped_at}
+use Rattle.jr_model.proofs.Agreement.{popped_sound, pushed_sound}
 use Rattle.jr_model.proofs.Counts.{bit}
 use Rattle.jr_model.proofs.Gone.{taken_is_gone}
 use Rattle.jr_model.proofs.Updates.{eq_true, eq_false, eq_other, eq_self}
@@ -32,12 +35,15 @@ use Rattle.jr_scripts.specs.Meaning.{refused_if, standing_at, without}
 use Rattle.jr_scripts.specs.Meaning as meaning
 use Rattle.jr_scripts.proofs.LoneRun.MadeCalls.{Moment, Made, WasMadeOf, moment, moment_is, split, still}
 use Rattle.jr_scripts.proofs.LoneRun.MeaningCounts.{at_set, bit_most, less_of}
-use Rattle.jr_scripts.proofs.LoneRun.MeaningFrames.{Pairing, AreLocals, no_local, one_local, all_places, frames_all}
+use Rattle.jr_scripts.proofs.LoneRun.MeaningFrames.{Pairing, AreFrames, AreLocals, no_frame, no_local, one_frame}
+use Rattle.jr_scripts.proofs.LoneRun.MeaningFrames.{one_local}
+use Rattle.jr_scripts.proofs.LoneRun.MeaningFrames.{all_fit, all_places, frames_all}
 use Rattle.jr_scripts.proofs.LoneRun.MeaningFrames.{frames_later, frames_long, frames_popped, frames_pushed}
 use Rattle.jr_scripts.proofs.LoneRun.MeaningFrames.{newest_fits, newest_held, same_test}
 use Rattle.jr_scripts.proofs.LoneRun.MeaningFits.{RefFits, RefsFit, LocalsFit, SlotsFit, ObjectsFit, Fits, Fitting}
 use Rattle.jr_scripts.proofs.LoneRun.MeaningFits.{SameAnswer, IsDone, Outcome, Means, at_place, bind_spends}
-use Rattle.jr_scripts.proofs.LoneRun.MeaningFits.{entered_means, fits_less, found_local, found_of, found_own}
+use Rattle.jr_scripts.proofs.LoneRun.MeaningFits.{fits_less, found_local, found_of, found_own, means_always}
+use Rattle.jr_scripts.proofs.LoneRun.MeaningFits.{means_where, then_means}
 use Rattle.jr_scripts.proofs.LoneRun.MeaningFits.{given_then, kind_of_ref, slots_count, slots_less, unmoved}
 use Rattle.jr_scripts.proofs.LoneRun.MeaningParts.{OptionFits, option_later, room_lacks}
 use Rattle.jr_scripts.proofs.LoneRun.MeaningCalls.{MaybeFits, WordFits, new_local_means, resolved_means}
@@ -115,6 +121,7 @@ module _ (c : Config) (last k : ℕ) where
         objects = λ q l. refl;
         refs_grow = omega arith;
         objects_stay = λ q there. there;
+        memory = refl;
       };
       fits = subst (Fits c last k P (record w { frames = w.frames ++ [] ∷ [] })) (sym (moment_is n.state m.state
           n.frames (pushed m.frames) (r.leads ∙ ap (λ l. state_from m.state (map (by 0) l)) (r.is).0) (r.is).2))
@@ -154,10 +161,9 @@ module _ (c : Config) (last k : ℕ) where
             agree = λ p. f.agree p ∙ ap (object_where (λ r. r.handle.index == p)) (sym (joined_push m.frames.frames));
           }
 
-  -- PUSHLOCALFRAME
   pub push_means : (P : Pairing) (w : World) (n : ℕ)
-      → Means c last k k (IsDone {A = Unit {0}} {B = Unit {0}}) P w (references.push_local_frame c last 0 n)
-      (meaning.push c n)
+      → Means c last k k (IsDone {A = Unit {0}} {B = Unit {0}}) P w
+      (frame_left >> (references.room_for c last 0 n >> new_frame)) (meaning.push c n)
   push_means P w n = guard_means {V = IsDone {A = Unit {0}} {B = Unit {0}}} (λ f. nat_le FRAMES (length f.frames))
       (λ v. nat_le FRAMES (length v.frames)) LocalsFull (omega arith)
       (λ m f. ap (λ z. nat_le FRAMES z) (sym (frames_long f.locals.framed)))
@@ -165,11 +171,10 @@ module _ (c : Config) (last k : ℕ) where
       (λ v. nat_lt c.locals (held v + n)) LocalsFull (omega arith)
       (λ m f. room_lacks c last k n f) (λ room. frame_means P w few))
 
--- THE LAST FRAME GOES
+-- REFERENCES GO, those of these numbers, and these frames stay
 
--- the world without the last frame and its references
-abbrev pub taken : World → World
-taken w = record w { refs = without (newest_frame w.frames) w.refs; frames = all_but_last w.frames }
+abbrev left_in : World → List ℕ → List (List ℕ) → World
+left_in w is fs = record w { refs = without is w.refs; frames = fs }
 
 pub without_long : (is : List ℕ) (refs : List (Option Ref)) → length (without is refs) ≡ length refs
 without_long [] refs = refl
@@ -251,6 +256,154 @@ both_full free rest newest all places one two = go (free == 0) refl
         sym (ap (λ z. z == newest + places) is ∙ eq_self (newest + places))
     go false e = sym (eq_other all (newest + places) (λ z. eq_false free 0 e (omega arith)))
 
+-- the frames then
+abbrev with_frames : Frames → List (List LocalRef) → Frames
+with_frames f gs = record f { frames = gs }
+
+-- these go and those stay
+record AreLeft (P : Pairing) (n : ℕ) (is : List ℕ) (fs : List (List ℕ)) (f : Frames) (rs : List LocalRef)
+    (gs : List (List LocalRef)) : Type 0 where
+  go : AreLocals P n is rs
+  stay : AreFrames P n fs gs
+  all : all_refs f ≡ joined gs ++ rs
+  sound : AreSound (with_frames f gs)
+  gone : (h : Handle) → IsSome (object_where (λ r. same_handle r.handle h) rs) → object_of (with_frames f gs) h ≡ None
+  places : (l : ℕ → Option ℕ) → ((p : ℕ) → l p ≡ object_at f p) → (p : ℕ)
+      → places_from l (drop_all rs) p ≡ object_at (with_frames f gs) p
+
+module _ (c : Config) (last k : ℕ) (P : Pairing) (w : World) (is : List ℕ) (fs : List (List ℕ))
+    (rs : Frames → List LocalRef) (gs : Frames → List (List LocalRef))
+    (left : (m : Moment) → Fits c last (suc k) P w m
+    → AreLeft P (length w.refs) is fs m.frames (rs m.frames) (gs m.frames)) where
+  as_many : length (without is w.refs) ≡ length w.refs
+  as_many = without_long is w.refs
+
+  left_few : (m : Moment) → Fits c last (suc k) P w m → (p : ℕ) → slice_index m.frames.given p + k ≤ last
+  left_few m f p =
+      let was : slice_index m.frames.given p + suc k ≤ last + bit (is_held (all_refs m.frames) p) =
+      f.locals.few p in
+      let most : bit (is_held (all_refs m.frames) p) ≤ 1 = bit_most (is_held (all_refs m.frames) p) in
+      omega arith
+
+  left_locals : (m : Moment) → Fits c last (suc k) P w m
+      → LocalsFit c last k P (length (without is w.refs)) fs (with_frames m.frames (gs m.frames))
+  left_locals m f = record {
+    framed = frames_later (λ j below. refl) (let long = as_many in omega arith) (left m f).stay;
+    sound = (left m f).sound;
+    few = λ p. let few = left_few m f p in omega arith;
+    given = f.locals.given;
+  }
+
+  left_refs : (m : Moment) → Fits c last (suc k) P w m → RefsFit c last P w.objects (without is w.refs)
+      (with_frames m.frames (gs m.frames)) m.state.refs m.state.given
+  left_refs m f = record {
+    given = λ j below. given_then (λ is. is) (λ is. is) (f.refs.given j (let long = as_many in omega arith));
+    once = λ j n below below'. f.refs.once j n (let long = as_many in omega arith)
+        (let long = as_many in omega arith);
+    stands = λ j below. stands j (let long = as_many in omega arith);
+    all = λ h there.
+        let j = f.refs.all h there in
+        let small : j.0 < length w.refs = j.1 in
+        (j.0, (let long = as_many in omega arith), j.2);
+  }
+    where
+      then : Frames
+      then = with_frames m.frames (gs m.frames)
+
+      stands : (j : ℕ) → j < length w.refs → RefFits P.object w.objects (P.handle j).kind
+          (standing_at (without is w.refs) j) (found_of then m.state.refs (P.handle j))
+      stands j below = go (left_of P (length w.refs) f.refs.once j below (left m f).go w.refs refl)
+        where
+          go : IsLeft P j is (rs m.frames) w.refs → RefFits P.object w.objects (P.handle j).kind
+              (standing_at (without is w.refs) j) (found_of then m.state.refs (P.handle j))
+          go (inl x) = subst (λ z. RefFits P.object w.objects (P.handle j).kind z
+              (found_of then m.state.refs (P.handle j))) (sym x.0)
+              (subst (RefFits P.object w.objects (P.handle j).kind None)
+              (sym (found_own then m.state.refs (P.handle j) x.1
+              ∙ ap found_local ((left m f).gone (P.handle j) x.2))) tt)
+          go (inr x) =
+              let same : object_of m.frames (P.handle j) ≡ object_of then (P.handle j) =
+              ap (object_where (λ r. same_handle r.handle (P.handle j))) (left m f).all
+              ∙ where_front (λ r. same_handle r.handle (P.handle j)) (joined (gs m.frames)) (rs m.frames) x.1 in
+              subst (λ z. RefFits P.object w.objects (P.handle j).kind z
+              (found_of then m.state.refs (P.handle j))) (sym x.0)
+              (subst (λ z. RefFits P.object w.objects (P.handle j).kind (standing_at w.refs j)
+              (cond (is_local (P.handle j)) (found_local z) (m.state.refs (P.handle j)))) same
+              (f.refs.stands j below))
+
+  left_count : (m : Moment) (f : Fits c last (suc k) P w m) (kind : RefKind) → same_kind kind Local ≡ false
+      → refs_of kind (left_in w is fs) ≡ refs_of kind w
+  left_count m f kind other = without_count P (length w.refs) (is_ref_of kind) refl (left m f).go
+      w.refs refl (λ j small local. kind_of_ref P.object w.objects (P.handle j).kind (standing_at w.refs j)
+      (found_of m.frames m.state.refs (P.handle j)) kind (f.refs.stands j small)
+      (ap (λ z. same_kind kind z) local ∙ other))
+
+  agreed : (m n : Moment) → Fits c last (suc k) P w m
+      → n.state ≡ state_from m.state (map (by 0) (drop_all (rs m.frames)))
+      → n.frames ≡ with_frames m.frames (gs m.frames) → AreTheLocals 0 n.frames n.state
+  agreed m n f state_is frames_are = subst (λ g. AreTheLocals 0 g n.state) (sym frames_are)
+      (subst (AreTheLocals 0 (with_frames m.frames (gs m.frames))) (sym state_is) (λ p. ap (λ (l : ℕ → Option ℕ). l p)
+      (places_then m.state (rs m.frames)) ∙ (left m f).places (m.state.locals 0) f.agree p))
+
+  left_means : Means c last (suc k) k (IsDone {A = Unit {0}} {B = Unit {0}}) P w
+      (λ old acts answer new. (acts ≡ drop_all (rs old)) × (answer ≡ Ok tt) × (new ≡ with_frames old (gs old)))
+      (λ v. (Ok tt, left_in w is fs))
+  left_means = record {
+    outcome = λ m n x f r.
+        let tables : SameTables m.state n.state =
+        subst (SameTables m.state) (sym (r.leads ∙ ap (λ l. state_from m.state (map (by 0) l)) (r.is).0))
+        (drops_keep m.state (rs m.frames)) in
+        record {
+          pairing = P;
+          later = record {
+            handles = λ j l. refl;
+            objects = λ q l. refl;
+            refs_grow = (let long = as_many in omega arith);
+            objects_stay = λ q there. there;
+            memory = refl;
+          };
+          fits = record {
+            refs = subst (λ z. RefsFit c last P w.objects (without is w.refs) n.frames z n.state.given)
+                (sym tables.refs) (subst (RefsFit c last P w.objects (without is w.refs) n.frames m.state.refs)
+                (sym tables.given) (subst (λ z. RefsFit c last P w.objects (without is w.refs) z m.state.refs
+                m.state.given) (sym (r.is).2) (left_refs m f)));
+            locals = subst (LocalsFit c last k P (length (without is w.refs)) fs) (sym (r.is).2) (left_locals m f);
+            slots = slots_count (left_count m f Global refl) (left_count m f Weak refl)
+                (subst (λ z. SlotsFit c last k (refs_of Global w) (refs_of Weak w) z n.state.given) (sym tables.refs)
+                (subst (SlotsFit c last k (refs_of Global w) (refs_of Weak w) m.state.refs) (sym tables.given)
+                (slots_less (omega arith) f.slots)));
+            objects = subst (ObjectsFit c P.object w.objects) (sym tables.objects) f.objects;
+            used = tables.used ∙ f.used;
+            space = f.space;
+            agree = agreed m n f (r.leads ∙ ap (λ l. state_from m.state (map (by 0) l)) (r.is).0) (r.is).2;
+          };
+          answers = subst (λ z. SameAnswer (IsDone {A = Unit {0}} {B = Unit {0}} P (left_in w is fs)) z (Ok tt))
+              (sym (r.is).1) tt;
+        };
+  }
+
+-- ALL GO
+module _ (c : Config) (last k : ℕ) where
+  pub free_means : (P : Pairing) (w : World)
+      → Means c last (suc k) k (IsDone {A = Unit {0}} {B = Unit {0}}) P w freeing (meaning.free c)
+  free_means P w = record {
+    outcome = (left_means c last k P w (flat_map (λ f. f) w.frames) ([] ∷ []) all_refs (λ old. [] ∷ []) (λ m f.
+        record {
+          go = all_fit f.locals.framed;
+          stay = one_frame no_local no_frame;
+          all = refl;
+          sound = freed_sound m.frames;
+          gone = λ h there. refl;
+          places = freed_at m.frames f.locals.sound;
+        })).outcome;
+  }
+
+-- THE LAST FRAME GOES
+
+-- the world without the last frame and its references
+abbrev pub taken : World → World
+taken w = left_in w (newest_frame w.frames) (all_but_last w.frames)
+
 module _ (c : Config) (last k : ℕ) where
   module _ (P : Pairing) (w : World) (two : nat_lt (length w.frames) 2 ≡ false) where
     two_frames : (m : Moment) → Fits c last (suc k) P w m → 2 ≤ length m.frames.frames
@@ -259,15 +412,20 @@ module _ (c : Config) (last k : ℕ) where
         let most : 2 ≤ length w.frames = grind (arith, nat_tests) in
         omega arith
 
-    as_many : length (taken w).refs ≡ length w.refs
-    as_many = without_long (newest_frame w.frames) w.refs
+    last_left : (m : Moment) → Fits c last (suc k) P w m → AreLeft P (length w.refs) (newest_frame w.frames)
+        (all_but_last w.frames) m.frames (last_frame m.frames.frames) (frames_before m.frames.frames)
+    last_left m f = record {
+      go = newest_fits f.locals.framed;
+      stay = frames_popped f.locals.framed;
+      all = joined_before m.frames.frames;
+      sound = popped_sound m.frames f.locals.sound (two_frames m f);
+      gone = λ h there. (taken_is_gone m.frames h f.locals.sound).1 there;
+      places = popped_at m.frames f.locals.sound;
+    }
 
     popped_few : (m : Moment) → Fits c last (suc k) P w m → (p : ℕ) → slice_index m.frames.given p + k ≤ last
-    popped_few m f p =
-        let was : slice_index m.frames.given p + suc k ≤ last + bit (is_held (all_refs m.frames) p) =
-        f.locals.few p in
-        let most : bit (is_held (all_refs m.frames) p) ≤ 1 = bit_most (is_held (all_refs m.frames) p) in
-        omega arith
+    popped_few = left_few c last k P w (newest_frame w.frames) (all_but_last w.frames) (λ f. last_frame f.frames)
+        (λ f. frames_before f.frames) last_left
 
     -- no place is left for a result
     after_lacks : (m : Moment) → Fits c last (suc k) P w m
@@ -281,101 +439,10 @@ module _ (c : Config) (last k : ℕ) where
         both_full (free_places last (popped m.frames)) (length (joined (frames_before m.frames.frames)))
         (length (newest_frame w.frames)) (held w) c.locals free (newest_held l.framed)
 
-    popped_locals : (m : Moment) → Fits c last (suc k) P w m
-        → LocalsFit c last k P (length (taken w).refs) (taken w).frames (popped m.frames)
-    popped_locals m f = record {
-      framed = frames_later (λ j below. refl) (let long = as_many in omega arith) (frames_popped f.locals.framed);
-      sound = popped_sound m.frames f.locals.sound (two_frames m f);
-      few = λ p. let few = popped_few m f p in omega arith;
-      given = f.locals.given;
-    }
-
-    popped_refs : (m : Moment) → Fits c last (suc k) P w m
-        → RefsFit c last P w.objects (taken w).refs (popped m.frames) m.state.refs m.state.given
-    popped_refs m f = record {
-      given = λ j below. given_then (λ is. is) (λ is. is) (f.refs.given j (let long = as_many in omega arith));
-      once = λ j n below below'. f.refs.once j n (let long = as_many in omega arith)
-          (let long = as_many in omega arith);
-      stands = λ j below. stands j (let long = as_many in omega arith);
-      all = λ h there.
-          let j = f.refs.all h there in
-          let small : j.0 < length w.refs = j.1 in
-          (j.0, (let long = as_many in omega arith), j.2);
-    }
-      where
-        stands : (j : ℕ) → j < length w.refs → RefFits P.object w.objects (P.handle j).kind
-            (standing_at (without (newest_frame w.frames) w.refs) j)
-            (found_of (popped m.frames) m.state.refs (P.handle j))
-        stands j below = go (left_of P (length w.refs) f.refs.once j below (newest_fits f.locals.framed) w.refs refl)
-          where
-            go : IsLeft P j (newest_frame w.frames) (last_frame m.frames.frames) w.refs
-                → RefFits P.object w.objects (P.handle j).kind
-                (standing_at (without (newest_frame w.frames) w.refs) j)
-                (found_of (popped m.frames) m.state.refs (P.handle j))
-            go (inl x) = subst (λ z. RefFits P.object w.objects (P.handle j).kind z
-                (found_of (popped m.frames) m.state.refs (P.handle j))) (sym x.0)
-                (subst (RefFits P.object w.objects (P.handle j).kind None)
-                (sym (found_own (popped m.frames) m.state.refs (P.handle j) x.1
-                ∙ ap found_local ((taken_is_gone m.frames (P.handle j) f.locals.sound).1 x.2))) tt)
-            go (inr x) =
-                let same : object_of m.frames (P.handle j) ≡ object_of (popped m.frames) (P.handle j) =
-                ap (object_where (λ r. same_handle r.handle (P.handle j))) (joined_before m.frames.frames)
-                ∙ where_front (λ r. same_handle r.handle (P.handle j)) (joined (frames_before m.frames.frames))
-                (last_frame m.frames.frames) x.1 in
-                subst (λ z. RefFits P.object w.objects (P.handle j).kind z
-                (found_of (popped m.frames) m.state.refs (P.handle j))) (sym x.0)
-                (subst (λ z. RefFits P.object w.objects (P.handle j).kind (standing_at w.refs j)
-                (cond (is_local (P.handle j)) (found_local z) (m.state.refs (P.handle j)))) same
-                (f.refs.stands j below))
-
-    popped_count : (m : Moment) (f : Fits c last (suc k) P w m) (kind : RefKind) → same_kind kind Local ≡ false
-        → refs_of kind (taken w) ≡ refs_of kind w
-    popped_count m f kind other = without_count P (length w.refs) (is_ref_of kind) refl (newest_fits f.locals.framed)
-        w.refs refl (λ j small local. kind_of_ref P.object w.objects (P.handle j).kind (standing_at w.refs j)
-        (found_of m.frames m.state.refs (P.handle j)) kind (f.refs.stands j small)
-        (ap (λ z. same_kind kind z) local ∙ other))
-
-    agreed : (m n : Moment) → Fits c last (suc k) P w m
-        → n.state ≡ state_from m.state (map (by 0) (drop_all (last_frame m.frames.frames)))
-        → n.frames ≡ popped m.frames → AreTheLocals 0 n.frames n.state
-    agreed m n f state_is frames_are = subst (λ g. AreTheLocals 0 g n.state) (sym frames_are)
-        (subst (AreTheLocals 0 (popped m.frames)) (sym state_is) (λ p. ap (λ (l : ℕ → Option ℕ). l p)
-        (places_then m.state (last_frame m.frames.frames))
-        ∙ popped_at m.frames f.locals.sound (m.state.locals 0) f.agree p))
-
     take_means : Means c last (suc k) k (IsDone {A = Unit {0}} {B = Unit {0}}) P w take_frame (λ v. (Ok tt, taken v))
     take_means = record {
-      outcome = λ m n x f r.
-          let tables : SameTables m.state n.state =
-          subst (SameTables m.state) (sym (r.leads ∙ ap (λ l. state_from m.state (map (by 0) l)) (r.is).0))
-          (drops_keep m.state (last_frame m.frames.frames)) in
-          record {
-            pairing = P;
-            later = record {
-              handles = λ j l. refl;
-              objects = λ q l. refl;
-              refs_grow = (let long = as_many in omega arith);
-              objects_stay = λ q there. there;
-            };
-            fits = record {
-              refs = subst (λ z. RefsFit c last P w.objects (taken w).refs n.frames z n.state.given)
-                  (sym tables.refs) (subst (RefsFit c last P w.objects (taken w).refs n.frames m.state.refs)
-                  (sym tables.given) (subst (λ z. RefsFit c last P w.objects (taken w).refs z m.state.refs
-                  m.state.given) (sym (r.is).2) (popped_refs m f)));
-              locals = subst (LocalsFit c last k P (length (taken w).refs) (taken w).frames)
-                  (sym (r.is).2) (popped_locals m f);
-              slots = slots_count (popped_count m f Global refl) (popped_count m f Weak refl)
-                  (subst (λ z. SlotsFit c last k (refs_of Global w) (refs_of Weak w) z n.state.given) (sym tables.refs)
-                  (subst (SlotsFit c last k (refs_of Global w) (refs_of Weak w) m.state.refs) (sym tables.given)
-                  (slots_less (omega arith) f.slots)));
-              objects = subst (ObjectsFit c P.object w.objects) (sym tables.objects) f.objects;
-              used = tables.used ∙ f.used;
-              space = f.space;
-              agree = agreed m n f (r.leads ∙ ap (λ l. state_from m.state (map (by 0) l)) (r.is).0) (r.is).2;
-            };
-            answers = subst (λ z. SameAnswer (IsDone {A = Unit {0}} {B = Unit {0}} P (taken w)) z (Ok tt))
-                (sym (r.is).1) tt;
-          };
+      outcome = (left_means c last k P w (newest_frame w.frames) (all_but_last w.frames) (λ f. last_frame f.frames)
+          (λ f. frames_before f.frames) last_left).outcome;
     }
 
     -- the frame goes, and its result is referred to from the one before
@@ -396,12 +463,12 @@ module _ (c : Config) (last k : ℕ) where
         (omega arith) (λ m f. after_lacks m f) (λ free. take_and_add (Some p) (Some o) fits)
     popping_means _ _ fits = absurd fits
 
-  -- POPLOCALFRAME
   pub pop_means : (P : Pairing) (w : World) (a : Word) (g : ℕ) → 1 ≤ c.threads → WordFits P w a g
-      → Means c last (suc k) k MaybeFits P w (references.pop_local_frame c last 0 a) (meaning.pop c g)
-  pop_means P w a g some fits = entered_means c last (guard_means c last k {V = MaybeFits}
+      → Means c last (suc k) k MaybeFits P w
+      (frame_to_pop >> (references.resolved c last 0 a >>= (λ x. references.popping c last 0 x))) (meaning.pop c g)
+  pop_means P w a g some fits = guard_means c last k {V = MaybeFits}
       (λ f. nat_lt (length f.frames) 2) (λ v. nat_lt (length v.frames) 2) NoFrame (omega arith)
       (λ m f. ap (λ z. nat_lt z 2) (sym (frames_long f.locals.framed))) (λ two.
-      bind_spends c last (suc k) (suc k) k (omega arith) (resolved_means c last (suc k) P w a g some fits)
-      (λ Q v later x y same. popping_means Q v (ap (λ (z : World). nat_lt (length z.frames) 2) same.1 ∙ two) x y
-      same.0)))
+      means_always c last (then_means c last OptionFits (omega arith)
+      (resolved_means c last (suc k) P w a g some fits)
+      (λ x y same is. means_where c last (popping_means P w two x y same))))

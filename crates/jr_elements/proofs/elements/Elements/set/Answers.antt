@@ -1,5 +1,5 @@
 use Rattle.std.proofs.Common.{◌<◌, Ok, length, map, rules, slice_set, subst}
-use Rattle.jr_model.specs.Objects.{elements_set}
+use Rattle.jr_model.specs.Parts.{elements_set}
 use Rattle.jr_elements.specs.Copies.{AnswersAs}
 use Rattle.jr_elements.proofs.Buffers.{sets_word}
 use Rattle.jr_elements.proofs.elements.Elements.set.Goals as goal

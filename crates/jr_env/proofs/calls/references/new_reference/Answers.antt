@@ -3,7 +3,7 @@ use Rattle.jr_model.specs.Parts.{created}
 use Rattle.jr_frames.specs.Reading.{word_of}
 use Rattle.jr_env.proofs.EnvCalls.{packed_is}
 use Rattle.jr_env.proofs.NewReference.{creates_refused, creates_none, creates_full, creates_won, may_create}
-use Rattle.jr_env.proofs.Served.{plainly, refused_is}
+use Rattle.jr_env.proofs.Served.{forgets, refused_is}
 use Rattle.jr_env.proofs.calls.references.new_reference.Goals as goal
 
 pub returns-in_err-object : goal.returns-in_err-object
@@ -14,7 +14,7 @@ returns-in_err-object g c =
       (
         word_of c.of-target.result,
         c.of-target.ensures.reads,
-        plainly (creates_refused
+        forgets (creates_refused
             (created s.config.slots c.args.kind) (Err _) refl c.in_err-object.ensures),
       ),
     )
@@ -27,7 +27,7 @@ returns-in_default g c =
       (
         word_of c.of-target.result,
         c.of-target.ensures.reads,
-        plainly (creates_none s.config.slots c.args.kind
+        forgets (creates_none s.config.slots c.args.kind
             c.in_default.is c.in_ok-object.ensures),
       ),
     )
@@ -42,7 +42,7 @@ returns-in_err-made g c = (
   (
     word_of c.of-target.result,
     c.of-target.ensures.reads,
-    plainly (creates_full g.met.S.Steps.fits
+    forgets (creates_full g.met.S.Steps.fits
         c.requires.ready.role_is c.args.kind (Err _) refl c.in-Some.is c.in_ok-object.ensures
         c.in_err-made.ensures.err c.in_err-made.ensures.stays),
   ),
@@ -55,7 +55,7 @@ returns g c = (
   (
     word_of c.of-target.result,
     c.of-target.ensures.reads,
-    plainly (creates_won g.met.S.Steps.fits c.in-Some.is
+    forgets (creates_won g.met.S.Steps.fits c.in-Some.is
         c.in_ok-object.ensures c.in_ok-made.ensures.ok c.in_ok-made.ensures.next),
   ),
 )

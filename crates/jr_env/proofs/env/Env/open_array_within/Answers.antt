@@ -1,10 +1,13 @@
-use Rattle.jr_env.proofs.StayLevels.{array_opened, array_refused}
+use Rattle.jr_model.specs.CallPrograms.{get_array_critical}
+use Rattle.jr_env.proofs.StayLevels.{level_opened, level_refused}
 use Rattle.jr_env.proofs.env.Env.open_array_within.Goals as goal
 
 pub returns-clause-with_level : goal.returns-clause-with_level
-returns-clause-with_level g c = array_opened c.args.self.now.held c.open_array_within.new.held
-    c.open_array_within.ensures.frames c.args.array.0 c.open_array_within.result c.open_array_within.ensures.call
+returns-clause-with_level g c = level_opened c.args.self.now.held c.open_array_within.new.held
+    c.open_array_within.ensures.frames c.args.array.0 (get_array_critical 0) c.open_array_within.result
+    c.open_array_within.ensures.call
 
 pub returns-clause-on : goal.returns-clause-on
-returns-clause-on g c = array_refused c.args.self.now.held c.open_array_within.new.held
-    c.open_array_within.ensures.frames c.args.array.0 c.open_array_within.result c.open_array_within.ensures.call
+returns-clause-on g c = level_refused c.args.self.now.held c.open_array_within.new.held
+    c.open_array_within.ensures.frames c.args.array.0 (get_array_critical 0) c.open_array_within.result
+    c.open_array_within.ensures.call

@@ -7,7 +7,7 @@ use Rattle.jr_env.proofs.NewReference.{creates_refused}
 use Rattle.jr_frames.proofs.NewLocal.{creates_by, may_find_both, ready_resolved}
 use Rattle.jr_frames.proofs.PopResult.{pops_above, pops_no_frame, two_frames}
 use Rattle.jr_env.proofs.EnvCalls.{packed_if_is}
-use Rattle.jr_env.proofs.Served.{plainly, refused_is}
+use Rattle.jr_env.proofs.Served.{forgets, refused_is}
 use Rattle.jr_env.proofs.calls.frames.PopLocalFrameNativeCall.work.Goals as goal
 
 pub returns-then-is_base-clause-call : goal.returns-then-is_base-clause-call
@@ -18,7 +18,7 @@ returns-then-is_base-clause-call g c =
       (
         word_of c.of-target.result,
         c.of-target.ensures.reads,
-        plainly (pops_no_frame g.met.S.Steps.fits
+        forgets (pops_no_frame g.met.S.Steps.fits
             c.args.steps.now c.args.frames.now.frames (resolved s.config s.last s.thread (word_of c.of-target.result)
             >>= popping s.config s.last s.thread)
             (eq_true _ 1 (sym c.is_base.ensures ∙ c.if-is_base.true))),
@@ -35,7 +35,7 @@ returns-in_err-object-clause-call g c =
       (
         word_of c.of-target.result,
         c.of-target.ensures.reads,
-        plainly (pops_above (resolved s.config s.last s.thread (word_of c.of-target.result)
+        forgets (pops_above (resolved s.config s.last s.thread (word_of c.of-target.result)
             >>= popping s.config s.last s.thread) above
             (creates_refused (popping s.config s.last s.thread) (Err _) refl c.in_err-object.ensures)),
       ),
@@ -57,7 +57,7 @@ returns-in_err-made-clause-call g c =
       (
         word_of c.of-target.result,
         c.of-target.ensures.reads,
-        plainly (pops_above (resolved s.config s.last s.thread (word_of c.of-target.result)
+        forgets (pops_above (resolved s.config s.last s.thread (word_of c.of-target.result)
             >>= popping s.config s.last s.thread) above
             (creates_by popping c.in_ok-object.ensures c.in_err-made.ensures.call)),
       ),
@@ -73,7 +73,7 @@ returns-clause-call g c =
       (
         word_of c.of-target.result,
         c.of-target.ensures.reads,
-        plainly (pops_above (resolved s.config s.last s.thread (word_of c.of-target.result)
+        forgets (pops_above (resolved s.config s.last s.thread (word_of c.of-target.result)
             >>= popping s.config s.last s.thread) above
             (creates_by popping c.in_ok-object.ensures c.in_ok-made.ensures.call)),
       ),

@@ -7,7 +7,7 @@ use Rattle.jr_env.specs.Requests.{for_new_array}
 use Rattle.jr_env.specs.Works.{Serves}
 use Rattle.jr_env.proofs.EnvCalls.{packed_is}
 use Rattle.jr_env.proofs.NewArray.{has_elements, zero_word, works_array}
-use Rattle.jr_env.proofs.Served.{plainly, refused_is}
+use Rattle.jr_env.proofs.Served.{forgets, refused_is}
 use Rattle.jr_env.proofs.calls.making.NewArrayNativeCall.work.Goals as goal
 
 pub make_array-requires-clause-kind : goal.make_array-requires-clause-kind
@@ -29,7 +29,7 @@ returns-in_err-made-clause-call g c =
     c.make_array.new.frames.frames (for_new_array kind n) c.from_residual.result) c.KIND-kind.ensures (
       Err _,
       refused_is c.from_residual.result c.from_residual.ensures.1,
-      plainly (works_array n (length-replicate n 0) (IsWordNow c.KIND-kind.result 0)
+      forgets (works_array n (length-replicate n 0) (IsWordNow c.KIND-kind.result 0)
           (λ k. zero_word c.KIND-kind.result k some) c.in_err-made.ensures.call),
     )
 
@@ -42,6 +42,6 @@ returns-clause-call g c =
     c.make_array.new.frames.frames (for_new_array kind n) (Ok c.pack.result)) c.KIND-kind.ensures (
       Ok _,
       ap (λ h. Ok h) (packed_is c.pack.result c.in_ok-made.made c.pack.ensures),
-      plainly (works_array n (length-replicate n 0) (IsWordNow c.KIND-kind.result 0)
+      forgets (works_array n (length-replicate n 0) (IsWordNow c.KIND-kind.result 0)
           (λ k. zero_word c.KIND-kind.result k some) c.in_ok-made.ensures.call),
     )

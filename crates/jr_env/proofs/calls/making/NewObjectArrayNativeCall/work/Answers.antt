@@ -8,7 +8,7 @@ use Rattle.jr_env.specs.Requests.{making_steps}
 use Rattle.jr_env.proofs.EnvCalls.{packed_is}
 use Rattle.jr_env.proofs.NewReference.{creates_refused}
 use Rattle.jr_env.proofs.NewArray.{calls_more, may_name, makes_resolved}
-use Rattle.jr_env.proofs.Served.{plainly, refused_is}
+use Rattle.jr_env.proofs.Served.{forgets, refused_is}
 use Rattle.jr_env.proofs.calls.making.NewObjectArrayNativeCall.work.Goals as goal
 
 pub returns-in_err-object-clause-call : goal.returns-in_err-object-clause-call
@@ -19,7 +19,7 @@ returns-in_err-object-clause-call g c =
       (
         word_of c.of-initial.result,
         c.of-initial.ensures.reads,
-        plainly (calls_more (making_steps c.args.self.0 s.config)
+        forgets (calls_more (making_steps c.args.self.0 s.config)
             (creates_refused (λ z. made s.config s.last s.thread Objects (replicate c.args.self.0 (element_word z)))
             (Err _) refl c.in_err-object.ensures)),
       ),
@@ -39,7 +39,7 @@ returns-in_err-made-clause-call g c = (
   (
     word_of c.of-initial.result,
     c.of-initial.ensures.reads,
-    plainly (makes_resolved c.args.self.0 c.in_ok-object.ensures
+    forgets (makes_resolved c.args.self.0 c.in_ok-object.ensures
         c.element_word-word.ensures c.in_err-made.ensures.call),
   ),
 )
@@ -51,7 +51,7 @@ returns-clause-call g c = (
   (
     word_of c.of-initial.result,
     c.of-initial.ensures.reads,
-    plainly (makes_resolved c.args.self.0 c.in_ok-object.ensures
+    forgets (makes_resolved c.args.self.0 c.in_ok-object.ensures
         c.element_word-word.ensures c.in_ok-made.ensures.call),
   ),
 )

@@ -4,14 +4,14 @@ use Rattle.jr_heap.specs.Ranges.{place_of, size_of}
 use Rattle.jr_env.specs.Works.{LearnsNew}
 use Rattle.jr_env.proofs.EnvCalls.{packed_is}
 use Rattle.jr_env.proofs.NewObject.{may_publish, makes, makes_nothing}
-use Rattle.jr_env.proofs.Served.{plainly, refused_is}
+use Rattle.jr_env.proofs.Served.{forgets, refused_is}
 use Rattle.jr_env.proofs.calls.making.NewPlainNativeCall.work.Goals as goal
 
 pub returns-in_default-clause-call : goal.returns-in_default-clause-call
 returns-in_default-clause-call g c = (
   Err _,
   refl,
-  plainly (makes_nothing g.met.S.Steps.fits (g.S.Steps.facts c.args.steps.now).stands.config.objects (LearnsNew None)
+  forgets (makes_nothing g.met.S.Steps.fits (g.S.Steps.facts c.args.steps.now).stands.config.objects (LearnsNew None)
       (λ j k e. e) Plain [] c.requires.ready c.in_default.ensures.none),
 )
 
@@ -23,7 +23,7 @@ pub returns-in_err-made-clause-call : goal.returns-in_err-made-clause-call
 returns-in_err-made-clause-call g c = (
   Err _,
   refused_is c.from_residual.result c.from_residual.ensures.1,
-  plainly (makes (Err _) c.requires.ready c.in-Some.ensures.some c.empty.ensures.place c.empty.ensures.size
+  forgets (makes (Err _) c.requires.ready c.in-Some.ensures.some c.empty.ensures.place c.empty.ensures.size
       c.in_err-made.ensures.call),
 )
 
@@ -31,6 +31,6 @@ pub returns-clause-call : goal.returns-clause-call
 returns-clause-call g c = (
   Ok _,
   ap (λ h. Ok h) (packed_is c.pack.result c.in_ok-made.made c.pack.ensures),
-  plainly (makes (Ok c.in_ok-made.made) c.requires.ready c.in-Some.ensures.some c.empty.ensures.place
+  forgets (makes (Ok c.in_ok-made.made) c.requires.ready c.in-Some.ensures.some c.empty.ensures.place
       c.empty.ensures.size c.in_ok-made.ensures.call),
 )

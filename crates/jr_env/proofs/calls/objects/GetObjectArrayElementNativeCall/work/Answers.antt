@@ -2,17 +2,17 @@ use Rattle.std.proofs.Common.{Err, Ok, ap, refl, ◌∙◌}
 use mathlib.Core.Logic.{∥∥₁_map}
 use Rattle.jr_word.proofs.Limits.{limited}
 use Rattle.jr_frames.specs.Reading.{word_of}
-use Rattle.jr_env.proofs.ElementChecks.{checks_passed}
-use Rattle.jr_env.proofs.ElementReading.{element_at, element_named, may_both, may_name, reads_element}
-use Rattle.jr_env.proofs.ElementReading.{reads_nothing, ready_found, ready_read, steady_reading, word_low}
-use Rattle.jr_frames.proofs.FoundObject.{finds_refused}
+use Rattle.jr_model.specs.CallPrograms.{get_object_array_element}
+use Rattle.jr_env.proofs.AtObjects.{finds_nothing, passes_there, refuses_there}
+use Rattle.jr_env.proofs.ElementChecks.{element_passed}
+use Rattle.jr_env.proofs.ElementReading.{may_both, may_name, reads_element, ready_found, ready_read, word_low}
 use Rattle.jr_env.proofs.EnvCalls.{packed_if_is}
 use Rattle.jr_env.proofs.Served.{refused_is}
 use Rattle.jr_env.proofs.calls.objects.GetObjectArrayElementNativeCall.work.Goals as goal
 
 pub see_element-word-requires-clause-index : goal.see_element-word-requires-clause-index
-see_element-word-requires-clause-index g c = (checks_passed c.in_ok-array.header.kind c.in_ok-array.header.length
-    c.args.self.1 c.in_ok-has_element.ensures).1
+see_element-word-requires-clause-index g c = (element_passed c.args.self.1 c.in_ok-array.header.kind
+    c.in_ok-array.header.length c.in_ok-has_element.ensures).1
 
 pub see_element-word-requires-clause-known : goal.see_element-word-requires-clause-known
 see_element-word-requires-clause-known g c = ∥∥₁_map c.in_ok-array.ensures.known (λ k. (k.0, k.1, k.2.known))
@@ -41,71 +41,42 @@ new_local-requires-clause-object g c = may_name g.met.S.Steps.fits c.args.self.1
     c.requires.ready.own.agrees)
 
 pub returns-in_err-array-clause-call : goal.returns-in_err-array-clause-call
-returns-in_err-array-clause-call g c =
-    let s = (g.S.Steps.facts c.args.steps.now).stands in
-    let w = word_of c.of-target.result in (
-      Err _,
-      refused_is c.from_residual.result c.from_residual.ensures.1,
-      (
-        w,
-        c.of-target.ensures.reads,
-        (
-          finds_refused w (element_at c.args.self.1 (element_named s.config s.last s.thread c.args.self.1)) (Err _) refl
-              c.in_err-array.ensures.call,
-          steady_reading s.config s.last s.thread w c.args.self.1,
-        ),
-      ),
-    )
+returns-in_err-array-clause-call g c = (
+  Err _,
+  refused_is c.from_residual.result c.from_residual.ensures.1,
+  finds_nothing (word_of c.of-target.result) c.of-target.ensures.reads (get_object_array_element c.args.self.1) (Err _)
+      refl c.in_err-array.ensures.call,
+)
 
 pub returns-in_err-has_element-clause-call : goal.returns-in_err-has_element-clause-call
-returns-in_err-has_element-clause-call g c =
-    let s = (g.S.Steps.facts c.args.steps.now).stands in
-    let w = word_of c.of-target.result in (
-      Err _,
-      refused_is c.from_residual-in_err-has_element.result c.from_residual-in_err-has_element.ensures.1,
-      (
-        w,
-        c.of-target.ensures.reads,
-        (
-          reads_nothing g.met.S.Steps.fits w c.args.self.1 c.in_ok-array.ensures.call
-              (element_named s.config s.last s.thread c.args.self.1) (Err _) refl c.in_err-has_element.ensures,
-          steady_reading s.config s.last s.thread w c.args.self.1,
-        ),
-      ),
-    )
+returns-in_err-has_element-clause-call g c = (
+  Err _,
+  refused_is c.from_residual-in_err-has_element.result c.from_residual-in_err-has_element.ensures.1,
+  refuses_there (word_of c.of-target.result) c.of-target.ensures.reads (get_object_array_element c.args.self.1)
+      g.met.S.Steps.fits c.in_ok-array.ensures.call (Err _) refl c.requires.ready.role_is
+      c.in_err-has_element.ensures,
+)
 
 pub returns-in_err-made-clause-call : goal.returns-in_err-made-clause-call
 returns-in_err-made-clause-call g c =
-    let s = (g.S.Steps.facts c.args.steps.now).stands in
-    let w = word_of c.of-target.result in (
+    let found = c.in_ok-array.ensures.call in (
       Err _,
       refused_is c.from_residual-in_err-made.result c.from_residual-in_err-made.ensures.1,
-      (
-        w,
-        c.of-target.ensures.reads,
-        (
-          reads_element g.met.S.Steps.fits w c.args.self.1 c.see_element-word.result c.in_ok-array.ensures.call
-              c.in_ok-has_element.ensures c.requires.ready.role_is c.see_element-word.ensures c.object_in-object.ensures
-              c.in_err-made.ensures.call,
-          steady_reading s.config s.last s.thread w c.args.self.1,
-        ),
-      ),
+      passes_there (word_of c.of-target.result) c.of-target.ensures.reads (get_object_array_element c.args.self.1)
+          g.met.S.Steps.fits found c.requires.ready.role_is c.in_ok-has_element.ensures
+          (reads_element g.met.S.Steps.fits c.args.self.1 c.see_element-word.result c.in_ok-has_element.ensures
+          (found.stands_is.role ∙ c.requires.ready.role_is) c.see_element-word.ensures found.stands_is
+          c.object_in-object.ensures c.in_err-made.ensures.call),
     )
 
 pub returns-clause-call : goal.returns-clause-call
 returns-clause-call g c =
-    let s = (g.S.Steps.facts c.args.steps.now).stands in
-    let w = word_of c.of-target.result in (
+    let found = c.in_ok-array.ensures.call in (
       Ok _,
       ap (λ x. Ok x) (packed_if_is c.map.result c.in_ok-made.made c.map.ensures.cases),
-      (
-        w,
-        c.of-target.ensures.reads,
-        (
-          reads_element g.met.S.Steps.fits w c.args.self.1 c.see_element-word.result c.in_ok-array.ensures.call
-              c.in_ok-has_element.ensures c.requires.ready.role_is c.see_element-word.ensures c.object_in-object.ensures
-              c.in_ok-made.ensures.call,
-          steady_reading s.config s.last s.thread w c.args.self.1,
-        ),
-      ),
+      passes_there (word_of c.of-target.result) c.of-target.ensures.reads (get_object_array_element c.args.self.1)
+          g.met.S.Steps.fits found c.requires.ready.role_is c.in_ok-has_element.ensures
+          (reads_element g.met.S.Steps.fits c.args.self.1 c.see_element-word.result c.in_ok-has_element.ensures
+          (found.stands_is.role ∙ c.requires.ready.role_is) c.see_element-word.ensures found.stands_is
+          c.object_in-object.ensures c.in_ok-made.ensures.call),
     )

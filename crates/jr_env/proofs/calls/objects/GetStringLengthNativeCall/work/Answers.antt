@@ -1,47 +1,22 @@
-use Rattle.std.proofs.Common.{sym, ◌∙◌}
+use Rattle.std.proofs.Common.{Err, refl, sym, ◌∙◌}
 use Rattle.jr_word.specs.declared.fault.Fault.TheVariants.{WrongKind}
-use Rattle.jr_model.specs.Calls.{for_object}
-use Rattle.jr_model.specs.Checks.{is_text}
+use Rattle.jr_model.specs.CallPrograms.{get_string_length}
 use Rattle.jr_frames.specs.Reading.{word_of}
-use Rattle.jr_frames.proofs.FoundObject.{finds_refused}
-use Rattle.jr_env.proofs.ObjectLooks.{length_of, steady_length, tells_length, tells_no_length}
+use Rattle.jr_env.proofs.AtObjects.{finds_nothing, gives_at_once, passes_there, refuses_there}
 use Rattle.jr_env.proofs.calls.objects.GetStringLengthNativeCall.work.Goals as goal
 
 pub returns-in_err-header-clause-call : goal.returns-in_err-header-clause-call
-returns-in_err-header-clause-call g c =
-    let s = (g.S.Steps.facts c.args.steps.now).stands in
-    let w = word_of c.of-target.result in (
-      w,
-      c.of-target.ensures.reads,
-      (
-        finds_refused w (λ s o. for_object s o (length_of is_text WrongKind)) c.from_residual.result
-            c.from_residual.ensures.1 c.in_err-header.ensures.call,
-        steady_length s.config s.last s.thread w is_text WrongKind,
-      ),
-    )
+returns-in_err-header-clause-call g c = finds_nothing (word_of c.of-target.result) c.of-target.ensures.reads
+    get_string_length c.from_residual.result c.from_residual.ensures.1 c.in_err-header.ensures.call
 
 pub returns-then-not-is_text-clause-call : goal.returns-then-not-is_text-clause-call
 returns-then-not-is_text-clause-call g c =
-    let s = (g.S.Steps.facts c.args.steps.now).stands in
-    let w = word_of c.of-target.result in (
-      w,
-      c.of-target.ensures.reads,
-      (
-        tells_no_length g.met.S.Steps.fits w c.in_ok-header.ensures.call is_text WrongKind (λ p. tt)
-            (sym c.if-not-is_text.ensures),
-        steady_length s.config s.last s.thread w is_text WrongKind,
-      ),
-    )
+    refuses_there (word_of c.of-target.result) c.of-target.ensures.reads get_string_length g.met.S.Steps.fits
+    c.in_ok-header.ensures.call (Err WrongKind) refl c.requires.ready.role_is
+    (rw (sym c.is_text.ensures ∙ c.if-not-is_text.true) refl)
 
 pub returns-clause-call : goal.returns-clause-call
 returns-clause-call g c =
-    let s = (g.S.Steps.facts c.args.steps.now).stands in
-    let w = word_of c.of-target.result in (
-      w,
-      c.of-target.ensures.reads,
-      (
-        tells_length g.met.S.Steps.fits w c.in_ok-header.ensures.call is_text WrongKind
-            (sym c.is_text.ensures ∙ c.if-not-is_text.false),
-        steady_length s.config s.last s.thread w is_text WrongKind,
-      ),
-    )
+    passes_there (word_of c.of-target.result) c.of-target.ensures.reads get_string_length g.met.S.Steps.fits
+    c.in_ok-header.ensures.call c.requires.ready.role_is
+    (rw (sym c.is_text.ensures ∙ c.if-not-is_text.false) refl) (gives_at_once g.met.S.Steps.fits _)

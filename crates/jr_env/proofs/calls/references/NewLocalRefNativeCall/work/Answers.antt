@@ -3,7 +3,7 @@ use Rattle.jr_model.specs.References.{new_local}
 use Rattle.jr_frames.specs.Reading.{word_of}
 use Rattle.jr_env.proofs.EnvCalls.{packed_if_is}
 use Rattle.jr_env.proofs.NewReference.{creates_refused}
-use Rattle.jr_env.proofs.Served.{plainly, refused_is}
+use Rattle.jr_env.proofs.Served.{forgets, refused_is}
 use Rattle.jr_frames.proofs.NewLocal.{may_find, ready_resolved, creates_local}
 use Rattle.jr_env.proofs.calls.references.NewLocalRefNativeCall.work.Goals as goal
 
@@ -15,7 +15,7 @@ returns-in_err-object-clause-call g c =
       (
         word_of c.of-target.result,
         c.of-target.ensures.reads,
-        plainly (creates_refused
+        forgets (creates_refused
             (new_local s.config s.last s.thread) (Err _) refl c.in_err-object.ensures),
       ),
     )
@@ -33,7 +33,7 @@ returns-in_err-made-clause-call g c = (
   (
     word_of c.of-target.result,
     c.of-target.ensures.reads,
-    plainly (creates_local c.in_ok-object.ensures
+    forgets (creates_local c.in_ok-object.ensures
         c.in_err-made.ensures.call),
   ),
 )
@@ -45,7 +45,7 @@ returns-clause-call g c = (
   (
     word_of c.of-target.result,
     c.of-target.ensures.reads,
-    plainly (creates_local c.in_ok-object.ensures
+    forgets (creates_local c.in_ok-object.ensures
         c.in_ok-made.ensures.call),
   ),
 )

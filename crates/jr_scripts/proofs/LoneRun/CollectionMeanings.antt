@@ -1,5 +1,5 @@
--- What a lone thread's commands of collections mean.
-use Rattle.std.proofs.Common.{◌≡◌, ◌≢◌, inl, inr, ℕ, ◌<◌, ◌+◌, false, List, [], ◌∷◌, ◌++◌, map, length, Result}
+-- WHAT COLLECTIONS MEAN.
+use Rattle.std.proofs.Common.{◌≡◌, ◌≢◌, inl, inr, ℕ, ◌<◌, ◌≤◌, ◌+◌, List, [], ◌∷◌, ◌++◌, map, length, Result}
 use Rattle.std.proofs.Common.{Ok, Err, refl, sym, ap, subst, ◌∙◌, append_assoc, arith}
 use Rattle.std.specs.List.{AllByRecursion}
 use Rattle.std.proofs.lemmas.List.{append-nil}
@@ -29,22 +29,20 @@ use Rattle.jr_syntax.specs.declared.verb.WithTries.TheVariants as with_tries
 use Rattle.jr_scripts.specs.declared.reply.Reply.{Reply}
 use Rattle.jr_scripts.specs.declared.reply.Reply.TheVariants as replies
 use Rattle.jr_scripts.specs.Commands.{collecting, collecting_announced, told as told_by}
-use Rattle.jr_scripts.specs.Places.{Place}
+use Rattle.jr_scripts.specs.Places.{Place, objects_after}
 use Rattle.jr_scripts.specs.Posting.{ThreadWords}
-use Rattle.jr_scripts.specs.Runs.{IsUnbarred}
-use Rattle.jr_scripts.specs.Text.{printed}
 use Rattle.jr_scripts.specs.Meaning.{World, collects, is_found_reached, swept, told_of}
 use Rattle.jr_scripts.proofs.AloneAnnouncing.{never_refused, once_led}
-use Rattle.jr_scripts.proofs.AloneCalls.{alone_before, sees_alone}
+use Rattle.jr_scripts.proofs.AloneCalls.{all_undisturbed}
 use Rattle.jr_scripts.proofs.AloneDeeds.{never_busy}
-use Rattle.jr_scripts.proofs.AloneHistories.{all_back, all_prefix, own_acts}
-use Rattle.jr_scripts.proofs.LoneRun.MadeCalls.{AreUnopposed, is_opposed, moment, moment_is}
+use Rattle.jr_scripts.proofs.AloneHistories.{all_back, all_map, own_acts}
+use Rattle.jr_scripts.proofs.LoneRun.MadeCalls.{moment, moment_is}
 use Rattle.jr_scripts.proofs.LoneRun.MeaningFrames.{Pairing}
-use Rattle.jr_scripts.proofs.LoneRun.MeaningFits.{Fits, HandlesStay, fits_less, gone_fits}
+use Rattle.jr_scripts.proofs.LoneRun.MeaningFits.{Fits, SameAnswer, fits_less, gone_fits}
 use Rattle.jr_scripts.proofs.LoneRun.MeaningCollections.{at_reopen, fits_then, long, reopen_is, told_then}
-use Rattle.jr_scripts.proofs.LoneRun.MeaningDeeds.{IsPass, all_unopposed, made_once, names_stay, now, words_stay}
-use Rattle.jr_scripts.proofs.LoneRun.MeaningStands.{Keeps, pass_later}
-use Rattle.jr_scripts.proofs.LoneRun.CommandSteps.{Turn, Steps, at_most, left_as, none_stand}
+use Rattle.jr_scripts.proofs.LoneRun.MeaningLevels.{AreLevels}
+use Rattle.jr_scripts.proofs.LoneRun.MeaningDeeds.{IsLone, IsPass, is_alone, now, pass_later, sees, tried_once}
+use Rattle.jr_scripts.proofs.LoneRun.MeaningReplies.{ReplyFits, Stands, Stepped, stepped_to, the_same}
 
 -- A CALL THAT KEEPS THE FRAMES
 abbrev KeepsFrames : {A : Type 0} → Call A → Type 0
@@ -171,101 +169,104 @@ module _ {old new : PassView} {cleared : List Handle} {dropped : List ℕ} {used
       ∙ append-nil old.seen) in
       subst (λ es. IsWhole (state es) cleared dropped) before d.whole
 
-module _ {c : Config} {last turns j k : ℕ} {P : Pairing} {w : World} {old new : ThreadState} {p q : Place}
-    {had told : ThreadWords} (s : Turn false c last turns j k P w old new p q had told) where
+announced_pass : (c : Config) (last tries : ℕ) (old new : ThreadState) (once : Result Collected Fault)
+    → announced_collection tries old once new → IsPass c last old.pass → IsPass c last new.pass
+announced_pass c last tries old new (Ok a) d pass = pass_later d.done.ran.did pass
+announced_pass c last tries old new (Err e) d pass = pass_later d.made.ran.did pass
+
+-- what is left of the world
+abbrev then : World → World
+then w = swept (is_found_reached w) w
+
+-- no level stands
+no_levels : (P : Pairing) (w : World) (ps os : List ℕ) → ps ≡ [] → AreLevels P w ps os → AreLevels P (then w) ps os
+no_levels P w [] [] none are = tt
+no_levels P w (o ∷ ps) os none are = absurd cc
+no_levels P w [] (o ∷ os) none are = absurd are
+
+announced_acts : (refused : List ℕ) → AllByRecursion (λ a. (n : ℕ) → a ≢ ShutBusy n) (announcing_acts refused)
+    → refused ≡ []
+announced_acts [] free = refl
+announced_acts (n ∷ ns) free = absurd (free.1.1.0 n refl)
+
+module _ (c : Config) (last : ℕ) (lone : IsLone c last) {j k : ℕ} {P : Pairing} {w : World} {old new : ThreadState}
+    {p q : Place} {had told : ThreadWords} (s : Stands c last lone j P w old p q had told) (outside : p.objects ≡ [])
+    (le : k ≤ j) where
   -- A COLLECTION from a moment that is as the world
-  collected_step : (x : Command) (answer : Result Reply Fault) (a : Collected)
-      → ((b : Collected) → Keeps x (Ok (replies.Collected b)))
+  collected : (x : Command) (answer : Result Reply Fault) (a : Collected) → objects_after x answer p.objects ≡ p.objects
       → answer ≡ Ok (replies.Collected a) → (from : PassView) → IsPass c last from
       → Fits c last k P w (moment (state from.seen) old.frames) → (cleared : List Handle) (dropped : List ℕ)
       → length cleared ≡ a.cleared → length dropped ≡ a.dropped → Collects from new.pass cleared dropped a.used
-      → new.frames ≡ old.frames → Steps s x answer (collects w)
-  collected_step x answer a keeps is from pass fits cleared dropped clears drops d frames =
-      let did = d.did in
+      → new.frames ≡ old.frames → Stepped c last lone k x new p q had told answer (collects w)
+  collected x answer a keeps is from pass fits cleared dropped clears drops d frames =
       let acts = collection_acts cleared dropped a.used in
-      let seen : new.pass.seen ≡ from.seen ++ map (by 0) acts = sees_alone from new.pass acts did s.alone
-      ∙ ap (λ t. from.seen ++ map (by t) acts) (did.thread ∙ pass.thread) in
+      let seen = sees c last lone d.did pass in
       let legal : IsLegal c last (from.seen ++ map (by 0) acts) = subst (IsLegal c last) seen
       (subst (λ z. IsLegal z last new.pass.seen) pass.config
-      (subst (λ l. IsLegal from.config l new.pass.seen) pass.last_is did.legal)) in
-      let later = pass_later c last from new.pass acts did pass in
-      let one : c.threads ≡ 1 = ap (λ (z : Config). z.threads) (sym later.config) ∙ s.alone.one in
+      (subst (λ l. IsLegal from.config l new.pass.seen) pass.last_is d.did.legal)) in
       let m = moment (state from.seen) old.frames in
       let whole = whole_then d pass.thread seen in
       let now_is : now new ≡ moment
-      (at_reopen c last k P w m fits one from.seen refl cleared dropped a.used legal whole)
+      (at_reopen c last k P w m fits lone.one from.seen refl cleared dropped a.used legal whole)
       old.frames = moment_is (state new.pass.seen)
-      (at_reopen c last k P w m fits one from.seen refl cleared dropped a.used legal whole) new.frames old.frames
+      (at_reopen c last k P w m fits lone.one from.seen refl cleared dropped a.used legal whole) new.frames old.frames
       (ap state seen ∙ (state_append from.seen (map (by 0) acts)
-      ∙ reopen_is c last k P w m fits one from.seen refl cleared dropped a.used legal whole)) frames in
-      let then = swept (is_found_reached w) w in
-      let numbers = told_then c last k P w m fits one from.seen refl cleared dropped a.used legal whole in
-      let same : a ≡ told_of w then = same_collected a (told_of w then) (sym clears ∙ sym numbers.0)
+      ∙ reopen_is c last k P w m fits lone.one from.seen refl cleared dropped a.used legal whole)) frames in
+      let numbers = told_then c last k P w m fits lone.one from.seen refl cleared dropped a.used legal whole in
+      let same : a ≡ told_of w (then w) = same_collected a (told_of w (then w)) (sym clears ∙ sym numbers.0)
       (sym drops ∙ sym numbers.1) (sym numbers.2) in
-      let stay : HandlesStay P w P then = record {
+      stepped_to c last lone x s P (record {
         handles = λ i small. refl;
-        refs_grow = (let same = long c last k P w m fits one from.seen refl cleared dropped a.used legal whole in
+        refs_grow = (let same = long c last k P w m fits lone.one from.seen refl cleared dropped a.used legal whole in
             omega (arith, same));
-      } in
-      left_as s x answer P then (Ok (replies.Collected a)) (Ok (replies.Collected (told_of w then)))
-      p.names q.names later
-      (subst (Fits c last k P then) (sym now_is)
-      (fits_then c last k P w m fits one from.seen refl cleared dropped a.used legal whole))
-      (λ some. absurd (some s.region)) (names_stay stay p.names q.names s.stands.names)
-      (words_stay stay had told s.stands.words)
-      (none_stand s P then) is (keeps a p had)
-      (keeps (told_of w then) q told) (λ line. ap (λ z. printed line x (Ok (replies.Collected z))) same)
+      }) (no_levels P w p.objects q.objects outside s.objects) (pass_later d.did pass)
+      (subst (Fits c last k P (then w)) (sym now_is)
+      (fits_then c last k P w m fits lone.one from.seen refl cleared dropped a.used legal whole))
+      (subst (λ z. SameAnswer (ReplyFits P (then w)) z (Ok (replies.Collected (told_of w (then w))))) (sym is)
+      (subst (λ b. ReplyFits P (then w) (replies.Collected a) (replies.Collected b)) same
+      (the_same (replies.Collected a) refl))) (λ some. absurd (some (keeps ∙ outside)))
 
   -- GC
-  pub collect_step : j ≡ k → (answer : Result Reply Fault) → collecting old answer new
-      → Steps s (commands.OfRoom of_room.Collect) answer (collects w)
-  collect_step one (Ok (replies.Collected a)) d =
-      collected_step (commands.OfRoom of_room.Collect) (Ok (replies.Collected a)) a
-      (λ b place ws. (refl, refl)) refl old.pass s.stands.pass (fits_less (at_most one) s.stands.fits)
-      d.cleared
-      d.dropped d.clears d.drops d.collects (collect_keeps old.frames new.frames d.ran.acts
-      (Ok (a.cleared, a.dropped, a.used)) d.ran.is)
-  collect_step one (Ok (replies.Busy n)) d = absurd (never_busy old new n s.alone d)
-  collect_step one _ d = absurd d
+  pub collect_does : (answer : Result Reply Fault) → collecting old answer new
+      → Stepped c last lone k (commands.OfRoom of_room.Collect) new p q had told answer (collects w)
+  collect_does (Ok (replies.Collected a)) d = collected (commands.OfRoom of_room.Collect) (Ok (replies.Collected a)) a
+      refl refl old.pass s.pass (fits_less le s.fits) d.cleared d.dropped d.clears d.drops d.collects
+      (collect_keeps old.frames new.frames d.ran.acts (Ok (a.cleared, a.dropped, a.used)) d.ran.is)
+  collect_does (Ok (replies.Busy n)) d =
+      absurd (never_busy old new n (is_alone c last lone (pass_later d.made.ran.did s.pass)) d)
+  collect_does _ d = absurd d
 
   -- GCANN
-  announced_acts : (refused : List ℕ) → AreUnopposed (announcing_acts refused) → refused ≡ []
-  announced_acts [] free = refl
-  announced_acts (n ∷ ns) free = absurd (let bad = free.1.1.0 in cc)
+  announced : (tries : ℕ) (answer : Result Reply Fault) (once : Result Collected Fault) → answer ≡ told_by once
+      → announced_collection tries old once new
+      → Stepped c last lone k (commands.WithTries with_tries.CollectAnnounced tries) new p q had told answer
+      (collects w)
+  announced tries answer (Err e) is r = absurd (never_refused tries old.pass new.pass old.frames new.frames
+      (is_alone c last lone (pass_later r.made.ran.did s.pass)) e r.made.ran)
+  announced tries answer (Ok a) is r =
+      let done = r.done in
+      let mid = done.collects.shutting in
+      let first = done.collects.announced in
+      let pass = pass_later first s.pass in
+      let free = subst (AllByRecursion (λ a. (n : ℕ) → a ≢ ShutBusy n)) (mine_did (announcing_acts r.refused) first)
+      (own_acts (λ a. (n : ℕ) → a ≢ ShutBusy n) old.pass.thread first.begins.0
+      (all_back (λ (e : Event). (n : ℕ) → e.act ≢ ShutBusy n) old.pass.seen first.begins.0
+      (subst (AllByRecursion (λ (e : Event). (n : ℕ) → e.act ≢ ShutBusy n)) (sym first.begins.1)
+      (all_map (λ e u. u.shuts) mid.seen (all_undisturbed old.pass mid (announcing_acts r.refused) first
+      (is_alone c last lone pass)))))) in
+      let seen : mid.seen ≡ old.pass.seen ++ map (by 0) (Meet ∷ Gate Announce ∷ []) = sees c last lone first s.pass
+      ∙ ap (λ ns. old.pass.seen ++ map (by 0) (announcing_acts ns)) (announced_acts r.refused free) in
+      collected (commands.WithTries with_tries.CollectAnnounced tries) answer a refl is mid pass
+      (subst (λ z. Fits c last k P w (moment z old.frames))
+      (sym (ap state seen ∙ state_append old.pass.seen (map (by 0) (Meet ∷ Gate Announce ∷ []))))
+      (gone_fits (now old) 0 Announce (fits_less le s.fits))) done.cleared done.dropped done.clears done.drops
+      done.collects.done (announced_keeps tries old.frames new.frames done.ran.acts
+      (Ok (a.cleared, a.dropped, a.used)) done.ran.is)
 
-  pub announced_step : j ≡ k → (tries : ℕ) (answer : Result Reply Fault)
+  pub announced_does : (turns : ℕ) → turns ≢ 0 → (tries : ℕ) (answer : Result Reply Fault)
       → collecting_announced turns tries old answer new
-      → Steps s (commands.WithTries with_tries.CollectAnnounced tries) answer (collects w)
-  announced_step one tries answer d =
-      go d.0 d.1 (made_once (once_led tries) turns old new d.0 s.alone s.some_turns d.2)
-    where
-      go : (once : Result Collected Fault) → answer ≡ told_by once → announced_collection tries old once new
-          → Steps s (commands.WithTries with_tries.CollectAnnounced tries) answer (collects w)
-      go (Err e) is r = absurd (never_refused tries old.pass new.pass old.frames new.frames s.alone e r.made.ran)
-      go (Ok a) is r =
-          let done = r.done in
-          let mid = done.collects.shutting in
-          let first = done.collects.announced in
-          let then = done.collects.done in
-          let seen_all = all_prefix IsUnbarred mid.seen new.pass.seen then.did.begins s.all in
-          let thread : mid.thread ≡ 0 = first.thread ∙ s.stands.pass.thread in
-          let free = subst AreUnopposed (mine_did (announcing_acts r.refused) first)
-          (own_acts (λ a. is_opposed a ≡ false) old.pass.thread first.begins.0
-          (all_back (λ (e : Event). is_opposed e.act ≡ false) old.pass.seen first.begins.0
-          (subst (AllByRecursion (λ (e : Event). is_opposed e.act ≡ false)) (sym first.begins.1)
-          (all_unopposed mid.seen seen_all)))) in
-          let acts : announcing_acts r.refused ≡ Meet ∷ Gate Announce ∷ [] =
-          ap announcing_acts (announced_acts r.refused free) in
-          let seen : mid.seen ≡ old.pass.seen ++ map (by 0) (Meet ∷ Gate Announce ∷ []) =
-          sees_alone old.pass mid (announcing_acts r.refused) first (alone_before then.did s.alone)
-          ∙ (ap (λ t. old.pass.seen ++ map (by t) (announcing_acts r.refused)) thread
-          ∙ ap (λ l. old.pass.seen ++ map (by 0) l) acts) in
-          let state_is = ap state seen ∙ state_append old.pass.seen (map (by 0) (Meet ∷ Gate Announce ∷ [])) in
-          collected_step (commands.WithTries with_tries.CollectAnnounced tries) answer a
-          (λ b place ws. (refl, refl)) is mid
-          (pass_later c last old.pass mid (announcing_acts r.refused) first s.stands.pass)
-          (subst (λ z. Fits c last k P w (moment z old.frames)) (sym state_is)
-          (gone_fits (now old) 0 Announce (fits_less (at_most one) s.stands.fits))) done.cleared done.dropped
-          done.clears
-          done.drops then (announced_keeps tries old.frames new.frames done.ran.acts (Ok (a.cleared, a.dropped, a.used))
-          done.ran.is)
+      → Stepped c last lone k (commands.WithTries with_tries.CollectAnnounced tries) new p q had told answer
+      (collects w)
+  announced_does turns some tries answer d = announced tries answer d.0 d.1 (tried_once c last lone turns some
+      (λ old new x pass r. ((once_led tries).led old new x
+      (is_alone c last lone (announced_pass c last tries old new x r pass)) r).fault) old new d.0 s.pass d.2)

@@ -1,0 +1,4 @@
+use Rattle.jr_env.proofs.calls.references.DeleteGlobalRefNativeCall.work.Goals as goal
+
+pub returns-clause-call : goal.returns-clause-call
+returns-clause-call g c = c.delete_reference.ensures c.args._frames.now.frames
