@@ -6,12 +6,12 @@ thread posted; and each thread frees its own at its end."""
 
 from antt import Definitions
 
-MEANING, POSTING, TEXT = "jr_scripts.specs.Meaning", "jr_scripts.specs.Posting", "jr_scripts.specs.Text"
+WORLD, MEANING, POSTING, TEXT = "jr_world.specs.World", "jr_scripts.specs.Meaning", "jr_scripts.specs.Posting", "jr_scripts.specs.Text"
 CALLS = "jr_model.specs.CallPrograms"
 # What no script comes to: a frame always stands, and so does each object that a reference, an element or a level names; and
 # `drop` deletes whatever the kind is, by no call of one.
 UNUSED = {
-    "newest_frame []", "put_last [] n", "contents_in None", "elements_of None", "ending_meant ( deletes k p ) known o",
+    "newest_frame []", "all_but_last []", "put_last [] n", "contents_in None", "elements_of None", "ending_meant ( deletes k p ) known o",
     "ending_meant ( deletes_local p ) known o",
 }  # fmt: skip
 # Definitions whose list is asked for its elements alone, and those that each line asks again of all lines before it.
@@ -142,5 +142,5 @@ class Meant:
         return self.fault(text) or (self.printed(text) if self.is_spelled(text) else b"spelled otherwise")
 
     def unused(self):
-        """Returns the equations of `Meaning.antt` that no text has come to, and that some text can come to."""
-        return [it for it in self.definitions.unused(MEANING) if it not in UNUSED]
+        """Returns the equations of `World.antt` and `Meaning.antt` that no text has come to, and that some text can come to."""
+        return [f"{file}: {it}" for file in (WORLD, MEANING) for it in self.definitions.unused(file) if it not in UNUSED]

@@ -6,7 +6,7 @@ import unittest
 from shared import CI
 from antt import Definitions
 from cases import cases
-from meant import AS_SETS, CALLS, KEPT, MEANING, Meant
+from meant import AS_SETS, CALLS, KEPT, MEANING, WORLD, Meant
 from rattle import text_of
 
 SMALL = """-- Of no use.
@@ -63,10 +63,26 @@ PLANTED = {
         "    call_on h (get_array_region k i 1)\n    word ← decided (word_of_number k x)\n    does (call_on h ",
     ),
     "a cleared weak reference has type 0": (
-        "scripts/collections/a_weak_reference_is_cleared", "type_in (Some r) = kind_number r.kind", "type_in (Some r) = cond (is_some r.object) (kind_number r.kind) 0",
+        "scripts/collections/a_weak_reference_is_cleared",
+        "type_in (Some r) = kind_number r.kind",
+        "type_in (Some r) = cond (is_some r.object) (kind_number r.kind) 0",
+        WORLD,
     ),
-    "a pop keeps nothing": ("scripts/frames/results_of_pops", "frames = all_but_last w.frames })\n    new_local o", "frames = all_but_last w.frames })\n    new_local None"),
-    "an object needs no local place": ("scripts/references/sixteen_local_places", "    room_for 1\n    reserve (length words)", "    reserve (length words)"),
+    "a pop keeps nothing": ("scripts/frames/results_of_pops", "frames = all_but_last w.frames })\n    new_local o", "frames = all_but_last w.frames })\n    new_local None", WORLD),
+    "a pop drops nothing": (
+        "scripts/frames/results_of_pops",
+        "record w { refs = without (newest_frame w.frames) w.refs; frames = all_but_last w.frames }",
+        "record w { frames = all_but_last w.frames }",
+        WORLD,
+    ),
+    "a weak reference takes no slot": ("scripts/collections/all_slots_weak", "refs_of Global w + refs_of Weak w == c.slots", "refs_of Global w == c.slots", WORLD),
+    "an element of objects is the first": (
+        "scripts/arrays/elements_of_objects",
+        "program_meant (finds i next) known o = ask (λ w. slice_index (contents w o).words i)",
+        "program_meant (finds i next) known o = ask (λ w. slice_index (contents w o).words 0)",
+        WORLD,
+    ),
+    "an object needs no local place": ("scripts/references/sixteen_local_places", "    room_for 1\n    reserve (length words)", "    reserve (length words)", WORLD),
     "an array's kind comes after E17": (
         "scripts/regions/a_kind_before_a_seventeenth_level",
         "(not (is_primitive k), WrongElement) ∷ (nat_le LEVELS levels, Size) ∷ []",
@@ -138,7 +154,7 @@ class Scripts(unittest.TestCase):
 
     def test_definitions_that_are_run_otherwise_stand(self):
         definitions = Meant().definitions
-        lines = {**definitions.file(MEANING).lines, **definitions.file("jr_syntax.specs.Faults").lines, **definitions.file("jr_syntax.specs.Command").lines}
+        lines = {**definitions.file(MEANING).lines, **definitions.file(WORLD).lines, **definitions.file("jr_syntax.specs.Faults").lines, **definitions.file("jr_syntax.specs.Command").lines}
         self.assertEqual({*AS_SETS, *KEPT} - {*lines}, set())
 
     def test_what_no_kept_text_can_show(self):

@@ -38,10 +38,10 @@ use Rattle.jr_env.specs.Deeds.{DoesDeed}
 use Rattle.jr_scripts.specs.Posted.{IsOfPosts, commands_of}
 use Rattle.jr_scripts.specs.Posting.{said}
 use Rattle.jr_scripts.specs.Explains.{Explained}
-use Rattle.jr_scripts.specs.Text.{heading, ending}
+use Rattle.jr_scripts.specs.Text.{heading, ending, text_of_parts}
 use Rattle.jr_scripts.specs.Runs.{IsFreed, running_to_end}
 use Rattle.jr_scripts.specs.AllRuns.{RanPass, seeing_as, opening_of, CanBeRun}
-use Rattle.jr_scripts.specs.AllRuns.{IsPartOf, ArePartsOf, text_of_parts, IsRunOfAll}
+use Rattle.jr_scripts.specs.AllRuns.{IsPartOf, ArePartsOf, IsRunOfAll}
 use Rattle.jr_scripts.proofs.OneOfAll.{pass_still}
 use Rattle.jr_scripts.proofs.Speaking.{carried}
 use Rattle.jr_scripts.specs.Jobs.{HasRun, HasSaid, IsToldBy, account_in, IsFor, IsJobOf, AreJobsOf, IsDone, AreTold}

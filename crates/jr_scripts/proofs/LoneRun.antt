@@ -47,9 +47,9 @@ use Rattle.jr_scripts.specs.Posted.{IsOfPosts, commands_of}
 use Rattle.jr_scripts.specs.Posting.{said_alone}
 use Rattle.jr_scripts.specs.Explains.{Explained}
 use Rattle.jr_scripts.proofs.LoneWords.{heard_alone, on_board}
-use Rattle.jr_scripts.specs.Text.{heading, ending}
+use Rattle.jr_scripts.specs.Text.{heading, ending, text_of_parts}
 use Rattle.jr_scripts.specs.Runs.{IsRun, RunsSingle, seeing, opening_moment}
-use Rattle.jr_scripts.specs.AllRuns.{IsPartOf, ArePartsOf, text_of_parts, IsRunOfAll}
+use Rattle.jr_scripts.specs.AllRuns.{IsPartOf, ArePartsOf, IsRunOfAll}
 use Rattle.jr_scripts.proofs.Alone.{undisturbed}
 use Rattle.jr_scripts.proofs.AloneAnswers.{unbarred}
 use Rattle.jr_scripts.proofs.AloneCalls.{IsAlone, NoneLost}

@@ -8,7 +8,8 @@ use Rattle.std.proofs.Math.Seq.{take-suc}
 use Rattle.jr_critical.specs.declared.level.Level.{Level}
 use Rattle.jr_critical.specs.declared.levels.Levels.{Levels}
 use Rattle.jr_critical.specs.Levels.{level_object, objects_of}
-use Rattle.jr_scripts.specs.Places.{all_but_last, level_wanted, newest, nth_object, or_newer}
+use Rattle.jr_world.specs.World.{all_but_last}
+use Rattle.jr_scripts.specs.Places.{level_wanted, newest, nth_object, or_newer}
 
 -- the last level is meant where it has the name, and else one before it
 abbrev last_or : Bool → ℕ → Option ℕ → Option ℕ

@@ -21,7 +21,7 @@ use Rattle.jr_gate.specs.Performing.{ThreadState}
 use Rattle.jr_steps.specs.Holdings.{empty}
 use Rattle.jr_steps.specs.Knowing.{Spent}
 use Rattle.jr_env.specs.Deeds.{DoesDeed}
-use Rattle.jr_scripts.specs.Text.{heading, ending}
+use Rattle.jr_scripts.specs.Text.{ending, text_of_parts}
 use Rattle.jr_scripts.specs.Posted.{IsOfPosts, commands_of}
 use Rattle.jr_scripts.specs.Posting.{Speech, said}
 use Rattle.jr_scripts.specs.Explains.{Explained}
@@ -93,11 +93,6 @@ pub record CanBeRun (s : Script) : Type 0 where
   pub limits : in_limits s.config ≡ true
   pub once : all_apart (posts_of s.threads) ≡ true
   pub numbered : 2 + lines_of_parts s.threads < 2 ^ 64
-
--- what the threads print, one after the other
-abbrev pub text_of_parts : List ThreadPart → List (List ℕ) → List ℕ
-text_of_parts (p ∷ ps) (lines ∷ rest) = heading p.name ++ lines ++ text_of_parts ps rest
-text_of_parts _ _ = []
 
 -- A RUN OF ALL: the script can be run, and there is one legal history, which keeps the laws, with the events
 -- of the threads' calls and of their ends and no others, but for the look as the room closes, that explains

@@ -14,6 +14,8 @@ pub mod RegionCommands
 pub mod Explains
 pub mod AloneAnswers
 pub mod Meaning
+pub mod Together
+pub mod Played
 pub mod Runs
 pub mod AllRuns
 pub mod Jobs

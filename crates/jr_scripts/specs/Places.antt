@@ -7,6 +7,7 @@ use Rattle.jr_word.specs.declared.fault.Fault.TheVariants as fault
 use Rattle.jr_syntax.specs.declared.command.Command.{Command}
 use Rattle.jr_syntax.specs.declared.command.Command.TheVariants as commands
 use Rattle.jr_syntax.specs.declared.verb.Make.TheVariants as make
+use Rattle.jr_world.specs.World.{all_but_last}
 use Rattle.jr_scripts.specs.declared.reply.Reply.{Reply}
 use Rattle.jr_scripts.specs.declared.reply.Reply.TheVariants as replies
 use Rattle.jr_scripts.specs.Names.{Names, no_names}
@@ -47,12 +48,6 @@ level_wanted None = Err fault.Stale
 -- the object of a level
 abbrev pub nth_object : List ℕ → ℕ → ℕ
 nth_object objects i = slice_index_or objects i 0
-
--- all but the last of several
-abbrev pub all_but_last : {A : Type 0} → List A → List A
-all_but_last [] = []
-all_but_last (x ∷ []) = []
-all_but_last (x ∷ y ∷ ys) = x ∷ all_but_last (y ∷ ys)
 
 -- the names of the levels after a command: one more where it opened a level, and one less where it gave up the last
 abbrev pub levels_after : Command → Result Reply Fault → List (List ℕ) → List (List ℕ)

@@ -16,6 +16,7 @@ use Rattle.jr_syntax.specs.declared.verb.Verb.TheVariants.{MakeFrom, On, OnBoth,
 use Rattle.jr_syntax.specs.declared.verb.OfRoom.TheVariants.{Collect}
 use Rattle.jr_syntax.specs.declared.verb.PutAt.TheVariants as put_at
 use Rattle.jr_syntax.specs.declared.verb.Release.TheVariants as release
+use Rattle.jr_syntax.specs.declared.thread.ThreadPart.{ThreadPart}
 use Rattle.jr_syntax.specs.declared.command.Command.{Command}
 use Rattle.jr_syntax.specs.declared.command.Command.TheVariants as commands
 use Rattle.jr_scripts.specs.declared.reply.Reply.{Reply}
@@ -127,6 +128,11 @@ names_after c answer names = names_set c answer (buffers_after c answer names)
 -- the line before a thread's lines
 abbrev pub heading : List ℕ → List ℕ
 heading name = codes "[" ++ name ++ codes "]" ++ 10 ∷ []
+
+-- what the threads print, one after the other
+abbrev pub text_of_parts : List ThreadPart → List (List ℕ) → List ℕ
+text_of_parts (p ∷ ps) (lines ∷ rest) = heading p.name ++ lines ++ text_of_parts ps rest
+text_of_parts _ _ = []
 
 -- the last two lines: what stands at the end
 abbrev pub ending : Summary → List ℕ

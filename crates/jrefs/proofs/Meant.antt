@@ -15,7 +15,8 @@ use Rattle.jr_syntax.specs.Faults.{first_fault}
 use Rattle.jr_syntax.proofs.Texts.{no_fault, one_script}
 use Rattle.jr_scripts.specs.AllRuns.{RunsAll}
 use Rattle.jr_scripts.specs.Runs.{RunsSingle}
-use Rattle.jr_scripts.specs.Meaning.{gives_up, how_many, text_of_part}
+use Rattle.jr_world.specs.World.{how_many}
+use Rattle.jr_scripts.specs.Meaning.{gives_up, text_of_part}
 use Rattle.jrefs.specs.declared.request.Request.{Request}
 use Rattle.jrefs.specs.declared.request.Request.TheVariants.{Run}
 use Rattle.jrefs.specs.declared.trouble.Trouble.{Trouble}

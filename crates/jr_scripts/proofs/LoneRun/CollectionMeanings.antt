@@ -31,7 +31,8 @@ use Rattle.jr_scripts.specs.declared.reply.Reply.TheVariants as replies
 use Rattle.jr_scripts.specs.Commands.{collecting, collecting_announced, told as told_by}
 use Rattle.jr_scripts.specs.Places.{Place, objects_after}
 use Rattle.jr_scripts.specs.Posting.{ThreadWords}
-use Rattle.jr_scripts.specs.Meaning.{World, collects, is_found_reached, swept, told_of}
+use Rattle.jr_world.specs.World.{World}
+use Rattle.jr_scripts.specs.Meaning.{collects, is_found_reached, swept, told_of}
 use Rattle.jr_scripts.proofs.AloneAnnouncing.{never_refused, once_led}
 use Rattle.jr_scripts.proofs.AloneCalls.{all_undisturbed}
 use Rattle.jr_scripts.proofs.AloneDeeds.{never_busy}

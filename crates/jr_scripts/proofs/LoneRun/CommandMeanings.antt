@@ -48,8 +48,10 @@ use Rattle.jr_scripts.specs.Commands.{type_of}
 use Rattle.jr_scripts.specs.Names.{Names, binding, buffer_in, getting, putting, reference_in, referent, wanted}
 use Rattle.jr_scripts.specs.Numbers.{first_number, has_numbers, word_of_number}
 use Rattle.jr_scripts.specs.Posting.{ThreadWords}
-use Rattle.jr_scripts.specs.Meaning.{World, Meaning, goes_on, given_back, program_meant}
+use Rattle.jr_world.specs.World.{World, Meaning, goes_on, program_meant}
+use Rattle.jr_scripts.specs.Meaning.{given_back}
 use Rattle.jr_scripts.specs.Meaning as meaning
+use Rattle.jr_world.specs.World as worlds
 use Rattle.jr_scripts.proofs.LoneRun.MeaningFrames.{Pairing}
 use Rattle.jr_scripts.proofs.LoneRun.MeaningFits.{Fitting, IsDone, Later, SameAnswer, later_then}
 use Rattle.jr_scripts.proofs.LoneRun.MeaningCalls.{WordFits}
@@ -212,7 +214,7 @@ module _ (c : Config) (last : ℕ) (lone : IsLone c last) (turns : ℕ) (some : 
   module _ {P : Pairing} {w : World} {k : ℕ} (h g : ℕ) (fits : HandleFits P w h g) where
     deleted_does : (kind : RefKind) → ((b : Word) → WordFits P w b g → is_of_kind kind b ≡ true)
         → DeedMeans c last lone false false (suc k) k (AnswerFits nothing) P w (deleted_of turns kind h)
-        (meaning.delete g)
+        (worlds.delete g)
     deleted_does Local is = tried_does c last lone turns some (of_one_does c last lone
         (λ z. 0) programs.delete_local_ref
         P w false (suc k) k (omega arith) h g fits (λ b word. (is b word, (omega arith))))
@@ -224,7 +226,7 @@ module _ (c : Config) (last : ℕ) (lone : IsLone c last) (turns : ℕ) (some : 
         (λ b word. ((λ e. cc), is b word, (omega arith))))
 
     deletion_does : DeedMeans c last lone false false (suc k) k (AnswerFits nothing) P w (deletion turns h)
-        (meaning.delete g)
+        (worlds.delete g)
     deletion_does = record {
       outcome = λ old new x so s d.
           go d.0 (read_fits P w h g d.0 (handles c last lone old s.fits) d.1 fits) old new x so s d.2;
@@ -232,7 +234,7 @@ module _ (c : Config) (last : ℕ) (lone : IsLone c last) (turns : ℕ) (some : 
       where
         go : (a : Word) → WordFits P w a g → (old new : ThreadState) (x : Result (Unit {0}) Fault) → Unit {0}
             → IsAt c last lone false (suc k) P w old → deleted_as turns h a old x new
-            → Came c last lone false k (AnswerFits nothing) P w x (meaning.delete g w) new
+            → Came c last lone false k (AnswerFits nothing) P w x (worlds.delete g w) new
         go Nothing word = (deleted_does Local (λ b fit. handed_alike P w Nothing b g word fit)).outcome
         go (Parts a) word = (deleted_does a.kind (λ b fit. handed_alike P w (Parts a) b g word fit)).outcome
         go Malformed word = absurd (none_malformed P w g word)

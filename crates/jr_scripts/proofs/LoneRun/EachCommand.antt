@@ -20,7 +20,8 @@ use Rattle.jr_scripts.specs.Names.{Names}
 use Rattle.jr_scripts.specs.RegionCommands.{deed_at, deed_within, giving_up_all}
 use Rattle.jr_scripts.specs.Places.{Place, by_region, objects_after}
 use Rattle.jr_scripts.specs.Posting.{ThreadWords, said_alone}
-use Rattle.jr_scripts.specs.Meaning.{World, meaning_at, memory_after}
+use Rattle.jr_world.specs.World.{World}
+use Rattle.jr_scripts.specs.Meaning.{meaning_at, memory_after}
 use Rattle.jr_scripts.specs.Meaning as meaning
 use Rattle.jr_scripts.proofs.LoneRun.MeaningFrames.{Pairing}
 use Rattle.jr_scripts.proofs.LoneRun.MeaningFits.{Fits}

@@ -33,11 +33,12 @@ use Rattle.jr_scripts.specs.declared.reply.Reply.TheVariants as replies
 use Rattle.jr_scripts.specs.Commands.{get_critical, opening_levels}
 use Rattle.jr_scripts.specs.Names.{Names, referent}
 use Rattle.jr_scripts.specs.Numbers.{has_numbers, number_of_word, word_of_number}
-use Rattle.jr_scripts.specs.Places.{Place, all_but_last, level_wanted, newest, nth_object, objects_after}
+use Rattle.jr_world.specs.World.{all_but_last}
+use Rattle.jr_scripts.specs.Places.{Place, level_wanted, newest, nth_object, objects_after}
 use Rattle.jr_scripts.specs.Posting.{ThreadWords}
 use Rattle.jr_scripts.specs.RegionCommands.{deed_within, giving_up, kind_of_level, level_reading}
 use Rattle.jr_scripts.specs.RegionCommands.{level_writing, nesting, read_kind}
-use Rattle.jr_scripts.specs.Meaning.{World, Meaning, goes_on, program_meant}
+use Rattle.jr_world.specs.World.{World, Meaning, goes_on, program_meant}
 use Rattle.jr_scripts.specs.Meaning as meaning
 use Rattle.jr_scripts.proofs.LoneRun.MadeCalls.{Moment, Made, gone, moment_is, still}
 use Rattle.jr_scripts.proofs.LoneRun.MeaningFrames.{Pairing}

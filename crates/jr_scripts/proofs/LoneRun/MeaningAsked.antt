@@ -32,7 +32,7 @@ use Rattle.jr_critical.specs.Levels.{nested_by, opened_by}
 use Rattle.jr_env.specs.Requests.{packed, packed_if}
 use Rattle.jr_scripts.specs.AloneAnswers.{IsAloneFault}
 use Rattle.jr_scripts.specs.Places.{nth_object}
-use Rattle.jr_scripts.specs.Meaning.{World, Meaning, MeantOf, program_meant}
+use Rattle.jr_world.specs.World.{World, Meaning, MeantOf, program_meant}
 use Rattle.jr_scripts.proofs.LoneRun.MadeCalls.{Moment, Made, WasMadeOf, split, still}
 use Rattle.jr_scripts.proofs.LoneRun.MeaningFrames.{Pairing}
 use Rattle.jr_scripts.proofs.LoneRun.MeaningFits.{Fitting, Fits, IsDone, entered_means}

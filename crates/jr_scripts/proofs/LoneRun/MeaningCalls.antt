@@ -30,9 +30,9 @@ use Rattle.jr_model.proofs.Agreement.{added_at, added_sound, deleted_at, deleted
 use Rattle.jr_model.proofs.Gone.{taken_is_gone}
 use Rattle.jr_model.proofs.Locals.{past_move, past_not_new}
 use Rattle.jr_model.proofs.Updates.{eq_true, eq_false, eq_other, eq_self, handle_true, kind_true}
-use Rattle.jr_scripts.specs.Meaning.{World, Ref, element_to, goes_on, is_ref_of, object_in, standing_at}
-use Rattle.jr_scripts.specs.Meaning.{type_in, put_last}
-use Rattle.jr_scripts.specs.Meaning as meaning
+use Rattle.jr_world.specs.World.{World, Ref, element_to, goes_on, is_ref_of, object_in, standing_at}
+use Rattle.jr_world.specs.World.{type_in, put_last}
+use Rattle.jr_world.specs.World as meaning
 use Rattle.jr_scripts.proofs.LoneRun.MadeCalls.{Moment, looked_first, moment, moment_is, stepped, still}
 use Rattle.jr_scripts.proofs.LoneRun.MeaningCounts.{few_after, found_before, found_last, given_long, past_here}
 use Rattle.jr_scripts.proofs.LoneRun.MeaningCounts.{bit_most, less_of, more_of, serial_most}

@@ -26,8 +26,10 @@ use Rattle.jr_model.proofs.Histories.{legal_append, legal_from_append, mine_all,
 use Rattle.jr_model.proofs.InRoom.{in_room}
 use Rattle.jr_model.proofs.Lengths.{lengths_fit, sum_same}
 use Rattle.jr_model.proofs.Reaching.{is_objects_is}
-use Rattle.jr_scripts.specs.Meaning.{World, Ref, how_many, is_found_reached, is_ref_of, kept_object, kept_objects}
-use Rattle.jr_scripts.specs.Meaning.{kept_ref, refs_of, standing, standing_at, swept, told_of, was_cleared}
+use Rattle.jr_world.specs.World.{World, Ref, how_many, is_ref_of}
+use Rattle.jr_scripts.specs.Meaning.{is_found_reached, kept_object, kept_objects}
+use Rattle.jr_world.specs.World.{refs_of, standing, standing_at}
+use Rattle.jr_scripts.specs.Meaning.{kept_ref, swept, told_of, was_cleared}
 use Rattle.jr_scripts.proofs.LoneRun.MadeCalls.{Moment, moment}
 use Rattle.jr_scripts.proofs.LoneRun.MeaningFrames.{Pairing, frames_later}
 use Rattle.jr_scripts.proofs.LoneRun.MeaningMatches.{IsStanding}

@@ -14,7 +14,7 @@ use Rattle.jr_model.proofs.Updates.{at_number, at_number_self, eq_false, eq_othe
 use Rattle.jr_model.proofs.Updates.{handle_true, and_right}
 use Rattle.jr_model.proofs.Agreement.{joined_last, object_last, standing_held}
 use Rattle.jr_model.proofs.Locals.{IsPast}
-use Rattle.jr_scripts.specs.Meaning.{how_many, standing_at}
+use Rattle.jr_world.specs.World.{how_many, standing_at}
 
 -- NUMBERS OF OBJECTS
 

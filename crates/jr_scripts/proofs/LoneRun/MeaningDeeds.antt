@@ -22,7 +22,7 @@ use Rattle.jr_env.specs.Deeds.{Deed, answered_by, decided, done, ◌>>=◌, with
 use Rattle.jr_env.specs.Tries.{is_tried_again}
 use Rattle.jr_scripts.specs.Tries.{Tried, answered, again, gave_up}
 use Rattle.jr_scripts.specs.AloneAnswers.{IsAloneFault}
-use Rattle.jr_scripts.specs.Meaning.{World, Meaning, goes_on}
+use Rattle.jr_world.specs.World.{World, Meaning, goes_on}
 use Rattle.jr_scripts.proofs.AloneHistories.{all_back, all_map, own_acts}
 use Rattle.jr_scripts.proofs.AloneCalls.{IsAlone, all_undisturbed, none_lost_by, ran_alone, sees_alone}
 use Rattle.jr_scripts.proofs.LoneRun.MadeCalls.{Moment, Made, AreUnopposed, IsSo, is_opposed, moment}

@@ -20,8 +20,8 @@ use Rattle.jr_model.specs.Frames.{AreTheLocals, Frames, AreSound, all_refs, free
 use Rattle.jr_model.specs.Calls.{Call, ◌>>=◌, ◌>>◌, decided, done, entered, refuse, refuse_if}
 use Rattle.jr_model.proofs.Counts.{bit}
 use Rattle.jr_model.proofs.Locals.{IsPast}
-use Rattle.jr_scripts.specs.Meaning.{World, Ref, Meaning, goes_on, is_ref_of, refs_of, refused_if, standing}
-use Rattle.jr_scripts.specs.Meaning.{standing_at}
+use Rattle.jr_world.specs.World.{World, Ref, Meaning, goes_on, is_ref_of, refs_of, refused_if, standing}
+use Rattle.jr_world.specs.World.{standing_at}
 use Rattle.jr_scripts.proofs.LoneRun.MadeCalls.{Moment, Made, WasMadeOf, split, still, gone, stayed}
 use Rattle.jr_scripts.proofs.LoneRun.MeaningFrames.{Pairing, AreFrames, all_places, frames_all}
 use Rattle.jr_scripts.proofs.LoneRun.MeaningMatches.{IsStanding, sum_matched, sum_passing}

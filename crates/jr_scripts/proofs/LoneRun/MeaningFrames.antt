@@ -14,8 +14,8 @@ use Rattle.jr_model.specs.Frames.{is_held, joined, last_frame, with_last}
 use Rattle.jr_model.proofs.Agreement.{joined_before, other_than}
 use Rattle.jr_model.proofs.Counts.{bit, count_all_false, sum_at, sum_split}
 use Rattle.jr_model.proofs.Updates.{eq_other, eq_self, eq_true, eq_false, handle_self, handle_true}
-use Rattle.jr_scripts.specs.Places.{all_but_last}
-use Rattle.jr_scripts.specs.Meaning.{newest_frame, put_last}
+use Rattle.jr_world.specs.World.{all_but_last}
+use Rattle.jr_world.specs.World.{newest_frame, put_last}
 
 -- which handle is meant by the number of a reference, and which object by the number of an object
 pub record Pairing : Type 0 where

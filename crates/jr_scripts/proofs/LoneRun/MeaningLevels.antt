@@ -11,8 +11,9 @@ use Rattle.jr_model.specs.State.{State}
 use Rattle.jr_model.specs.Steps.{ActNeeds, act_after}
 use Rattle.jr_model.specs.History.{by, state_from, IsLegalFrom}
 use Rattle.jr_model.specs.OpenStays.{NoneLeaves}
-use Rattle.jr_scripts.specs.Places.{all_but_last, nth_object}
-use Rattle.jr_scripts.specs.Meaning.{World}
+use Rattle.jr_world.specs.World.{all_but_last}
+use Rattle.jr_scripts.specs.Places.{nth_object}
+use Rattle.jr_world.specs.World.{World}
 use Rattle.jr_scripts.proofs.LoneRun.MeaningFrames.{Pairing}
 use Rattle.jr_scripts.proofs.LoneRun.MeaningFits.{Later}
 use Rattle.jr_scripts.proofs.LoneRun.MeaningParts.{ObjectFits, object_later}

@@ -8,7 +8,7 @@ use Rattle.jr_model.specs.State.{Contents}
 use Rattle.jr_model.proofs.Counts.{bit, sum_at}
 use Rattle.jr_model.proofs.Lengths.{sum_zero}
 use Rattle.jr_model.proofs.Updates.{at_number, at_number_self}
-use Rattle.jr_scripts.specs.Meaning.{how_many, standing_at}
+use Rattle.jr_world.specs.World.{how_many, standing_at}
 
 -- an object stands at the number
 abbrev pub IsStanding : List (Option Contents) → ℕ → Type 0

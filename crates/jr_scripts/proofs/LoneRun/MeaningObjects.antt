@@ -25,8 +25,8 @@ use Rattle.jr_model.specs.Parts.{read, read_acts}
 use Rattle.jr_model.proofs.Gates.{IsApart, apart_after}
 use Rattle.jr_model.proofs.Stays.{IsStill, still_along}
 use Rattle.jr_model.proofs.Updates.{at_number_self}
-use Rattle.jr_scripts.specs.Meaning.{World, Meaning, contents, contents_in, copy, goes_on, named_by, refused_if}
-use Rattle.jr_scripts.specs.Meaning.{standing_at}
+use Rattle.jr_world.specs.World.{World, Meaning, contents, contents_in, copy, goes_on, named_by, refused_if}
+use Rattle.jr_world.specs.World.{standing_at}
 use Rattle.jr_scripts.proofs.LoneRun.MadeCalls.{Moment, Made, made_as, moment_is, stayed, stepped, still}
 use Rattle.jr_scripts.proofs.LoneRun.MeaningFrames.{Pairing}
 use Rattle.jr_scripts.proofs.LoneRun.MeaningFits.{AreAlike, ContentsFit, ElementFits, Fits, Fitting, IsSame, Means}

@@ -22,8 +22,8 @@ use Rattle.jr_model.specs.History.{by, state_from, IsLegalFrom}
 use Rattle.jr_model.specs.Parts.{publish, reserve}
 use Rattle.jr_model.specs.References as references
 use Rattle.jr_model.proofs.Updates.{at_number, at_number_self, eq_self}
-use Rattle.jr_scripts.specs.Meaning.{World, Ref, Meaning, goes_on, standing, standing_at, refused_if, held}
-use Rattle.jr_scripts.specs.Meaning as meaning
+use Rattle.jr_world.specs.World.{World, Ref, Meaning, goes_on, standing, standing_at, refused_if, held}
+use Rattle.jr_world.specs.World as meaning
 use Rattle.jr_scripts.proofs.LoneRun.MadeCalls.{Moment, AreUnopposed, Made, moment, moment_is, stepped, still}
 use Rattle.jr_scripts.proofs.LoneRun.MeaningCounts.{count_most, count_full, count_more}
 use Rattle.jr_scripts.proofs.LoneRun.MeaningFrames.{Pairing, frames_held, frames_later}

@@ -18,9 +18,9 @@ use Rattle.jr_model.specs.Programs.{Ending, gives_kind, gives_number, gives_obje
 use Rattle.jr_model.specs.Programs.{creates, refers, deletes, deletes_local, asks_room, pushes, pops_to, frees, makes}
 use Rattle.jr_model.specs.Programs.{fills, reads, reads_from, copies, writes, writes_to, writes_from, Program, ends}
 use Rattle.jr_model.specs.Programs.{names, names_both, wants, looks, tests, finds, filled_with, ended, call_of}
-use Rattle.jr_scripts.specs.Meaning.{World, Meaning, MeantOf, contents, element_for, element_to, ending_meant, goes_on}
-use Rattle.jr_scripts.specs.Meaning.{named_by, program_meant}
-use Rattle.jr_scripts.specs.Meaning as meaning
+use Rattle.jr_world.specs.World.{World, Meaning, MeantOf, contents, element_for, element_to, ending_meant, goes_on}
+use Rattle.jr_world.specs.World.{named_by, program_meant}
+use Rattle.jr_world.specs.World as meaning
 use Rattle.jr_scripts.proofs.LoneRun.MeaningFrames.{Pairing}
 use Rattle.jr_scripts.proofs.LoneRun.MeaningFits.{ElementFits, Fitting, IsSame, Means, MeansWhere, Told}
 use Rattle.jr_scripts.proofs.LoneRun.MeaningFits.{decided_means, done_means, known_means, means_where}

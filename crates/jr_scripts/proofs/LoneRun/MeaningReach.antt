@@ -18,8 +18,9 @@ use Rattle.jr_model.specs.Frames.{all_refs, object_at, object_of, object_where}
 use Rattle.jr_model.proofs.Agreement.{handle_is_at_place}
 use Rattle.jr_model.proofs.Reaching.{is_objects_is}
 use Rattle.jr_model.proofs.Updates.{eq_true, handle_self}
-use Rattle.jr_scripts.specs.Meaning.{World, Ref, elements_of, is_found_reached, listed, named_by, reached_by, rooted}
-use Rattle.jr_scripts.specs.Meaning.{standing_at}
+use Rattle.jr_world.specs.World.{World, Ref, named_by}
+use Rattle.jr_scripts.specs.Meaning.{elements_of, is_found_reached, listed, reached_by, rooted}
+use Rattle.jr_world.specs.World.{standing_at}
 use Rattle.jr_scripts.proofs.LoneRun.MadeCalls.{Moment}
 use Rattle.jr_scripts.proofs.LoneRun.MeaningFrames.{Pairing, frames_all}
 use Rattle.jr_scripts.proofs.LoneRun.MeaningMatches.{IsStanding, standing_below}

@@ -9,7 +9,7 @@ use Rattle.jr_model.specs.Maps.{update}
 use Rattle.jr_model.specs.State.{Contents, Handle}
 use Rattle.jr_model.specs.Frames.{Frames}
 use Rattle.jr_model.proofs.Updates.{at_number, at_number_self}
-use Rattle.jr_scripts.specs.Meaning.{Ref, standing_at}
+use Rattle.jr_world.specs.World.{Ref, standing_at}
 use Rattle.jr_scripts.proofs.LoneRun.MeaningCounts.{at_set, below_next}
 use Rattle.jr_scripts.proofs.LoneRun.MeaningFrames.{Pairing}
 use Rattle.jr_scripts.proofs.LoneRun.MeaningFits.{RefFits, IsGiven, RefsFit, found_of}

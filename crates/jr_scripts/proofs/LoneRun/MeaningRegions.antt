@@ -14,7 +14,7 @@ use Rattle.jr_model.specs.OpenStays.{NoneLeaves}
 use Rattle.jr_model.proofs.Gates.{IsApart, apart_after}
 use Rattle.jr_model.proofs.Stays.{IsStill, still_along}
 use Rattle.jr_model.proofs.Updates.{at_number_self}
-use Rattle.jr_scripts.specs.Meaning.{World, Meaning}
+use Rattle.jr_world.specs.World.{World, Meaning}
 use Rattle.jr_scripts.proofs.LoneRun.MadeCalls.{Moment, Made, WasMadeOf, AreUnopposed, gone, led_on, split, still}
 use Rattle.jr_scripts.proofs.LoneRun.MeaningFrames.{Pairing}
 use Rattle.jr_scripts.proofs.LoneRun.MeaningFits.{Fitting, Fits, MeansWhere, Outcome, entered_means, gone_fits}

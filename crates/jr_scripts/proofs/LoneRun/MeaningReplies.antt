@@ -26,7 +26,8 @@ use Rattle.jr_scripts.specs.Posting.{ThreadWords, words_after}
 use Rattle.jr_scripts.specs.Text.{binding_made, buffers_after, left_by, names_after, names_with, printed}
 use Rattle.jr_scripts.specs.Text.{says}
 use Rattle.jr_scripts.specs.Text.{sets}
-use Rattle.jr_scripts.specs.Meaning.{World, gives_up}
+use Rattle.jr_world.specs.World.{World}
+use Rattle.jr_scripts.specs.Meaning.{gives_up}
 use Rattle.jr_scripts.proofs.LoneRun.MeaningFrames.{Pairing}
 use Rattle.jr_scripts.proofs.LoneRun.MeaningFits.{Fits, HandlesStay, SameAnswer, handles_stay}
 use Rattle.jr_scripts.proofs.LoneRun.MeaningParts.{ObjectFits}

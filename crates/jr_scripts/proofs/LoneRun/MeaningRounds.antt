@@ -7,7 +7,8 @@ use Rattle.jr_model.specs.Maps.{sum_below, count_below}
 use Rattle.jr_model.specs.State.{Contents}
 use Rattle.jr_model.proofs.Counts.{bit}
 use Rattle.jr_model.proofs.Updates.{eq_false, eq_self, eq_true}
-use Rattle.jr_scripts.specs.Meaning.{World, elements_of, reached_by, standing_at}
+use Rattle.jr_world.specs.World.{World, standing_at}
+use Rattle.jr_scripts.specs.Meaning.{elements_of, reached_by}
 use Rattle.jr_scripts.proofs.LoneRun.MeaningCounts.{bit_most}
 use Rattle.jr_scripts.proofs.LoneRun.MeaningMatches.{IsStanding, standing_below}
 

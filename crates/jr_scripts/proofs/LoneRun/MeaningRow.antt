@@ -26,9 +26,9 @@ use Rattle.jr_model.specs.References as references
 use Rattle.jr_model.proofs.Counts.{bit, count_all_false}
 use Rattle.jr_model.proofs.References.{IsKept, kept_state}
 use Rattle.jr_model.proofs.Updates.{at_handle, at_handle_self, eq_other, eq_self, eq_true, kind_true, same_parts}
-use Rattle.jr_scripts.specs.Meaning.{World, Ref, Meaning, goes_on, is_ref_of, object_in, refs_of, refused_if}
-use Rattle.jr_scripts.specs.Meaning.{standing_at}
-use Rattle.jr_scripts.specs.Meaning as meaning
+use Rattle.jr_world.specs.World.{World, Ref, Meaning, goes_on, is_ref_of, object_in, refs_of, refused_if}
+use Rattle.jr_world.specs.World.{standing_at}
+use Rattle.jr_world.specs.World as meaning
 use Rattle.jr_scripts.proofs.LoneRun.MadeCalls.{Moment, Made, WasMadeOf, IsLed, IsSo, looked_first, moment, moment_is}
 use Rattle.jr_scripts.proofs.LoneRun.MadeCalls.{split, stepped, still}
 use Rattle.jr_scripts.proofs.LoneRun.MeaningCounts.{bit_most, how_many_less, how_many_more}

@@ -39,9 +39,12 @@ use Rattle.jr_scripts.specs.Posting.{ThreadWords, said_alone, words_after}
 use Rattle.jr_scripts.specs.Explains.{Explains, nothing, then}
 use Rattle.jr_scripts.specs.Text.{heading, ending, printed}
 use Rattle.jr_scripts.specs.Runs.{IsFreed, IsRun, opening_moment}
-use Rattle.jr_scripts.specs.Meaning.{MeansText, World, Told, gives_up, how_many, first_told, meaning_at}
-use Rattle.jr_scripts.specs.Meaning.{refs_of, standing, summary_of, tells, told_after, told_from, text_of_part}
-use Rattle.jr_scripts.specs.Meaning.{first_world, memory_after}
+use Rattle.jr_world.specs.World.{World, how_many}
+use Rattle.jr_scripts.specs.Meaning.{MeansText, Told, gives_up, first_told, meaning_at}
+use Rattle.jr_world.specs.World.{refs_of, standing}
+use Rattle.jr_scripts.specs.Meaning.{summary_of, tells, told_after, told_from, text_of_part}
+use Rattle.jr_world.specs.World.{first_world}
+use Rattle.jr_scripts.specs.Meaning.{memory_after}
 use Rattle.jr_scripts.proofs.LoneRun.MadeCalls.{Moment, stayed}
 use Rattle.jr_scripts.proofs.LoneRun.MeaningFrames.{Pairing, no_frame, no_local, one_frame}
 use Rattle.jr_scripts.proofs.LoneRun.MeaningSlots.{at_index, in_row, taken_at}

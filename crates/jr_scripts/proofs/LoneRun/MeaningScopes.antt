@@ -29,10 +29,10 @@ use Rattle.jr_model.proofs.Agreement.{popped_sound, pushed_sound}
 use Rattle.jr_model.proofs.Counts.{bit}
 use Rattle.jr_model.proofs.Gone.{taken_is_gone}
 use Rattle.jr_model.proofs.Updates.{eq_true, eq_false, eq_other, eq_self}
-use Rattle.jr_scripts.specs.Places.{all_but_last}
-use Rattle.jr_scripts.specs.Meaning.{World, Ref, Meaning, goes_on, held, how_many, is_ref_of, newest_frame, refs_of}
-use Rattle.jr_scripts.specs.Meaning.{refused_if, standing_at, without}
-use Rattle.jr_scripts.specs.Meaning as meaning
+use Rattle.jr_world.specs.World.{all_but_last}
+use Rattle.jr_world.specs.World.{World, Ref, Meaning, goes_on, held, how_many, is_ref_of, newest_frame, refs_of}
+use Rattle.jr_world.specs.World.{refused_if, standing_at, without}
+use Rattle.jr_world.specs.World as meaning
 use Rattle.jr_scripts.proofs.LoneRun.MadeCalls.{Moment, Made, WasMadeOf, moment, moment_is, split, still}
 use Rattle.jr_scripts.proofs.LoneRun.MeaningCounts.{at_set, bit_most, less_of}
 use Rattle.jr_scripts.proofs.LoneRun.MeaningFrames.{Pairing, AreFrames, AreLocals, no_frame, no_local, one_frame}

@@ -11,8 +11,8 @@ use Rattle.jr_model.specs.History.{by, state_from}
 use Rattle.jr_model.specs.Checks.{is_objects}
 use Rattle.jr_model.specs.Parts.{write, write_acts}
 use Rattle.jr_model.proofs.Updates.{at_number, at_number_self, eq_false, eq_true}
-use Rattle.jr_scripts.specs.Meaning.{World, contents, overwritten, standing_at}
-use Rattle.jr_scripts.specs.Meaning as meaning
+use Rattle.jr_world.specs.World.{World, contents, overwritten, standing_at}
+use Rattle.jr_world.specs.World as meaning
 use Rattle.jr_scripts.proofs.LoneRun.MadeCalls.{Moment, moment, moment_is}
 use Rattle.jr_scripts.proofs.LoneRun.MeaningCounts.{at_set}
 use Rattle.jr_scripts.proofs.LoneRun.MeaningFrames.{Pairing}

@@ -8,7 +8,8 @@ ghost use Rattle.jr_critical.specs.Levels.{level_object, level_nested, objects_o
 ghost use Rattle.jr_env.specs.Envs.{IsOutside};
 ghost use Rattle.jr_scripts.specs.Advancing.{level_names, objects_in, opened_over, place_with, DidWith, DidWithin, DidOpen, StandsIn, StandsWith};
 ghost use Rattle.jr_scripts.specs.Commands.{deed, opening_by, opening_levels, tried};
-ghost use Rattle.jr_scripts.specs.Places.{all_but_last, levels_after, objects_after};
+ghost use Rattle.jr_scripts.specs.Places.{levels_after, objects_after};
+ghost use Rattle.jr_world.specs.World.{all_but_last};
 ghost use Rattle.jr_scripts.specs.RegionCommands.{deed_within, giving_up, giving_up_all, nesting, read_kind as kind_read, level_reading, reading_as, reading_at, reading_by, level_writing, writing_as, writing_at, writing_by};
 
 use crate::ask::{no_more, patience_for};

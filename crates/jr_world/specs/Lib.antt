@@ -1,0 +1,7 @@
+pub mod World
+pub mod Births
+pub mod Fullness
+pub mod Doing
+pub mod Plays
+pub mod Playing
+pub mod Schedules

@@ -1,0 +1,5 @@
+pub mod Lists
+pub mod Merging
+pub mod Timing
+pub mod Histories
+pub mod OneOrder
