@@ -6,7 +6,8 @@ thread posted; and each thread frees its own at its end."""
 
 from antt import Definitions
 
-WORLD, MEANING, POSTING, TEXT = "jr_world.specs.World", "jr_scripts.specs.Meaning", "jr_scripts.specs.Posting", "jr_scripts.specs.Text"
+WORLD, BOARD, MEANING = "jr_world.specs.World", "jr_world.specs.Board", "jr_scripts.specs.Meaning"
+POSTING, TEXT = "jr_scripts.specs.Posting", "jr_scripts.specs.Text"
 CALLS = "jr_model.specs.CallPrograms"
 # What no script comes to: a frame always stands, and so does each object that a reference, an element or a level names; and
 # `drop` deletes whatever the kind is, by no call of one.
@@ -71,7 +72,7 @@ class Together:
         self.told[thread], self.world, made = told, told["world"], told["world"]["refs"][len(self.owners) :]
         self.owners += tuple(thread if it[1]["kind"] == ("Local",) else None for it in made)
         if command[0] == "OnName":
-            self.posted[command[2]] = self.run(POSTING, "word_under", told["words"], command[2])[1]
+            self.posted[command[2]] = self.run(BOARD, "word_under", told["words"], command[2])[1]
         return True
 
     def goes_on(self, thread):

@@ -13,13 +13,14 @@ use Rattle.jr_syntax.specs.declared.command.Command.{Command}
 use Rattle.jr_syntax.specs.declared.command.Command.TheVariants as commands
 use Rattle.jr_syntax.specs.declared.verb.Make.TheVariants as make
 use Rattle.jr_syntax.specs.declared.verb.OnName.TheVariants as on_name
+use Rattle.jr_world.specs.Board.{word_under}
 use Rattle.jr_scripts.specs.declared.reply.Reply.{Reply}
 use Rattle.jr_scripts.specs.declared.reply.Reply.TheVariants as replies
 use Rattle.jr_scripts.specs.Names.{Names, word_posted}
 use Rattle.jr_scripts.specs.Places.{Place}
 use Rattle.jr_scripts.specs.Explains.{Explains, nothing, then}
 use Rattle.jr_scripts.specs.Posted.{IsPosted}
-use Rattle.jr_scripts.specs.Posting.{IsAnswered, ThreadWords, said, said_alone, word_under, words_after, words_with}
+use Rattle.jr_scripts.specs.Posting.{IsAnswered, ThreadWords, said, said_alone, words_after, words_with}
 use Rattle.jr_scripts.proofs.Speaking.{found_words}
 
 -- a word is under the name

@@ -5,6 +5,7 @@ use Rattle.std.specs.List.{AllByRecursion}
 use mathlib.Core.List.{IsPrefix}
 use Rattle.std.proofs.Common.{◌≡◌, ◌⊎◌, ◌<◌, ◌≤◌, ◌++◌, ◌∙◌, ℕ, zero, suc, Bool, true, false, List, [], ◌∷◌}
 use Rattle.std.proofs.Common.{Option, Some, None, inl, inr, get_or, length, nat_lt, refl, sym, ap, subst, arith}
+use Rattle.jr_world.specs.Board.{word_under}
 use Rattle.jr_scripts.specs.declared.sighting.Sighting.{Sighting}
 use Rattle.jr_scripts.specs.declared.sighting.Posted.{Posted}
 use Rattle.jr_scripts.specs.Layouts.{cell_number}
@@ -15,7 +16,7 @@ use Rattle.jr_rule.specs.Rooms.{seen_by_pinned}
 use Rattle.jr_rule.specs.declared.site.Site.{Ghosts}
 use Rattle.jr_rule.specs.declared.site.PinnedNoteOf.{PinnedNoteOf}
 use Rattle.jr_scripts.specs.declared.part.ThreadRun.{ThreadRun}
-use Rattle.jr_scripts.specs.Posting.{ThreadWords, word_under, words_with}
+use Rattle.jr_scripts.specs.Posting.{ThreadWords, words_with}
 use Rattle.jr_scripts.specs.Telling.{has_seen, have_seen}
 use Rattle.jr_scripts.specs.Jobs.{IsToldBy, board_noted, entry_of, rank_noted, stamp_of}
 

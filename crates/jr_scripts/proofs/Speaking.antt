@@ -30,6 +30,7 @@ use Rattle.jr_syntax.specs.declared.verb.Make.{Make}
 use Rattle.jr_syntax.specs.declared.verb.Make.TheVariants as make
 use Rattle.jr_syntax.specs.declared.verb.OnName.{OnName}
 use Rattle.jr_syntax.specs.declared.verb.OnName.TheVariants as on_name
+use Rattle.jr_world.specs.Board.{word_under}
 use Rattle.jr_scripts.specs.declared.region.Region.{Region}
 use Rattle.jr_scripts.specs.declared.reply.Reply.{Reply}
 use Rattle.jr_scripts.specs.declared.reply.Reply.TheVariants as replies
@@ -41,7 +42,7 @@ use Rattle.jr_scripts.specs.Places.{Place, by_region, is_speaking, levels_after,
 use Rattle.jr_scripts.specs.Text.{buffers_after}
 use Rattle.jr_scripts.specs.Posting.{Account, Awaits, HasLookedFor, HasPosted, HasSpoken, HasWaited, IsAnswered}
 use Rattle.jr_scripts.specs.Posting.{LearnsByLook, LearnsOf, LooksInVain, Keeps, SaysSo, Speech, WasInVain, ThreadWords}
-use Rattle.jr_scripts.specs.Posting.{one_more, reply_to_wait, speaks, talk_of, word_under}
+use Rattle.jr_scripts.specs.Posting.{one_more, reply_to_wait, speaks, talk_of}
 use Rattle.jr_scripts.specs.Posting.{words_after, words_found, words_with}
 use Rattle.jr_scripts.specs.Explains.{Explains, IsCutOff, LeavesText, nothing, then, unwritten, written}
 use Rattle.jr_scripts.specs.Advancing.{KnowsWith, StandsWith, deed_spoken, place_with, role_with}

@@ -1,5 +1,5 @@
 -- What is played is what the script means: the stories of all threads run together, by a schedule.
-use Rattle.std.proofs.Common.{◌≡◌, ℕ, true, Result, Ok, List, [], ◌++◌, slice_index_or, sym, ap, ◌∙◌}
+use Rattle.std.proofs.Common.{◌≡◌, ℕ, true, Result, Ok, List, [], ◌++◌, slice_index_or, refl, sym, ap, ◌∙◌}
 use Rattle.jr_word.specs.declared.fault.Fault.{Fault}
 use Rattle.jr_model.specs.Frames.{fresh_frames}
 use Rattle.jr_world.specs.World.{World}
@@ -25,7 +25,7 @@ played_means turns s text p =
     let answers : ℕ → Result (List ℕ) Fault = λ t. Ok (slice_index_or p.lines t []) in
     let start = first_machine turns s in
     let together = stories_run c answers (λ t. fresh_frames c.locals) p.left p.whole p.board p.rank p.stories start
-    p.right p.many p.plays (λ t small. first_stands c t small) in
+    p.right p.many refl p.plays (λ t small. first_stands c t small) in
     let found = runs_by_a_schedule together.end start together.runs in
     let stands = together.stands 0 p.some_thread in
     record {

@@ -35,6 +35,7 @@ use Rattle.jr_env.proofs.Carrying.{did_call, did_decided, did_decline, did_in_ro
 use Rattle.jr_env.proofs.Carrying.{did_both, did_then, own_call, role_kept, did_nowhere}
 use Rattle.jr_syntax.specs.declared.verb.OpenLevel.{OpenLevel}
 use Rattle.jr_syntax.specs.declared.verb.OpenLevel.TheVariants as at
+use Rattle.jr_world.specs.Board.{word_under}
 use Rattle.jr_scripts.specs.declared.number.NumberKind.{NumberKind}
 use Rattle.jr_scripts.specs.declared.reply.Reply.{Reply}
 use Rattle.jr_scripts.specs.declared.reply.Reply.TheVariants as replies
@@ -60,7 +61,7 @@ use Rattle.jr_scripts.specs.declared.region.Region.{Region}
 use Rattle.jr_scripts.specs.Layouts.{Layout}
 use Rattle.jr_scripts.specs.Places.{is_speaking, levels_after, objects_after}
 use Rattle.jr_scripts.specs.Posting.{Account, HasPosted, HasSpoken, HasWaited, Keeps, WasInVain, ThreadWords}
-use Rattle.jr_scripts.specs.Posting.{reply_to_wait, talk_of, word_under, words_after, words_found, words_with}
+use Rattle.jr_scripts.specs.Posting.{reply_to_wait, talk_of, words_after, words_found, words_with}
 use Rattle.jr_scripts.proofs.Speaking.{did_silent, did_speak, keeps_all, said_buffers, said_levels, said_objects}
 use Rattle.jr_scripts.proofs.Speaking.{found_words, silent_words, spoke_posting, spoke_waiting, stands_still}
 

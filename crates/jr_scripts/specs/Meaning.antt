@@ -28,6 +28,7 @@ use Rattle.jr_model.specs.CallPrograms.{push_local_frame, region_get, region_kin
 use Rattle.jr_model.specs.CallPrograms.{set_array_region, set_object_array_element}
 use Rattle.jr_world.specs.World.{Meaning, MeantOf, Ref, World, decided, delete, done, first_world, found, how_many}
 use Rattle.jr_world.specs.World.{made, named_by, object, program_meant, refs_of, standing, standing_at, ◌>>=◌, ◌>>◌}
+use Rattle.jr_world.specs.Board.{word_under}
 use Rattle.jr_weak.specs.declared.collecting.Collected.{Collected}
 use Rattle.jr_syntax.specs.declared.name.Reference.{Reference}
 use Rattle.jr_syntax.specs.declared.thread.ThreadPart.{ThreadPart}
@@ -50,7 +51,7 @@ use Rattle.jr_scripts.specs.Commands.{get_critical, kind_made}
 use Rattle.jr_scripts.specs.Names.{Names, binding, buffer_in, getting, null, putting, reference_in, referent, wanted}
 use Rattle.jr_scripts.specs.Numbers.{first_number, has_numbers, number_of_word, word_of_number}
 use Rattle.jr_scripts.specs.Places.{Place, level_wanted, newest, nowhere, nth_object, place_after}
-use Rattle.jr_scripts.specs.Posting.{ThreadWords, reply_to_wait, word_under, words_after}
+use Rattle.jr_scripts.specs.Posting.{ThreadWords, reply_to_wait, words_after}
 use Rattle.jr_scripts.specs.RegionCommands.{read_kind}
 use Rattle.jr_scripts.specs.Text.{ending, heading, printed}
 

@@ -2,7 +2,6 @@
 use Rattle.std.specs.Prelude.{◌≡◌, ◌⊎◌, ◌≤◌, ◌<◌, ◌+◌, ◌++◌, ℕ, suc, cond, is_some, List, []}
 use Rattle.std.specs.Prelude.{◌∷◌, Option, Some, None, Result, Ok, Err, IfSome, MatchOption}
 use Rattle.std.specs.List.{AllByRecursion}
-use Rattle.std.specs.Str.{bytes_eq}
 use mathlib.Core.List.{IsPrefix}
 use Rattle.atomic_table.specs.Seated.{TableId}
 use Rattle.jr_word.specs.declared.fault.Fault.{Fault}
@@ -11,6 +10,7 @@ use Rattle.jr_word.specs.declared.handle.Handle.{Handle}
 use Rattle.jr_model.specs.History.{History, Did}
 use Rattle.jr_steps.specs.declared.known.Known.{Known}
 use Rattle.jr_steps.specs.Knowing.{Facts, Went, anything, view}
+use Rattle.jr_world.specs.Board.{word_under}
 use Rattle.jr_syntax.specs.declared.command.Command.{Command}
 use Rattle.jr_syntax.specs.declared.command.Command.TheVariants as commands
 use Rattle.jr_syntax.specs.declared.verb.Make.TheVariants as make
@@ -27,11 +27,6 @@ reply_to_wait None = Err fault.Turns
 -- the words of a thread: those that it posted and heard so far, each with its name
 abbrev pub ThreadWords : Type 0
 ThreadWords = List (List ℕ × ℕ)
-
--- THE WORD THAT A THREAD HAS under a name, none where it posted and heard none
-abbrev pub word_under : ThreadWords → List ℕ → Option ℕ
-word_under [] n = None
-word_under (x ∷ xs) n = cond (bytes_eq n x.0) (Some x.1) (word_under xs n)
 
 -- they are one more, under a name that has none
 abbrev pub words_with : ThreadWords → List ℕ → ℕ → ThreadWords

@@ -24,6 +24,7 @@ use Rattle.jr_world.specs.Doing.{Act, Doing, Noted, Shared, ended, step, whateve
 use Rattle.jr_world.specs.Doing.{as_seen, entered_in_steps, first_shared, go_out, in_role, of_others, opened_in_steps}
 use Rattle.jr_world.specs.Doing.{over_world, program_steps, then_out}
 use Rattle.jr_world.specs.Schedules.{Machine, run}
+use Rattle.jr_world.specs.Board.{word_under}
 use Rattle.jr_weak.specs.declared.collecting.Collected.{Collected}
 use Rattle.jr_env.specs.Tries.{is_tried_again}
 use Rattle.jr_syntax.specs.declared.name.Reference.{Reference}
@@ -49,7 +50,7 @@ use Rattle.jr_scripts.specs.Names.{Names, binding, buffer_in, getting, null, put
 use Rattle.jr_scripts.specs.Names.{word_posted}
 use Rattle.jr_scripts.specs.Numbers.{first_number, has_numbers, number_of_word, word_of_number}
 use Rattle.jr_scripts.specs.Places.{Place, level_wanted, newest, nowhere, nth_object, place_after}
-use Rattle.jr_scripts.specs.Posting.{ThreadWords, reply_to_wait, word_under, words_after}
+use Rattle.jr_scripts.specs.Posting.{ThreadWords, reply_to_wait, words_after}
 use Rattle.jr_scripts.specs.RegionCommands.{read_kind}
 use Rattle.jr_scripts.specs.Text.{ending, printed, text_of_parts}
 

@@ -1,7 +1,8 @@
 //! The words that a thread posted and heard, by name.
 
 ghost use Rattle.std.specs.Prelude.{◌≡◌, OnOk};
-ghost use Rattle.jr_scripts.specs.Posting.{word_under as word_of_name, words_after, words_with};
+ghost use Rattle.jr_world.specs.Board.{word_under as word_of_name};
+ghost use Rattle.jr_scripts.specs.Posting.{words_after, words_with};
 
 use crate::names::Names;
 use crate::reply::Reply;

@@ -47,7 +47,7 @@ use Rattle.jr_world.specs.Doing.{Doing, Shared, go_out, noted, program_steps, st
 use Rattle.jr_world.specs.Doing.{whatever}
 use Rattle.jr_world.specs.Doing.Doing.{ended}
 use Rattle.jr_world.specs.Plays.{ActsNext, Plays, SharedStands}
-use Rattle.jr_world.specs.Playing.{AnswerIs, AnsweredBy, IsApt, IsNotedAt, LiesIn, ObjectIs, WordIs}
+use Rattle.jr_world.specs.Playing.{AnswerIs, AnsweredBy, HasComeTo, IsApt, IsNotedAt, LiesIn, ObjectIs, WordIs}
 use Rattle.jr_world.specs.Fullness.{creations, deletions, row_references}
 use Rattle.jr_world.proofs.Births.BornLists.{births_push}
 use Rattle.jr_world.proofs.Fullness.Counting.{deletions_append}
@@ -149,14 +149,14 @@ push_prefix (x ∷ xs) (z ∷ zs) y (rest, is) =
 -- ONE CALL that enters the gate, of which the thread's entry comes next, and then these acts of its work
 module _ (c : Config) (last : ℕ) (whole : History) (old new : PassView) (f g : Frames) (n : ℕ) (a : AnswerKind)
     (p : Program n a) (words : Which → Word) (answer : Result (AnswerOf a) Fault) (lies : LiesIn c last whole old new)
-    {call : Call (AnswerOf a)} (r : Ran old new f g call answer) (acts : List Act)
-    (ran : work_of c last old.thread (state new.seen) words p f acts answer g) where
+    {past : History} (come : HasComeTo whole old past) {call : Call (AnswerOf a)} (r : Ran old new f g call answer)
+    (acts : List Act) (ran : work_of c last old.thread (state new.seen) words p f acts answer g) where
   -- none of its acts between is at the gate
   no_exit : AllByRecursion (λ b. b ≢ Gate Leave) acts
   no_exit = program_stays c last old.thread (state new.seen) words p none_known 0 f g acts answer ran
 
   -- the moment right behind its entry
-  module _ (now : History) (s : Shared) (next : ActsNext c whole old.thread old.seen now (Gate Enter))
+  module _ (now : History) (s : Shared) (next : ActsNext c whole old.thread past now (Gate Enter))
       (st : SharedStands c old.thread now f s) where
     abbrev pub entry : History
     entry = now ++ by old.thread (Gate Enter) ∷ []
@@ -210,13 +210,14 @@ module _ (c : Config) (last : ℕ) (whole : History) (old new : PassView) (f g :
         (prefix_trans ((old.seen ++ behind.between) ++ by old.thread (Gate Enter) ∷ []) new.seen whole
         (subst (λ h. IsPrefix h new.seen) behind.is r.window.to) lies.begins) next.next
         (mine_append old.seen behind.between old.thread ∙ ap (λ l. mine old.seen old.thread ++ l) behind.others
-        ∙ sym (ap (λ h. mine h old.thread) next.goes.is ∙ mine_append old.seen next.goes.since old.thread
-        ∙ ap (λ l. mine old.seen old.thread ++ l) next.goes.others)))
+        ∙ ap (λ l. l ++ []) (sym come.own)
+        ∙ sym (ap (λ h. mine h old.thread) next.goes.is ∙ mine_append past next.goes.since old.thread
+        ∙ ap (λ l. mine past old.thread ++ l) next.goes.others)))
 
     pub mine_entry : mine entry old.thread ≡ mine old.seen old.thread ++ Gate Enter ∷ []
     mine_entry = mine_push now old.thread (Gate Enter) ∙ ap (λ l. l ++ Gate Enter ∷ [])
-        (ap (λ h. mine h old.thread) next.goes.is ∙ mine_append old.seen next.goes.since old.thread
-        ∙ ap (λ l. mine old.seen old.thread ++ l) next.goes.others ∙ append-nil (mine old.seen old.thread))
+        (ap (λ h. mine h old.thread) next.goes.is ∙ mine_append past next.goes.since old.thread
+        ∙ ap (λ l. mine past old.thread ++ l) next.goes.others ∙ append-nil (mine past old.thread) ∙ come.own)
 
     -- to a moment at which its work is done the thread stays
     pub stays_to : (to : History) → mine to old.thread ≡ own → IsPrefix to whole → IsPrefix entry to
@@ -239,16 +240,16 @@ module _ (c : Config) (last : ℕ) (whole : History) (old new : PassView) (f g :
 
     -- its work is played from there, where a refusal may be told
     pub work_plays : (numbers : Which → ℕ) (behind : List (Item Act)) → PartsPlay scene (state new.seen)
-        → ((w : Which) → WordIs old.seen (words w) (numbers w)) → IsApt last f words p → MayRefuse scene behind answer
+        → ((w : Which) → WordIs past (words w) (numbers w)) → IsApt last f words p → MayRefuse scene behind answer
         → Plays c whole old.thread (Then scene a answer) g behind
         (program_steps c (noted s) numbers p none_known 0) entry f (map acting acts)
     work_plays numbers behind parts words_are apt may =
         program_plays scene (state new.seen) parts words numbers p none_known none_known Plain 0 0 entry f g acts answer
-        behind at_entry (λ w. word_now scene old.seen entry begun_before (words w) (numbers w) (words_are w))
+        behind at_entry (λ w. word_now scene past entry begun_before (words w) (numbers w) (words_are w))
         none_are (inl refl) (apt Plain) may ran
       where
-        begun_before : IsPrefix old.seen entry
-        begun_before = prefix_trans old.seen now entry (next.goes.since, sym next.goes.is)
+        begun_before : IsPrefix past entry
+        begun_before = prefix_trans past now entry (next.goes.since, sym next.goes.is)
             (by old.thread (Gate Enter) ∷ [], refl)
 
         none_are : KnownAre scene entry none_known none_known
@@ -460,7 +461,7 @@ module _ (c : Config) (last : ℕ) (whole : History) (old new : PassView) (f g :
 
           -- its work, and then its exit
           pub call_plays : (numbers : Which → ℕ) → PartsPlay scene (state new.seen)
-              → ((w : Which) → WordIs old.seen (words w) (numbers w)) → IsApt last f words p
+              → ((w : Which) → WordIs past (words w) (numbers w)) → IsApt last f words p
               → (next' : Result (MeantOf a) Fault → Doing (MeantOf a))
               → ((later : History) (x : Result (MeantOf a) Fault) → AnsweredBy a answer later x
               → next' x ≡ step go_out (λ _. ended x))

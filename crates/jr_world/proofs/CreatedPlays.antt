@@ -46,6 +46,7 @@ use Rattle.jr_world.proofs.LookStands.{agreed_behind, is_look, looks_play}
 use Rattle.jr_world.proofs.Fullness.RowRoom.{created_by_owners, creations_have_room, row_noted}
 use Rattle.jr_world.proofs.Fullness.RowBirths.{row_is_born}
 use Rattle.jr_world.proofs.Standing.{both_long, next_needs, stays_by_others, stays_here}
+use Rattle.jr_world.proofs.WordsPosted.{posted_later}
 use Rattle.one_order.specs.Orders.{Item}
 use Rattle.one_order.specs.Orders.Item.{does as acting}
 
@@ -177,6 +178,7 @@ module _ (c : Config) (last t : ℕ) (now : History) (f : Frames) (h : Handle) (
         (sym births_then)
         (subst (λ l. AreFrames t ((births now).refs ++ (h, the_ref) ∷ []) (slice_index_or l t []) f.frames)
         (sym (set-get_or s.frames t [])) (frames_with t (births now).refs ((h, the_ref) ∷ []) st.frames));
+    posted = posted_later now (by t (Create h o) ∷ []) s.board st.posted;
     places = st.places;
     agreed = agreed_behind t now f (Create h o) refl (λ p. refl) st.agreed;
     sound = st.sound;

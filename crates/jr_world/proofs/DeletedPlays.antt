@@ -42,6 +42,7 @@ use Rattle.jr_world.proofs.NamedPlays.{ComesTo, comes_next, comes_now, own_or, o
 use Rattle.jr_world.proofs.NamedPlays.{row_is_shared, told_so, word_later, word_then, word_within}
 use Rattle.jr_world.proofs.LookStands.{agreed_behind, is_look, look_stands}
 use Rattle.jr_world.proofs.Standing.{both_long, is_of_gate, next_needs, no_more_owners, seen_keeps, seen_stands}
+use Rattle.jr_world.proofs.WordsPosted.{posted_later}
 use Rattle.jr_world.proofs.TakenSteps.{does_so, moves_so}
 use Rattle.one_order.specs.Orders.{Item}
 use Rattle.one_order.specs.Orders.Item.{does as acting}
@@ -198,6 +199,7 @@ module _ (c : Config) (t : ℕ) (i : ℕ) where
         (sym (get_or-set_same s.frames t (map (filter (λ m. not (m == i))) (slice_index_or s.frames t [])) []
         (let l = st.lists in omega arith)))
         (frames_gone t h row (births now).refs i q e st.frames));
+    posted = posted_later now (by t (Delete h) ∷ []) s.board st.posted;
     places = st.places;
     agreed = agreed_behind t now f (Delete h) refl (λ p. refl) st.agreed;
     sound = st.sound;

@@ -40,13 +40,14 @@ use Rattle.jr_world.specs.Plays.{AreFrames, OthersGoOn, ActsNext, LeavesOthers, 
 use Rattle.jr_world.specs.Plays.Plays.{has_ended, moves, does}
 use Rattle.jr_world.specs.Playing.{BothAre, ObjectIs}
 use Rattle.jr_world.proofs.Births.BornLists.{births_append, some_same}
-use Rattle.jr_world.proofs.InStay.{EndingPlays, HandIs, IsAt, KnownAre, Scene, StaysOn, Then, at_births}
+use Rattle.jr_world.proofs.InStay.{EndingPlays, HandIs, InOneStay, IsAt, KnownAre, Scene, StaysOn, Then, at_births}
 use Rattle.jr_world.proofs.InStay.{at_legal, at_next}
 use Rattle.jr_world.proofs.InStay.{at_now, at_within, object_now, word_now}
 use Rattle.jr_world.proofs.ProgramPlays.{GoesOnWithElement}
 use Rattle.jr_world.proofs.Standing.{front_legal, is_of_gate, next_needs, no_more_owners}
 use Rattle.jr_world.proofs.Standing.{both_long, stays_by_act, stays_by_others, stays_here}
 use Rattle.jr_world.proofs.Standing.{stays_between, stays_then, still_between}
+use Rattle.jr_world.proofs.WordsPosted.{posted_later}
 use Rattle.one_order.specs.Orders.{Item}
 use Rattle.one_order.specs.Orders.Item.{does as acting}
 
@@ -152,6 +153,7 @@ module _ (c : Config) (t : ℕ) (now : History) (f : Frames) (a : Act) where
             f.frames) (sym as_before)
             (subst (λ l. AreFrames t (births now).refs (slice_index_or l t []) f.frames)
             (sym (set-get_or s.frames t [])) st.frames);
+        posted = posted_later now (by t a ∷ []) s.board st.posted;
         places = st.places;
         agreed = record {
           locals = λ p. ap (λ (m : State). m.locals t p) (state_push now (by t a)) ∙ ap (λ l. l t p) locals
@@ -579,7 +581,7 @@ module _ (k : Scene) where
 -- LOOKING: kind and length of the object at hand are the same at each moment of the stay
 
 -- of two beginnings of one list one begins the other
-in_line : {X : Type 0} (xs ys rest more : List X) → xs ++ rest ≡ ys ++ more → IsPrefix xs ys ⊎ IsPrefix ys xs
+pub in_line : {X : Type 0} (xs ys rest more : List X) → xs ++ rest ≡ ys ++ more → IsPrefix xs ys ⊎ IsPrefix ys xs
 in_line [] ys rest more e = inl (ys, refl)
 in_line (x ∷ xs) [] rest more e = inr (x ∷ xs, refl)
 in_line (x ∷ xs) (y ∷ ys) rest more e =
@@ -593,17 +595,19 @@ pub left_objects : (exit : History) (t : ℕ) → (state (exit ++ by t (Gate Lea
 left_objects exit t = ap (λ (m : State). m.objects) (state_push exit (by t (Gate Leave)))
 
 module _ (k : Scene) where
-  -- of two moments of the call the stay goes on from one to the other
-  pub stays_compare : (from to : History) → StaysOn k k.entry from → StaysOn k k.entry to → IsPrefix from k.whole
+  -- between a moment of the call and one of its stay the stay goes on from one to the other
+  pub stays_compare : (from to : History) → StaysOn k k.entry from → InOneStay k to → IsPrefix from k.whole
       → IsPrefix to k.whole → StaysOn k from to ⊎ StaysOn k to from
-  stays_compare from to first second begins begun = ⊎_elim
+  stays_compare from to first (inr before) begins begun =
+      inr (stays_then k.config k.last k.whole k.thread k.legal to k.entry from before first)
+  stays_compare from to first (inl second) begins begun = ⊎_elim
       (λ h. inl (stays_between k.config k.last k.whole k.thread k.legal k.entry from to first second h))
       (λ h. inr (stays_between k.config k.last k.whole k.thread k.legal k.entry to from second first h))
       (in_line from to begins.0 begun.0 (begins.1 ∙ sym begun.1))
 
   -- what stands at two moments of the call under one number is of one kind and length
   like_always : (past exit : History) (o : ℕ) (x z : Contents) → StaysOn k k.entry past → IsPrefix past k.whole
-      → StaysOn k k.entry exit → IsPrefix exit k.whole → (state exit).objects o ≡ Some x
+      → InOneStay k exit → IsPrefix exit k.whole → (state exit).objects o ≡ Some x
       → (state past).objects o ≡ Some z → (z.kind ≡ x.kind) × (length z.words ≡ length x.words)
   like_always past exit o x z stays begins ends begun there here = ⊎_elim
       (λ (later : StaysOn k past exit).
@@ -621,7 +625,7 @@ module _ (k : Scene) where
       (stays_compare past exit stays ends begins begun)
 
   -- THE OBJECT AT HAND, where one of its number is present at some moment of the call, with the objects of m
-  pub header_now : (m : State) (exit : History) → StaysOn k k.entry exit → IsPrefix exit k.whole
+  pub header_now : (m : State) (exit : History) → InOneStay k exit → IsPrefix exit k.whole
       → m.objects ≡ (state exit).objects
       → (past : History) (acts : List Act) (kind : Kind) (o j : ℕ) (x : Contents) → IsAt k past acts
       → HandIs k past kind o j → m.objects o ≡ Some x

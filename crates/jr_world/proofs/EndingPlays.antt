@@ -38,7 +38,7 @@ use Rattle.jr_world.proofs.NamedPlays.{named_plays}
 use Rattle.jr_world.proofs.PopPlays.{pops_to_plays}
 use Rattle.jr_world.proofs.ProgramPlays.{PartsPlay}
 use Rattle.jr_world.proofs.TypedPlays.{types_play}
-use Rattle.jr_world.proofs.InStay.{EndingPlays, HandIs, IsAt, Scene, StaysOn, Then, at_births, at_now}
+use Rattle.jr_world.proofs.InStay.{EndingPlays, HandIs, InOneStay, IsAt, Scene, Then, at_births, at_now}
 use Rattle.jr_world.proofs.InStay.{object_now}
 use Rattle.jr_world.proofs.Standing.{looks_then, stays_between}
 use Rattle.one_order.specs.Orders.{Item}
@@ -147,7 +147,7 @@ module _ (k : Scene) where
   each_ending (writes_to {n = n} i p) = writes_to_play k n i p
   each_ending (writes_from {n = n} i vs) = writes_from_play k n i vs
 
-  pub parts_play : (z : State) (exit : History) → StaysOn k k.entry exit → IsPrefix exit k.whole
+  pub parts_play : (z : State) (exit : History) → InOneStay k exit → IsPrefix exit k.whole
       → z.objects ≡ (state exit).objects → PartsPlay k z
   parts_play z exit stays begins same = record {
     name = named_plays k;

@@ -57,6 +57,7 @@ framed_stands c t now f s luck fs gs small st framed same sound = record {
   lists = length-set s.frames t fs ∙ st.lists;
   frames = left_frames t (births now).refs s (record (as_seen t luck s) { frames = fs }) gs
       (let l = st.lists in omega arith) framed;
+  posted = st.posted;
   places = st.places;
   agreed = record { locals = λ p. st.agreed.locals p ∙ same p; given = st.agreed.given };
   sound = sound;

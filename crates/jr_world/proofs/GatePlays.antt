@@ -28,6 +28,7 @@ use Rattle.jr_world.specs.Plays.{OthersGoOn, ActsNext, LeavesOthers, Plays, Shar
 use Rattle.jr_world.specs.Plays.Plays.{does, has_ended}
 use Rattle.jr_world.proofs.Births.BornLists.{births_append}
 use Rattle.jr_world.proofs.Standing.{next_needs}
+use Rattle.jr_world.proofs.WordsPosted.{posted_later}
 use Rattle.one_order.specs.Orders.{Item}
 use Rattle.one_order.specs.Orders.Item.{does as acting}
 
@@ -83,6 +84,7 @@ module _ (c : Config) (last : ℕ) (whole : History) (t : ℕ) (legal : IsLegal 
     frames = subst (λ b. Rattle.jr_world.specs.Plays.AreFrames t (Births.refs b) (slice_index_or s.frames t [])
         f.frames)
         (sym (births_same now a)) st.frames;
+    posted = posted_later now (by t (Gate a) ∷ []) s.board st.posted;
     places = st.places;
     agreed = record {
       locals = λ p. ap (λ (m : State). m.locals t p) (state_push now (by t (Gate a))) ∙ st.agreed.locals p;

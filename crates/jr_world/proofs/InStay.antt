@@ -65,6 +65,10 @@ module _ (k : Scene) where
   abbrev pub StaysOn : History → History → Type 0
   StaysOn from to = Stays k.config k.last k.whole k.thread k.legal from to
 
+  -- between this moment and the entry the thread stays, whichever is the earlier
+  abbrev pub InOneStay : History → Type 0
+  InOneStay moment = StaysOn k.entry moment ⊎ StaysOn moment k.entry
+
   -- the call has come so far, and these acts are left of its work
   pub record IsAt (past : History) (acts : List Act) : Type 0 where
     pub stays : StaysOn k.entry past

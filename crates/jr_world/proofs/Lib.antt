@@ -1,6 +1,7 @@
 pub mod Births
 pub mod Fullness
 pub mod Joining
+pub mod WordsPosted
 pub mod Standing
 pub mod InStay
 pub mod LocalFrames
@@ -24,6 +25,7 @@ pub mod LookStands
 pub mod CreatedPlays
 pub mod ElementPlays
 pub mod CallPlays
+pub mod EndedCalls
 pub mod StandingBirths
 pub mod Coming
 pub mod NextActs
@@ -33,3 +35,4 @@ pub mod OpenedCall
 pub mod StayedCall
 pub mod EndingPlays
 pub mod OutsideCall
+pub mod Alone

@@ -192,7 +192,7 @@ module _ (k : Scene) (now : History) (f : Frames) (s : Shared) (luck : Bool) (i 
             (g, v) e,
       ))
       (frames_less k.thread (births now).refs i h q at (λ j v e. all.one_ref i j h q v at e) st.frames)))
-      st.places
+      st.posted st.places
       (moved_agreed k now (LocalDrop h.index) f (without_local f h) begins st.sound st.agreed (deletes h stands))
       (deleted_sound f h st.sound)
 

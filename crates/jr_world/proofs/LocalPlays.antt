@@ -41,13 +41,15 @@ use Rattle.jr_world.specs.Births.{is_at}
 use Rattle.jr_world.specs.Births.{next_of_place, ref_to}
 use Rattle.jr_world.specs.Doing.{Doing, Shared, as_left, as_seen, atom, left_by_step, owner_if, whatever}
 use Rattle.jr_world.specs.Doing.Doing.{ended}
-use Rattle.jr_world.specs.Plays.{AreFrames, OthersGoOn, ActsNext, LeavesOthers, Plays, SharedStands, owner_of_handle}
+use Rattle.jr_world.specs.Plays.{AreFrames, OthersGoOn, ActsNext, LeavesOthers, Plays, SharedStands, WereBorn}
+use Rattle.jr_world.specs.Plays.{owner_of_handle}
 use Rattle.jr_world.specs.Plays.Plays.{has_ended, does, moves}
 use Rattle.jr_world.specs.Playing.{AnsweredBy, BothAre, FreeHaveSerials, ObjectIs, WordIs}
 use Rattle.jr_world.proofs.BornHandles.{own_stands, puts_are_own}
 use Rattle.jr_world.proofs.Births.BornLists.{births_push, get_new, get_old}
 use Rattle.jr_world.proofs.Births.BornObjects.{born_at}
 use Rattle.jr_world.proofs.Standing.{both_long, front_legal, looks_then, seen_stands, stays_by_others, stays_here}
+use Rattle.jr_world.proofs.WordsPosted.{posted_later}
 use Rattle.jr_world.proofs.InStay.{EndingPlays, IsAt, Scene, Then, at_births, at_next, at_now, at_within, object_now}
 use Rattle.jr_world.proofs.LocalFrames.{both_lack, frames_put, frames_stay, places_taken}
 use Rattle.jr_world.proofs.ProgramPlays.{same_fault}
@@ -146,9 +148,9 @@ pub stands_then : (c : Config) (t : ℕ) (now : History) (a : Act) (f : Frames) 
     → s.used ≡ (born_by (births now) t a).used → length s.roles ≡ c.threads
     → ((u : ℕ) → slice_index_or s.roles u Outside ≡ (act_after (state now) t a).role u) → length s.frames ≡ c.threads
     → AreFrames t (born_by (births now) t a).refs (slice_index_or s.frames t []) f.frames
-    → length f.given ≡ c.locals → Agree t f (now ++ by t a ∷ []) → AreSound f
+    → WereBorn now s.board → length f.given ≡ c.locals → Agree t f (now ++ by t a ∷ []) → AreSound f
     → SharedStands c t (now ++ by t a ∷ []) f s
-stands_then c t now a f s objects refs owners used many roles lists frames places agreed sound =
+stands_then c t now a f s objects refs owners used many roles lists frames posted places agreed sound =
     let born : (births (now ++ by t a ∷ [])) ≡ born_by (births now) t a = births_push now (by t a) in
     record {
       objects = objects ∙ ap (λ (b : Births). map (λ e. e.1) b.objects) (sym born);
@@ -159,6 +161,7 @@ stands_then c t now a f s objects refs owners used many roles lists frames place
       roles = λ u. roles u ∙ ap (λ (m : State). m.role u) (sym (state_push now (by t a)));
       lists = lists;
       frames = subst (λ (b : Births). AreFrames t b.refs (slice_index_or s.frames t []) f.frames) (sym born) frames;
+      posted = posted_later now (by t a ∷ []) s.board posted;
       places = places;
       agreed = agreed;
       sound = sound;
@@ -360,6 +363,7 @@ module _ (k : Scene) where
         (frames_put (length s.refs) r (ref_to Local o)
         (ap (slice_get newly) as_many ∙ get_new (births now).refs (r.handle, ref_to Local o)) own
         (frames_stay (λ i h q e. (q, get_old (births now).refs _ i (h, q) e)) st.frames)))))
+        st.posted
         (ap (λ (x : Frames). length x.given) is.new_is
         ∙ length-set f.given r.handle.index (r.handle.serial + 1) ∙ st.places)
         (moved_agreed now (LocalPut r.handle.index r.object) f g begins st.sound st.agreed (adds r is))

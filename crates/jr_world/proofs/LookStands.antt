@@ -21,6 +21,7 @@ use Rattle.jr_world.specs.Plays.Plays.{unseen}
 use Rattle.jr_world.proofs.Births.BornLists.{births_push}
 use Rattle.jr_world.proofs.InStay.{IsAt, Scene, StaysOn, at_next, at_within}
 use Rattle.jr_world.proofs.Standing.{is_of_gate, stays_by_act, stays_here}
+use Rattle.jr_world.proofs.WordsPosted.{posted_later}
 use Rattle.one_order.specs.Orders.{Item}
 use Rattle.one_order.specs.Orders.Item.{does as acting}
 
@@ -93,6 +94,7 @@ look_stands c t now f s a is st = record {
   roles = λ u. st.roles u ∙ sym (ap (λ (z : State). z.role u) (state_push now (by t a) ∙ same));
   lists = st.lists;
   frames = subst (λ (b : Births). AreFrames t b.refs (slice_index_or s.frames t []) f.frames) born st.frames;
+  posted = posted_later now (by t a ∷ []) s.board st.posted;
   places = st.places;
   agreed = agreed_behind t now f a (ap (λ (z : State). z.locals) same) (λ p. look_stores p a is) st.agreed;
   sound = st.sound;

@@ -16,6 +16,7 @@ use Rattle.jr_world.specs.Doing.{Shared, as_left, as_seen}
 use Rattle.jr_world.specs.Plays.{AreFrames, LeavesOthers, SharedStands, owner_of_handle}
 use Rattle.jr_world.proofs.Births.BornLists.{births_append}
 use Rattle.jr_world.proofs.Standing.{both_long, no_more_owners}
+use Rattle.jr_world.proofs.WordsPosted.{posted_later}
 
 -- AN ACT THAT LEAVES REFERENCES AND ROLES
 module _ (c : Config) (t : ℕ) (now : History) (f : Frames) (a : Act) where
@@ -63,6 +64,7 @@ module _ (c : Config) (t : ℕ) (now : History) (f : Frames) (a : Act) where
             f.frames) (sym same)
             (subst (λ l. AreFrames t (births now).refs (slice_index_or l t []) f.frames)
             (sym (set-get_or s.frames t [])) st.frames);
+        posted = posted_later now (by t a ∷ []) s.board st.posted;
         places = st.places;
         agreed = agree_next spared locals st.agreed;
         sound = st.sound;
@@ -84,6 +86,7 @@ module _ (c : Config) (t : ℕ) (now : History) (f : Frames) (a : Act) where
         lists = st.lists;
         frames = subst (λ (b : Births). AreFrames t b.refs (slice_index_or s.frames t []) f.frames) (sym same)
             st.frames;
+        posted = posted_later now (by t a ∷ []) s.board st.posted;
         places = st.places;
         agreed = agree_next spared (ap (λ (z : State). z.locals) state_same) st.agreed;
         sound = st.sound;

@@ -33,6 +33,7 @@ first_stands c t l = record {
   lists = length-replicate c.threads ([] ∷ []);
   frames = subst (λ z. AreFrames t [] z ([] ∷ [])) (sym (get_replicate c.threads t ([] ∷ []) [] l))
       (one_frame no_local no_frame);
+  posted = tt;
   places = length-replicate c.locals 0;
   agreed = fresh_agree c.locals t [] (λ p. refl);
   sound = fresh_are_sound c.locals;

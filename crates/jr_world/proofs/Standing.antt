@@ -188,6 +188,7 @@ module _ (c : Config) (t : ℕ) (now : History) (f : Frames) where
     lists = length-set s.frames t (slice_index_or s.frames t []) ∙ st.lists;
     frames = subst (λ l. AreFrames t (births now).refs (slice_index_or l t []) f.frames)
         (sym (set-get_or s.frames t [])) st.frames;
+    posted = st.posted;
     places = st.places;
     agreed = st.agreed;
     sound = st.sound;

@@ -17,10 +17,10 @@ use Rattle.jr_model.proofs.Agreement.{places_are_own, places_from}
 use Rattle.jr_model.proofs.Histories.{mine_append}
 use Rattle.jr_model.proofs.Updates.{eq_true, eq_false, eq_self, eq_other, at_number_self}
 use Rattle.jr_world.specs.Births.{births}
+use Rattle.jr_world.specs.Board.{IsOnBoard}
 use Rattle.jr_world.specs.Doing.{Doing, Shared}
 use Rattle.jr_world.specs.Doing.Doing.{ended, steps}
-use Rattle.jr_world.specs.Plays.{AreNamed, AreFrames, OthersGoOn, ActsNext, IsOnBoard, LeavesOthers, Plays}
-use Rattle.jr_world.specs.Plays.{SharedStands}
+use Rattle.jr_world.specs.Plays.{AreNamed, AreFrames, OthersGoOn, ActsNext, LeavesOthers, Plays, SharedStands}
 use Rattle.jr_world.specs.Plays.AreNamed.{no_local, one_local}
 use Rattle.jr_world.specs.Plays.AreFrames.{no_frame, one_frame}
 use Rattle.jr_world.specs.Plays.Plays.{has_ended, moves, waits, does, unseen, says, listens}
@@ -88,6 +88,7 @@ module _ (c : Config) (whole : History) where
     frames = subst (λ l. AreFrames u (births later).refs l k.frames) (sym same)
         (subst (λ h. AreFrames u (births h).refs (slice_index_or s.frames u []) k.frames) (sym goes.is)
         (frames_later u now goes.since own.frames));
+    posted = theirs.posted;
     places = own.places;
     agreed = agree_by_own u k now later (ap (λ h. mine h u) goes.is ∙ (mine_append now goes.since u
         ∙ (ap (λ l. mine now u ++ l) goes.others ∙ append-nil (mine now u)))) own.agreed;

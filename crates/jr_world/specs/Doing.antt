@@ -125,7 +125,7 @@ abbrev pub atom : {A : Type 0} → Meaning A → Doing A
 atom m = by_step (over_world m)
 
 -- WHAT A CALL NOTES at its entry: how many global and weak references stand, how many references of any kind were made,
--- and how many words are used. A refusal that others are the cause of may come where something changed since
+-- and how many words are used. E8 and E12 may come by what others did since
 pub record Noted : Type 0 where
   pub standing : ℕ
   pub made : ℕ
@@ -186,7 +186,7 @@ created_in_steps c from k (Some o) = do
   done (Some h)
 
 -- SPACE is reserved, or E10 is told where it doesn't fit. Without luck others are faster:
--- E12 may come where other words are used than at the call's entry
+-- E12 may come where more words are used than at the call's entry
 abbrev pub taken_or_lost : Config → Noted → ℕ → Act (Unit {0})
 taken_or_lost c from n t luck s = cond (not luck && nat_lt from.used s.used) (Err (fault.Raced from.used s.used), s)
     (over_world (reserve c n) t luck s)

@@ -2,6 +2,9 @@ pub mod World
 pub mod Births
 pub mod Fullness
 pub mod Doing
+pub mod Board
 pub mod Plays
 pub mod Playing
 pub mod Schedules
+pub mod Alone
+pub mod AloneCalls

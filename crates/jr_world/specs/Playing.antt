@@ -12,7 +12,7 @@ use Rattle.jr_model.specs.declared.event.Act.{Act}
 use Rattle.jr_model.specs.declared.event.Role.TheVariants.{Within}
 use Rattle.jr_model.specs.State.{Contents}
 use Rattle.jr_model.specs.Frames.{Frames, all_refs, is_held}
-use Rattle.jr_model.specs.History.{History, IsLegal, PassView, state}
+use Rattle.jr_model.specs.History.{History, IsLegal, PassView, mine, state}
 use Rattle.jr_model.specs.Checks.{Word, Nothing, Parts, is_objects, is_of_kind}
 use Rattle.jr_model.specs.Tests.{Tests, is_silent}
 use Rattle.jr_model.specs.Calls.{Call, Ran, entered, opened}
@@ -133,15 +133,27 @@ pub record IsNotedAt (moment : History) (noted : Noted) : Type 0 where
   pub made : noted.made ≡ length (births moment).refs
   pub used : noted.used ≡ (births moment).used
 
--- A CALL IS PLAYED whose work stands so to the gate, of the machine and by steps
+-- A MOMENT TO WHICH THE THREAD HAS COME with a pass: by then it has done what it did in all that the pass has seen.
+-- There may be more events of others by then, or fewer
+pub record HasComeTo (whole : History) (pass : PassView) (moment : History) : Type 0 where
+  pub begins : IsPrefix moment whole
+  pub own : mine moment pass.thread ≡ mine pass.seen pass.thread
+
+-- a call that left the pass so has ended at this moment, to which its thread has come with it, and was answered so
+abbrev pub EndsAnswered : History → PassView → (a : AnswerKind) → Result (AnswerOf a) Fault → History
+    → Result (MeantOf a) Fault → Type 0
+EndsAnswered whole new a answer later r = HasComeTo whole new later × AnsweredBy a answer later r
+
+-- A CALL IS PLAYED whose work stands so to the gate, of the machine and by steps: from each moment to which its thread
+-- has come before the call, to one to which it has come behind it
 abbrev pub CallsPlay : ((A : Type 0) → Call A → Call A) → ((A : Type 0) → (Noted → Doing A) → Doing A) → Type 0
-CallsPlay at_gate in_steps = (c : Config) (last : ℕ) (whole : History) (old new : PassView) (f g : Frames) (n : ℕ)
-    (a : AnswerKind) (p : Program n a) (words : Which → Word) (numbers : Which → ℕ) (answer : Result (AnswerOf a) Fault)
-    (behind : List (Item Act)) → LiesIn c last whole old new
-    → ((w : Which) → WordIs old.seen (words w) (numbers w)) → IsApt last f words p
+CallsPlay at_gate in_steps = (c : Config) (last : ℕ) (whole : History) (old new : PassView) (past : History)
+    (f g : Frames) (n : ℕ) (a : AnswerKind) (p : Program n a) (words : Which → Word) (numbers : Which → ℕ)
+    (answer : Result (AnswerOf a) Fault) (behind : List (Item Act)) → LiesIn c last whole old new
+    → HasComeTo whole old past → ((w : Which) → WordIs past (words w) (numbers w)) → IsApt last f words p
     → (r : Ran old new f g (at_gate (AnswerOf a) (work_of c last old.thread (state new.seen) words p)) answer)
-    → Plays c whole old.thread (AnsweredBy a answer) g behind
-    (in_steps (MeantOf a) (λ from. program_steps c from numbers p none_known 0)) old.seen f (map acting r.acts)
+    → Plays c whole old.thread (EndsAnswered whole new a answer) g behind
+    (in_steps (MeantOf a) (λ from. program_steps c from numbers p none_known 0)) past f (map acting r.acts)
 
 -- A CALL WITH A STAY OF ITS OWN
 abbrev pub EnteredPlays : Type 0
@@ -154,15 +166,15 @@ OpenedPlays = CallsPlay (λ A. opened) (λ A. opened_in_steps)
 -- A CALL IN A STAY THAT STANDS, as a further level of a region, or a program at an object of a level:
 -- no refusal of it speaks of the room
 abbrev pub StayedPlays : Type 0
-StayedPlays = (c : Config) (last : ℕ) (whole : History) (old new : PassView) (f g : Frames) (n : ℕ) (a : AnswerKind)
-    (p : Program n a) (words : Which → Word) (numbers : Which → ℕ) (o j : ℕ) (from : Noted)
+StayedPlays = (c : Config) (last : ℕ) (whole : History) (old new : PassView) (past : History) (f g : Frames) (n : ℕ)
+    (a : AnswerKind) (p : Program n a) (words : Which → Word) (numbers : Which → ℕ) (o j : ℕ) (from : Noted)
     (answer : Result (AnswerOf a) Fault) (behind : List (Item Act)) → LiesIn c last whole old new
-    → (state old.seen).role old.thread ≡ Within → IsNotedAt old.seen from
-    → ((w : Which) → WordIs old.seen (words w) (numbers w)) → IsApt last f words p → (o ≡ 0) ⊎ ObjectIs old.seen o j
+    → HasComeTo whole old past → (state past).role old.thread ≡ Within → IsNotedAt past from
+    → ((w : Which) → WordIs past (words w) (numbers w)) → IsApt last f words p → (o ≡ 0) ⊎ ObjectIs past o j
     → IfErr answer (λ e. is_silent e ≡ true)
     → (r : Ran old new f g (call_of c last old.thread (state new.seen) words p none_known o) answer)
-    → Plays c whole old.thread (AnsweredBy a answer) g behind (program_steps c from numbers p none_known j) old.seen f
-    (map acting r.acts)
+    → Plays c whole old.thread (EndsAnswered whole new a answer) g behind
+    (program_steps c from numbers p none_known j) past f (map acting r.acts)
 
 -- the program is one that enters no gate: it asks for room for local references, or adds a frame
 abbrev pub EntersNoGate : {n : ℕ} {a : AnswerKind} → Program n a → Type 0
@@ -172,9 +184,10 @@ EntersNoGate _ = ⊥
 
 -- A CALL OUTSIDE, which may be made at any moment
 abbrev pub OutsidePlays : Type 0
-OutsidePlays = (c : Config) (last : ℕ) (whole : History) (old new : PassView) (f g : Frames) (n : ℕ) (a : AnswerKind)
-    (p : Program n a) (words : Which → Word) (numbers : Which → ℕ) (from : Noted) (answer : Result (AnswerOf a) Fault)
-    (behind : List (Item Act)) → LiesIn c last whole old new → EntersNoGate p → IsApt last f words p
+OutsidePlays = (c : Config) (last : ℕ) (whole : History) (old new : PassView) (past : History) (f g : Frames) (n : ℕ)
+    (a : AnswerKind) (p : Program n a) (words : Which → Word) (numbers : Which → ℕ) (from : Noted)
+    (answer : Result (AnswerOf a) Fault) (behind : List (Item Act)) → LiesIn c last whole old new
+    → HasComeTo whole old past → EntersNoGate p → IsApt last f words p
     → (r : Ran old new f g (work_of c last old.thread (state new.seen) words p) answer)
-    → Plays c whole old.thread (AnsweredBy a answer) g behind (program_steps c from numbers p none_known 0) old.seen f
-    (map acting r.acts)
+    → Plays c whole old.thread (EndsAnswered whole new a answer) g behind
+    (program_steps c from numbers p none_known 0) past f (map acting r.acts)

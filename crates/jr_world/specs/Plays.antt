@@ -1,7 +1,8 @@
 -- HOW A PROGRAM IS PLAYED in one legal history: each of its steps at a place of its own, with events of other threads
 -- between.
-use Rattle.std.specs.Prelude.{◌≡◌, ◌≢◌, ℕ, Bool, Option, Some, None, Result, List, [], ◌∷◌}
+use Rattle.std.specs.Prelude.{◌≡◌, ◌≢◌, ◌≤◌, ℕ, Bool, Option, Some, None, Result, List, [], ◌∷◌}
 use Rattle.std.specs.Prelude.{◌++◌, cond, map, length, slice_get, slice_index_or}
+use Rattle.std.specs.List.{AllByRecursion}
 use mathlib.Core.List.{IsPrefix}
 use Rattle.jr_word.specs.declared.config.Config.{Config}
 use Rattle.jr_word.specs.declared.fault.Fault.{Fault}
@@ -16,6 +17,7 @@ use Rattle.jr_world.specs.World.{Ref}
 use Rattle.jr_world.specs.Births.{births}
 use Rattle.jr_world.specs.Doing.{Doing, Shared}
 use Rattle.jr_world.specs.Doing.Doing.{ended, steps}
+use Rattle.jr_world.specs.Board.{IsOnBoard}
 use Rattle.one_order.specs.Orders.{Item}
 use Rattle.one_order.specs.Orders.Item.{does as acting, posts as posting, hears as hearing}
 
@@ -35,6 +37,10 @@ pub data AreFrames (t : ℕ) (refs : List (Handle × Option Ref)) : List (List �
   one_frame : {is : List ℕ} {fs : List (List ℕ)} {rs : List LocalRef} {gs : List (List LocalRef)}
       → AreNamed t refs is rs → AreFrames t refs fs gs → AreFrames t refs (is ∷ fs) (rs ∷ gs)
 
+-- each word that was posted is 0, or that of a reference that was born: the word of reference i is i + 1
+abbrev pub WereBorn : History → List (List ℕ × ℕ) → Type 0
+WereBorn now board = AllByRecursion (λ x. x.1 ≤ length (births now).refs) board
+
 -- WHAT IS SHARED STANDS as in the history, for a thread with these frames
 pub record SharedStands (c : Config) (t : ℕ) (now : History) (f : Frames) (s : Shared) : Type 0 where
   pub objects : s.objects ≡ map (λ e. e.1) (births now).objects
@@ -45,6 +51,7 @@ pub record SharedStands (c : Config) (t : ℕ) (now : History) (f : Frames) (s :
   pub roles : (u : ℕ) → slice_index_or s.roles u Outside ≡ (state now).role u
   pub lists : length s.frames ≡ c.threads
   pub frames : AreFrames t (births now).refs (slice_index_or s.frames t []) f.frames
+  pub posted : WereBorn now s.board
   pub places : length f.given ≡ c.locals
   pub agreed : Agree t f now
   pub sound : AreSound f
@@ -58,10 +65,6 @@ pub record LeavesOthers (t : ℕ) (s s' : Shared) : Type 0 where
 pub record Posts (t : ℕ) (n : List ℕ) (w : ℕ) (s s' : Shared) : Type 0 where
   pub frames : (u : ℕ) → slice_index_or s'.frames u [] ≡ slice_index_or s.frames u []
   pub board : s'.board ≡ s.board ++ (n, w) ∷ []
-
--- the word stands on the board
-abbrev pub IsOnBoard : List (List ℕ × ℕ) → List ℕ → ℕ → Type 0
-IsOnBoard board n w = (before after : List (List ℕ × ℕ)) × (board ≡ before ++ (n, w) ∷ after)
 
 module _ (c : Config) (whole : History) (t : ℕ) where
   -- the history has gone on by events of other threads, so far

@@ -9,7 +9,8 @@ use Rattle.jr_model.specs.Frames.{Frames, fresh_frames}
 use Rattle.jr_model.specs.History.{History, by}
 use Rattle.jr_world.specs.Doing.{Doing, Shared, first_shared}
 use Rattle.jr_world.specs.Doing.Doing.{ended, steps}
-use Rattle.jr_world.specs.Plays.{IsOnBoard, Plays, SharedStands}
+use Rattle.jr_world.specs.Board.{IsOnBoard}
+use Rattle.jr_world.specs.Plays.{Plays, SharedStands}
 use Rattle.one_order.specs.Orders.{AreStories, BoardOf, Item, done_by}
 use Rattle.one_order.specs.Orders.Item.{does as acting, posts as posting, hears as hearing}
 
@@ -65,7 +66,7 @@ abbrev pub board_from : List (List ℕ × ℕ) → List (ℕ × Item Act) → Li
 board_from b [] = b
 board_from b (x ∷ xs) = board_from (board_after b x.1) xs
 
--- who hears a word hears one that was posted before
+-- who hears a word hears the one that was posted before under its name
 abbrev pub AreHeard : List (List ℕ × ℕ) → List (ℕ × Item Act) → Type 0
 AreHeard b all = (before after : List (ℕ × Item Act)) (t : ℕ) (n : List ℕ) (w : ℕ)
     → all ≡ before ++ (t, hearing n w) ∷ after → IsOnBoard (board_from b before) n w
@@ -83,11 +84,12 @@ PlayersRunTo A = (c : Config) (answers : ℕ → Result A Fault) (f g : ℕ → 
 abbrev pub pairs : History → List (ℕ × Act)
 pairs es = map (λ e. (e.thread, e.act)) es
 
--- AND SO DO THOSE THAT ARE PLAYED BY THEIR THREADS' STORIES in one history, with one board
+-- AND SO DO THOSE THAT ARE PLAYED BY THEIR THREADS' STORIES in one history, with one board, on which no word stands
+-- at first
 abbrev pub StoriesRunTo : Type 0 → Type 0
 StoriesRunTo A = (c : Config) (answers : ℕ → Result A Fault) (f g : ℕ → Frames) (whole : History) (board : BoardOf Act)
     (rank : List ℕ → ℕ) (stories : List (List (Item Act))) (start : Machine A)
-    → AreStories board rank (pairs whole) stories → length stories ≡ c.threads
+    → AreStories board rank (pairs whole) stories → length stories ≡ c.threads → start.shared.board ≡ []
     → ((t : ℕ) → t < c.threads
     → Plays c whole t (λ later r. r ≡ answers t) (g t) [] (start.programs t) [] (f t) (slice_index_or stories t []))
     → ((t : ℕ) → t < c.threads → SharedStands c t [] (f t) start.shared) → RunTogether c answers g whole start

@@ -19,8 +19,9 @@ use Rattle.jr_frames.specs.Reading.{IsReadAs}
 use Rattle.jr_scripts.specs.declared.binding.Binding.{Binding}
 use Rattle.jr_scripts.specs.declared.binding.Binding.TheVariants as bound
 use Rattle.jr_scripts.specs.Names.{Names, binding, name_order, or_nothing, with_name, word_of_reference}
-use Rattle.jr_scripts.specs.Posting.{ThreadWords, word_under, words_with}
+use Rattle.jr_scripts.specs.Posting.{ThreadWords, words_with}
 use Rattle.jr_world.specs.World.{World}
+use Rattle.jr_world.specs.Board.{word_under}
 use Rattle.jr_scripts.proofs.LoneRun.MeaningFrames.{Pairing}
 use Rattle.jr_scripts.proofs.LoneRun.MeaningFits.{Later, HandlesStay, IsGiven, by_place, by_row, handles_stay}
 use Rattle.jr_scripts.proofs.LoneRun.MeaningCalls.{WordFits}

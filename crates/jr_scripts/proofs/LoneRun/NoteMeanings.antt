@@ -10,8 +10,9 @@ use Rattle.jr_syntax.specs.declared.verb.Make.TheVariants as make
 use Rattle.jr_scripts.specs.declared.reply.Reply.{Reply}
 use Rattle.jr_scripts.specs.Commands.{awaited}
 use Rattle.jr_scripts.specs.Names.{Names}
-use Rattle.jr_scripts.specs.Posting.{IsAnswered, ThreadWords, reply_to_wait, said_alone, word_under}
+use Rattle.jr_scripts.specs.Posting.{IsAnswered, ThreadWords, reply_to_wait, said_alone}
 use Rattle.jr_world.specs.World.{World}
+use Rattle.jr_world.specs.Board.{word_under}
 use Rattle.jr_scripts.proofs.LoneRun.MadeCalls.{Moment, moment_is}
 use Rattle.jr_scripts.proofs.LoneRun.MeaningFrames.{Pairing}
 use Rattle.jr_scripts.proofs.LoneRun.MeaningFits.{Fits, SameAnswer, fits_less, later_self}

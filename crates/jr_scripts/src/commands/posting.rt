@@ -1,8 +1,9 @@
 //! What the names of a thread are handed to other threads for, by a board.
 
 ghost use Rattle.std.specs.Prelude.{◌≡◌, ℕ, Option, IfNone, Ok};
+ghost use Rattle.jr_world.specs.Board.{word_under as word_of_name};
 ghost use Rattle.jr_scripts.specs.declared.reply.Reply.TheVariants.{Done};
-ghost use Rattle.jr_scripts.specs.Posting.{reply_to_wait, word_under as word_of_name, words_found, words_with, Follows, HasLookedFor, HasPosted, HasWaited, Keeps, WasInVain, ThreadWords};
+ghost use Rattle.jr_scripts.specs.Posting.{reply_to_wait, words_found, words_with, Follows, HasLookedFor, HasPosted, HasWaited, Keeps, WasInVain, ThreadWords};
 
 use crate::board::Board;
 use crate::reply::Reply;

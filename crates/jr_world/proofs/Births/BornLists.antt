@@ -1,6 +1,7 @@
 -- Lists that grow, or whose elements become others; and what was born earlier, which keeps its place.
-use Rattle.std.proofs.Common.{◌≡◌, ◌⊎◌, inl, inr, ℕ, zero, suc, Bool, true, false, cond, Option, Some, None}
-use Rattle.std.proofs.Common.{List, [], ◌∷◌, ◌++◌, map, length, slice_get, refl, sym, ap, subst, ◌==◌}
+use Rattle.std.proofs.Common.{◌≡◌, ◌≤◌, ◌⊎◌, inl, inr, ℕ, zero, suc, Bool, true, false, cond, Option, Some, None}
+use Rattle.std.proofs.Common.{List, [], ◌∷◌, ◌++◌, map, length, slice_get, refl, sym, ap, subst, ◌==◌, arith}
+use Rattle.std.proofs.lemmas.List.{length-append, length-map}
 use Rattle.jr_model.specs.declared.event.Act.{Act}
 use Rattle.jr_model.specs.declared.event.Act.TheVariants.{Create, Delete, Clear, LocalPut, LocalDrop, New, Write, Drop}
 use Rattle.jr_model.specs.declared.event.Event.{Event}
@@ -110,3 +111,34 @@ pub object_stays : (past rest : History) (i o : ℕ) → HasObject (births past)
     → HasObject (births (past ++ rest)) i o
 object_stays past rest i o e = subst (λ b. HasObject b i o) (sym (births_append no_births past rest))
     (object_along (births past) rest i o e)
+
+-- BIRTHS OF REFERENCES are never fewer
+
+no_fewer : {X : Type 0} (xs ys : List X) → length xs ≤ length (xs ++ ys)
+no_fewer xs ys = let more = length-append xs ys in omega arith
+
+as_many : {X Y : Type 0} (f : X → Y) (xs : List X) → length xs ≤ length (map f xs)
+as_many f xs = let same = length-map xs f in omega arith
+
+refs_act : (b : Births) (t : ℕ) (a : Act) → length b.refs ≤ length (born_by b t a).refs
+refs_act b t (Create g o) = no_fewer b.refs _
+refs_act b t (Delete g) = as_many (λ x. (x.0, cond (same_handle g x.0) None x.1)) b.refs
+refs_act b t (Clear g) = as_many (λ x. (x.0, cond (same_handle g x.0) (emptied x.1) x.1)) b.refs
+refs_act b t (LocalPut p o) =
+    let left : length b.refs ≤ length (gone_where (is_at t p) b.refs) =
+    as_many (λ x. (x.0, cond (is_at t p x.0) None x.1)) b.refs in
+    let all : length (gone_where (is_at t p) b.refs) ≤ length (born_by b t (LocalPut p o)).refs =
+    no_fewer (gone_where (is_at t p) b.refs) _ in omega arith
+refs_act b t (LocalDrop p) = as_many (λ x. (x.0, cond (is_at t p x.0) None x.1)) b.refs
+refs_act b t _ = omega arith
+
+refs_along : (b : Births) (es : History) → length b.refs ≤ length (births_from b es).refs
+refs_along b [] = omega arith
+refs_along b (x ∷ es) =
+    let first = refs_act b x.thread x.act in
+    let rest = refs_along (born_by b x.thread x.act) es in omega arith
+
+-- in a history that went on no fewer were born
+pub refs_stay : (past rest : History) → length (births past).refs ≤ length (births (past ++ rest)).refs
+refs_stay past rest = subst (λ (b : Births). length (births past).refs ≤ length b.refs)
+    (sym (births_append no_births past rest)) (refs_along (births past) rest)

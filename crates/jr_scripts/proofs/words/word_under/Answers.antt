@@ -2,7 +2,8 @@ use Rattle.std.proofs.Common.{◌≡◌, ◌≤◌, length, refl, rules, true, f
 use Rattle.std.proofs.Common.{cond, List, [], ◌∷◌, Some, None, take, drop, get_or, sym, ap}
 use Rattle.std.specs.Str.{bytes_eq}
 use Rattle.std.proofs.lemmas.List.{take-append-drop, take_all, take_more}
-use Rattle.jr_scripts.specs.Posting.{ThreadWords, word_under}
+use Rattle.jr_world.specs.Board.{word_under}
+use Rattle.jr_scripts.specs.Posting.{ThreadWords}
 use Rattle.jr_scripts.proofs.JobLists.{one_left}
 use Rattle.jr_scripts.proofs.words.word_under.Goals as goal
 

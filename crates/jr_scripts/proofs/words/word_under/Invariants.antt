@@ -1,5 +1,5 @@
 use Rattle.std.proofs.Common.{◌≡◌, None, take}
-use Rattle.jr_scripts.specs.Posting.{word_under}
+use Rattle.jr_world.specs.Board.{word_under}
 use Rattle.jr_scripts.proofs.words.word_under.Given as goal
 
 abbrev pub invariant-loop-entry : goal.invariant-loop-entry

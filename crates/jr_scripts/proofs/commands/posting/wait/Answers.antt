@@ -1,5 +1,6 @@
 use Rattle.std.proofs.Common.{Some, sym, ◌∙◌, subst}
-use Rattle.jr_scripts.specs.Posting.{WasInVain, word_under}
+use Rattle.jr_world.specs.Board.{word_under}
+use Rattle.jr_scripts.specs.Posting.{WasInVain}
 use Rattle.jr_scripts.proofs.Speaking.{has_known, has_waited, keeps_all, known_words, own_looked}
 use Rattle.jr_scripts.proofs.commands.posting.wait.Goals as goal
 
