@@ -29,4 +29,4 @@ pub mod Lines
 pub mod LoneWords
 pub mod LoneRun
 pub mod GivenUpLevels
-pub mod TogetherMeans
+pub mod TogetherRun

@@ -40,7 +40,7 @@ some_is : (o : Option ℕ) (w : ℕ) → o ≡ Some w → is_some o ≡ true
 some_is o w is = ap is_some is
 
 -- what holds of each name with a word
-ranked_below : (rank : List ℕ → ℕ) (words : ThreadWords) (n : List ℕ) (r : ℕ)
+pub ranked_below : (rank : List ℕ → ℕ) (words : ThreadWords) (n : List ℕ) (r : ℕ)
     → AllByRecursion (λ (x : List ℕ × ℕ). rank x.0 < r) words → Has words n → rank n < r
 ranked_below rank [] n r all has = absurd cc
 ranked_below rank (x ∷ xs) n r all has = go (bytes_eq n x.0) refl (ranked_below rank xs n r all.1)
@@ -92,7 +92,7 @@ has_still words m w n has = go (is_some (word_under words m))
     go true = has
     go false = had_before words ((m, w) ∷ []) n has
 
-has_now : (words : ThreadWords) (n : List ℕ) (w : ℕ) → Has (words_with words n w) n
+pub has_now : (words : ThreadWords) (n : List ℕ) (w : ℕ) → Has (words_with words n w) n
 has_now words n w = go (is_some (word_under words n)) refl
   where
     go : (b : Bool) → is_some (word_under words n) ≡ b → Has (cond b words (words ++ (n, w) ∷ [])) n
@@ -109,8 +109,8 @@ had_or_now words m w n = go (is_some (word_under words m))
 
 -- BEHIND A COMMAND
 
-has_after : (names : Names) (c : Command) (answer : Result Reply Fault) (words : ThreadWords) (n : List ℕ) → Has words n
-    → Has (words_after names c answer words) n
+pub has_after : (names : Names) (c : Command) (answer : Result Reply Fault) (words : ThreadWords) (n : List ℕ)
+    → Has words n → Has (words_after names c answer words) n
 has_after names (commands.OnName v m) answer words n has = has_still words m (word_posted names m) n has
 has_after names (commands.Make make.Wait m) (Ok (replies.Made (Some h))) words n has = has_still words m h.0 n has
 has_after names (commands.Make make.Wait m) (Ok (replies.Made None)) words n has = has

@@ -1,6 +1,7 @@
 -- Runs of scripts of several threads, in one room and one history.
-use Rattle.std.specs.Prelude.{◌≡◌, Option, ◌+◌, ◌<◌, ◌^◌, ℕ, zero, suc}
-use Rattle.std.specs.Prelude.{true, false, List, [], ◌∷◌, ◌++◌, length, Result}
+use Rattle.std.specs.Prelude.{◌≡◌, Option, ◌+◌, ◌<◌, ◌≤◌, ◌^◌, ℕ, zero, suc}
+use Rattle.std.specs.List.{AllByRecursion}
+use Rattle.std.specs.Prelude.{Bool, true, false, List, [], ◌∷◌, ◌++◌, length, Result}
 use mathlib.Core.List.{IsPrefix}
 use Rattle.jr_word.specs.declared.config.Config.{Config}
 use Rattle.jr_word.specs.declared.fault.Fault.{Fault}
@@ -12,12 +13,14 @@ use Rattle.jr_model.specs.History.{History, state, mine, IsLegal, PassView}
 use Rattle.jr_model.specs.Laws.{KeepsTheLaws}
 use Rattle.jr_model.specs.Frames.{Frames, fresh_frames}
 use Rattle.jr_syntax.specs.declared.command.Command.{Command}
+use Rattle.jr_syntax.specs.declared.command.Command.TheVariants as commands
 use Rattle.jr_syntax.specs.declared.thread.ThreadPart.{ThreadPart}
 use Rattle.jr_syntax.specs.declared.script.Script.{Script}
 use Rattle.jr_syntax.specs.Script.{all_apart, posts_of}
 use Rattle.jr_rule.specs.declared.pass.Pass.{Pass}
 use Rattle.jr_rule.specs.Passes.{Holder, facts_of, holder_of, standing_of}
 use Rattle.jr_gate.specs.Performing.{ThreadState}
+use Rattle.jr_world.specs.World.{how_many}
 use Rattle.jr_steps.specs.Holdings.{empty}
 use Rattle.jr_steps.specs.Knowing.{Spent}
 use Rattle.jr_env.specs.Deeds.{DoesDeed}
@@ -25,6 +28,8 @@ use Rattle.jr_scripts.specs.Text.{ending, text_of_parts}
 use Rattle.jr_scripts.specs.Posted.{IsOfPosts, commands_of}
 use Rattle.jr_scripts.specs.Posting.{Speech, said}
 use Rattle.jr_scripts.specs.Explains.{Explained}
+use Rattle.jr_scripts.specs.Meaning.{gives_up}
+use Rattle.jr_scripts.specs.Together.{MeansTogether}
 use Rattle.jr_scripts.specs.Runs.{IsFreed, RunsSingle, running_to_end}
 
 -- a thread ran these commands with its pass, which was spent first,
@@ -112,10 +117,27 @@ pub record IsRunOfAll (turns last : ℕ) (s : Script) (text : List ℕ) : Type 0
   pub parts : ArePartsOf board rank turns last s.config whole 0 2 s.threads lines
   pub text_is : text ≡ text_of_parts s.threads lines ++ ending (summary s.config last (state whole))
 
--- the script was run, and the output grew by its text;
+-- a command that collects
+abbrev pub is_collection : Command → Bool
+is_collection (commands.OfRoom v) = true
+is_collection (commands.WithTries v tries) = true
+is_collection _ = false
+
+-- THE TEXT OF A RUN of several threads is what its script means, where no command collects. Serials have 32 bits, and
+-- there are more of them than commands that give up references
+abbrev pub MeansAll : ℕ → ℕ → Script → List ℕ → Type 0
+MeansAll turns last s text = last < 2 ^ 32 → how_many gives_up (commands_of s.threads) ≤ last
+    → AllByRecursion (λ x. is_collection x ≡ false) (commands_of s.threads) → MeansTogether turns s text
+
+-- what explains a text explains one that its script means
+abbrev pub RunsMean : Type 0
+RunsMean = (turns last : ℕ) (s : Script) (text : List ℕ) → IsRunOfAll turns last s text → MeansAll turns last s text
+
+-- the script was run, and the output grew by its text, which is what the script means;
 -- that of a script of one thread is the text of a run of that thread alone
 pub record RunsAll (turns last : ℕ) (s : Script) (old new : List ℕ) : Type 0 where
   pub text : List ℕ
   pub grew : new ≡ old ++ text
   pub run : IsRunOfAll turns last s text
+  pub means : MeansAll turns last s text
   pub alone : s.config.threads ≡ 1 → RunsSingle turns last s old new

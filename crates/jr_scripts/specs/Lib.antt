@@ -15,7 +15,6 @@ pub mod Explains
 pub mod AloneAnswers
 pub mod Meaning
 pub mod Together
-pub mod Played
 pub mod Runs
 pub mod AllRuns
 pub mod Jobs

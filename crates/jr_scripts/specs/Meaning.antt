@@ -8,26 +8,23 @@ use Rattle.jr_word.specs.declared.config.Config.{Config}
 use Rattle.jr_word.specs.declared.fault.Fault.{Fault}
 use Rattle.jr_word.specs.declared.fault.Fault.TheVariants as fault
 use Rattle.jr_word.specs.declared.handle.Handle.{Handle}
-use Rattle.jr_word.specs.declared.handle.RefKind.TheVariants.{Local, Global, Weak}
-use Rattle.jr_word.specs.declared.kind.Kind.TheVariants.{Plain}
+use Rattle.jr_word.specs.declared.handle.RefKind.TheVariants.{Global, Weak}
 use Rattle.jr_model.specs.declared.frames.Mode.{Mode}
 use Rattle.jr_model.specs.declared.frames.Mode.TheVariants.{Abort}
 use Rattle.jr_model.specs.declared.summary.Summary.{Summary}
 use Rattle.jr_model.specs.State.{Contents, same_kind, length_of}
 use Rattle.jr_model.specs.Checks.{is_objects}
-use Rattle.jr_model.specs.Programs.{AnswerKind, nothing}
-use Rattle.jr_model.specs.Programs.{one, at_both, none_known}
-use Rattle.jr_model.specs.Programs.{makes}
-use Rattle.jr_model.specs.Programs.{copies, Program, names}
-use Rattle.jr_model.specs.Programs.{wants}
+use Rattle.jr_model.specs.Programs.{AnswerKind}
+use Rattle.jr_model.specs.Programs.{at_both, none_known}
+use Rattle.jr_model.specs.Programs.{Program}
 use Rattle.jr_model.specs.CallPrograms.{ensure_local_capacity, get_array_elements, get_array_length, get_array_region}
 use Rattle.jr_model.specs.CallPrograms.{get_object_array_element, get_object_ref_type, get_string_chars}
 use Rattle.jr_model.specs.CallPrograms.{get_string_length, is_same_object, kind_of, new_array, new_local_ref}
 use Rattle.jr_model.specs.CallPrograms.{new_object_array, new_plain, new_reference, new_string, pop_local_frame}
 use Rattle.jr_model.specs.CallPrograms.{push_local_frame, region_get, region_kind, region_set, release_array_elements}
 use Rattle.jr_model.specs.CallPrograms.{set_array_region, set_object_array_element}
-use Rattle.jr_world.specs.World.{Meaning, MeantOf, Ref, World, decided, delete, done, first_world, found, how_many}
-use Rattle.jr_world.specs.World.{made, named_by, object, program_meant, refs_of, standing, standing_at, ◌>>=◌, ◌>>◌}
+use Rattle.jr_world.specs.World.{Meaning, MeantOf, Ref, World, decided, delete, done, first_world, how_many}
+use Rattle.jr_world.specs.World.{named_by, program_meant, refs_of, standing, standing_at, ◌>>=◌, ◌>>◌}
 use Rattle.jr_world.specs.Board.{word_under}
 use Rattle.jr_weak.specs.declared.collecting.Collected.{Collected}
 use Rattle.jr_syntax.specs.declared.name.Reference.{Reference}

@@ -210,9 +210,9 @@ module _ (c : Config) (turns : ℕ) (names : Names) (words : ThreadWords) where
   doing_room with_count.Push n = tried_in_steps turns (calls_within null 0 (push_local_frame n))
   doing_room with_count.Ensure n = tried_in_steps turns (calls_within null 0 (ensure_local_capacity n))
 
-  -- a buffer is copied back to an array; to abort does nothing
+  -- a buffer is copied back to an array; to abort takes no step, where there is a turn
   abbrev pub doing_back : Mode → Copied → Handle → Doing (Unit {0})
-  doing_back Abort b h = done tt
+  doing_back Abort b h = tried_in_steps turns (done tt)
   doing_back mode b h = calls_on h (release_array_elements b.kind b.words)
 
   -- A COMMAND WHERE NO REGION STANDS: E19 for those of a region

@@ -1,6 +1,7 @@
 use Rattle.std.proofs.Common.{◌≡◌, ◌++◌, rules}
 use Rattle.jr_scripts.specs.AllRuns.{IsRunOfAll}
 use Rattle.jr_scripts.proofs.LoneRun.{lone_run}
+use Rattle.jr_scripts.proofs.TogetherRun.AllMean.{all_mean}
 use Rattle.jr_scripts.proofs.all.run_all.Goals as goal
 
 pub returns-clause-ok : goal.returns-clause-ok
@@ -12,6 +13,7 @@ returns-clause-ok g c =
       text = text;
       grew = grew;
       run = run;
+      means = all_mean c.args.turns 4294967295 c.args.script.now text run;
       alone = lone_run c.args.turns 4294967295 c.args.script.now c.args.out.now.items c.extend_from_slice.new.self.items
           text grew run;
     }

@@ -1,12 +1,12 @@
--- A request is found in its words, so it is the one that was answered; a text with a fault is not, and a script of one
--- thread is by what it means.
+-- A request is found in its words, so it is the one that was answered; a text with a fault is not, and a script is by
+-- what it means.
 use Rattle.std.proofs.Common.{List, ℕ, IfSome, IsSome, arith, map, subst, sym}
 use Rattle.std.specs.Borrow.{Bor}
 use Rattle.jr_syntax.specs.Faults.{first_fault}
 use Rattle.jrefs.proofs.CommandLine.{answers_request}
 use Rattle.jrefs.proofs.Ending.{IsFaulty, faulty_not_answered, faulty_stopped}
 use Rattle.jrefs.specs.declared.request.Request.TheVariants.{Run}
-use Rattle.jrefs.specs.Meant.{WritesMeant}
+use Rattle.jrefs.specs.Meant.{WritesWhatIsMeant}
 use Rattle.jrefs.proofs.Meant.{answer_writes, failure_writes}
 use Rattle.jrefs.proofs.act.act.Goals as goal
 
@@ -35,7 +35,5 @@ returns-in-Err-clause-means g c =
     let known = g.R.Read.remaining c.args.reader.now in
     let old = g.W.Write.contents c.args.writer.now in
     let new = g.W.Write.contents c.carried_out.new.writer in
-    λ config part run is there.
-    subst (λ (n : ℕ). WritesMeant config part old new n) (sym c.tell.ensures.status)
-    (failure_writes c.in-Err.trouble words known _ old new (c.in-Err.ensures.taken Run run) c.in-Err.ensures.err
-    config part run is there)
+    subst (WritesWhatIsMeant words known old new) (sym c.tell.ensures.status)
+    (failure_writes c.in-Err.trouble words known _ old new (λ run. c.in-Err.ensures.taken Run run) c.in-Err.ensures.err)

@@ -1,0 +1,20 @@
+-- A script of several threads that is run: its text is what the page of several threads says.
+pub mod Moments
+pub mod Lists
+pub mod Values
+pub mod AptPrograms
+pub mod PlayedDeeds
+pub mod PlayedCalls
+pub mod AskedCalls
+pub mod OutsideCommands
+pub mod RegionCalls
+pub mod RegionCommands
+pub mod HandedOn
+pub mod EachCommand
+pub mod ProgramsCount
+pub mod SerialsLeft
+pub mod KindsBorn
+pub mod PlayedTexts
+pub mod WholeCounts
+pub mod Texts
+pub mod AllMean
