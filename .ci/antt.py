@@ -25,7 +25,7 @@ OPERATORS = {
 LIBRARY = {
     "zero": 0, "true": True, "false": False, "tt": (), "[]": (), "empty": {}, "w8": 8, "w16": 16, "w32": 32, "w64": 64,
     "suc": lambda n: n + 1, "◌+◌": lambda m, n: m + n, "◌-◌": lambda m, n: max(m - n, 0), "◌*◌": lambda m, n: m * n, "◌^◌": lambda m, n: m**n,
-    "◌==◌": lambda m, n: m == n, "nat_lt": lambda m, n: m < n, "nat_le": lambda m, n: m <= n, "not": lambda b: not b,
+    "◌==◌": lambda m, n: m == n, "nat_eq": lambda m, n: m == n, "nat_lt": lambda m, n: m < n, "nat_le": lambda m, n: m <= n, "not": lambda b: not b,
     "pos": lambda n: n, "negsuc": lambda n: -1 - n, "neg_ℤ": lambda k: -k, "int_lt": lambda k, l: k < l, "int_le": lambda k, l: k <= l,
     "unsigned_abs": abs, "int_rem_euclid": lambda k, l: k % abs(l), "cast_signed": lambda w, n: n if n < 2 ** (w - 1) else -1 - max(2**w - 1 - n, 0),
     "decimal": lambda n: tuple(b"%d" % n), "signed_decimal": lambda k: tuple(b"%d" % k), "codes": tuple, "bytes_eq": lambda xs, ys: xs == ys,
@@ -280,7 +280,7 @@ class Equation:
         module, name = self.file.scope.meaning(head[1]) or ("", "")
         if ".specs.declared." in module:
             return None if head[1].isupper() else head[1]
-        return head[1] if head[1] in CONSTRUCTORS or module and name in self.definitions.file(module).constructors else None
+        return head[1] if head[1] in CONSTRUCTORS or module and {name, head[1]} & self.definitions.file(module).constructors else None
 
     def match(self, pattern, value):
         """Asks that a value fits a pattern, and has the pattern's variables be its parts."""

@@ -8,6 +8,7 @@ from antt import Definitions
 from cases import cases
 from meant import AS_SETS, CALLS, KEPT, MEANING, WORLD, Meant
 from rattle import text_of
+from schedules import TOGETHER
 
 SMALL = """-- Of no use.
 use Rattle.std.specs.Prelude.{ℕ, zero, suc, Bool, cond, List, [], ◌∷◌, ◌+◌, ◌*◌, map, sum_by}
@@ -95,7 +96,7 @@ PLANTED = {
         "= names one (wants one (names other (looks (λ k n.\n    tests (element_tests i k n) (refl, (refl, (refl, tt))) (ends (writes_to i other))))))",
         CALLS,
     ),
-    "a wait forgets what was posted": ("scripts/threads/an_element_is_handed_over", "(word_under words n)", "(word_under [] n)"),
+    "a post hands on NULL": ("scripts/threads/an_element_is_handed_over", "s.board ++ (n, w) ∷ []", "s.board ++ (n, 0) ∷ []", TOGETHER),
     "an array's name comes before its buffer's": (
         "scripts/copies/names_of_a_release",
         "    b ← decided (buffer_in (binding names n))\n    h ← the r\n",
@@ -162,6 +163,16 @@ class Scripts(unittest.TestCase):
         text = b"vm threads 1 slots 1 objects 1 words 1 locals 16\nthread a\nint a 1\nelems b a\nelems b a\neget b 0\nwait c\n"
         said = Meant().printed(text, (False,))
         self.assertEqual(said, b"[a]\n4 ! E16\neget b 0 0\n7 ! E20\n[end]\nglobals 0 weaks 0 live 1 used 1\n")
+
+    def test_all_schedules_of_the_scripts_of_the_page_have_its_texts(self):
+        head, end = "vm threads 2 slots 1 objects 1 words 1 locals 16\nthread a\n", "[end]\nglobals"
+        for script, said in {
+            "objs l 1 null\nglobal g l\npost g\ndrop g\nset l 0 l\nthread b\nwait g\nget n g 0\n": {"get n null\n", "10 ! E2\n", ""},
+            "plain p\nthread b\nplain p\n": {"3 ! E11\n", "5 ! E11\n"},
+            "plain p\npost x\nthread b\nwait x\ngc\n": {f"gc {it} used 0\n" for it in ("cleared 0 dropped 0", "cleared 0 dropped 1")} | {"gc busy 1\n"},
+        }.items():
+            texts = {it.decode().replace("[a]\n", "").replace("[b]\n", "").partition(end)[0] for it in Meant().texts((head + script).encode())}
+            self.assertEqual(texts, said)
 
     def test_threads_take_turns_over_one_world(self):
         ended = b"vm threads 2 slots 1 objects 1 words 0 locals 16\nthread a\nplain x\npost x\nthread b\nwait x\ngc\n"
