@@ -46,6 +46,9 @@ SHAPES = {
     "zero": ("{} == 0",), "suc": ("{} > 0", "{} - 1"), "true": ("{}",), "false": ("not {}",), "[]": ("not {}",), "◌∷◌": ("{}", "{}[0]", "{}[1:]"),
 }  # fmt: skip
 CONSTRUCTORS = ("None", "Some", "Ok", "Err")
+# In a constant of the sources: a path to a variant, and what else may stand there, which Python reads as Rust does.
+VARIANT = re.compile(r"(?:[A-Za-z_]\w*::)+([A-Z]\w*[a-z]\w*)(\(?)")
+PLAIN = re.compile(r"(?:[\d_,\s()\[\]+*-]|<<)*")
 
 
 def split(test, items):
@@ -117,7 +120,9 @@ def constant(module, name):
     text = text_of(f"crates/{crate}/src/{path.replace('.', '/')}.rt")
     item = next(it for it in items_of(blanked(text)) if it.kind == "const" and it.name == name)
     value = text[item.named : item.stop].partition("=")[2].strip(" ;")
-    found = eval(re.sub(r"(?:\w+::)+(\w+)(\(?)", lambda it: f"made('{it[1]}'{', ' if it[2] else ')'}", value), {"made": lambda *its: its})
+    if not PLAIN.fullmatch(VARIANT.sub(r"\2", value)):
+        raise SyntaxError(f"the constant {name} has a value that is not read here: {value}")
+    found = eval(VARIANT.sub(lambda it: f"made('{it[1]}'{', ' if it[2] else ')'}", value), {"made": lambda *its: its})
     return tuple(found) if isinstance(found, list) else found
 
 
@@ -166,6 +171,8 @@ class Reader:
         word = self.take()
         if word == "record":
             return self.record()
+        if word[0] == '"' and (not word.isascii() or "\\" in word):
+            raise SyntaxError(f"{word} has a sign that is not read here")
         if word != "(":
             value = tuple(word[1:-1].encode()) if word[0] == '"' else int(word) if word.isdigit() else None
             head, *labels = word.split(".")

@@ -121,6 +121,14 @@ class Drawn:
         """Collects, announced or not."""
         return [self.draw.choice(("gc", f"gcann {self.draw.choice((1, 2, 100))}"))]
 
+    def chain(self):
+        """Makes a row of arrays of objects, of which each names the one before, collects, cuts it somewhere and collects again."""
+        long = self.draw.randrange(4, 13)
+        cut, lines = self.draw.randrange(1, long), ["objs o0 1 null"]
+        for it in range(1, long):
+            lines += ["objs o1 1 o0", "drop o0", "local o0 o1", "drop o1", *(["local r0 o0"] if it == cut else [])]
+        return [*lines, "gc", "set r0 0 null", "drop r0", "gc", "get r1 o0 0", "type r1"]
+
     def begin(self):
         """Has most names stand for something."""
         for number in range(3):
@@ -141,6 +149,9 @@ def alone(draw, most):
     part = Drawn(draw, True)
     part.begin()
     part.add(draw.randrange(5, 4 * most))
+    if draw.random() < 0.5:
+        at = draw.randrange(len(part.lines) + 1)
+        part.lines[at:at] = part.chain()
     for name in draw.sample([f"{sort}{number}" for sort in "aorsb" for number in range(3)], draw.randrange(4)):
         at = draw.randrange(len(part.lines) + 1)
         part.lines[at:at] = [f"post {name}"]

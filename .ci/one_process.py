@@ -13,9 +13,10 @@ from programs import SECONDS
 class Handed:
     """A program that runs many scripts in one process, which is started at the first."""
 
-    def __init__(self, program, library):
-        """Begins with no process."""
-        self.program, self.library, self.process = program, library, None
+    def __init__(self, program, library, variables=()):
+        """Begins with no process. It has these variables of the environment, of which one may name a further library."""
+        self.program, self.variables, self.process = program, dict(variables), None
+        self.variables["LD_PRELOAD"] = ":".join([library, *filter(None, [self.variables.get("LD_PRELOAD")])])
 
     def part(self, length):
         """Returns so many bytes of what the process writes, or fewer, where it has ended or comes to no end."""
@@ -35,7 +36,7 @@ class Handed:
     def ended(self, text):
         """Runs a script. Returns its status, its output and its standard error."""
         if not self.process:
-            how = {"stdin": subprocess.PIPE, "stdout": subprocess.PIPE, "env": {**os.environ, "LD_PRELOAD": self.library}}
+            how = {"stdin": subprocess.PIPE, "stdout": subprocess.PIPE, "env": {**os.environ, **self.variables}}
             self.process = subprocess.Popen([self.program, "run"], **how)
         try:
             self.process.stdin.write(struct.pack("I", len(text)) + text)
@@ -45,6 +46,12 @@ class Handed:
             self.process.kill()
             status, self.process = self.process.wait(), None
             return f"none, and the process ended with {status}", b"", b""
+
+    def end(self):
+        """Ends the process, where one was started."""
+        if self.process:
+            self.process.communicate()
+            self.process = None
 
 
 def handing(folder):

@@ -3,8 +3,8 @@
 import os
 import unittest
 
-from shared import CI
-from antt import Definitions
+from shared import CI, repository
+from antt import Definitions, constant
 from cases import cases
 from meant import AS_SETS, CALLS, KEPT, MEANING, WORLD, Meant
 from rattle import text_of
@@ -131,6 +131,21 @@ class SmallDefinitions(unittest.TestCase):
         for equation in ("f Never = 0", "f n = never n"):
             with self.assertRaises(LookupError):
                 Definitions({"a.specs.B": f"abbrev pub f : ℕ → ℕ\n{equation}\n"}).run("a.specs.B", "f", 0)
+
+    def test_a_text_that_would_be_read_wrongly_is_refused(self):
+        head = "use Rattle.std.specs.Prelude.{codes}\n\nabbrev pub f : ℕ → List ℕ\n"
+        self.assertEqual(Definitions({"a.specs.B": f'{head}f n = codes "ab"\n'}).run("a.specs.B", "f", 0), (97, 98))
+        for text in ("a\\n", "é"):
+            with self.assertRaises(SyntaxError):
+                Definitions({"a.specs.B": f'{head}f n = codes "{text}"\n'}).run("a.specs.B", "f", 0)
+
+    def test_a_constant_that_would_be_read_wrongly_is_refused(self):
+        for value, read in {"65_536": 65_536, "1 << 4": 16, "[Verb::Make(Make::Plain), Verb::Last]": (("Make", ("Plain",)), ("Last",))}.items():
+            with repository({"crates/a/src/b.rt": f"pub const N: u64 = {value};\n"}):
+                self.assertEqual(constant("a.specs.declared.b", "N"), read)
+        for value in ("7 / 2", "-7 % 3", "b'a'", "u32::MAX", "OTHER"):
+            with repository({"crates/a/src/b.rt": f"pub const N: u64 = {value};\n"}), self.assertRaises(SyntaxError):
+                constant("a.specs.declared.b", "N")
 
     def test_equations_that_nothing_came_to_are_told(self):
         self.assertEqual(self.said("lost", 2), 2 + 5)
