@@ -397,6 +397,10 @@ class Definitions:
         """Returns what a definition is of these arguments."""
         return self.space[self.made(module, name)[0]](*arguments)
 
+    def come_to(self, module):
+        """Returns the equations of a file to which something has come."""
+        return {left for number, (of, left) in enumerate(self.equations) if of == module and number in self.used}
+
     def unused(self, module):
         """Returns the equations of a file, of definitions that were made, to which nothing has come."""
         return [left for number, (of, left) in enumerate(self.equations) if of == module and number not in self.used]

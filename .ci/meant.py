@@ -4,15 +4,18 @@ print: of one thread by `Meaning.antt`, of several by `Together.antt` and `.ci/s
 from functools import cached_property
 
 from antt import Definitions
-from schedules import Schedules
+from schedules import DOING, TOGETHER, TURNS, Schedules
 
-WORLD, MEANING = "jr_world.specs.World", "jr_scripts.specs.Meaning"
+WORLD, SWEEPS, MEANING = "jr_world.specs.World", "jr_scripts.specs.Sweeps", "jr_scripts.specs.Meaning"
+# The files of what scripts mean, of which each equation is to be come to.
+READ = (WORLD, DOING, SWEEPS, TOGETHER, MEANING)
 CALLS = "jr_model.specs.CallPrograms"
-# What no script comes to: a frame always stands, and so does each object that a reference, an element or a level names; `drop`
-# deletes whatever the kind is, by no call of one; and nothing that one thread prints tells of its end.
+# What no script comes to: a frame always stands, and so do a thread's role, its part, a reference that was just made, and each object that
+# a reference, an element or a level names; a `drop` of any kind takes the steps of a local one; here no call is made so often that it is E20; and
+# that a thread finds the gate closed is a race.
 UNUSED = {
-    "newest_frame []", "all_but_last []", "put_last [] n", "contents_in None", "elements_of None", "ending_meant ( deletes k p ) known o",
-    "ending_meant ( deletes_local p ) known o", "ending_meant frees known o", "free",
+    "newest_frame []", "all_but_last []", "put_last [] n", "contents_in None", "elements_of None", "owner_if t None", "of_others f t []",
+    "ending_steps ( deletes k p ) known o", "tried_in_steps zero call", "thread_of line [] t", "inside work ( Err e )",
 }  # fmt: skip
 # Definitions whose list is asked for its elements alone, and those that each line asks again of all lines before it.
 AS_SETS, KEPT = ("reached_by",), ("verb_of", "is_thread_line", "second_word", "posted_by")
@@ -25,12 +28,12 @@ class Meant:
 
     def __init__(self, texts=None):
         """Takes texts in the place of files of definitions, by their modules."""
-        self.definitions, self.by_all = Definitions(texts, AS_SETS, KEPT), []
+        self.definitions, self.noting, self.by_all = Definitions(texts, AS_SETS, KEPT), Definitions(texts, AS_SETS, KEPT), []
 
     @cached_property
     def schedules(self):
         """Returns the schedules of scripts of several threads."""
-        return Schedules(self.definitions)
+        return Schedules(self.noting)
 
     def run(self, file, name, *arguments):
         """Returns what a definition of jr_syntax is of these arguments."""
@@ -62,7 +65,7 @@ class Meant:
         script = self.script(text)
         if len(script["threads"]) > 1:
             return self.schedules.text_in_order(script)
-        return bytes(self.definitions.run(MEANING, "text_of_part", memory, script["config"], script["threads"][0]))
+        return bytes(self.definitions.run(MEANING, "text_of_part", memory, TURNS, script["config"], script["threads"][0]))
 
     def texts(self, text):
         """Returns what a script of several threads may print: by all schedules where these are few, and else in one order."""
@@ -84,5 +87,6 @@ class Meant:
         return self.texts(text) if is_by_all and text.count(b"\nthread ") > 1 else {self.printed(text)}
 
     def unused(self):
-        """Returns the equations of `World.antt` and `Meaning.antt` that no text has come to, and that some text can come to."""
-        return [f"{file}: {it}" for file in (WORLD, MEANING) for it in self.definitions.unused(file) if it not in UNUSED]
+        """Returns the equations of what scripts mean that no text has come to, and that some text can come to."""
+        both = (self.definitions, self.noting)
+        return [f"{file}: {it}" for file in READ for it in dict.fromkeys(sum((of.unused(file) for of in both), [])) if it not in UNUSED and not any(it in of.come_to(file) for of in both)]

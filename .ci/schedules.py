@@ -7,7 +7,7 @@ adds to what is made, where all that the script makes has room. Numbers of refer
 text tells. What collections alone see is unseen where no thread that collects can go on before this one does."""
 
 TOGETHER, DOING, SCHEDULES = "jr_scripts.specs.Together", "jr_world.specs.Doing", "jr_world.specs.Schedules"
-MEANING, TEXT = "jr_scripts.specs.Meaning", "jr_scripts.specs.Text"
+TEXT = "jr_scripts.specs.Text"
 COLLECTING, MAKING, LOCAL, WITHIN = ("OfRoom", "WithTries"), ("MakeSized", "MakeFilled"), ("Local",), ("Within",)
 NOTHING_NOTED = {"standing": 0, "made": 0, "used": 0}
 # Who may see a step: the least of them comes first.
@@ -21,6 +21,9 @@ class Endless(int):
     def __sub__(self, _):
         """Returns the number of turns that are left."""
         return self
+
+
+TURNS = Endless(10**7)
 
 
 class Luck:
@@ -81,8 +84,8 @@ class Numbers:
                 shape = (tuple, *map(self.of, value))
             elif isinstance(value, dict):
                 shape = (dict, *((label, self.of(value[label])) for label in sorted(value)))
-            elif getattr(value, "__closure__", None):
-                shape = (self.of(value.__code__), *(self.of(it.cell_contents) for it in value.__closure__))
+            elif hasattr(value, "__code__"):
+                shape = (self.of(value.__code__), *(self.of(it.cell_contents) for it in value.__closure__ or ()))
             else:
                 shape = (type(value), value)
             self.kept[id(value)] = (value, self.numbers.setdefault(shape, len(self.numbers)))
@@ -207,9 +210,12 @@ class Schedules:
         sizes = [0 if it[1] == ("Plain",) else it[3] if it[0] in MAKING else len(it[2]) for it in making]
         refs, config = sum(it[0] == "MakeFrom" and it[1][0] in ("Global", "Weak") for it in commands), script["config"]
         self.is_roomy = refs <= config["slots"] and len(sizes) <= config["objects"] and sum(sizes) <= config["words"]
-        machine = self.run(TOGETHER, "first_machine", Endless(10**7), script)
-        programs = tuple(machine["programs"](it) for it, _ in enumerate(script["threads"]))
-        return State(machine["shared"], programs, tuple(it["commands"] for it in script["threads"]))
+        machine = self.run(TOGETHER, "first_machine", TURNS, script)
+        programs, commands = [], []
+        for it, _ in enumerate(script["threads"]):
+            programs.append(machine["programs"](it))
+            commands.append(self.commands)
+        return State(machine["shared"], tuple(programs), tuple(commands))
 
     def stepped(self, state, thread, luck):
         """Returns the state behind a step of a thread."""
@@ -250,9 +256,9 @@ class Schedules:
 
     def text(self, script, state):
         """Returns what a script prints whose threads have all ended."""
-        world = self.run(DOING, "as_seen", 0, True, state.shared)
+        world = self.run(DOING, "as_seen", 0, state.shared)
         lines = tuple(it[1][1] for it in state.programs)
-        return bytes(self.run(TEXT, "text_of_parts", script["threads"], lines) + self.run(TEXT, "ending", self.run(MEANING, "summary_of", world)))
+        return bytes(self.run(TEXT, "text_of_parts", script["threads"], lines) + self.run(TEXT, "ending", self.run(TOGETHER, "summary_of", world)))
 
     def texts(self, script, most):
         """Returns all that a script may print, or None where its schedules come to more states than these."""

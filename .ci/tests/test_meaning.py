@@ -6,9 +6,9 @@ import unittest
 from shared import CI, repository
 from antt import Definitions, constant
 from cases import cases
-from meant import AS_SETS, CALLS, KEPT, MEANING, WORLD, Meant
+from meant import AS_SETS, CALLS, KEPT, SWEEPS, WORLD, Meant
 from rattle import text_of
-from schedules import TOGETHER
+from schedules import DOING, TOGETHER
 
 SMALL = """-- Of no use.
 use Rattle.std.specs.Prelude.{ℕ, zero, suc, Bool, cond, List, [], ◌∷◌, ◌+◌, ◌*◌, map, sum_by}
@@ -56,12 +56,12 @@ abbrev pub lost : ℕ → ℕ
 lost zero = 7
 lost n = (both (n ∷ 3 ∷ [])).left + sum_by (λ m. m + n) (both (3 ∷ [])).right
 """
-# What is planted in the definitions: a kept script that tells it, what takes the place of what, and in which file, where it is not that of what scripts mean.
+# What is planted in the definitions: a kept script that tells it, what takes the place of what, and in which file, where it is not that of the commands.
 PLANTED = {
     "E18 comes after E7": (
         "scripts/arrays/what_is_refused_at_objects",
-        "    word ← decided (word_of_number k x)\n    does (call_on h ",
-        "    call_on h (get_array_region k i 1)\n    word ← decided (word_of_number k x)\n    does (call_on h ",
+        "    word ← decided (word_of_number k x)\n    makes_nothing (calls_on h ",
+        "    calls_on h (get_array_region k i 1)\n    word ← decided (word_of_number k x)\n    makes_nothing (calls_on h ",
     ),
     "a cleared weak reference has type 0": (
         "scripts/collections/a_weak_reference_is_cleared",
@@ -69,21 +69,37 @@ PLANTED = {
         "type_in (Some r) = cond (is_some r.object) (kind_number r.kind) 0",
         WORLD,
     ),
-    "a pop keeps nothing": ("scripts/frames/results_of_pops", "frames = all_but_last w.frames })\n    new_local o", "frames = all_but_last w.frames })\n    new_local None", WORLD),
+    "a pop keeps nothing": ("scripts/frames/results_of_pops", "atom (new_local c o)", "atom (new_local c None)", DOING),
     "a pop drops nothing": (
         "scripts/frames/results_of_pops",
-        "record w { refs = without (newest_frame w.frames) w.refs; frames = all_but_last w.frames }",
-        "record w { frames = all_but_last w.frames }",
-        WORLD,
+        "ns ← atom (ask (λ w. newest_frame w.frames))\n  given_up_in_steps ns",
+        "ns ← atom (ask (λ w. newest_frame w.frames))\n  given_up_in_steps []",
+        DOING,
     ),
-    "a weak reference takes no slot": ("scripts/collections/all_slots_weak", "refs_of Global w + refs_of Weak w == c.slots", "refs_of Global w == c.slots", WORLD),
+    "a weak reference takes no slot": (
+        "scripts/collections/all_slots_weak",
+        "in_row s = refs_of Global (as_seen 0 s) + refs_of Weak (as_seen 0 s)",
+        "in_row s = refs_of Global (as_seen 0 s)",
+        DOING,
+    ),
     "an element of objects is the first": (
         "scripts/arrays/elements_of_objects",
-        "program_meant (finds i next) known o = ask (λ w. slice_index (contents w o).words i)",
-        "program_meant (finds i next) known o = ask (λ w. slice_index (contents w o).words 0)",
-        WORLD,
+        "element_read o i >>= (λ v. program_steps next (set_known known one (named_by v)) o)",
+        "element_read o 0 >>= (λ v. program_steps next (set_known known one (named_by v)) o)",
+        DOING,
     ),
-    "an object needs no local place": ("scripts/references/sixteen_local_places", "    room_for 1\n    reserve (length words)", "    reserve (length words)", WORLD),
+    "an object needs no local place": (
+        "scripts/references/sixteen_local_places",
+        "  atom (room_for c 1)\n  reserved c from",
+        "  reserved c from",
+        DOING,
+    ),
+    "a collection keeps what a weak reference names": (
+        "scripts/collections/a_weak_reference_is_cleared",
+        "rooted (Some r) = cond (same_kind Weak r.kind) [] (listed r.object)",
+        "rooted (Some r) = listed r.object",
+        SWEEPS,
+    ),
     "an array's kind comes after E17": (
         "scripts/regions/a_kind_before_a_seventeenth_level",
         "(not (is_primitive k), WrongElement) ∷ (nat_le LEVELS levels, Size) ∷ []",
@@ -96,11 +112,11 @@ PLANTED = {
         "= names one (wants one (names other (looks (λ k n.\n    tests (element_tests i k n) (refl, (refl, (refl, tt))) (ends (writes_to i other))))))",
         CALLS,
     ),
-    "a post hands on NULL": ("scripts/threads/an_element_is_handed_over", "s.board ++ (n, w) ∷ []", "s.board ++ (n, 0) ∷ []", TOGETHER),
+    "a post hands on NULL": ("scripts/threads/an_element_is_handed_over", "s.board ++ (n, w) ∷ []", "s.board ++ (n, 0) ∷ []"),
     "an array's name comes before its buffer's": (
         "scripts/copies/names_of_a_release",
-        "    b ← decided (buffer_in (binding names n))\n    h ← the r\n",
-        "    h ← the r\n    b ← decided (buffer_in (binding names n))\n",
+        "    b ← decided (buffer_in (binding names n))\n    h ← the_named r\n",
+        "    h ← the_named r\n    b ← decided (buffer_in (binding names n))\n",
     ),
 }  # fmt: skip
 
@@ -161,7 +177,7 @@ class Scripts(unittest.TestCase):
     def test_kept_scripts_tell_what_is_planted(self):
         kept, whole = {it.name: it for it in cases()}, Meant()
         for what, (name, old, new, *of) in PLANTED.items():
-            module = of[0] if of else MEANING
+            module = of[0] if of else TOGETHER
             text = text_of(f"crates/{module.replace('.', '/')}.antt")
             self.assertEqual(text.count(old), 1, what)
             planted = Meant({module: text.replace(old, new)})
@@ -170,7 +186,7 @@ class Scripts(unittest.TestCase):
 
     def test_definitions_that_are_run_otherwise_stand(self):
         definitions = Meant().definitions
-        lines = {**definitions.file(MEANING).lines, **definitions.file(WORLD).lines, **definitions.file("jr_syntax.specs.Faults").lines, **definitions.file("jr_syntax.specs.Command").lines}
+        lines = {**definitions.file(SWEEPS).lines, **definitions.file(WORLD).lines, **definitions.file("jr_syntax.specs.Faults").lines, **definitions.file("jr_syntax.specs.Command").lines}
         self.assertEqual({*AS_SETS, *KEPT} - {*lines}, set())
 
     def test_what_no_kept_text_can_show(self):

@@ -65,9 +65,6 @@ module _ (old new : PassView) (acts : List Act) (d : Did old new acts) (alone : 
   own_seen : AllByRecursion (λ e. e.thread ≡ new.thread) new.seen
   own_seen = all_map (λ e u. u.own ∙ sym alone.first) new.seen all_undisturbed
 
-  pub sees_alone : new.seen ≡ old.seen ++ map (by new.thread) acts
-  sees_alone = sees_its_own_acts old new acts d own_seen
-
   -- its acts are those of the events since
   pub since : (P : Act → Type 0) → AllByRecursion P acts → AllByRecursion (λ e. P e.act) d.begins.0
   since P all =

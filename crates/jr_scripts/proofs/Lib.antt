@@ -30,3 +30,4 @@ pub mod LoneWords
 pub mod LoneRun
 pub mod GivenUpLevels
 pub mod TogetherRun
+pub mod AloneCase

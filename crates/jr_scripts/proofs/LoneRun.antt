@@ -1,36 +1,5 @@
 -- A script of one thread that is run as one of several: its run is that of the thread alone.
-pub mod MadeCalls
-pub mod MeaningFrames
-pub mod MeaningSlots
-pub mod MeaningMatches
-pub mod MeaningFits
-pub mod MeaningCounts
-pub mod MeaningParts
-pub mod MeaningRefs
-pub mod MeaningCalls
-pub mod MeaningRow
-pub mod MeaningScopes
-pub mod MeaningObjects
-pub mod MeaningStores
-pub mod MeaningPrograms
-pub mod AptCalls
-pub mod MeaningNames
-pub mod MeaningLevels
-pub mod MeaningRegions
-pub mod MeaningDeeds
-pub mod MeaningAsked
-pub mod MeaningReplies
-pub mod CommandMeanings
-pub mod LevelMeanings
-pub mod NoteMeanings
-pub mod MeaningRounds
-pub mod MeaningReach
-pub mod MeaningSweeps
-pub mod MeaningCollections
-pub mod CollectionMeanings
-pub mod EachCommand
-pub mod MeaningRun
-use Rattle.std.proofs.Common.{◌≡◌, ℕ, Option, List, [], ◌∷◌, ◌++◌, length, refl, sym, ap, subst, ◌∙◌, arith}
+use Rattle.std.proofs.Common.{◌≡◌, ℕ, true, Option, List, [], ◌∷◌, ◌++◌, length, refl, sym, ap, subst, ◌∙◌, arith}
 use Rattle.std.proofs.lemmas.List.{append-nil}
 use Rattle.std.specs.List.{AllByRecursion}
 use Rattle.jr_word.specs.declared.config.Config.{Config}
@@ -43,6 +12,7 @@ use Rattle.jr_model.proofs.Histories.{legal_append, state_append}
 use Rattle.jr_model.proofs.Stays.{mine_did}
 use Rattle.jr_syntax.specs.declared.thread.ThreadPart.{ThreadPart}
 use Rattle.jr_syntax.specs.declared.script.Script.{Script}
+use Rattle.jr_syntax.specs.Script.{all_apart, posts_of}
 use Rattle.jr_scripts.specs.Posted.{IsOfPosts, commands_of}
 use Rattle.jr_scripts.specs.Posting.{said_alone}
 use Rattle.jr_scripts.specs.Explains.{Explained}
@@ -55,7 +25,7 @@ use Rattle.jr_scripts.proofs.AloneAnswers.{unbarred}
 use Rattle.jr_scripts.proofs.AloneCalls.{IsAlone, NoneLost}
 use Rattle.jr_scripts.proofs.FreedAlone.{ended_alone}
 use Rattle.jr_scripts.proofs.AloneHistories.{all_back, all_map, own_events}
-use Rattle.jr_scripts.proofs.LoneRun.MeaningRun.{meant}
+use Rattle.jr_scripts.proofs.AloneCase.LoneMeans.{lone_means}
 
 one_part : (ps : List ThreadPart) → length ps ≡ 1 → (p : ThreadPart) × (ps ≡ p ∷ [])
 one_part (p ∷ []) long = (p, refl)
@@ -146,5 +116,6 @@ lone_run turns last s old new text grew r one =
       text = text;
       grew = grew;
       run = run;
-      means = meant turns last s.config q.0 text one r.right.limits run;
+      means = lone_means turns last s.config q.0 text one r.right.limits
+          (subst (λ ps. all_apart (posts_of ps) ≡ true) q.1 r.right.once) run;
     }

@@ -27,10 +27,10 @@ use Rattle.jr_scripts.proofs.Speaking.{found_words}
 abbrev pub Has : ThreadWords → List ℕ → Type 0
 Has words n = is_some (word_under words n) ≡ true
 
-same_name : (n m : List ℕ) → bytes_eq n m ≡ true → n ≡ m
+pub same_name : (n m : List ℕ) → bytes_eq n m ≡ true → n ≡ m
 same_name n m = (bytes_eq-Decides n m).0
 
-itself : (n : List ℕ) → bytes_eq n n ≡ true
+pub itself : (n : List ℕ) → bytes_eq n n ≡ true
 itself n = (bytes_eq-Decides n n).1 refl
 
 some_or_none : (o : Option ℕ) → o ≡ None → is_some o ≡ true → ⊥

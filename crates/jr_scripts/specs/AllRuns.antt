@@ -1,7 +1,6 @@
 -- Runs of scripts of several threads, in one room and one history.
 use Rattle.std.specs.Prelude.{◌≡◌, Option, ◌+◌, ◌<◌, ◌≤◌, ◌^◌, ℕ, zero, suc}
-use Rattle.std.specs.List.{AllByRecursion}
-use Rattle.std.specs.Prelude.{Bool, true, false, List, [], ◌∷◌, ◌++◌, length, Result}
+use Rattle.std.specs.Prelude.{true, false, List, [], ◌∷◌, ◌++◌, length, Result}
 use mathlib.Core.List.{IsPrefix}
 use Rattle.jr_word.specs.declared.config.Config.{Config}
 use Rattle.jr_word.specs.declared.fault.Fault.{Fault}
@@ -13,7 +12,6 @@ use Rattle.jr_model.specs.History.{History, state, mine, IsLegal, PassView}
 use Rattle.jr_model.specs.Laws.{KeepsTheLaws}
 use Rattle.jr_model.specs.Frames.{Frames, fresh_frames}
 use Rattle.jr_syntax.specs.declared.command.Command.{Command}
-use Rattle.jr_syntax.specs.declared.command.Command.TheVariants as commands
 use Rattle.jr_syntax.specs.declared.thread.ThreadPart.{ThreadPart}
 use Rattle.jr_syntax.specs.declared.script.Script.{Script}
 use Rattle.jr_syntax.specs.Script.{all_apart, posts_of}
@@ -28,7 +26,7 @@ use Rattle.jr_scripts.specs.Text.{ending, text_of_parts}
 use Rattle.jr_scripts.specs.Posted.{IsOfPosts, commands_of}
 use Rattle.jr_scripts.specs.Posting.{Speech, said}
 use Rattle.jr_scripts.specs.Explains.{Explained}
-use Rattle.jr_scripts.specs.Meaning.{gives_up}
+use Rattle.jr_scripts.specs.Commands.{gives_up}
 use Rattle.jr_scripts.specs.Together.{MeansTogether}
 use Rattle.jr_scripts.specs.Runs.{IsFreed, RunsSingle, running_to_end}
 
@@ -117,17 +115,11 @@ pub record IsRunOfAll (turns last : ℕ) (s : Script) (text : List ℕ) : Type 0
   pub parts : ArePartsOf board rank turns last s.config whole 0 2 s.threads lines
   pub text_is : text ≡ text_of_parts s.threads lines ++ ending (summary s.config last (state whole))
 
--- a command that collects
-abbrev pub is_collection : Command → Bool
-is_collection (commands.OfRoom v) = true
-is_collection (commands.WithTries v tries) = true
-is_collection _ = false
-
--- THE TEXT OF A RUN of several threads is what its script means, where no command collects. Serials have 32 bits, and
--- there are more of them than commands that give up references
+-- THE TEXT OF A RUN of several threads is what its script means. Serials have 32 bits, and there are more of them than
+-- commands that give up references
 abbrev pub MeansAll : ℕ → ℕ → Script → List ℕ → Type 0
-MeansAll turns last s text = last < 2 ^ 32 → how_many gives_up (commands_of s.threads) ≤ last
-    → AllByRecursion (λ x. is_collection x ≡ false) (commands_of s.threads) → MeansTogether turns s text
+MeansAll turns last s text =
+    last < 2 ^ 32 → how_many gives_up (commands_of s.threads) ≤ last → MeansTogether turns s text
 
 -- what explains a text explains one that its script means
 abbrev pub RunsMean : Type 0

@@ -1,5 +1,5 @@
 -- What commands do.
-use Rattle.std.specs.Prelude.{◌≡◌, ◌⊎◌, ℕ, ℤ, Option, Some, None, Result, Ok, Err, IfErr, [], ◌∷◌}
+use Rattle.std.specs.Prelude.{◌≡◌, ◌⊎◌, ℕ, ℤ, Bool, true, false, Option, Some, None, Result, Ok, Err, IfErr, [], ◌∷◌}
 use Rattle.jr_word.specs.declared.config.Config.{Config}
 use Rattle.jr_word.specs.declared.handle.RefKind.{RefKind}
 use Rattle.jr_word.specs.declared.handle.RefKind.TheVariants.{Local, Global, Weak}
@@ -305,3 +305,9 @@ module _ (turns : ℕ) (names : Names) where
     w ← the_reference names r
     tried turns (release_array_elements b.kind w.0 b.words mode)
     done replies.Done
+
+-- a command that gives up references
+abbrev pub gives_up : Command → Bool
+gives_up (commands.On on.Drop r) = true
+gives_up (commands.MakeFrom make_from.Pop n r) = true
+gives_up _ = false

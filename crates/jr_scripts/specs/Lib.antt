@@ -13,8 +13,9 @@ pub mod Places
 pub mod RegionCommands
 pub mod Explains
 pub mod AloneAnswers
-pub mod Meaning
+pub mod Sweeps
 pub mod Together
+pub mod Meaning
 pub mod Runs
 pub mod AllRuns
 pub mod Jobs

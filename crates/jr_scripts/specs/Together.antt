@@ -1,6 +1,6 @@
 -- WHAT A SCRIPT OF SEVERAL THREADS MEANS: its threads' texts, each of a program of steps over what all share, in some
 -- order of their steps
-use Rattle.std.specs.Prelude.{◌≡◌, ◌<◌, ◌+◌, ◌-◌, ◌==◌, ℕ, zero, suc, Bool, true, cond, not}
+use Rattle.std.specs.Prelude.{◌≡◌, ◌<◌, ◌+◌, ◌-◌, ◌==◌, ◌&&◌, ◌||◌, ℕ, zero, suc, Bool, cond, not, nat_lt}
 use Rattle.std.specs.Prelude.{Option, Some, None, Result, Ok, Err, List, [], ◌∷◌, ◌++◌, length, slice_index_or}
 use Rattle.jr_word.specs.declared.config.Config.{Config}
 use Rattle.jr_word.specs.declared.fault.Fault.{Fault}
@@ -19,10 +19,11 @@ use Rattle.jr_model.specs.CallPrograms.{kind_of, new_array, new_local_ref, new_o
 use Rattle.jr_model.specs.CallPrograms.{new_string, pop_local_frame, push_local_frame}
 use Rattle.jr_model.specs.CallPrograms.{region_get, region_kind, region_set}
 use Rattle.jr_model.specs.CallPrograms.{release_array_elements, set_array_region, set_object_array_element}
-use Rattle.jr_world.specs.World.{Meaning, MeantOf, how_many}
+use Rattle.jr_model.specs.declared.summary.Summary.{Summary}
+use Rattle.jr_world.specs.World.{Meaning, MeantOf, World, how_many, refs_of, standing}
 use Rattle.jr_world.specs.Doing.{Act, Doing, Noted, Shared, ended, step, whatever, ◌>>=◌, ◌>>◌, decided, done, by_step}
 use Rattle.jr_world.specs.Doing.{as_seen, entered_in_steps, first_shared, go_out, in_role, of_others, opened_in_steps}
-use Rattle.jr_world.specs.Doing.{over_world, program_steps, then_out}
+use Rattle.jr_world.specs.Doing.{over_world, program_steps}
 use Rattle.jr_world.specs.Schedules.{Machine, run}
 use Rattle.jr_world.specs.Board.{word_under}
 use Rattle.jr_weak.specs.declared.collecting.Collected.{Collected}
@@ -45,7 +46,7 @@ use Rattle.jr_scripts.specs.declared.reply.Reply.{Reply}
 use Rattle.jr_scripts.specs.declared.reply.Reply.TheVariants as replies
 use Rattle.jr_scripts.specs.Buffers.{Copied, copy_of}
 use Rattle.jr_scripts.specs.Commands.{get_critical, kind_made, told}
-use Rattle.jr_scripts.specs.Meaning.{is_found_reached, summary_of, swept, told_of}
+use Rattle.jr_scripts.specs.Sweeps.{is_found_reached, swept, told_of}
 use Rattle.jr_scripts.specs.Names.{Names, binding, buffer_in, getting, null, putting, reference_in, referent, wanted}
 use Rattle.jr_scripts.specs.Names.{word_posted}
 use Rattle.jr_scripts.specs.Numbers.{first_number, has_numbers, number_of_word, word_of_number}
@@ -76,42 +77,48 @@ is_busy t s = Err (fault.Busy (others_in t s))
 abbrev pub sweeps_all : Meaning Collected
 sweeps_all w = (Ok (told_of w (swept (is_found_reached w) w)), swept (is_found_reached w) w)
 
--- the gate is shut, and all that isn't reached goes; not while others are in
-abbrev pub shuts : Act Collected
-shuts t luck s =
-    cond (others_in t s == 0) (over_world sweeps_all t luck (in_role Collecting t s)) (is_busy t s, s)
+-- the gate is shut; not while others are in
+abbrev pub shuts : Act (Unit {0})
+shuts t luck s = cond (others_in t s == 0) (Ok tt, in_role Collecting t s) (is_busy t s, s)
+
+-- all that isn't reached goes, and the gate is open again
+abbrev pub sweeps_out : Act Collected
+sweeps_out t luck s = over_world sweeps_all t luck (in_role Outside t s)
 
 -- a collection, tried once
 abbrev pub collected_in_steps : Doing Collected
-collected_in_steps = do
-  counts ← by_step shuts
-  by_step go_out
-  done counts
+collected_in_steps = by_step shuts >> by_step sweeps_out
 
--- a look at the gate before it is announced that it will be shut: so many others are in
-abbrev pub looks_in : Act ℕ
-looks_in t luck s = (cond (is_kept_closed t s) (is_busy t s) (Ok (others_in t s)), s)
+-- before it is announced that the gate will be shut: without luck others come or go meanwhile, where there are others.
+-- E23 then; nobody reads its counts
+abbrev pub finds_gate_still : Act (Unit {0})
+finds_gate_still t luck s = (cond (not luck && nat_lt 1 (length s.roles)) (Err (fault.Moved 0 0)) (Ok tt), s)
 
--- it is announced: E23 where others are in than were at the look
-abbrev pub announced_or_moved : ℕ → Act (Unit {0})
-announced_or_moved n t luck s = cond (is_kept_closed t s) (is_busy t s, s)
-    (cond (others_in t s == n) (Ok tt, in_role Announcing t s) (Err (fault.Moved n (others_in t s)), s))
+-- it is announced; not while another thread keeps the gate closed, and without luck not while others are in
+abbrev pub announces : Act (Unit {0})
+announces t luck s = cond (is_kept_closed t s || (not luck && nat_lt 0 (others_in t s))) (is_busy t s, s)
+    (Ok tt, in_role Announcing t s)
 
--- out, or a further try
-abbrev pub out_or_again : Doing Collected → Result Collected Fault → Doing Collected
-out_or_again again (Ok counts) = step go_out (λ out. ended (Ok counts))
-out_or_again again (Err e) = again
+-- the sweep, or a further try
+abbrev pub sweep_or_again : Doing Collected → Result (Unit {0}) Fault → Doing Collected
+sweep_or_again again (Ok shut) = by_step sweeps_out
+sweep_or_again again (Err e) = again
+
+-- the last try: the sweep, or the announcement is taken back
+abbrev pub sweep_or_out : Result (Unit {0}) Fault → Doing Collected
+sweep_or_out (Ok shut) = by_step sweeps_out
+sweep_or_out (Err e) = step go_out (λ out. ended (Err e))
 
 -- the gate is shut at the first try, or at one of so many more; and else the announcement is taken back
 abbrev pub shut_in_tries : ℕ → Doing Collected
-shut_in_tries zero = then_out (by_step shuts)
-shut_in_tries (suc more) = whatever (by_step shuts) (λ answer. out_or_again (shut_in_tries more) answer)
+shut_in_tries zero = whatever (by_step shuts) sweep_or_out
+shut_in_tries (suc more) = whatever (by_step shuts) (λ answer. sweep_or_again (shut_in_tries more) answer)
 
 -- a collection that is announced
 abbrev pub announced_in_steps : ℕ → Doing Collected
 announced_in_steps more = do
-  n ← by_step looks_in
-  by_step (announced_or_moved n)
+  by_step finds_gate_still
+  by_step announces
   shut_in_tries more
 
 -- THE BOARD
@@ -314,6 +321,11 @@ module _ (c : Config) (turns : ℕ) where
   thread_of line (p ∷ ps) zero = lines_from nowhere [] (line + 1) [] p.commands
   thread_of line (p ∷ ps) (suc t) = thread_of (line + 1 + length p.commands) ps t
 
+-- what stands at the end
+abbrev pub summary_of : World → Summary
+summary_of w =
+    record { globals = refs_of Global w; weaks = refs_of Weak w; live = standing w.objects; used = w.used }
+
 -- before the first step: the first thread's part stands on line 2
 abbrev pub first_machine : ℕ → Script → Machine (List ℕ)
 first_machine turns s =
@@ -328,4 +340,4 @@ pub record MeansTogether (turns : ℕ) (s : Script) (text : List ℕ) : Type 0 w
   pub ended_all : (t : ℕ) → t < s.config.threads
       → (run schedule (first_machine turns s)).programs t ≡ ended (Ok (slice_index_or lines t []))
   pub text_is : text ≡ text_of_parts s.threads lines
-      ++ ending (summary_of (as_seen 0 true (run schedule (first_machine turns s)).shared))
+      ++ ending (summary_of (as_seen 0 (run schedule (first_machine turns s)).shared))

@@ -2,13 +2,19 @@
 ghost use Rattle.jr_syntax.specs.declared.script.Script.{Script as AnyScript};
 ghost use Rattle.jr_syntax.specs.Script.{IsScript};
 ghost use Rattle.jr_scripts.specs.AllRuns.{CanBeRun, RunsMean};
+ghost use Rattle.jr_scripts.specs.Meaning.{AloneIsACase};
 
 /// A script that `parse` gives can be run, so that `run_all` never refuses it by E17.
 pub fn a_script_that_was_read_can_be_run()
     ensures { (s : AnyScript) → IsScript s → CanBeRun s }
 {}
 
-/// The text that one legal history explains is what its script means, by some order of the threads' steps; where no command collects.
+/// The text that one legal history explains is what its script means, by some order of the threads' steps.
 pub fn runs_mean()
     ensures { RunsMean }
+{}
+
+/// Of one thread, what it means together with no others is the text of its part, for some choice of which copies find memory.
+pub fn one_thread_is_a_case()
+    ensures { AloneIsACase }
 {}

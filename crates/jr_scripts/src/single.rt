@@ -1,8 +1,9 @@
 //! Runs a script of one thread.
 
-ghost use Rattle.std.specs.Prelude.{◌≡◌, ◌⊎◌, ◌↔◌, true, IfOk, IfErr, OnOk, OnErr, Err};
+ghost use Rattle.std.specs.Prelude.{◌≡◌, ◌⊎◌, ◌↔◌, ◌∷◌, [], true, IfOk, IfErr, OnOk, OnErr, Err};
 ghost use Rattle.jr_word.specs.declared.fault.Fault.TheVariants.{Memory, Size};
 ghost use Rattle.jr_word.specs.Config.{in_limits};
+ghost use Rattle.jr_syntax.specs.Script.{all_apart, posts_of};
 ghost use Rattle.jr_scripts.specs.Meaning.{MeansText};
 ghost use Rattle.jr_scripts.specs.Runs.{IsRun, IsSingle, RunsSingle};
 
@@ -30,6 +31,7 @@ fn out_of_memory(_: AllocError) -> Fault
 fn run_part(alloc: Global, config: Config, part: &ThreadPart, turns: u64) -> Result<Vec<u8>, Fault>
     requires one { config.threads ≡ 1 }
     requires limits { in_limits config ≡ true }
+    requires once { all_apart (posts_of (part.now ∷ [])) ≡ true }
     ensures ok { IfOk result (λ text. IsRun turns 4294967295 config part.now text.items) }
     ensures means { IfOk result (λ text. MeansText turns 4294967295 config part.now text.items) }
     ensures err { IfErr result (λ e. e ≡ Memory) }

@@ -24,7 +24,7 @@ use Rattle.jr_world.specs.Births.{Births, births, births_from, born_by, emptied,
 use Rattle.jr_world.specs.Births.{is_at, no_births}
 use Rattle.jr_world.proofs.Births.BornFound.{not_local}
 use Rattle.jr_world.specs.Doing.{Shared}
-use Rattle.jr_world.specs.Plays.{AreFrames, AreNamed, SharedStands, owner_of_handle}
+use Rattle.jr_world.specs.Plays.{AreFrames, AreNamed, InStands, owner_of_handle}
 use Rattle.jr_world.specs.Plays.AreNamed.{no_local, one_local}
 use Rattle.jr_world.specs.Plays.AreFrames.{no_frame, one_frame}
 
@@ -236,7 +236,7 @@ module _ (f : Frames) (t : ℕ) (h : Handle) (own : owner_of_handle h ≡ Some t
       go false old = ap found_at_place (sym (at_none (all_refs f) newest old))
 
 -- the same where what is shared stands
-pub own_stands : (c : Config) (t : ℕ) (now : History) (f : Frames) {s : Shared} → SharedStands c t now f s
+pub own_stands : (c : Config) (t : ℕ) (now : History) (f : Frames) {s : Shared} → InStands c t now f s
     → (h : Handle)
     → owner_of_handle h ≡ Some t → found_in (births now) (state now) h ≡ found_at_place (object_of f h)
 own_stands c t now f st h own = found_own f t h own (births now) (state now)

@@ -43,10 +43,9 @@ use Rattle.jr_model.proofs.EachCall.{program_stays}
 use Rattle.jr_model.proofs.Updates.{at_number_self}
 use Rattle.jr_world.specs.World.{MeantOf, how_many, is_ref_of}
 use Rattle.jr_world.specs.Births.{Births, births}
-use Rattle.jr_world.specs.Doing.{Doing, Shared, go_out, noted, program_steps, step}
-use Rattle.jr_world.specs.Doing.{whatever}
+use Rattle.jr_world.specs.Doing.{Doing, Shared, go_out, noted, program_steps, step, whatever}
 use Rattle.jr_world.specs.Doing.Doing.{ended}
-use Rattle.jr_world.specs.Plays.{ActsNext, Plays, SharedStands}
+use Rattle.jr_world.specs.Plays.{ActsNext, Plays, InStands}
 use Rattle.jr_world.specs.Playing.{AnswerIs, AnsweredBy, HasComeTo, IsApt, IsNotedAt, LiesIn, ObjectIs, WordIs}
 use Rattle.jr_world.specs.Fullness.{creations, deletions, row_references}
 use Rattle.jr_world.proofs.Births.BornLists.{births_push}
@@ -157,7 +156,7 @@ module _ (c : Config) (last : ℕ) (whole : History) (old new : PassView) (f g :
 
   -- the moment right behind its entry
   module _ (now : History) (s : Shared) (next : ActsNext c whole old.thread past now (Gate Enter))
-      (st : SharedStands c old.thread now f s) where
+      (st : InStands c old.thread now f s) where
     abbrev pub entry : History
     entry = now ++ by old.thread (Gate Enter) ∷ []
 
@@ -444,7 +443,8 @@ module _ (c : Config) (last : ℕ) (whole : History) (old new : PassView) (f g :
               → Plays c whole old.thread (AnsweredBy a answer) g behind (step go_out (λ _. ended x)) later g
               (acting (Gate Leave) ∷ [])
           exit_plays later x (stays, begun', so) = leaves_plays c last whole old.thread lies.legal (AnsweredBy a answer)
-              behind x Leave later g refl (λ to next'. answered_on later (to ++ by old.thread (Gate Leave) ∷ [])
+              behind x Leave later g refl (λ seen shut. refl)
+              (λ to next'. answered_on later (to ++ by old.thread (Gate Leave) ∷ [])
               (prefix_trans later to (to ++ by old.thread (Gate Leave) ∷ []) (next'.goes.since, sym next'.goes.is)
               (by old.thread (Gate Leave) ∷ [], refl)) (λ o j there. stands_on to next' o j there) answer x so)
             where

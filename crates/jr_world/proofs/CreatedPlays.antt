@@ -1,6 +1,5 @@
 -- The creation of a global or weak reference is played, and its refusal where the row was full.
-use Rattle.std.proofs.Common.{◌≡◌, ◌⊎◌, inl, inr, ◌+◌, ℕ, suc, Bool, true, false, cond, nat_le, ◌<◌, Option}
-use Rattle.std.proofs.Common.{Some, None}
+use Rattle.std.proofs.Common.{◌≡◌, ◌⊎◌, inl, inr, ◌+◌, ℕ, suc, Bool, true, false, cond, nat_le, ◌<◌, Option, Some, None}
 use Rattle.std.proofs.Common.{Result, Ok, Err, List, [], ◌∷◌, ◌++◌, map, length, slice_get, slice_index_or}
 use Rattle.std.proofs.Common.{refl, sym, ap, subst, ◌∙◌, arith, append-nil}
 use Rattle.std.specs.List.{AllByRecursion}
@@ -30,11 +29,11 @@ use Rattle.jr_world.specs.Births.{Births, IsAs, birth_of, births, ref_to}
 use Rattle.jr_world.specs.Doing.{Shared, as_left, as_seen, created_in_steps, created_or_full, done, in_row, made_since}
 use Rattle.jr_world.specs.Doing.{over_world, owner_if, unless_refused, whatever}
 use Rattle.jr_world.specs.Doing.Doing.{ended}
-use Rattle.jr_world.specs.Plays.{AreFrames, AreNamed, OthersGoOn, ActsNext, LeavesOthers, Plays, SharedStands}
+use Rattle.jr_world.specs.Plays.{AreFrames, AreNamed, OthersGoOn, ActsNext, LeavesOthers, Plays, InStands}
 use Rattle.jr_world.specs.Plays.{owner_of_handle}
 use Rattle.jr_world.specs.Plays.AreFrames.{no_frame, one_frame}
 use Rattle.jr_world.specs.Plays.AreNamed.{no_local, one_local}
-use Rattle.jr_world.specs.Plays.Plays.{does, has_ended, waits}
+use Rattle.jr_world.specs.Plays.Plays.{has_ended}
 use Rattle.jr_world.specs.Playing.{BothAre, ObjectIs, WordIs}
 use Rattle.jr_world.proofs.Births.{worlds_are_so}
 use Rattle.jr_world.proofs.Births.BornFound.{not_local}
@@ -47,6 +46,7 @@ use Rattle.jr_world.proofs.Fullness.RowRoom.{created_by_owners, creations_have_r
 use Rattle.jr_world.proofs.Fullness.RowBirths.{row_is_born}
 use Rattle.jr_world.proofs.Standing.{both_long, next_needs, stays_by_others, stays_here}
 use Rattle.jr_world.proofs.WordsPosted.{posted_later}
+use Rattle.jr_world.proofs.OpenParts.{does_in, waits_in}
 use Rattle.one_order.specs.Orders.{Item}
 use Rattle.one_order.specs.Orders.Item.{does as acting}
 
@@ -151,9 +151,9 @@ module _ (c : Config) (last t : ℕ) (now : History) (f : Frames) (h : Handle) (
 
   -- what it leaves
   abbrev left : Shared → Shared
-  left s = as_left t s (record (as_seen t true s) { refs = s.refs ++ the_ref ∷ [] })
+  left s = as_left t s (record (as_seen t s) { refs = s.refs ++ the_ref ∷ [] })
 
-  owners_then : (s : Shared) → SharedStands c t now f s
+  owners_then : (s : Shared) → InStands c t now f s
       → (left s).owners ≡ map (λ e. owner_of_handle e.0) ((births now).refs ++ (h, the_ref) ∷ [])
   owners_then s st =
       ap (λ l. s.owners ++ map (owner_if t) l)
@@ -163,7 +163,7 @@ module _ (c : Config) (last t : ℕ) (now : History) (f : Frames) (h : Handle) (
       ∙ ap (λ l. l ++ owner_of_handle h ∷ []) st.owners
       ∙ sym (map-append (λ e. owner_of_handle e.0) (births now).refs ((h, the_ref) ∷ []))
 
-  created_stands : (s : Shared) → SharedStands c t now f s → SharedStands c t later f (left s)
+  created_stands : (s : Shared) → InStands c t now f s → InStands c t later f (left s)
   created_stands s st = record {
     objects = subst (λ (b : Births). s.objects ≡ map (λ e. e.1) b.objects) (sym births_then) st.objects;
     refs = subst (λ (b : Births). (left s).refs ≡ map (λ e. e.1) b.refs) (sym births_then)
@@ -191,7 +191,7 @@ module _ (c : Config) (last t : ℕ) (now : History) (f : Frames) (h : Handle) (
   }
 
   -- and its word
-  created_word : (s : Shared) → SharedStands c t now f s → WordIs later (Parts h) (length (s.refs ++ the_ref ∷ []))
+  created_word : (s : Shared) → InStands c t now f s → WordIs later (Parts h) (length (s.refs ++ the_ref ∷ []))
   created_word s st = subst (WordIs later (Parts h)) (sym long) (
     the_ref,
     subst (λ (b : Births). slice_get b.refs (length (births now).refs) ≡ Some (h, the_ref))
@@ -226,10 +226,11 @@ module _ (k : Scene) where
   creation_plays : (h : Handle) (o j : ℕ) (past : History) (f : Frames) (behind : List (Item Act))
       → IsAt k past (Create h o ∷ []) → ObjectIs past o j
       → Played (Ok (Some h)) f behind h.kind (Some j) past f (Create h o ∷ [])
-  creation_plays h o j past f behind at so = does true (Create h o) f
+  creation_plays h o j past f behind at so =
+      does_in k.config k.last k.whole k.thread k.legal (at_within k past (Create h o ∷ []) at) true (Create h o) f refl
       (λ now s goes st.
       subst (λ (z : Result NameWord Fault × Shared).
-      SharedStands k.config k.thread (now ++ by k.thread (Create h o) ∷ []) f z.1 × LeavesOthers k.thread s z.1)
+      InStands k.config k.thread (now ++ by k.thread (Create h o) ∷ []) f z.1 × LeavesOthers k.thread s z.1)
       (sym (made_then now s goes st)) (
         created_stands k.config k.last k.thread now f h o j (needs now goes) (as_born now goes) (there now goes) s st,
         created_keeps k.config k.last k.thread now f h o j (needs now goes) (as_born now goes) (there now goes) s,
@@ -259,7 +260,7 @@ module _ (k : Scene) where
 
       -- fewer stand than there are slots
       fewer : (now : History) (s : Shared) → ActsNext k.config k.whole k.thread past now (Create h o)
-          → SharedStands k.config k.thread now f s → in_row s < k.config.slots
+          → InStands k.config k.thread now f s → in_row s < k.config.slots
       fewer now s goes st =
           let legal = at_legal k now (Create h o ∷ []) (at_now k past now (Create h o ∷ []) at goes.goes) in
           let born = as_born now goes in
@@ -270,7 +271,7 @@ module _ (k : Scene) where
           omega (arith, few, same, told, seen)
 
       made_then : (now : History) (s : Shared) → ActsNext k.config k.whole k.thread past now (Create h o)
-          → SharedStands k.config k.thread now f s
+          → InStands k.config k.thread now f s
           → created_or_full k.config k.noted h.kind j k.thread true s
           ≡ over_world (new_ref h.kind j) k.thread true s
       made_then now s goes st = ap (λ b. cond b (over_world (new_ref h.kind j) k.thread true s)
@@ -280,7 +281,7 @@ module _ (k : Scene) where
 
   -- where a refusal has its grounds, the row was full by what the call noted and what was made since
   row_full : (now : History) (f : Frames) (s : Shared) → IsAt k now []
-      → IsPrefix (now ++ by k.thread (Gate Leave) ∷ []) k.whole → SharedStands k.config k.thread now f s
+      → IsPrefix (now ++ by k.thread (Gate Leave) ∷ []) k.whole → InStands k.config k.thread now f s
       → Grounded k RowFull
       → nat_le k.config.slots (k.noted.standing + made_since k.noted.made s.owners) ≡ true
   row_full now f s at next st grounds =
@@ -302,9 +303,10 @@ module _ (k : Scene) where
   -- none is created
   refusal_plays : (kind : RefKind) (j : ℕ) (past : History) (f : Frames) (behind : List (Item Act)) → IsAt k past []
       → MayRefuse k {A = Option Handle} behind (Err RowFull) → Played (Err RowFull) f behind kind (Some j) past f []
-  refusal_plays kind j past f behind at may = waits false (Gate Leave) f (may refl).2
+  refusal_plays kind j past f behind at may =
+      waits_in k.config k.last k.whole k.thread k.legal (at_within k past [] at) false (Gate Leave) f (may refl).2
       (λ now s goes st.
-      subst (λ (z : Result NameWord Fault × Shared). SharedStands k.config k.thread now f z.1
+      subst (λ (z : Result NameWord Fault × Shared). InStands k.config k.thread now f z.1
       × LeavesOthers k.thread s z.1)
       (sym (full now s goes st)) (st, record { frames = λ u ne. refl; board = refl }))
       (λ now s goes st.
@@ -315,7 +317,7 @@ module _ (k : Scene) where
       (sym (full now s goes st)) (has_ended (Err RowFull) (here.stays, here.begins, refl)))
     where
       full : (now : History) (s : Shared) → ActsNext k.config k.whole k.thread past now (Gate Leave)
-          → SharedStands k.config k.thread now f s
+          → InStands k.config k.thread now f s
           → created_or_full k.config k.noted kind j k.thread false s ≡ (Err RowFull, s)
       full now s goes st = ap (λ b. cond b (Err RowFull, s) (over_world (new_ref kind j) k.thread false s))
           (row_full now f s (at_now k past now [] at goes.goes) goes.next st (may refl).0)

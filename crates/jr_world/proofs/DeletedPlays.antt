@@ -29,21 +29,22 @@ use Rattle.jr_world.specs.Births.{Births, IsAs, RefIsSo, births, born_by, gone_w
 use Rattle.jr_world.specs.Doing.{Shared, as_left, as_seen, atom, deleted_in_steps, left_by_step, over_world}
 use Rattle.jr_world.specs.Doing.{unless_refused}
 use Rattle.jr_world.specs.Doing.Doing.{ended}
-use Rattle.jr_world.specs.Plays.{AreFrames, AreNamed, ActsNext, LeavesOthers, Plays, SharedStands, owner_of_handle}
+use Rattle.jr_world.specs.Plays.{AreFrames, AreNamed, ActsNext, LeavesOthers, Plays, InStands, owner_of_handle}
 use Rattle.jr_world.specs.Plays.AreNamed.{no_local, one_local}
 use Rattle.jr_world.specs.Plays.AreFrames.{no_frame, one_frame}
-use Rattle.jr_world.specs.Plays.Plays.{has_ended, unseen}
+use Rattle.jr_world.specs.Plays.Plays.{has_ended}
 use Rattle.jr_world.specs.Playing.{AnsweredBy, WordIs}
 use Rattle.jr_world.proofs.Births.BornFound.{found_row, not_local}
 use Rattle.jr_world.proofs.BornHandles.{own_is_local}
 use Rattle.jr_world.proofs.Births.BornLists.{births_push, by_test, map_get, some_same}
-use Rattle.jr_world.proofs.InStay.{EndingPlays, IsAt, Scene, Then, at_births, at_now}
+use Rattle.jr_world.proofs.InStay.{EndingPlays, IsAt, Scene, Then, at_births, at_now, at_within}
 use Rattle.jr_world.proofs.NamedPlays.{ComesTo, comes_next, comes_now, own_or, own_stage, passed_then, ref_is}
 use Rattle.jr_world.proofs.NamedPlays.{row_is_shared, told_so, word_later, word_then, word_within}
 use Rattle.jr_world.proofs.LookStands.{agreed_behind, is_look, look_stands}
 use Rattle.jr_world.proofs.Standing.{both_long, is_of_gate, next_needs, no_more_owners, seen_keeps, seen_stands}
 use Rattle.jr_world.proofs.WordsPosted.{posted_later}
 use Rattle.jr_world.proofs.TakenSteps.{does_so, moves_so}
+use Rattle.jr_world.proofs.OpenParts.{unseen_in}
 use Rattle.one_order.specs.Orders.{Item}
 use Rattle.one_order.specs.Orders.Item.{does as acting}
 
@@ -159,15 +160,15 @@ module _ (t : ℕ) (h : Handle) (row : is_local h ≡ false) (xs : List (Handle 
 module _ (c : Config) (t : ℕ) (i : ℕ) where
   -- what it leaves
   abbrev less : Shared → Shared
-  less s = as_left t s (removed i (as_seen t true s))
+  less s = as_left t s (removed i (as_seen t s))
 
   delete_none : (s : Shared) → standing_at s.refs i ≡ None
-      → over_world (delete (suc i)) t true s ≡ (Err fault.Stale, as_left t s (as_seen t true s))
-  delete_none s e = ap (λ z. left_by_step t s (goes_on (λ o. change (removed i)) (object_in z, as_seen t true s))) e
+      → over_world (delete (suc i)) t true s ≡ (Err fault.Stale, as_left t s (as_seen t s))
+  delete_none s e = ap (λ z. left_by_step t s (goes_on (λ o. change (removed i)) (object_in z, as_seen t s))) e
 
   delete_some : (s : Shared) (r : Ref) → standing_at s.refs i ≡ Some r
       → over_world (delete (suc i)) t true s ≡ (Ok tt, less s)
-  delete_some s r e = ap (λ z. left_by_step t s (goes_on (λ o. change (removed i)) (object_in z, as_seen t true s))) e
+  delete_some s r e = ap (λ z. left_by_step t s (goes_on (λ o. change (removed i)) (object_in z, as_seen t s))) e
 
   less_keeps : (s : Shared) → LeavesOthers t s (less s)
   less_keeps s = record {
@@ -178,7 +179,7 @@ module _ (c : Config) (t : ℕ) (i : ℕ) where
 
   less_stands : (now : History) (f : Frames) (s : Shared) (h : Handle) (q : Option Ref) → is_local h ≡ false
       → t < c.threads → IsAs (births now) (state now) → slice_get (births now).refs i ≡ Some (h, q)
-      → SharedStands c t now f s → SharedStands c t (now ++ by t (Delete h) ∷ []) f (less s)
+      → InStands c t now f s → InStands c t (now ++ by t (Delete h) ∷ []) f (less s)
   less_stands now f s h q row small world e st = record {
     objects = st.objects ∙ ap (λ (b : Births). map (λ (z : ℕ × Option Contents). z.1) b.objects) (sym then);
     refs = ap (λ l. slice_set l i None) st.refs
@@ -227,7 +228,7 @@ module _ (k : Scene) (x : Result (Unit {0}) Fault) (f : Frames) (behind : List (
         → Plays k.config k.whole k.thread (Then k nothing x) f behind (atom (delete (suc i))) past f (acting a ∷ [])
     finds_none past a look no_gate at word answer stale =
         does_so k.config k.whole k.thread (Then k nothing x) f behind (over_world (delete (suc i))) (λ r. ended r) past
-        a f f [] (λ now s next_is st.
+        a f f [] k.last k.legal (at_within k past (a ∷ []) at) no_gate (λ now s next_is st.
         let here = at_now k past now (a ∷ []) at next_is.goes in
         let n = word_then k past now (Parts h) (suc i) next_is.goes word in
         let none : n.0 ≡ None = none_so (births now).objects h.kind n.0 Stale refl
@@ -235,11 +236,11 @@ module _ (k : Scene) (x : Result (Unit {0}) Fault) (f : Frames) (behind : List (
         (found_row (births now) (state now) h row ∙ stale now next_is)) in
         record {
           answer = Err fault.Stale;
-          left = as_left k.thread s (as_seen k.thread true s);
+          left = as_left k.thread s (as_seen k.thread s);
           is = delete_none k.config k.thread i s (ref_is k.config k.thread now f s st i h n.0 n.1 ∙ none);
-          stands = look_stands k.config k.thread now f (as_left k.thread s (as_seen k.thread true s)) a look
-              (seen_stands k.config k.thread now f true s st);
-          keeps = seen_keeps k.thread true s;
+          stands = look_stands k.config k.thread now f (as_left k.thread s (as_seen k.thread s)) a look
+              (seen_stands k.config k.thread now f s st);
+          keeps = seen_keeps k.thread s;
           plays = ends_so (now ++ by k.thread a ∷ []) past (Err fault.Stale)
               (comes_next k past now a [] at next_is no_gate) answer refl;
         })
@@ -250,7 +251,7 @@ module _ (k : Scene) (x : Result (Unit {0}) Fault) (f : Frames) (behind : List (
         (acting (Delete h) ∷ [])
     finds_some past at word answer =
         does_so k.config k.whole k.thread (Then k nothing x) f behind (over_world (delete (suc i))) (λ r. ended r) past
-        (Delete h) f f [] (λ now s next_is st.
+        (Delete h) f f [] k.last k.legal (at_within k past (Delete h ∷ []) at) refl (λ now s next_is st.
         let here = at_now k past now (Delete h ∷ []) at next_is.goes in
         let n = word_then k past now (Parts h) (suc i) next_is.goes word in
         let needs = next_needs k.config k.last k.whole k.thread k.legal past now (Delete h) next_is in
@@ -275,7 +276,8 @@ module _ (k : Scene) (x : Result (Unit {0}) Fault) (f : Frames) (behind : List (
         → Plays k.config k.whole k.thread (Then k nothing x) f behind (atom (delete (suc i))) now f (map acting rest))
         → Plays k.config k.whole k.thread (Then k nothing x) f behind (atom (delete (suc i))) past f
         (map acting (Look h r ∷ rest))
-    looks_first past r rest at word follows = unseen (Look h r)
+    looks_first past r rest at word follows =
+        unseen_in k.config k.last k.whole k.thread k.legal (at_within k past (Look h r ∷ rest) at) (Look h r) refl
         (λ now s next_is st. look_stands k.config k.thread now f s (Look h r) refl st)
         (λ now next_is. let comes = comes_next k past now (Look h r) rest at next_is refl in
         follows (now ++ by k.thread (Look h r) ∷ []) comes.at
@@ -317,13 +319,13 @@ module _ (k : Scene) (x : Result (Unit {0}) Fault) (f : Frames) (behind : List (
         (own_stage k (Then k nothing x) f behind Nothing zero past f [] []
         (unless_refused (λ u. atom (delete zero))) (subst (IsAt k past) did.0 at) refl (λ now comes.
         moves_so k.config k.whole k.thread (Then k nothing x) f behind (over_world (delete zero)) (λ r. ended r) now f f
-        []
+        [] k.last k.legal (at_within k now [] comes.at)
         (λ later s goes st. record {
           answer = Ok tt;
-          left = as_left k.thread s (as_seen k.thread true s);
+          left = as_left k.thread s (as_seen k.thread s);
           is = refl;
-          stands = seen_stands k.config k.thread later f true s st;
-          keeps = seen_keeps k.thread true s;
+          stands = seen_stands k.config k.thread later f s st;
+          keeps = seen_keeps k.thread s;
           plays = ends_so later now (Ok tt) (comes_now k now later [] comes.at goes) did.1 tt;
         })))),
   )

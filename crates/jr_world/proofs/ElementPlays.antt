@@ -36,18 +36,18 @@ use Rattle.jr_world.specs.Doing.{Doing, Shared, as_left, as_seen, atom, copied_i
 use Rattle.jr_world.specs.Doing as doing
 use Rattle.jr_world.specs.Doing.Doing.{ended, steps}
 use Rattle.jr_world.specs.Doing.{read_in_steps, unless_refused, whatever, written_in_steps, ◌>>=◌}
-use Rattle.jr_world.specs.Plays.{AreFrames, OthersGoOn, ActsNext, LeavesOthers, Plays, SharedStands, owner_of_handle}
-use Rattle.jr_world.specs.Plays.Plays.{has_ended, moves, does}
+use Rattle.jr_world.specs.Plays.{AreFrames, OthersGoOn, ActsNext, LeavesOthers, Plays, InStands, owner_of_handle}
+use Rattle.jr_world.specs.Plays.Plays.{has_ended, moves}
 use Rattle.jr_world.specs.Playing.{BothAre, ObjectIs}
 use Rattle.jr_world.proofs.Births.BornLists.{births_append, some_same}
 use Rattle.jr_world.proofs.InStay.{EndingPlays, HandIs, InOneStay, IsAt, KnownAre, Scene, StaysOn, Then, at_births}
-use Rattle.jr_world.proofs.InStay.{at_legal, at_next}
-use Rattle.jr_world.proofs.InStay.{at_now, at_within, object_now, word_now}
+use Rattle.jr_world.proofs.InStay.{at_legal, at_next, at_now, at_within, object_now, word_now}
 use Rattle.jr_world.proofs.ProgramPlays.{GoesOnWithElement}
 use Rattle.jr_world.proofs.Standing.{front_legal, is_of_gate, next_needs, no_more_owners}
 use Rattle.jr_world.proofs.Standing.{both_long, stays_by_act, stays_by_others, stays_here}
 use Rattle.jr_world.proofs.Standing.{stays_between, stays_then, still_between}
 use Rattle.jr_world.proofs.WordsPosted.{posted_later}
+use Rattle.jr_world.proofs.OpenParts.{does_in}
 use Rattle.one_order.specs.Orders.{Item}
 use Rattle.one_order.specs.Orders.Item.{does as acting}
 
@@ -131,11 +131,11 @@ birth_found (z ∷ xs) (suc j) o x e alone =
 
 -- AN ACT THAT CHANGES OBJECTS ALONE, and stores no reference: what it leaves stands
 module _ (c : Config) (t : ℕ) (now : History) (f : Frames) (a : Act) where
-  pub objects_stand : (objects : List (Option Contents)) (luck : Bool) (s : Shared) → SharedStands c t now f s
+  pub objects_stand : (objects : List (Option Contents)) (luck : Bool) (s : Shared) → InStands c t now f s
       → (born_by (births now) t a).refs ≡ (births now).refs → (born_by (births now) t a).used ≡ (births now).used
       → (act_after (state now) t a).role ≡ (state now).role → (act_after (state now) t a).locals ≡ (state now).locals
       → ((p : ℕ) → stored_at p (a ∷ []) ≡ 0) → objects ≡ map (λ e. e.1) (born_by (births now) t a).objects
-      → SharedStands c t (now ++ by t a ∷ []) f (as_left t s (record (as_seen t luck s) { objects = objects }))
+      → InStands c t (now ++ by t a ∷ []) f (as_left t s (record (as_seen t s) { objects = objects }))
   objects_stand objects luck s st refs used role locals none is =
       let born : births (now ++ by t a ∷ []) ≡ born_by (births now) t a = births_append no_births now (by t a ∷ []) in
       let as_before : (births (now ++ by t a ∷ [])).refs ≡ (births now).refs =
@@ -167,7 +167,7 @@ module _ (c : Config) (t : ℕ) (now : History) (f : Frames) (a : Act) where
 
   -- .. and nothing of other threads is changed
   pub objects_keep : (objects : List (Option Contents)) (luck : Bool) (s : Shared)
-      → LeavesOthers t s (as_left t s (record (as_seen t luck s) { objects = objects }))
+      → LeavesOthers t s (as_left t s (record (as_seen t s) { objects = objects }))
   objects_keep objects luck s = record {
     frames = λ u ne. ap (λ l. slice_index_or l u []) (set-get_or s.frames t []);
     board = refl;
@@ -175,8 +175,8 @@ module _ (c : Config) (t : ℕ) (now : History) (f : Frames) (a : Act) where
 
 -- what the world has at the object's number
 pub contents_seen : (c : Config) (t : ℕ) (now : History) (f : Frames) (luck : Bool) (s : Shared) (o j : ℕ)
-    (y : Contents) → SharedStands c t now f s → slice_get (births now).objects j ≡ Some (o, Some y)
-    → contents (as_seen t luck s) j ≡ y
+    (y : Contents) → InStands c t now f s → slice_get (births now).objects j ≡ Some (o, Some y)
+    → contents (as_seen t s) j ≡ y
 contents_seen c t now f luck s o j y st e = ap (λ l. contents_in (slice_index_or l j None)) st.objects
     ∙ ap contents_in (index_map (λ e. e.1) (births now).objects j (o, Some y) None e)
 
@@ -265,8 +265,8 @@ module _ (k : Scene) where
 
   pub element_seen : (past now : History) (f : Frames) (luck : Bool) (s : Shared) (kind : Kind) (o j i v : ℕ)
       (acts : List Act) → IsAt k past (Read o i v ∷ acts) → ActsNext k.config k.whole k.thread past now (Read o i v)
-      → SharedStands k.config k.thread now f s → HandIs k past kind o j
-      → IsReadAs kind now v (slice_index (contents (as_seen k.thread luck s) j).words i)
+      → InStands k.config k.thread now f s → HandIs k past kind o j
+      → IsReadAs kind now v (slice_index (contents (as_seen k.thread s) j).words i)
   element_seen past now f luck s kind o j i v acts at next st hand =
       let so = at_now k past now (Read o i v ∷ acts) at next.goes in
       let needs = (next_needs k.config k.last k.whole k.thread k.legal past now (Read o i v) next).1 in
@@ -297,7 +297,9 @@ module _ (k : Scene) {A : Type 0} (V : History → Result A Fault → Type 0) (g
       → ((later : History) (w : ℕ) → IsAt k later acts → StaysOn k past later → HandIs k later kind o j
       → IsReadAs kind later v w → PlaysOn (next (Ok w)) later f items)
       → PlaysOn (whatever (element_read j i) next) past f (acting (Read o i v) ∷ items)
-  read_then past f kind o j i v acts items next at hand follows = does true (Read o i v) f
+  read_then past f kind o j i v acts items next at hand follows =
+      does_in k.config k.last k.whole k.thread k.legal (at_within k past (Read o i v ∷ acts) at) true (Read o i v) f
+      refl
       (λ now s goes st. (
         objects_stand k.config k.thread now f (Read o i v) s.objects true s st refl refl refl refl (λ p. refl)
             st.objects,
@@ -312,7 +314,7 @@ module _ (k : Scene) {A : Type 0} (V : History → Result A Fault → Type 0) (g
         goes = record { since = []; is = sym (append-nil now); others = refl; begins = goes.goes.begins };
         next = goes.next;
       } in
-      let word : ℕ = slice_index (contents (as_seen k.thread true s) j).words i in
+      let word : ℕ = slice_index (contents (as_seen k.thread s) j).words i in
       follows later word (at_next k past now (Read o i v) acts at goes refl) stays
       (hand_later k past later kind o j stays goes.next hand) (
         so.0,
@@ -474,7 +476,9 @@ module _ (k : Scene) {A : Type 0} (V : History → Result A Fault → Type 0) (g
       → PlaysOn k V g behind (next (Ok tt)) later f items)
       → PlaysOn k V g behind (whatever (atom (rewrites (overwritten i (w ∷ [])) j)) next) past f
       (acting (Write o i v) ∷ items)
-  write_then past f kind o j i v w acts items next at hand word follows = does true (Write o i v) f
+  write_then past f kind o j i v w acts items next at hand word follows =
+      does_in k.config k.last k.whole k.thread k.legal (at_within k past (Write o i v ∷ acts) at) true
+      (Write o i v) f refl
       (λ now s goes st.
       let so = at_now k past now (Write o i v ∷ acts) at goes.goes in
       let needs = (next_needs k.config k.last k.whole k.thread k.legal past now (Write o i v) goes).1 in

@@ -23,31 +23,32 @@ use Rattle.jr_model.proofs.Agreement.{freed_sound, joined_push, pushed_sound}
 use Rattle.jr_model.proofs.Moments.{prefix_self}
 use Rattle.jr_world.specs.World as world
 use Rattle.jr_world.specs.World.{World, change, goes_on as going_on, held, push, refused_if, room_for}
-use Rattle.jr_world.specs.Births.{births}
+use Rattle.jr_world.specs.Births.{Births}
 use Rattle.jr_world.specs.Doing.{Shared, as_left, as_seen, atom, freed_in_steps, given_up_in_steps, unless_refused}
 use Rattle.jr_world.specs.Doing as doing
 use Rattle.jr_world.specs.Doing.Doing.{ended}
-use Rattle.jr_world.specs.Plays.{AreFrames, OthersGoOn, Plays, SharedStands}
+use Rattle.jr_world.specs.Plays.{AreFrames, OthersGoOn, Plays, SharedStands, StandsBy}
 use Rattle.jr_world.specs.Plays.AreFrames.{no_frame, one_frame}
 use Rattle.jr_world.specs.Plays.AreNamed.{no_local}
 use Rattle.jr_world.specs.Plays.Plays.{has_ended}
 use Rattle.jr_world.specs.Playing.{AnsweredBy, FreeHaveSerials}
-use Rattle.jr_world.proofs.Standing.{both_long, looks_then, no_more_owners, seen_stands}
-use Rattle.jr_world.proofs.InStay.{EndingPlays, IsAt, Scene, Then, at_now}
+use Rattle.jr_world.proofs.Standing.{both_long, no_more_owners, seen_stands}
+use Rattle.jr_world.proofs.InStay.{EndingPlays, IsAt, Scene, Then, at_now, at_within}
 use Rattle.jr_world.proofs.LocalFrames.{all_named, frames_long, frames_pushed}
 use Rattle.jr_world.proofs.LocalPlays.{behind_test, left_frames, moves_by, room_lacks, room_plays}
 use Rattle.jr_world.proofs.LocalsGivenUp.{found_among, given_up, joined_left, none_left, same_given, without_all}
 use Rattle.jr_world.proofs.NamedPlays.{ComesTo}
+use Rattle.jr_world.proofs.OpenParts.{looks_in}
 use Rattle.one_order.specs.Orders.{Item}
 use Rattle.one_order.specs.Orders.Item.{does as acting}
 
 -- OTHER FRAMES, with the references that stand
-pub framed_stands : (c : Config) (t : ℕ) (now : History) (f : Frames) (s : Shared) (luck : Bool) (fs : List (List ℕ))
-    (gs : List (List LocalRef)) → t < c.threads → SharedStands c t now f s → AreFrames t (births now).refs fs gs
+pub framed_stands : {b : Births} (c : Config) (t : ℕ) (now : History) (f : Frames) (s : Shared) (luck : Bool)
+    (fs : List (List ℕ)) (gs : List (List LocalRef)) → t < c.threads → StandsBy b c t now f s → AreFrames t b.refs fs gs
     → ((p : ℕ) → object_at f p ≡ object_where (λ r. r.handle.index == p) (joined gs))
     → AreSound (record f { frames = gs })
-    → SharedStands c t now (record f { frames = gs }) (as_left t s (record (as_seen t luck s) { frames = fs }))
-framed_stands c t now f s luck fs gs small st framed same sound = record {
+    → StandsBy b c t now (record f { frames = gs }) (as_left t s (record (as_seen t s) { frames = fs }))
+framed_stands {b} c t now f s luck fs gs small st framed same sound = record {
   objects = st.objects;
   refs = st.refs;
   owners = no_more_owners c t now f s s.refs (both_long c t now f s st) ∙ st.owners;
@@ -55,7 +56,7 @@ framed_stands c t now f s luck fs gs small st framed same sound = record {
   many = st.many;
   roles = st.roles;
   lists = length-set s.frames t fs ∙ st.lists;
-  frames = left_frames t (births now).refs s (record (as_seen t luck s) { frames = fs }) gs
+  frames = left_frames t b.refs s (record (as_seen t s) { frames = fs }) gs
       (let l = st.lists in omega arith) framed;
   posted = st.posted;
   places = st.places;
@@ -103,13 +104,13 @@ module _ (c : Config) (last : ℕ) (whole : History) (t : ℕ) (small : t < c.th
   -- a push that is refused
   push_refused : (acts ≡ []) × (answer ≡ Err LocalsFull) × (g ≡ f)
       → ((now : History) (s : Shared) → SharedStands c t now f s
-      → ◌≡◌ {A = Result (Unit {0}) Fault × World} (push c m (as_seen t true s)) (Err LocalsFull, as_seen t true s))
+      → ◌≡◌ {A = Result (Unit {0}) Fault × World} (push c m (as_seen t s)) (Err LocalsFull, as_seen t s))
       → Plays c whole t V g behind (atom (push c m)) past f (map acting acts)
   push_refused did full =
       subst (λ x. Plays c whole t V x behind (atom (push c m)) past f (map acting acts)) (sym did.2)
       (subst (λ l. Plays c whole t V f behind (atom (push c m)) past f (map acting l)) (sym did.0)
-      (moves_by c whole t V f behind (push c m) (λ r. ended r) past f f [] (λ s. Err LocalsFull) (λ s. as_seen t true s)
-      (λ now s goes st. (full now s st, seen_stands c t now f true s st))
+      (moves_by c whole t V f behind (push c m) (λ r. ended r) past f f [] (λ s. Err LocalsFull) (λ s. as_seen t s)
+      (λ now s goes st. (full now s st, seen_stands c t now f s st))
       (λ now s goes st. has_ended (Err LocalsFull) (so now (Err LocalsFull) goes
       (subst (λ z. AnsweredBy nothing z now (Err LocalsFull)) (sym did.1) refl)))))
 
@@ -130,9 +131,9 @@ module _ (c : Config) (last : ℕ) (whole : History) (t : ℕ) (small : t < c.th
       is_full now s st = ap (nat_le FRAMES) (frames_long st.frames)
 
       is_pushed : (now : History) (s : Shared) → SharedStands c t now f s
-          → ◌≡◌ {A = Result (Unit {0}) Fault × World} (push c m (as_seen t true s))
-          (pushed_by full lacks (as_seen t true s))
-      is_pushed now s st = pushing c m (as_seen t true s) full lacks (is_full now s st)
+          → ◌≡◌ {A = Result (Unit {0}) Fault × World} (push c m (as_seen t s))
+          (pushed_by full lacks (as_seen t s))
+      is_pushed now s st = pushing c m (as_seen t s) full lacks (is_full now s st)
           (room_lacks c last t now f s true m places st)
 
       second : full ≡ false
@@ -140,17 +141,17 @@ module _ (c : Config) (last : ℕ) (whole : History) (t : ℕ) (small : t < c.th
           ((lacks ≡ false) × new_frame f acts answer g)
           → Plays c whole t V g behind (atom (push c m)) past f (map acting acts)
       second not_full (inl d) = push_refused (d.1, d.2, d.3) (λ now s st. is_pushed now s st
-          ∙ ap (λ b. pushed_by b lacks (as_seen t true s)) not_full
-          ∙ ap (λ b. pushed_by false b (as_seen t true s)) d.0)
+          ∙ ap (λ b. pushed_by b lacks (as_seen t s)) not_full
+          ∙ ap (λ b. pushed_by false b (as_seen t s)) d.0)
       second not_full (inr d) =
           subst (λ x. Plays c whole t V x behind (atom (push c m)) past f (map acting acts)) (sym d.1.2)
           (subst (λ l. Plays c whole t V (pushed f) behind (atom (push c m)) past f (map acting l)) (sym d.1.0)
           (moves_by c whole t V (pushed f) behind (push c m) (λ r. ended r) past f (pushed f) [] (λ s. Ok tt)
-          (λ s. record (as_seen t true s) { frames = slice_index_or s.frames t [] ++ [] ∷ [] })
+          (λ s. record (as_seen t s) { frames = slice_index_or s.frames t [] ++ [] ∷ [] })
           (λ now s goes st. (
             is_pushed now s st
-                ∙ ap (λ b. pushed_by b lacks (as_seen t true s)) not_full
-                ∙ ap (λ b. pushed_by false b (as_seen t true s)) d.0,
+                ∙ ap (λ b. pushed_by b lacks (as_seen t s)) not_full
+                ∙ ap (λ b. pushed_by false b (as_seen t s)) d.0,
             framed_stands c t now f s true (slice_index_or s.frames t [] ++ [] ∷ []) (f.frames ++ [] ∷ []) small st
                 (frames_pushed st.frames) (λ p. ap (object_where (λ r. r.handle.index == p))
                 (sym (joined_push f.frames)))
@@ -163,7 +164,7 @@ module _ (c : Config) (last : ℕ) (whole : History) (t : ℕ) (small : t < c.th
           ⊎ ((full ≡ false) × calls.◌>>◌ (references.room_for c last t m) new_frame f acts answer g)
           → Plays c whole t V g behind (atom (push c m)) past f (map acting acts)
       go (inl d) = push_refused (d.1, d.2, d.3) (λ now s st. is_pushed now s st
-          ∙ ap (λ b. pushed_by b lacks (as_seen t true s)) d.0)
+          ∙ ap (λ b. pushed_by b lacks (as_seen t s)) d.0)
       go (inr d) = second d.0 (behind_test lacks LocalsFull new_frame f g acts answer d.1)
 
 module _ (k : Scene) where
@@ -183,10 +184,9 @@ module _ (k : Scene) where
       (map acting acts)) (sym did.2)
       (subst (λ l. Plays k.config k.whole k.thread (Then k nothing answer) (freed f) behind freed_in_steps past f
       (map acting l)) (sym did.0)
-      (looks_then k.config k.whole k.thread (Then k nothing answer) (freed f) behind
+      (looks_in k.config k.last k.whole k.thread k.legal (at_within k past acts at)
       (λ w. Ok (flat_map (λ f. f) w.frames))
       (unless_refused (λ ns. doing.◌>>◌ (given_up_in_steps ns) (atom (change (λ w. record w { frames = [] ∷ [] })))))
-      past f (map acting (drop_all (all_refs f)))
       (λ now s goes st.
       let there : IsAt k now (drop_all (all_refs f)) =
       at_now k past now (drop_all (all_refs f)) (subst (IsAt k past) did.0 at) goes in
@@ -217,7 +217,7 @@ module _ (k : Scene) where
           (atom (change (λ w. record w { frames = [] ∷ [] }))) later left []) freed_is
           (moves_by k.config k.whole k.thread (Then k nothing answer) (freed left) behind
           (change (λ w. record w { frames = [] ∷ [] })) (λ r. ended r) later left (freed left) [] (λ s. Ok tt)
-          (λ s. record (as_seen k.thread true s) { frames = [] ∷ [] })
+          (λ s. record (as_seen k.thread s) { frames = [] ∷ [] })
           (λ now s goes st. (
             refl,
             framed_stands k.config k.thread now left s true ([] ∷ []) ([] ∷ []) k.small st

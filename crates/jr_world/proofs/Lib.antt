@@ -3,6 +3,7 @@ pub mod Fullness
 pub mod Joining
 pub mod WordsPosted
 pub mod Standing
+pub mod OpenParts
 pub mod InStay
 pub mod LocalFrames
 pub mod LocalPlays
@@ -35,4 +36,3 @@ pub mod OpenedCall
 pub mod StayedCall
 pub mod EndingPlays
 pub mod OutsideCall
-pub mod Alone

@@ -28,7 +28,8 @@ use Rattle.jr_world.specs.World.{Ref, World, change, delete, goes_on as going_on
 use Rattle.jr_world.specs.Births.{Births, IsAs, RefIsSo, births, found_in, found_at_place, gone_where, is_at}
 use Rattle.jr_world.specs.Doing.{Shared, as_left, as_seen, atom, deleted_in_steps, unless_refused}
 use Rattle.jr_world.specs.Doing.Doing.{ended}
-use Rattle.jr_world.specs.Plays.{AreFrames, AreNamed, ActsNext, Plays, SharedStands, owner_of_handle}
+use Rattle.jr_world.specs.Plays.{AreFrames, AreNamed, ActsNext, Plays, InStands, owner_of_handle, OthersGoOn}
+use Rattle.jr_world.specs.Plays.{SharedStands}
 use Rattle.jr_world.specs.Plays.Plays.{has_ended}
 use Rattle.jr_world.specs.Plays.AreFrames.{no_frame, one_frame}
 use Rattle.jr_world.specs.Plays.AreNamed.{no_local, one_local}
@@ -36,13 +37,13 @@ use Rattle.jr_world.specs.Playing.{AnsweredBy, WordIs}
 use Rattle.jr_world.proofs.BornHandles.{own_is_local, own_stands}
 use Rattle.jr_world.proofs.Births.BornLists.{map_get, some_same}
 use Rattle.jr_world.proofs.Standing.{both_long, no_more_owners, seen_stands}
-use Rattle.jr_world.proofs.InStay.{EndingPlays, IsAt, Scene, Then, at_births, at_next, at_now}
+use Rattle.jr_world.proofs.InStay.{EndingPlays, IsAt, Scene, Then, at_births, at_next, at_now, at_within}
 use Rattle.jr_world.proofs.LocalFrames.{frames_stay}
 use Rattle.jr_world.proofs.LocalPlays.{at_owned, gone_same, gone_told, left_frames, moved_agreed, moves_by, does_by}
 use Rattle.jr_world.proofs.LocalPlays.{stands_then}
 use Rattle.jr_world.proofs.NamedPlays.{own_or, own_stage, owner_is, passed_then, ref_is, tested_then, word_then}
-use Rattle.jr_world.proofs.NamedPlays.{word_within}
-use Rattle.jr_world.proofs.NamedPlays.{ComesTo, WasRefused, word_later}
+use Rattle.jr_world.proofs.NamedPlays.{word_within, ComesTo, WasRefused, word_later}
+use Rattle.jr_world.proofs.OpenParts.{seen_in}
 use Rattle.one_order.specs.Orders.{Item}
 use Rattle.one_order.specs.Orders.Item.{does as acting}
 
@@ -138,7 +139,7 @@ module _ (t : ℕ) (refs : List (Handle × Option Ref)) (i : ℕ) (h : Handle) (
 -- ONE GOES
 module _ (k : Scene) (now : History) (f : Frames) (s : Shared) (luck : Bool) (i : ℕ) (h : Handle) (q : Option Ref)
     (begins : IsPrefix (now ++ by k.thread (LocalDrop h.index) ∷ []) k.whole)
-    (st : SharedStands k.config k.thread now f s)
+    (st : InStands k.config k.thread now f s)
     (all : IsAs (births now) (state now)) (at : slice_get (births now).refs i ≡ Some (h, q))
     (own : owner_of_handle h ≡ Some k.thread) (stands : IsSome (object_of f h)) where
   here_at : is_at k.thread h.index h ≡ true
@@ -171,10 +172,10 @@ module _ (k : Scene) (now : History) (f : Frames) (s : Shared) (luck : Bool) (i 
           (a.0 ∙ sym b.0) serial owned.1 (a.1 ∙ sym b.1) in
           all.one_ref i j h q v at (e ∙ ap (λ z. Some (z, v)) same)))
 
-  pub drop_stands : SharedStands k.config k.thread (now ++ by k.thread (LocalDrop h.index) ∷ []) (without_local f h)
-      (as_left k.thread s (removed i (as_seen k.thread luck s)))
+  pub drop_stands : InStands k.config k.thread (now ++ by k.thread (LocalDrop h.index) ∷ []) (without_local f h)
+      (as_left k.thread s (removed i (as_seen k.thread s)))
   drop_stands = stands_then k.config k.thread now (LocalDrop h.index) (without_local f h)
-      (as_left k.thread s (removed i (as_seen k.thread luck s)))
+      (as_left k.thread s (removed i (as_seen k.thread s)))
       st.objects
       (ap (λ l. slice_set l i None) st.refs
       ∙ one_gone (is_at k.thread h.index) (births now).refs i h q at here_at others_gone)
@@ -184,7 +185,7 @@ module _ (k : Scene) (now : History) (f : Frames) (s : Shared) (luck : Bool) (i 
       st.used st.many st.roles
       (length-set s.frames k.thread (map (filter (λ m. not (m == i))) (slice_index_or s.frames k.thread [])) ∙ st.lists)
       (left_frames k.thread (gone_where (is_at k.thread h.index) (births now).refs) s
-      (removed i (as_seen k.thread luck s)) (without_local f h).frames
+      (removed i (as_seen k.thread s)) (without_local f h).frames
       (let l = st.lists in let small = k.small in omega arith)
       (frames_stay (λ j g v e. (
         _,
@@ -248,26 +249,32 @@ module _ (k : Scene) where
         → owner_of_handle h ≡ Some k.thread → object_of g h ≡ None → answer ≡ Err fault.Stale
         → Plays k.config k.whole k.thread (Then k nothing answer) g behind (atom (delete (suc i))) past g []
     finds_none i h past at word own none is = moves_by k.config k.whole k.thread (Then k nothing answer) g behind
-        (delete (suc i)) (λ r. ended r) past g g [] (λ s. Err fault.Stale) (λ s. as_seen k.thread true s)
+        (delete (suc i)) (λ r. ended r) past g g [] (λ s. Err fault.Stale) (λ s. as_seen k.thread s)
         (λ now s goes st.
         let there = at_now k past now [] at goes in
         let w = word_then k past now (Parts h) (suc i) goes word in
         let gone : w.0 ≡ None = gone_told (births now) (state now) (at_births k now [] there) i h w.0 w.1
-        (own_stands k.config k.thread now g st h own ∙ ap found_at_place none) in (
-          delete_none i (as_seen k.thread true s) (ref_is k.config k.thread now g s st i h w.0 w.1 ∙ gone),
-          seen_stands k.config k.thread now g true s st,
+        (own_stands k.config k.thread now g (born now s goes st) h own ∙ ap found_at_place none) in (
+          delete_none i (as_seen k.thread s)
+              (ref_is k.config k.thread now g s (born now s goes st) i h w.0 w.1 ∙ gone),
+          seen_stands k.config k.thread now g s st,
         ))
         (λ now s goes st. has_ended (Err fault.Stale) (let there = at_now k past now [] at goes in
         (there.stays, there.begins, subst (λ z. AnsweredBy nothing z now (Err fault.Stale)) (sym is) refl)))
+      where
+        born : (now : History) (s : Shared) → OthersGoOn k.config k.whole k.thread past now
+            → SharedStands k.config k.thread now g s → InStands k.config k.thread now g s
+        born now s goes st = seen_in k.config k.last k.whole k.thread k.legal (at_within k past [] at) now s
+            goes st
 
   -- what a step that takes a reference away finds and leaves
   pub drop_finds : (i : ℕ) (h : Handle) (past now : History) (f : Frames) (s : Shared) (acts : List Act)
       → IsAt k past (LocalDrop h.index ∷ acts) → WordIs past (Parts h) (suc i) → owner_of_handle h ≡ Some k.thread
       → IsSome (object_of f h) → ActsNext k.config k.whole k.thread past now (LocalDrop h.index)
-      → SharedStands k.config k.thread now f s
+      → InStands k.config k.thread now f s
       → ((r : Ref) × (standing_at s.refs i ≡ Some r))
-      × SharedStands k.config k.thread (now ++ by k.thread (LocalDrop h.index) ∷ []) (without_local f h)
-      (as_left k.thread s (removed i (as_seen k.thread true s)))
+      × InStands k.config k.thread (now ++ by k.thread (LocalDrop h.index) ∷ []) (without_local f h)
+      (as_left k.thread s (removed i (as_seen k.thread s)))
   drop_finds i h past now f s acts at word own stands next st =
       let there = at_now k past now (LocalDrop h.index ∷ acts) at next.goes in
       let all = at_births k now (LocalDrop h.index ∷ acts) there in
@@ -288,8 +295,8 @@ module _ (k : Scene) (answer : Result (Unit {0}) Fault) (g : Frames) (behind : L
   null_plays : (past : History) → IsAt k past [] → answer ≡ Ok tt
       → Plays k.config k.whole k.thread (Then k nothing answer) g behind (atom (delete 0)) past g []
   null_plays past at is = moves_by k.config k.whole k.thread (Then k nothing answer) g behind (delete 0)
-      (λ r. ended r) past g g [] (λ s. Ok tt) (λ s. as_seen k.thread true s)
-      (λ now s goes st. (refl, seen_stands k.config k.thread now g true s st))
+      (λ r. ended r) past g g [] (λ s. Ok tt) (λ s. as_seen k.thread s)
+      (λ now s goes st. (refl, seen_stands k.config k.thread now g s st))
       (λ now s goes st. has_ended (Ok tt) (let there = at_now k past now [] at goes in
       (there.stays, there.begins, subst (λ z. AnsweredBy nothing z now (Ok tt)) (sym is) tt)))
 
@@ -303,10 +310,10 @@ module _ (k : Scene) (answer : Result (Unit {0}) Fault) (g : Frames) (behind : L
       subst (λ e. Plays k.config k.whole k.thread (Then k nothing answer) e behind (atom (delete (suc i))) past f
       (acting (LocalDrop h.index) ∷ [])) (sym frames)
       (does_by k.config k.whole k.thread (Then k nothing answer) (without_local f h) behind (delete (suc i))
-      (λ r. ended r) past f (without_local f h) [] (λ s. Ok tt) (λ s. removed i (as_seen k.thread true s))
-      (LocalDrop h.index)
+      (λ r. ended r) past f (without_local f h) [] (λ s. Ok tt) (λ s. removed i (as_seen k.thread s))
+      (LocalDrop h.index) k.last k.legal (at_within k past (LocalDrop h.index ∷ []) at) refl
       (λ now s next st. let does_so = drop_finds k i h past now f s [] at word own stands next st in
-      (delete_some i (as_seen k.thread true s) does_so.0.0 does_so.0.1, does_so.1))
+      (delete_some i (as_seen k.thread s) does_so.0.0 does_so.0.1, does_so.1))
       (λ now s next st. has_ended (Ok tt) (let then = at_next k past now (LocalDrop h.index) [] at next refl in (
         then.stays,
         then.begins,

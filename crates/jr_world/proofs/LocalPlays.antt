@@ -15,13 +15,13 @@ use Rattle.jr_word.specs.declared.handle.RefKind.TheVariants.{Local}
 use Rattle.jr_model.specs.declared.event.Act.{Act}
 use Rattle.jr_model.specs.declared.event.Act.TheVariants.{LocalPut}
 use Rattle.jr_model.specs.declared.event.Found.TheVariants.{Stale}
-use Rattle.jr_model.specs.declared.event.Role.TheVariants.{Outside}
+use Rattle.jr_model.specs.declared.event.Role.TheVariants.{Outside, Within}
 use Rattle.jr_model.specs.declared.frames.LocalRef.{LocalRef}
 use Rattle.jr_model.specs.State.{Contents, Handle, State}
 use Rattle.jr_model.specs.Steps.{act_after}
 use Rattle.jr_model.specs.Frames.{Agree, AreSound, Frames, IsAdded, IsMove, adds, all_refs, free_places, is_held}
 use Rattle.jr_model.specs.Frames.{object_of}
-use Rattle.jr_model.specs.History.{History, by, state}
+use Rattle.jr_model.specs.History.{History, by, state, IsLegal}
 use Rattle.jr_model.specs.Checks.{Parts, is_local}
 use Rattle.jr_model.specs.Calls.{Call, refuse_if}
 use Rattle.jr_model.specs.Calls as calls
@@ -36,23 +36,23 @@ use Rattle.jr_world.specs.World as world
 use Rattle.jr_world.specs.World.{Meaning, Ref, World, added, goes_on as going_on, held, new_local, put_last}
 use Rattle.jr_world.specs.World.{refuse_where, refused_if, room_for}
 use Rattle.jr_world.specs.Births.{Births, IsAs, RefIsSo, birth_of, births, born_by, found_in, found_at_place}
-use Rattle.jr_world.specs.Births.{gone_where}
-use Rattle.jr_world.specs.Births.{is_at}
-use Rattle.jr_world.specs.Births.{next_of_place, ref_to}
+use Rattle.jr_world.specs.Births.{gone_where, is_at, next_of_place, ref_to}
 use Rattle.jr_world.specs.Doing.{Doing, Shared, as_left, as_seen, atom, left_by_step, owner_if, whatever}
 use Rattle.jr_world.specs.Doing.Doing.{ended}
-use Rattle.jr_world.specs.Plays.{AreFrames, OthersGoOn, ActsNext, LeavesOthers, Plays, SharedStands, WereBorn}
-use Rattle.jr_world.specs.Plays.{owner_of_handle}
-use Rattle.jr_world.specs.Plays.Plays.{has_ended, does, moves}
+use Rattle.jr_world.specs.Plays.{AreFrames, OthersGoOn, ActsNext, LeavesOthers, Plays, InStands, WereBorn}
+use Rattle.jr_world.specs.Plays.{SharedStands, StandsBy, owner_of_handle}
+use Rattle.jr_world.specs.Plays.Plays.{has_ended, moves}
 use Rattle.jr_world.specs.Playing.{AnsweredBy, BothAre, FreeHaveSerials, ObjectIs, WordIs}
 use Rattle.jr_world.proofs.BornHandles.{own_stands, puts_are_own}
 use Rattle.jr_world.proofs.Births.BornLists.{births_push, get_new, get_old}
 use Rattle.jr_world.proofs.Births.BornObjects.{born_at}
 use Rattle.jr_world.proofs.Standing.{both_long, front_legal, looks_then, seen_stands, stays_by_others, stays_here}
+use Rattle.jr_world.proofs.Standing.{is_of_gate}
 use Rattle.jr_world.proofs.WordsPosted.{posted_later}
 use Rattle.jr_world.proofs.InStay.{EndingPlays, IsAt, Scene, Then, at_births, at_next, at_now, at_within, object_now}
 use Rattle.jr_world.proofs.LocalFrames.{both_lack, frames_put, frames_stay, places_taken}
 use Rattle.jr_world.proofs.ProgramPlays.{same_fault}
+use Rattle.jr_world.proofs.OpenParts.{does_in}
 use Rattle.one_order.specs.Orders.{Item}
 use Rattle.one_order.specs.Orders.Item.{does as acting}
 
@@ -99,7 +99,7 @@ pub tests_then : {A : Type 0} (c : Config) (whole : History) (t : ℕ) (V : Hist
     (g : Frames)
     (behind : List (Item Act)) (test : World → Bool) (e : Fault) (next : Result (Unit {0}) Fault → Doing A)
     (past : History) (f : Frames) (items : List (Item Act)) (b : Bool)
-    → ((now : History) (s : Shared) → SharedStands c t now f s → test (as_seen t true s) ≡ b)
+    → ((now : History) (s : Shared) → SharedStands c t now f s → test (as_seen t s) ≡ b)
     → ((now : History) → OthersGoOn c whole t past now → Plays c whole t V g behind (next (refused_if b e)) now f items)
     → Plays c whole t V g behind (whatever (atom (refuse_where test e)) next) past f items
 tests_then c whole t V g behind test e next past f items b is goes_on =
@@ -108,11 +108,11 @@ tests_then c whole t V g behind test e next past f items b is goes_on =
     (goes_on now goes))
 
 -- THE ROOM: the world's places are those of the thread's frames
-pub room_lacks : (c : Config) (last t : ℕ) (now : History) (f : Frames) (s : Shared) (luck : Bool) (n : ℕ)
-    → FreeHaveSerials last f → SharedStands c t now f s
-    → nat_lt c.locals (held (as_seen t luck s) + n) ≡ nat_lt (free_places last f) n
+pub room_lacks : {b : Births} (c : Config) (last t : ℕ) (now : History) (f : Frames) (s : Shared) (luck : Bool) (n : ℕ)
+    → FreeHaveSerials last f → StandsBy b c t now f s
+    → nat_lt c.locals (held (as_seen t s) + n) ≡ nat_lt (free_places last f) n
 room_lacks c last t now f s luck n few st =
-    sym (both_lack (free_places last f) (held (as_seen t luck s)) c.locals n
+    sym (both_lack (free_places last f) (held (as_seen t s)) c.locals n
     (places_taken last f st.sound few st.frames ∙ st.places))
 
 -- a test for places, where what it answers is so at each moment to which others lead
@@ -149,7 +149,7 @@ pub stands_then : (c : Config) (t : ℕ) (now : History) (a : Act) (f : Frames) 
     → ((u : ℕ) → slice_index_or s.roles u Outside ≡ (act_after (state now) t a).role u) → length s.frames ≡ c.threads
     → AreFrames t (born_by (births now) t a).refs (slice_index_or s.frames t []) f.frames
     → WereBorn now s.board → length f.given ≡ c.locals → Agree t f (now ++ by t a ∷ []) → AreSound f
-    → SharedStands c t (now ++ by t a ∷ []) f s
+    → InStands c t (now ++ by t a ∷ []) f s
 stands_then c t now a f s objects refs owners used many roles lists frames posted places agreed sound =
     let born : (births (now ++ by t a ∷ [])) ≡ born_by (births now) t a = births_push now (by t a) in
     record {
@@ -176,7 +176,7 @@ module _ {X A : Type 0} (c : Config) (whole : History) (t : ℕ) (V : History �
     (behind : List (Item Act)) (m : Meaning X) (next : Result X Fault → Doing A) (past : History) (f f' : Frames)
     (items : List (Item Act)) (r : Shared → Result X Fault) (w : Shared → World) where
   pub moves_by : ((now : History) (s : Shared) → OthersGoOn c whole t past now → SharedStands c t now f s
-      → (◌≡◌ {A = Result X Fault × World} (m (as_seen t true s)) (r s, w s))
+      → (◌≡◌ {A = Result X Fault × World} (m (as_seen t s)) (r s, w s))
       × SharedStands c t now f' (as_left t s (w s)))
       → ((now : History) (s : Shared) → OthersGoOn c whole t past now → SharedStands c t now f s
       → Plays c whole t V g behind (next (r s)) now f' items)
@@ -190,16 +190,18 @@ module _ {X A : Type 0} (c : Config) (whole : History) (t : ℕ) (V : History �
       Plays c whole t V g behind (next (left_by_step t s z).0) now f' items)
       (sym (does_so now s goes st).0) (goes_on now s goes st))
 
-  pub does_by : (a : Act) → ((now : History) (s : Shared) → ActsNext c whole t past now a → SharedStands c t now f s
-      → (◌≡◌ {A = Result X Fault × World} (m (as_seen t true s)) (r s, w s))
-      × SharedStands c t (now ++ by t a ∷ []) f' (as_left t s (w s)))
-      → ((now : History) (s : Shared) → ActsNext c whole t past now a → SharedStands c t now f s
+  -- .. at an act of a thread that is within
+  pub does_by : (a : Act) (last : ℕ) → IsLegal c last whole → (state past).role t ≡ Within → is_of_gate a ≡ false
+      → ((now : History) (s : Shared) → ActsNext c whole t past now a → InStands c t now f s
+      → (◌≡◌ {A = Result X Fault × World} (m (as_seen t s)) (r s, w s))
+      × InStands c t (now ++ by t a ∷ []) f' (as_left t s (w s)))
+      → ((now : History) (s : Shared) → ActsNext c whole t past now a → InStands c t now f s
       → Plays c whole t V g behind (next (r s)) (now ++ by t a ∷ []) f' items)
       → Plays c whole t V g behind (whatever (atom m) next) past f (acting a ∷ items)
-  does_by a does_so goes_on = does true a f'
+  does_by a last legal within no_gate does_so goes_on = does_in c last whole t legal within true a f' no_gate
       (λ now s goes st. let so = does_so now s goes st in
       subst (λ (z : Result X Fault × World).
-      SharedStands c t (now ++ by t a ∷ []) f' (left_by_step t s z).1 × LeavesOthers t s (left_by_step t s z).1)
+      InStands c t (now ++ by t a ∷ []) f' (left_by_step t s z).1 × LeavesOthers t s (left_by_step t s z).1)
       (sym so.0) (so.1, left_keeps t s (w s)))
       (λ now s goes st. subst (λ (z : Result X Fault × World).
       Plays c whole t V g behind (next (left_by_step t s z).0) (now ++ by t a ∷ []) f' items)
@@ -245,7 +247,7 @@ gone_same p (x ∷ refs) none =
     go false at = refl
 
 -- nothing stands at a place that no reference of the thread holds
-pub nothing_at : (c : Config) (t p : ℕ) (now : History) (f : Frames) (s : Shared) → SharedStands c t now f s
+pub nothing_at : (c : Config) (t p : ℕ) (now : History) (f : Frames) (s : Shared) → InStands c t now f s
     → IsAs (births now) (state now) → is_held (all_refs f) p ≡ false
     → gone_where (is_at t p) (births now).refs ≡ (births now).refs
 nothing_at c t p now f s st world free = gone_same (is_at t p) (births now).refs (λ i h q e at.
@@ -298,7 +300,7 @@ module _ (k : Scene) where
 
   module _ (now : History) (f g : Frames) (s : Shared) (luck : Bool) (r : LocalRef) (o : ℕ)
       (begins : IsPrefix (now ++ by k.thread (LocalPut r.handle.index r.object) ∷ []) k.whole)
-      (st : SharedStands k.config k.thread now f s) (world : IsAs (births now) (state now))
+      (st : InStands k.config k.thread now f s) (world : IsAs (births now) (state now))
       (is : IsAdded k.last k.thread f r g) (born : birth_of (births now).objects r.object ≡ o) where
     unheld : is_held (all_refs f) r.handle.index ≡ false
     unheld = not_true (is_held (all_refs f) r.handle.index) (λ e.
@@ -340,10 +342,10 @@ module _ (k : Scene) where
         ∙ ap (λ l. slice_get l (length s.refs)) newly_born
         ∙ ap (slice_get newly) as_many ∙ get_new (births now).refs (r.handle, ref_to Local o)
 
-    pub put_stands : SharedStands k.config k.thread (now ++ by k.thread (LocalPut r.handle.index r.object) ∷ []) g
-        (as_left k.thread s (with_local o (as_seen k.thread luck s)))
+    pub put_stands : InStands k.config k.thread (now ++ by k.thread (LocalPut r.handle.index r.object) ∷ []) g
+        (as_left k.thread s (with_local o (as_seen k.thread s)))
     put_stands = stands_then k.config k.thread now (LocalPut r.handle.index r.object) g
-        (as_left k.thread s (with_local o (as_seen k.thread luck s)))
+        (as_left k.thread s (with_local o (as_seen k.thread s)))
         st.objects
         (ap (λ l. l ++ ref_to Local o ∷ []) st.refs
         ∙ sym (map-append (λ e. e.1) (births now).refs ((r.handle, ref_to Local o) ∷ []))
@@ -354,7 +356,7 @@ module _ (k : Scene) where
         st.used st.many st.roles
         (length-set s.frames k.thread (put_last (slice_index_or s.frames k.thread []) (length s.refs)) ∙ st.lists)
         (left_frames k.thread (born_by (births now) k.thread (LocalPut r.handle.index r.object)).refs s
-        (with_local o (as_seen k.thread luck s)) g.frames (let l = st.lists in let small = k.small in omega arith)
+        (with_local o (as_seen k.thread s)) g.frames (let l = st.lists in let small = k.small in omega arith)
         (subst (λ refs. AreFrames k.thread refs (put_last (slice_index_or s.frames k.thread [])
         (length s.refs)) g.frames)
         (sym newly_born)
@@ -391,7 +393,7 @@ module _ (k : Scene) where
   module _ (o o' : ℕ) (h : Handle) (past : History) (f g : Frames) (at : IsAt k past (LocalPut h.index o ∷ []))
       (object : ObjectIs past o o') (is : IsAdded k.last k.thread f (record { handle = h; object = o }) g)
       (now : History) (s : Shared) (next : ActsNext k.config k.whole k.thread past now (LocalPut h.index o))
-      (st : SharedStands k.config k.thread now f s) where
+      (st : InStands k.config k.thread now f s) where
     world_then : IsAs (births now) (state now)
     world_then =
         at_births k now (LocalPut h.index o ∷ []) (at_now k past now (LocalPut h.index o ∷ []) at next.goes)
@@ -400,8 +402,8 @@ module _ (k : Scene) where
     born_then = let there = object_goes past now (LocalPut h.index o ∷ []) at next.goes o o' object in
         born_there (births now) (state now) world_then o o' there.0 there.1
 
-    added_stands : SharedStands k.config k.thread (now ++ by k.thread (LocalPut h.index o) ∷ []) g
-        (as_left k.thread s (with_local o' (as_seen k.thread true s)))
+    added_stands : InStands k.config k.thread (now ++ by k.thread (LocalPut h.index o) ∷ []) g
+        (as_left k.thread s (with_local o' (as_seen k.thread s)))
     added_stands = put_stands now f g s true (record { handle = h; object = o }) o' next.next st world_then is born_then
 
     added_word : WordIs (now ++ by k.thread (LocalPut h.index o) ∷ []) (Parts h)
@@ -421,10 +423,11 @@ module _ (k : Scene) where
       let here : IsAt k past (LocalPut h.index o ∷ []) = subst (IsAt k past) did.1 at in
       subst (λ l. Plays k.config k.whole k.thread (Then k handle answer) g behind (atom (added o')) past f
       (map acting l)) (sym did.1)
-      (does true (LocalPut h.index o) g
+      (does_in k.config k.last k.whole k.thread k.legal (at_within k past (LocalPut h.index o ∷ []) here) true
+      (LocalPut h.index o) g refl
       (λ now s next st. (
         added_stands o o' h past f g here object did.3 now s next st,
-        left_keeps k.thread s (with_local o' (as_seen k.thread true s)),
+        left_keeps k.thread s (with_local o' (as_seen k.thread s)),
       ))
       (λ now s next st. has_ended _ (let then = at_next k past now (LocalPut h.index o) [] here next refl in (
         then.stays,
@@ -500,11 +503,11 @@ module _ (k : Scene) where
           (subst (λ l. Plays k.config k.whole k.thread (Then k (perhaps handle) answer) f behind
           (atom (new_local k.config (Some o'))) past f (map acting l)) (sym d.1)
           (moves_by k.config k.whole k.thread (Then k (perhaps handle) answer) f behind (new_local k.config (Some o'))
-          (λ r. ended r) past f f [] (λ s. Err LocalsFull) (λ s. as_seen k.thread true s)
+          (λ r. ended r) past f f [] (λ s. Err LocalsFull) (λ s. as_seen k.thread s)
           (λ now s goes st. (
-            new_local_full k.config o' (as_seen k.thread true s)
+            new_local_full k.config o' (as_seen k.thread s)
                 (room_lacks k.config k.last k.thread now f s true 1 few st ∙ d.0),
-            seen_stands k.config k.thread now f true s st,
+            seen_stands k.config k.thread now f s st,
           ))
           (λ now s goes st. has_ended (Err LocalsFull) (let there = at_now k past now acts at goes in (
             there.stays,
@@ -520,9 +523,10 @@ module _ (k : Scene) where
           (atom (new_local k.config (Some o'))) past f (map acting l)) (sym one.1)
           (does_by k.config k.whole k.thread (Then k (perhaps handle) answer) g behind (new_local k.config (Some o'))
           (λ r. ended r) past f g [] (λ s. Ok (Some (record { 0 = length (s.refs ++ ref_to Local o' ∷ []) })))
-          (λ s. with_local o' (as_seen k.thread true s)) (LocalPut h.index o)
+          (λ s. with_local o' (as_seen k.thread s)) (LocalPut h.index o) k.last k.legal
+          (at_within k past (LocalPut h.index o ∷ []) here) refl
           (λ now s next st. (
-            new_local_fits k.config o' (as_seen k.thread true s)
+            new_local_fits k.config o' (as_seen k.thread s)
                 (room_lacks k.config k.last k.thread now f s true 1 few st ∙ d.0),
             added_stands k o o' h past f g here object one.3 now s next st,
           ))

@@ -22,7 +22,7 @@ use Rattle.jr_world.specs.Doing.{Doing, as_seen, given_up_in_steps, unless_refus
 use Rattle.jr_world.specs.Plays.{AreNamed, ActsNext, Plays}
 use Rattle.jr_world.specs.Plays.AreNamed.{no_local, one_local}
 use Rattle.jr_world.proofs.Standing.{is_of_gate, stays_by_act}
-use Rattle.jr_world.proofs.InStay.{IsAt, Scene, at_next, word_now}
+use Rattle.jr_world.proofs.InStay.{IsAt, Scene, at_next, word_now, at_within}
 use Rattle.jr_world.proofs.LocalPlays.{does_by}
 use Rattle.jr_world.proofs.LocalDrops.{drop_finds}
 use Rattle.jr_world.proofs.NamedPlays.{ComesTo, comes_here, comes_then}
@@ -237,8 +237,9 @@ module _ {A : Type 0} (k : Scene) (V : History → Result A Fault → Type 0) (g
   given_up (one_local {is = ns} {rs = rs} i r q there own named) past f begins at apart stand follows =
       does_by k.config k.whole k.thread V g behind (change (removed i))
       (λ x. whatever (unless_refused (λ u. given_up_in_steps ns) x) next) past f (without_local f r.handle)
-      (map acting (drop_all rs) ++ more) (λ s. Ok tt) (λ s. removed i (as_seen k.thread true s))
-      (LocalDrop r.handle.index)
+      (map acting (drop_all rs) ++ more) (λ s. Ok tt) (λ s. removed i (as_seen k.thread s))
+      (LocalDrop r.handle.index) k.last k.legal
+      (at_within k past (LocalDrop r.handle.index ∷ drop_all rs ++ rest) at) refl
       (λ now s next_is st. (
         refl,
         (drop_finds k i r.handle past now f s (drop_all rs ++ rest) at

@@ -1,5 +1,5 @@
 -- Acts that change nothing leave what stands, and are played unseen.
-use Rattle.std.proofs.Common.{◌≡◌, ◌+◌, ℕ, Bool, true, false, Option, Result, List, [], ◌∷◌, ◌++◌, map, slice_index_or}
+use Rattle.std.proofs.Common.{◌≡◌, ◌+◌, ℕ, Bool, true, false, Option, Result, List, [], ◌∷◌, ◌++◌, map}
 use Rattle.std.proofs.Common.{refl, sym, ap, subst, ◌∙◌, arith}
 use Rattle.std.specs.List.{AllByRecursion}
 use mathlib.Core.List.{IsPrefix}
@@ -16,12 +16,11 @@ use Rattle.jr_model.proofs.Agreement.{stored_append}
 use Rattle.jr_model.proofs.Histories.{mine_push, state_push}
 use Rattle.jr_world.specs.Births.{Births, births, born_by}
 use Rattle.jr_world.specs.Doing.{Doing, Shared}
-use Rattle.jr_world.specs.Plays.{AreFrames, ActsNext, Plays, SharedStands, owner_of_handle}
-use Rattle.jr_world.specs.Plays.Plays.{unseen}
+use Rattle.jr_world.specs.Plays.{ActsNext, Plays, InStands, SharedStands, StandsBy, under_way}
 use Rattle.jr_world.proofs.Births.BornLists.{births_push}
 use Rattle.jr_world.proofs.InStay.{IsAt, Scene, StaysOn, at_next, at_within}
 use Rattle.jr_world.proofs.Standing.{is_of_gate, stays_by_act, stays_here}
-use Rattle.jr_world.proofs.WordsPosted.{posted_later}
+use Rattle.jr_world.proofs.OpenParts.{open_push, unseen_in}
 use Rattle.one_order.specs.Orders.{Item}
 use Rattle.one_order.specs.Orders.Item.{does as acting}
 
@@ -83,28 +82,43 @@ agreed_behind t now f a same none agreed = record {
 }
 
 -- SUCH AN ACT LEAVES WHAT STANDS
-pub look_stands : (c : Config) (t : ℕ) (now : History) (f : Frames) (s : Shared) (a : Act) → is_look a ≡ true
-    → SharedStands c t now f s → SharedStands c t (now ++ by t a ∷ []) f s
-look_stands c t now f s a is st = record {
-  objects = subst (λ (b : Births). s.objects ≡ map (λ e. e.1) b.objects) born st.objects;
-  refs = subst (λ (b : Births). s.refs ≡ map (λ e. e.1) b.refs) born st.refs;
-  owners = subst (λ (b : Births). s.owners ≡ map (λ e. owner_of_handle e.0) b.refs) born st.owners;
-  used = subst (λ (b : Births). s.used ≡ b.used) born st.used;
+looks_by : {b : Births} (c : Config) (t : ℕ) (now : History) (f : Frames) (s : Shared) (a : Act) → is_look a ≡ true
+    → StandsBy b c t now f s → StandsBy b c t (now ++ by t a ∷ []) f s
+looks_by {b} c t now f s a is st = record {
+  objects = st.objects;
+  refs = st.refs;
+  owners = st.owners;
+  used = st.used;
   many = st.many;
   roles = λ u. st.roles u ∙ sym (ap (λ (z : State). z.role u) (state_push now (by t a) ∙ same));
   lists = st.lists;
-  frames = subst (λ (b : Births). AreFrames t b.refs (slice_index_or s.frames t []) f.frames) born st.frames;
-  posted = posted_later now (by t a ∷ []) s.board st.posted;
+  frames = st.frames;
+  posted = st.posted;
   places = st.places;
   agreed = agreed_behind t now f a (ap (λ (z : State). z.locals) same) (λ p. look_stores p a is) st.agreed;
   sound = st.sound;
 }
   where
-    born : births now ≡ births (now ++ by t a ∷ [])
-    born = sym (births_push now (by t a) ∙ look_births (births now) t a is)
-
     same : act_after (state now) t a ≡ state now
     same = look_state (state now) t a is
+
+look_born : (t : ℕ) (now : History) (a : Act) → is_look a ≡ true → births (now ++ by t a ∷ []) ≡ births now
+look_born t now a is = births_push now (by t a) ∙ look_births (births now) t a is
+
+pub look_stands : (c : Config) (t : ℕ) (now : History) (f : Frames) (s : Shared) (a : Act) → is_look a ≡ true
+    → InStands c t now f s → InStands c t (now ++ by t a ∷ []) f s
+look_stands c t now f s a is st = subst (λ b. StandsBy b c t (now ++ by t a ∷ []) f s) (sym (look_born t now a is))
+    (looks_by c t now f s a is st)
+
+-- .. at any moment
+pub look_shows : (c : Config) (t : ℕ) (now : History) (f : Frames) (s : Shared) (a : Act) → is_look a ≡ true
+    → SharedStands c t now f s → SharedStands c t (now ++ by t a ∷ []) f s
+look_shows c t now f s a is st = subst (λ b. StandsBy b c t (now ++ by t a ∷ []) f s)
+    (sym (open_push t now a (quiet a is) (look_born t now a is))) (looks_by c t now f s a is st)
+  where
+    quiet : (a : Act) → is_look a ≡ true → (seen : History) (shut : Option History) → under_way seen shut a ≡ shut
+    quiet (Gate g) is seen shut = absurd cc
+    quiet _ is seen shut = refl
 
 -- SUCH ACTS, AND THEN THE REST: what is so while the call stays is so behind them
 module _ (k : Scene) where
@@ -117,7 +131,9 @@ module _ (k : Scene) where
         → Plays k.config k.whole k.thread V g behind d now f (map acting rest))
         → Plays k.config k.whole k.thread V g behind d past f (map acting (looks ++ rest))
     looks_play [] rest past are at so next = next past at so
-    looks_play (a ∷ looks) rest past are at so next = unseen a
+    looks_play (a ∷ looks) rest past are at so next =
+        unseen_in k.config k.last k.whole k.thread k.legal (at_within k past (a ∷ looks ++ rest) at) a
+        (look_at_no_gate a are.0)
         (λ now s goes st. look_stands k.config k.thread now f s a are.0 st)
         (λ now goes. looks_play looks rest (now ++ by k.thread a ∷ []) are.1
         (at_next k past now a (looks ++ rest) at goes (look_at_no_gate a are.0))

@@ -30,8 +30,8 @@ use Rattle.jr_world.specs.World as world
 use Rattle.jr_world.specs.Births.{Births, IsAs, birth_of, births, born_by, born_word, word_of_kind, words_of_kind}
 use Rattle.jr_world.specs.Doing.{Noted, Shared, as_left, as_seen, atom, made_in_steps, over_world, reserved}
 use Rattle.jr_world.specs.Doing.{taken_or_lost, ◌>>=◌}
-use Rattle.jr_world.specs.Plays.{OthersGoOn, ActsNext, LeavesOthers, Plays, SharedStands}
-use Rattle.jr_world.specs.Plays.Plays.{has_ended, waits, does}
+use Rattle.jr_world.specs.Plays.{OthersGoOn, ActsNext, LeavesOthers, Plays, InStands}
+use Rattle.jr_world.specs.Plays.Plays.{has_ended}
 use Rattle.jr_world.specs.Playing.{AnsweredBy, BothAre, FreeHaveSerials, ObjectIs, SameFault}
 use Rattle.jr_world.proofs.Births.{worlds_are_so}
 use Rattle.jr_world.proofs.Births.BornObjects.{born_at}
@@ -43,6 +43,7 @@ use Rattle.jr_world.proofs.LocalPlays.{added_plays, room_plays}
 use Rattle.jr_world.proofs.NextActs.{born_next, next_keeps, next_stands, same_stands}
 use Rattle.jr_world.proofs.Standing.{front_legal, is_of_gate, next_needs, seen_keeps, seen_stands, stays_by_others}
 use Rattle.jr_world.proofs.Standing.{stays_here, stays_then}
+use Rattle.jr_world.proofs.OpenParts.{does_in, waits_in}
 use Rattle.one_order.specs.Orders.{Item}
 use Rattle.one_order.specs.Orders.Item.{does as acting}
 
@@ -96,12 +97,12 @@ many n m l = grind (arith, nat_tests)
 module _ (c : Config) (from : Noted) (n t : ℕ) (s : Shared) where
   -- there is room for the words
   taken_is : nat_lt c.words (s.used + suc n) ≡ false → taken_or_lost c from (suc n) t true s
-      ≡ (Ok tt, as_left t s (record (as_seen t true s) { objects = s.objects; used = s.used + suc n }))
+      ≡ (Ok tt, as_left t s (record (as_seen t s) { objects = s.objects; used = s.used + suc n }))
   taken_is fits = rw fits refl
 
   -- there is none
   full_is : nat_lt c.words (s.used + suc n) ≡ true → taken_or_lost c from (suc n) t true s
-      ≡ (Err (SpaceFull s.used), as_left t s (as_seen t true s))
+      ≡ (Err (SpaceFull s.used), as_left t s (as_seen t s))
   full_is over = rw over refl
 
   -- others were faster
@@ -112,7 +113,7 @@ module _ (c : Config) (from : Noted) (n t : ℕ) (s : Shared) where
 module _ (k : Scene) where
   -- as many words are used as in the state
   used_now : (past now : History) (acts : List Act) (f : Frames) (s : Shared) → IsAt k past acts
-      → OthersGoOn k.config k.whole k.thread past now → SharedStands k.config k.thread now f s
+      → OthersGoOn k.config k.whole k.thread past now → InStands k.config k.thread now f s
       → s.used ≡ (state now).used
   used_now past now acts f s at goes st = st.used ∙ sym (at_births k now acts (at_now k past now acts at goes)).used
 
@@ -133,11 +134,13 @@ module _ (k : Scene) where
 
   taken_plays : (n : ℕ) (past : History) (f : Frames) (left : List Act) (behind : List (Item Act))
       → IsAt k past (Reserve (suc n) ∷ left) → Reserved (suc n) (Ok tt) f behind past f (Reserve (suc n) ∷ [])
-  taken_plays n past f left behind at = does true (Reserve (suc n)) f
+  taken_plays n past f left behind at =
+      does_in k.config k.last k.whole k.thread k.legal (at_within k past (Reserve (suc n) ∷ left) at) true
+      (Reserve (suc n)) f refl
       (λ now s next st.
       let is = taken now s next st in (
         subst (λ (z : Result (Unit {0}) Fault × Shared).
-            SharedStands k.config k.thread (now ++ by k.thread (Reserve (suc n)) ∷ []) f z.1) (sym is)
+            InStands k.config k.thread (now ++ by k.thread (Reserve (suc n)) ∷ []) f z.1) (sym is)
             (next_stands k.config k.thread now f (Reserve (suc n)) true s s.objects (s.used + suc n) st refl refl refl
             refl st.objects (ap (λ u. u + suc n) st.used)),
         subst (λ (z : Result (Unit {0}) Fault × Shared). LeavesOthers k.thread s z.1) (sym is)
@@ -148,11 +151,11 @@ module _ (k : Scene) where
       AnsweredBy nothing (Ok tt) (now ++ by k.thread (Reserve (suc n)) ∷ []) z.0) (sym (taken now s next st)) tt))
     where
       taken : (now : History) (s : Shared) → ActsNext k.config k.whole k.thread past now (Reserve (suc n))
-          → SharedStands k.config k.thread now f s → taken_or_lost k.config k.noted (suc n) k.thread true s
+          → InStands k.config k.thread now f s → taken_or_lost k.config k.noted (suc n) k.thread true s
           ≡ (
             Ok tt,
             as_left k.thread s
-                (record (as_seen k.thread true s) { objects = s.objects; used = s.used + suc n }),
+                (record (as_seen k.thread s) { objects = s.objects; used = s.used + suc n }),
           )
       taken now s next st =
           let needs = next_needs k.config k.last k.whole k.thread k.legal past now (Reserve (suc n)) next in
@@ -163,15 +166,17 @@ module _ (k : Scene) where
   full_plays : (n u : ℕ) (past : History) (f : Frames) (left : List Act) (behind : List (Item Act))
       → IsAt k past (ReserveFull (suc n) u ∷ left)
       → Reserved (suc n) (Err (SpaceFull u)) f behind past f (ReserveFull (suc n) u ∷ [])
-  full_plays n u past f left behind at = does true (ReserveFull (suc n) u) f
+  full_plays n u past f left behind at =
+      does_in k.config k.last k.whole k.thread k.legal (at_within k past (ReserveFull (suc n) u ∷ left) at) true
+      (ReserveFull (suc n) u) f refl
       (λ now s next st.
       let is = full now s next st in (
         subst (λ (z : Result (Unit {0}) Fault × Shared).
-            SharedStands k.config k.thread (now ++ by k.thread (ReserveFull (suc n) u) ∷ []) f z.1) (sym is)
+            InStands k.config k.thread (now ++ by k.thread (ReserveFull (suc n) u) ∷ []) f z.1) (sym is)
             (next_stands k.config k.thread now f (ReserveFull (suc n) u) true s s.objects s.used st refl refl refl
             refl st.objects st.used),
         subst (λ (z : Result (Unit {0}) Fault × Shared). LeavesOthers k.thread s z.1) (sym is)
-            (seen_keeps k.thread true s),
+            (seen_keeps k.thread s),
       ))
       (λ now s next st. has_ended (taken_or_lost k.config k.noted (suc n) k.thread true s).0
       (subst (λ (z : Result (Unit {0}) Fault × Shared).
@@ -179,14 +184,14 @@ module _ (k : Scene) where
       (sym (full now s next st)) (ap SpaceFull (same now s next st))))
     where
       same : (now : History) (s : Shared) → ActsNext k.config k.whole k.thread past now (ReserveFull (suc n) u)
-          → SharedStands k.config k.thread now f s → u ≡ s.used
+          → InStands k.config k.thread now f s → u ≡ s.used
       same now s next st =
           let needs = next_needs k.config k.last k.whole k.thread k.legal past now (ReserveFull (suc n) u) next in
           needs.1.1 ∙ sym (used_now past now (ReserveFull (suc n) u ∷ left) f s at next.goes st)
 
       full : (now : History) (s : Shared) → ActsNext k.config k.whole k.thread past now (ReserveFull (suc n) u)
-          → SharedStands k.config k.thread now f s → taken_or_lost k.config k.noted (suc n) k.thread true s
-          ≡ (Err (SpaceFull s.used), as_left k.thread s (as_seen k.thread true s))
+          → InStands k.config k.thread now f s → taken_or_lost k.config k.noted (suc n) k.thread true s
+          ≡ (Err (SpaceFull s.used), as_left k.thread s (as_seen k.thread s))
       full now s next st =
           let needs = next_needs k.config k.last k.whole k.thread k.legal past now (ReserveFull (suc n) u) next in
           let over : k.config.words < u + suc n = needs.1.2 in
@@ -196,11 +201,13 @@ module _ (k : Scene) where
   lost_plays : (n l m : ℕ) (past : History) (f : Frames) (left : List Act) (behind : List (Item Act))
       → IsAt k past (ReserveLost (suc n) l m ∷ left) → (state k.entry).used < m
       → Reserved (suc n) (Err (Raced l m)) f behind past f (ReserveLost (suc n) l m ∷ [])
-  lost_plays n l m past f left behind at more = does false (ReserveLost (suc n) l m) f
+  lost_plays n l m past f left behind at more =
+      does_in k.config k.last k.whole k.thread k.legal (at_within k past (ReserveLost (suc n) l m ∷ left) at) false
+      (ReserveLost (suc n) l m) f refl
       (λ now s next st.
       let is = lost now s next st in (
         subst (λ (z : Result (Unit {0}) Fault × Shared).
-            SharedStands k.config k.thread (now ++ by k.thread (ReserveLost (suc n) l m) ∷ []) f z.1) (sym is)
+            InStands k.config k.thread (now ++ by k.thread (ReserveLost (suc n) l m) ∷ []) f z.1) (sym is)
             (same_stands k.config k.thread now f (ReserveLost (suc n) l m) s st refl refl refl),
         subst (λ (z : Result (Unit {0}) Fault × Shared). LeavesOthers k.thread s z.1) (sym is)
             (record { frames = λ u ne. refl; board = refl }),
@@ -211,7 +218,7 @@ module _ (k : Scene) where
       (sym (lost now s next st)) tt))
     where
       lost : (now : History) (s : Shared) → ActsNext k.config k.whole k.thread past now (ReserveLost (suc n) l m)
-          → SharedStands k.config k.thread now f s → taken_or_lost k.config k.noted (suc n) k.thread false s
+          → InStands k.config k.thread now f s → taken_or_lost k.config k.noted (suc n) k.thread false s
           ≡ (Err (Raced k.noted.used s.used), s)
       lost now s next st =
           let needs = next_needs k.config k.last k.whole k.thread k.legal past now (ReserveLost (suc n) l m) next in
@@ -256,7 +263,7 @@ module _ (c : Config) (kind : Kind) (words : List ℕ) (t : ℕ) (s : Shared) wh
   new_is : (standing s.objects == c.objects) ≡ false → over_world (world.new_object c kind words) t true s
       ≡ (
         Ok (length s.objects),
-        as_left t s (record (as_seen t true s) {
+        as_left t s (record (as_seen t s) {
           objects = s.objects ++ Some (record { kind = kind; words = words }) ∷ [];
           used = s.used;
         }),
@@ -265,7 +272,7 @@ module _ (c : Config) (kind : Kind) (words : List ℕ) (t : ℕ) (s : Shared) wh
 
   -- as many stand as may be
   none_is : (standing s.objects == c.objects) ≡ true → over_world (world.new_object c kind words) t true s
-      ≡ (Err ObjectsFull, as_left t s (as_seen t true s))
+      ≡ (Err ObjectsFull, as_left t s (as_seen t s))
   none_is full = rw full refl
 
 get_last : {X : Type 0} (xs : List X) (x : X) → slice_get (xs ++ x ∷ []) (length xs) ≡ Some x
@@ -285,11 +292,13 @@ module _ (k : Scene) (kind : Kind) (words words' : List ℕ) where
   module _ (past : History) (f : Frames) (behind : List (Item Act)) where
     pub new_plays : (o : ℕ) (left : List Act) → IsAt k past (New o kind words ∷ left) → AreWordsFrom past
         → Published (Ok o) f behind past f (New o kind words ∷ [])
-    new_plays o left at told = does true (New o kind words) f
+    new_plays o left at told =
+        does_in k.config k.last k.whole k.thread k.legal (at_within k past (New o kind words ∷ left) at) true
+        (New o kind words) f refl
         (λ now s next st.
         let is = new now s next st in (
           subst (λ (z : Result ℕ Fault × Shared).
-              SharedStands k.config k.thread (now ++ by k.thread (New o kind words) ∷ []) f z.1) (sym is)
+              InStands k.config k.thread (now ++ by k.thread (New o kind words) ∷ []) f z.1) (sym is)
               (next_stands k.config k.thread now f (New o kind words) true s
               (s.objects ++ Some (record { kind = kind; words = words' }) ∷ []) s.used st refl refl refl refl
               (more now s next st) st.used),
@@ -308,7 +317,7 @@ module _ (k : Scene) (kind : Kind) (words words' : List ℕ) where
             (at_within k past (New o kind words ∷ left) at)) next.goes) next.goes.begins
 
         more : (now : History) (s : Shared) → ActsNext k.config k.whole k.thread past now (New o kind words)
-            → SharedStands k.config k.thread now f s → s.objects ++ Some (record { kind = kind; words = words' }) ∷ []
+            → InStands k.config k.thread now f s → s.objects ++ Some (record { kind = kind; words = words' }) ∷ []
             ≡ map (λ e. e.1) (born_by (births now) k.thread (New o kind words)).objects
         more now s next st =
             ap (λ l. l ++ Some (record { kind = kind; words = words' }) ∷ []) st.objects
@@ -318,11 +327,11 @@ module _ (k : Scene) (kind : Kind) (words words' : List ℕ) where
             ((o, Some (record { kind = kind; words = words_of_kind (births now).objects kind words })) ∷ []))
 
         new : (now : History) (s : Shared) → ActsNext k.config k.whole k.thread past now (New o kind words)
-            → SharedStands k.config k.thread now f s → over_world (world.new_object k.config kind words') k.thread true
+            → InStands k.config k.thread now f s → over_world (world.new_object k.config kind words') k.thread true
             s
             ≡ (
               Ok (length s.objects),
-              as_left k.thread s (record (as_seen k.thread true s) {
+              as_left k.thread s (record (as_seen k.thread s) {
                 objects = s.objects ++ Some (record { kind = kind; words = words' }) ∷ [];
                 used = s.used;
               }),
@@ -339,7 +348,7 @@ module _ (k : Scene) (kind : Kind) (words words' : List ℕ) where
             ∙ eq_other (standing (map (λ e. e.1) (births now).objects)) k.config.objects (λ e. absurd (omega arith)))
 
         born : (now : History) (s : Shared) → ActsNext k.config k.whole k.thread past now (New o kind words)
-            → SharedStands k.config k.thread now f s
+            → InStands k.config k.thread now f s
             → ObjectIs (now ++ by k.thread (New o kind words) ∷ []) o (length s.objects)
         born now s next st =
             let x : Contents = record { kind = kind; words = words_of_kind (births now).objects kind words } in
@@ -354,20 +363,21 @@ module _ (k : Scene) (kind : Kind) (words words' : List ℕ) where
 
     pub none_plays : IsAt k past [] → MayRefuse k {A = ℕ} behind (Err ObjectsFull)
         → Published (Err ObjectsFull) f behind past f []
-    none_plays at may = waits true (Gate Leave) f (may refl).2
+    none_plays at may =
+        waits_in k.config k.last k.whole k.thread k.legal (at_within k past [] at) true (Gate Leave) f (may refl).2
         (λ now s next st.
         let is = none now s next st in (
-          subst (λ (z : Result ℕ Fault × Shared). SharedStands k.config k.thread now f z.1) (sym is)
-              (seen_stands k.config k.thread now f true s st),
-          subst (λ (z : Result ℕ Fault × Shared). LeavesOthers k.thread s z.1) (sym is) (seen_keeps k.thread true s),
+          subst (λ (z : Result ℕ Fault × Shared). InStands k.config k.thread now f z.1) (sym is)
+              (seen_stands k.config k.thread now f s st),
+          subst (λ (z : Result ℕ Fault × Shared). LeavesOthers k.thread s z.1) (sym is) (seen_keeps k.thread s),
         ))
         (λ now s next st. has_ended (over_world (world.new_object k.config kind words') k.thread true s).0
         (subst (λ (z : Result ℕ Fault × Shared). IsMadeAs (Err ObjectsFull) now z.0) (sym (none now s next st)) refl))
       where
         none : (now : History) (s : Shared) → ActsNext k.config k.whole k.thread past now (Gate Leave)
-            → SharedStands k.config k.thread now f s → over_world (world.new_object k.config kind words') k.thread true
+            → InStands k.config k.thread now f s → over_world (world.new_object k.config kind words') k.thread true
             s
-            ≡ (Err ObjectsFull, as_left k.thread s (as_seen k.thread true s))
+            ≡ (Err ObjectsFull, as_left k.thread s (as_seen k.thread s))
         none now s next st =
             let here = at_now k past now [] at next.goes in
             let each = (may refl).0 now next.next (sym (append-nil (mine now k.thread)) ∙ here.own) in

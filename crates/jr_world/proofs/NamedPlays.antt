@@ -24,8 +24,8 @@ use Rattle.jr_world.specs.Births.{Births, RefIsSo, births, found_in, found_at_pl
 use Rattle.jr_world.specs.Doing.{Doing, Shared, as_left, as_seen, atom, is_anothers, is_foreign_to, named}
 use Rattle.jr_world.specs.Doing.{own_or_shared, unless_refused, whatever}
 use Rattle.jr_world.specs.Doing.Doing.{ended}
-use Rattle.jr_world.specs.Plays.{OthersGoOn, ActsNext, Plays, SharedStands, owner_of_handle}
-use Rattle.jr_world.specs.Plays.Plays.{has_ended, moves, does}
+use Rattle.jr_world.specs.Plays.{OthersGoOn, ActsNext, Plays, InStands, owner_of_handle}
+use Rattle.jr_world.specs.Plays.Plays.{has_ended}
 use Rattle.jr_world.specs.Playing.{BothAre, ObjectIs, WordIs}
 use Rattle.jr_world.proofs.Births.BornFound.{found_row}
 use Rattle.jr_world.proofs.BornHandles.{born_within, own_stands}
@@ -35,6 +35,7 @@ use Rattle.jr_world.proofs.ProgramPlays.{FoundAs, GoesOnWith}
 use Rattle.jr_world.proofs.LookStands.{look_stands}
 use Rattle.jr_world.proofs.Standing.{is_of_gate, looks_then, next_needs, seen_keeps, seen_stands, stays_by_act}
 use Rattle.jr_world.proofs.Standing.{stays_by_others, stays_here, stays_then}
+use Rattle.jr_world.proofs.OpenParts.{does_in, looks_in, moves_in}
 use Rattle.one_order.specs.Orders.{Item}
 use Rattle.one_order.specs.Orders.Item.{does as acting}
 
@@ -147,7 +148,7 @@ abbrev pub own_or : Bool → Result (Unit {0}) Fault
 own_or b = cond b (Err fault.Foreign) (Ok tt)
 
 -- WHAT STANDS AT A NAME
-module _ (c : Config) (t : ℕ) (now : History) (f : Frames) (s : Shared) (st : SharedStands c t now f s) where
+module _ (c : Config) (t : ℕ) (now : History) (f : Frames) (s : Shared) (st : InStands c t now f s) where
   pub ref_is : (i : ℕ) (h : Handle) (q : Option Ref) → slice_get (births now).refs i ≡ Some (h, q)
       → standing_at s.refs i ≡ q
   ref_is i h q e = ap (λ l. slice_index_or l i None) st.refs
@@ -235,7 +236,8 @@ module _ (k : Scene) where
         → Plays k.config k.whole k.thread U end behind (next (own_or (is_foreign k.thread w))) now f
         items)
         → Plays k.config k.whole k.thread U end behind (whatever (own_or_shared n) next) past f items
-    own_stage w n past f acts items next at word follows = moves true f
+    own_stage w n past f acts items next at word follows =
+        moves_in k.config k.last k.whole k.thread k.legal (at_within k past acts at) true f
         (λ now s goes st. (st, record { frames = λ u ne. refl; board = refl }))
         (λ now s goes st. subst (λ b. Plays k.config k.whole k.thread U end behind
         (next (own_or b)) now f items)
@@ -273,7 +275,9 @@ module _ (k : Scene) where
         go true local did =
             subst (λ z. Plays k.config k.whole k.thread U end behind (whatever (atom (object (suc i))) next) past f
             (map acting z ++ items)) (sym did.0)
-            (looks_then k.config k.whole k.thread U end behind (λ z. object_in (standing_at z.refs i)) next past f items
+            (looks_in k.config k.last k.whole k.thread k.legal
+            (at_within k past rest (subst (λ z. IsAt k past (z ++ rest)) did.0 at))
+            (λ z. object_in (standing_at z.refs i)) next
             (λ now s goes st.
             let comes = comes_now past now rest (subst (λ z. IsAt k past (z ++ rest)) did.0 at) goes in
             let n = word_then past now (Parts h) (suc i) goes word in
@@ -291,12 +295,14 @@ module _ (k : Scene) where
         go false row did =
             subst (λ z. Plays k.config k.whole k.thread U end behind (whatever (atom (object (suc i))) next) past f
             (map acting z ++ items)) (sym did.1)
-            (does true (Look h did.0) f
+            (does_in k.config k.last k.whole k.thread k.legal
+            (at_within k past (Look h did.0 ∷ rest) (subst (λ z. IsAt k past (z ++ rest)) did.1 at)) true
+            (Look h did.0) f refl
             (λ now s goes st. (
               look_stands k.config k.thread now f
-                  (as_left k.thread s (as_seen k.thread true s)) (Look h did.0) refl
-                  (seen_stands k.config k.thread now f true s st),
-              seen_keeps k.thread true s,
+                  (as_left k.thread s (as_seen k.thread s)) (Look h did.0) refl
+                  (seen_stands k.config k.thread now f s st),
+              seen_keeps k.thread s,
             ))
             (λ now s next_is st.
             let was_at = subst (λ z. IsAt k past (z ++ rest)) did.1 at in

@@ -13,7 +13,7 @@ use Rattle.jr_model.proofs.Agreement.{spares_places, stored_append, stored_spare
 use Rattle.jr_model.proofs.Histories.{mine_push, state_push}
 use Rattle.jr_world.specs.Births.{Births, births, born_by, no_births}
 use Rattle.jr_world.specs.Doing.{Shared, as_left, as_seen}
-use Rattle.jr_world.specs.Plays.{AreFrames, LeavesOthers, SharedStands, owner_of_handle}
+use Rattle.jr_world.specs.Plays.{AreFrames, LeavesOthers, InStands, owner_of_handle}
 use Rattle.jr_world.proofs.Births.BornLists.{births_append}
 use Rattle.jr_world.proofs.Standing.{both_long, no_more_owners}
 use Rattle.jr_world.proofs.WordsPosted.{posted_later}
@@ -41,12 +41,12 @@ module _ (c : Config) (t : ℕ) (now : History) (f : Frames) (a : Act) where
   }
 
   -- such objects and so many used words stand behind it, where they are so
-  pub next_stands : (luck : Bool) (s : Shared) (objects : List (Option Contents)) (used : ℕ) → SharedStands c t now f s
+  pub next_stands : (luck : Bool) (s : Shared) (objects : List (Option Contents)) (used : ℕ) → InStands c t now f s
       → spares_places a ≡ true → (act_after (state now) t a).locals ≡ (state now).locals
       → (act_after (state now) t a).role ≡ (state now).role → (born_by (births now) t a).refs ≡ (births now).refs
       → objects ≡ map (λ e. e.1) (born_by (births now) t a).objects → used ≡ (born_by (births now) t a).used
-      → SharedStands c t (now ++ by t a ∷ []) f
-      (as_left t s (record (as_seen t luck s) { objects = objects; used = used }))
+      → InStands c t (now ++ by t a ∷ []) f
+      (as_left t s (record (as_seen t s) { objects = objects; used = used }))
   next_stands luck s objects used st spared locals role refs so_objects so_used =
       let same : (births (now ++ by t a ∷ [])).refs ≡ (births now).refs =
       ap (λ (b : Births). b.refs) born_next ∙ refs in
@@ -71,9 +71,9 @@ module _ (c : Config) (t : ℕ) (now : History) (f : Frames) (a : Act) where
       }
 
   -- nothing changes but the moment
-  pub same_stands : (s : Shared) → SharedStands c t now f s → spares_places a ≡ true
+  pub same_stands : (s : Shared) → InStands c t now f s → spares_places a ≡ true
       → act_after (state now) t a ≡ state now → born_by (births now) t a ≡ births now
-      → SharedStands c t (now ++ by t a ∷ []) f s
+      → InStands c t (now ++ by t a ∷ []) f s
   same_stands s st spared state_same births_same =
       let same = born_next ∙ births_same in
       record {
@@ -93,6 +93,6 @@ module _ (c : Config) (t : ℕ) (now : History) (f : Frames) (a : Act) where
       }
 
 pub next_keeps : (t : ℕ) (luck : Bool) (s : Shared) (objects : List (Option Contents)) (used : ℕ)
-    → LeavesOthers t s (as_left t s (record (as_seen t luck s) { objects = objects; used = used }))
+    → LeavesOthers t s (as_left t s (record (as_seen t s) { objects = objects; used = used }))
 next_keeps t luck s objects used =
     record { frames = λ u ne. ap (λ l. slice_index_or l u []) (set-get_or s.frames t []); board = refl }

@@ -16,7 +16,7 @@ use Rattle.jr_model.specs.Programs.{AnswerKind, AnswerOf, Program, Which, none_k
 use Rattle.jr_world.specs.World.{MeantOf}
 use Rattle.jr_world.specs.Doing.{Shared, go_out, opened_in_steps, out_after, out_if_refused, program_steps, step}
 use Rattle.jr_world.specs.Doing.Doing.{ended}
-use Rattle.jr_world.specs.Plays.{ActsNext, Plays, SharedStands}
+use Rattle.jr_world.specs.Plays.{ActsNext, Plays, InStands}
 use Rattle.jr_world.specs.Plays.Plays.{has_ended}
 use Rattle.jr_world.specs.Playing.{AnsweredBy, HasComeTo, LiesIn, OpenedPlays}
 use Rattle.jr_world.proofs.CallPlays.{begun_is, entry, mine_entry, scene, stays_to, work_plays}
@@ -33,7 +33,7 @@ module _ (c : Config) (last : ℕ) (whole : History) (old new : PassView) (f g :
     {past : History} (come : HasComeTo whole old past) {call : Call (AnswerOf a)} (r : Ran old new f g call answer)
     (acts : List Act)
     (ran : work_of c last old.thread (state new.seen) words p f acts answer g) (now : History) (s : Shared)
-    (next : ActsNext c whole old.thread past now (Gate Enter)) (st : SharedStands c old.thread now f s)
+    (next : ActsNext c whole old.thread past now (Gate Enter)) (st : InStands c old.thread now f s)
     (all : r.acts ≡ Gate Enter ∷ acts) where
   -- all that it does is seen, and it stays there
   stays_seen : StaysOn (scene c last whole old new f g n a p words answer lies come r acts ran now s next st)

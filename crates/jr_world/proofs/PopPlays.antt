@@ -27,20 +27,20 @@ use Rattle.jr_word.specs.declared.handle.Handle.{Handle as WordHandle}
 use Rattle.jr_world.specs.World.{MeantOf, World, all_but_last, ask, change, held, new_local, newest_frame, refuse_where}
 use Rattle.jr_world.specs.Doing.{Doing, Shared, as_seen, atom, given_up_in_steps, named, unless_refused}
 use Rattle.jr_world.specs.Doing as doing
-use Rattle.jr_world.specs.Plays.{OthersGoOn, Plays, SharedStands}
+use Rattle.jr_world.specs.Plays.{OthersGoOn, Plays, SharedStands, StandsBy}
 use Rattle.jr_world.specs.Plays.Plays.{has_ended}
 use Rattle.jr_world.specs.Playing.{AllHaveSerials, AnsweredBy, BothAre, ObjectIs, WordIs}
 use Rattle.jr_world.proofs.Joining.{joined_later}
-use Rattle.jr_world.proofs.Standing.{looks_then}
-use Rattle.jr_world.proofs.InStay.{EndingPlays, IsAt, Scene, StaysOn, Then, at_now, object_now}
+use Rattle.jr_world.proofs.InStay.{EndingPlays, IsAt, Scene, StaysOn, Then, at_now, object_now, at_within}
 use Rattle.jr_world.proofs.LocalFrames.{all_places, both_full, frames_long, frames_popped, newest_held, newest_named}
 use Rattle.jr_world.proofs.LocalPlays.{behind_test, moves_by, new_local_plays, object_goes, tests_then}
 use Rattle.jr_world.proofs.LocalsGivenUp.{all_weaker, as_many_frames, before_left, found_among, given_up, last_left}
-use Rattle.jr_world.proofs.LocalsGivenUp.{none_left}
-use Rattle.jr_world.proofs.LocalsGivenUp.{same_given, without_all}
+use Rattle.jr_world.proofs.LocalsGivenUp.{none_left, same_given, without_all}
 use Rattle.jr_world.proofs.FramePlays.{framed_stands}
 use Rattle.jr_world.proofs.NamedPlays.{ComesTo, named_plays, word_then}
 use Rattle.jr_world.proofs.ProgramPlays.{GoesOnWith, same_fault}
+use Rattle.jr_world.proofs.OpenParts.{looks_in}
+use Rattle.jr_world.specs.Births.{Births}
 use Rattle.one_order.specs.Orders.{Item}
 use Rattle.one_order.specs.Orders.Item.{does as acting}
 
@@ -102,7 +102,7 @@ module _ (k : Scene) where
   test_plays : (a : AnswerKind) (test : World → Bool) (e : Fault) (d : Doing (MeantOf a)) (p : Call (AnswerOf a))
       (b : Bool) (past : History) (f g : Frames) (acts : List Act) (answer : Result (AnswerOf a) Fault)
       (behind : List (Item Act)) → IsAt k past acts
-      → ((now : History) (s : Shared) → SharedStands k.config k.thread now f s → test (as_seen k.thread true s) ≡ b)
+      → ((now : History) (s : Shared) → SharedStands k.config k.thread now f s → test (as_seen k.thread s) ≡ b)
       → (b ≡ false → (now : History) → OthersGoOn k.config k.whole k.thread past now → p f acts answer g
       → Plays k.config k.whole k.thread (Then k a answer) g behind d now f (map acting acts))
       → calls.◌>>◌ (λ old. refuse_if b e old) p f acts answer g
@@ -161,7 +161,7 @@ module _ (k : Scene) where
         moves_by k.config k.whole k.thread (Then k (perhaps handle) answer) g behind
         (change (λ w. record w { frames = all_but_last w.frames })) (unless_refused (λ u. atom (new_local k.config y')))
         later left (popped left) (map acting rest) (λ s. Ok tt)
-        (λ s. record (as_seen k.thread true s) { frames = all_but_last (slice_index_or s.frames k.thread []) })
+        (λ s. record (as_seen k.thread s) { frames = all_but_last (slice_index_or s.frames k.thread []) })
         (λ now s goes st. (
           refl,
           framed_stands k.config k.thread now left s true
@@ -181,10 +181,11 @@ module _ (k : Scene) where
     frame_taken : (past : History) → IsAt k past (drop_all (last_frame f.frames) ++ rest) → BothAre (ObjectIs past) y y'
         → Plays k.config k.whole k.thread (Then k (perhaps handle) answer) g behind (takes y') past f
         (map acting (drop_all (last_frame f.frames)) ++ map acting rest)
-    frame_taken past at so = looks_then k.config k.whole k.thread (Then k (perhaps handle) answer) g behind
+    frame_taken past at so = looks_in k.config k.last k.whole k.thread k.legal
+        (at_within k past (drop_all (last_frame f.frames) ++ rest) at)
         (λ w. Ok (newest_frame w.frames)) (unless_refused (λ ns.
         doing.◌>>◌ (given_up_in_steps ns) (doing.◌>>◌ (atom (change (λ w. record w { frames = all_but_last w.frames })))
-        (atom (new_local k.config y'))))) past f (map acting (drop_all (last_frame f.frames)) ++ map acting rest)
+        (atom (new_local k.config y')))))
         (λ now s goes st. given_up k (Then k (perhaps handle) answer) g behind
         (unless_refused (λ u. doing.◌>>◌ (atom (change (λ w. record w { frames = all_but_last w.frames })))
         (atom (new_local k.config y')))) (map acting rest) rest now (newest_named st.frames) now f (prefix_self now)
@@ -199,16 +200,16 @@ module _ (k : Scene) where
       (λ w. is_some y && (held w == length (newest_frame w.frames) + k.config.locals)) LocalsFull)) (takes y)
 
   -- a place for the result, once those of the last frame are free
-  after_lacks : (now : History) (f : Frames) (s : Shared) → AllHaveSerials k.last f → 2 ≤ length f.frames
-      → SharedStands k.config k.thread now f s
-      → (held (as_seen k.thread true s)
+  after_lacks : {b : Births} (now : History) (f : Frames) (s : Shared) → AllHaveSerials k.last f → 2 ≤ length f.frames
+      → StandsBy b k.config k.thread now f s
+      → (held (as_seen k.thread s)
       == length (newest_frame (slice_index_or s.frames k.thread [])) + k.config.locals)
       ≡ (free_places k.last (popped f) == 0)
   after_lacks now f s serials two st =
       let free : free_places k.last (popped f) + length (all_refs (popped f)) ≡ k.config.locals =
       all_places k.last (popped f) (popped_sound f st.sound two) (λ p none. serials p) ∙ st.places in
       sym (both_full (free_places k.last (popped f)) (length (joined (frames_before f.frames)))
-      (length (newest_frame (slice_index_or s.frames k.thread []))) (held (as_seen k.thread true s)) k.config.locals
+      (length (newest_frame (slice_index_or s.frames k.thread []))) (held (as_seen k.thread s)) k.config.locals
       free (newest_held st.frames))
 
   module _ (f g : Frames) (acts : List Act) (answer : Result (Option Handle) Fault) (behind : List (Item Act))

@@ -4,7 +4,7 @@ use Rattle.std.proofs.Common.{Result, Ok, Err, List, [], ◌∷◌, ◌++◌, ma
 use Rattle.std.proofs.Common.{refl, sym, ap, subst, ◌∙◌, append-nil}
 use mathlib.Core.List.{IsPrefix}
 use Rattle.jr_word.specs.declared.fault.Fault.{Fault}
-use Rattle.jr_word.specs.declared.fault.Fault.TheVariants.{Null, Raced}
+use Rattle.jr_word.specs.declared.fault.Fault.TheVariants.{Moved, Null, Raced}
 use Rattle.jr_word.specs.declared.kind.Kind.{Kind}
 use Rattle.jr_model.specs.declared.event.Act.{Act}
 use Rattle.jr_model.specs.State.{Contents, State}
@@ -23,19 +23,21 @@ use Rattle.jr_world.specs.Births.{births}
 use Rattle.jr_world.specs.Doing.{Doing, Shared, as_seen, decided, program_steps, unless_refused, whatever, ◌>>◌, ◌>>=◌}
 use Rattle.jr_world.specs.Doing.Doing.{ended}
 use Rattle.jr_world.specs.Doing as doing
-use Rattle.jr_world.specs.Plays.{Plays, SharedStands}
+use Rattle.jr_world.specs.Plays.{Plays, InStands}
 use Rattle.jr_world.specs.Plays.Plays.{has_ended}
 use Rattle.jr_world.specs.Playing.{AptAt, BothAre, HavePassed, ObjectIs, SameFault, WordIs}
 use Rattle.jr_world.proofs.Births.BornLists.{some_same}
 use Rattle.jr_world.proofs.InStay.{EndingPlays, HandIs, IsAt, KnownAre, MayRefuse, Scene, StaysOn, Then, at_now}
-use Rattle.jr_world.proofs.InStay.{object_now, word_now}
+use Rattle.jr_world.proofs.InStay.{at_within, object_now, word_now}
 use Rattle.jr_world.proofs.Joining.{joined_later}
-use Rattle.jr_world.proofs.Standing.{looks_then, stays_between}
+use Rattle.jr_world.proofs.Standing.{stays_between}
+use Rattle.jr_world.proofs.OpenParts.{looks_in}
 use Rattle.one_order.specs.Orders.{Item}
 use Rattle.one_order.specs.Orders.Item.{does as acting}
 
 pub same_fault : (e : Fault) → SameFault e e
 same_fault (Raced looked found) = tt
+same_fault (Moved looked found) = tt
 same_fault _ = refl
 
 pub map_append : {X Y : Type 0} (h : X → Y) (xs ys : List X) → map h (xs ++ ys) ≡ map h xs ++ map h ys
@@ -410,8 +412,8 @@ module _ (k : Scene) where
 
     -- what stands in the world is what was born
     contents_there : (now : History) (f' : Frames) (s : Shared) (o o' : ℕ) (y : Contents)
-        → SharedStands k.config k.thread now f' s → slice_get (births now).objects o' ≡ Some (o, Some y)
-        → contents (as_seen k.thread true s) o' ≡ y
+        → InStands k.config k.thread now f' s → slice_get (births now).objects o' ≡ Some (o, Some y)
+        → contents (as_seen k.thread s) o' ≡ y
     contents_there now f' s o o' y st is = ap (λ l. contents_in (standing_at l o')) st.objects
         ∙ ap contents_in (at_map (λ (e : ℕ × Option Contents). e.1) (births now).objects o' (o, Some y) None is)
 
@@ -419,9 +421,8 @@ module _ (k : Scene) where
         → ((kind : Kind) (long : ℕ) → ProgramPlays (next kind long)) → ProgramPlays (looks next)
     looks_go_on {n} {a} next plays known known' kind o o' past f g acts answer behind at words_are are hand apt may
         (x, there, ran) =
-        looks_then k.config k.whole k.thread (Then k a answer) g behind (λ w. Ok (contents w o'))
-        (unless_refused (λ y. program_steps k.config k.noted numbers (next y.kind (length y.words)) known' o')) past f
-        (map acting acts)
+        looks_in k.config k.last k.whole k.thread k.legal (at_within k past acts at) (λ w. Ok (contents w o'))
+        (unless_refused (λ y. program_steps k.config k.noted numbers (next y.kind (length y.words)) known' o'))
         (λ now s goes st.
         let here = at_now k past now acts at goes in
         let begins : IsPrefix past now = (goes.since, sym goes.is) in

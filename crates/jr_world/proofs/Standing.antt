@@ -20,10 +20,11 @@ use Rattle.jr_model.proofs.Histories.{legal_append, legal_push, mine_append, min
 use Rattle.jr_model.proofs.Gates.{apart_state}
 use Rattle.jr_model.proofs.Stays.{IsStill, append_cancel, never, role_from_append, role_of_state, still_along}
 use Rattle.jr_world.specs.World.{Ref, World, found}
-use Rattle.jr_world.specs.Births.{births}
+use Rattle.jr_world.specs.Births.{Births, births}
 use Rattle.jr_world.proofs.Births.BornStays.{StandsLike, stands_within}
 use Rattle.jr_world.specs.Doing.{Doing, Shared, as_left, as_seen, atom, owner_if, whatever}
-use Rattle.jr_world.specs.Plays.{AreFrames, OthersGoOn, ActsNext, LeavesOthers, Plays, SharedStands, owner_of_handle}
+use Rattle.jr_world.specs.Plays.{AreFrames, OthersGoOn, ActsNext, LeavesOthers, Plays, SharedStands, StandsBy}
+use Rattle.jr_world.specs.Plays.{owner_of_handle}
 use Rattle.jr_world.specs.Plays.Plays.{moves}
 use Rattle.one_order.specs.Orders.{Item}
 
@@ -166,9 +167,9 @@ module _ (c : Config) (last : ℕ) (whole : History) (t : ℕ) (legal : IsLegal 
 
 -- A STEP THAT ONLY LOOKS leaves what stands
 module _ (c : Config) (t : ℕ) (now : History) (f : Frames) where
-  pub both_long : (s : Shared) → SharedStands c t now f s → length s.refs ≡ length s.owners
-  both_long s st = ap length st.refs ∙ (length-map (births now).refs (λ e. e.1)
-      ∙ sym (ap length st.owners ∙ length-map (births now).refs (λ e. owner_of_handle e.0)))
+  pub both_long : {b : Births} (s : Shared) → StandsBy b c t now f s → length s.refs ≡ length s.owners
+  both_long {b} s st = ap length st.refs ∙ (length-map b.refs (λ e. e.1)
+      ∙ sym (ap length st.owners ∙ length-map b.refs (λ e. owner_of_handle e.0)))
 
   -- where no reference came, no owner comes
   pub no_more_owners : (s : Shared) (refs : List (Option Ref)) → length refs ≡ length s.owners
@@ -176,9 +177,9 @@ module _ (c : Config) (t : ℕ) (now : History) (f : Frames) where
   no_more_owners s refs long = ap (λ l. s.owners ++ map (owner_if t) l) (drop_all (length s.owners) refs (omega arith))
       ∙ append-nil s.owners
 
-  pub seen_stands : (luck : Bool) (s : Shared) → SharedStands c t now f s
-      → SharedStands c t now f (as_left t s (as_seen t luck s))
-  seen_stands luck s st = record {
+  pub seen_stands : {b : Births} (s : Shared) → StandsBy b c t now f s
+      → StandsBy b c t now f (as_left t s (as_seen t s))
+  seen_stands {b} s st = record {
     objects = st.objects;
     refs = st.refs;
     owners = no_more_owners s s.refs (both_long s st) ∙ st.owners;
@@ -186,7 +187,7 @@ module _ (c : Config) (t : ℕ) (now : History) (f : Frames) where
     many = st.many;
     roles = st.roles;
     lists = length-set s.frames t (slice_index_or s.frames t []) ∙ st.lists;
-    frames = subst (λ l. AreFrames t (births now).refs (slice_index_or l t []) f.frames)
+    frames = subst (λ l. AreFrames t b.refs (slice_index_or l t []) f.frames)
         (sym (set-get_or s.frames t [])) st.frames;
     posted = st.posted;
     places = st.places;
@@ -194,8 +195,8 @@ module _ (c : Config) (t : ℕ) (now : History) (f : Frames) where
     sound = st.sound;
   }
 
-pub seen_keeps : (t : ℕ) (luck : Bool) (s : Shared) → LeavesOthers t s (as_left t s (as_seen t luck s))
-seen_keeps t luck s =
+pub seen_keeps : (t : ℕ) (s : Shared) → LeavesOthers t s (as_left t s (as_seen t s))
+seen_keeps t s =
     record { frames = λ u ne. ap (λ l. slice_index_or l u []) (set-get_or s.frames t []); board = refl }
 
 -- a step that looks at the world, and what follows by what it found there
@@ -204,8 +205,8 @@ pub looks_then : {X A : Type 0} (c : Config) (whole : History) (t : ℕ) (V : Hi
     (behind : List (Item Act)) (look : World → Result X Fault) (next : Result X Fault → Doing A) (past : History)
     (f : Frames) (items : List (Item Act))
     → ((now : History) (s : Shared) → OthersGoOn c whole t past now → SharedStands c t now f s
-    → Plays c whole t V g behind (next (look (as_seen t true s))) now f items)
+    → Plays c whole t V g behind (next (look (as_seen t s))) now f items)
     → Plays c whole t V g behind (whatever (atom (found look)) next) past f items
 looks_then c whole t V g behind look next past f items goes_on = moves true f
-    (λ now s goes st. (seen_stands c t now f true s st, seen_keeps t true s))
+    (λ now s goes st. (seen_stands c t now f s st, seen_keeps t s))
     (λ now s goes st. goes_on now s goes st)

@@ -21,6 +21,7 @@ use Rattle.jr_world.specs.Board.{IsOnBoard}
 use Rattle.jr_world.specs.Doing.{Doing, Shared}
 use Rattle.jr_world.specs.Doing.Doing.{ended, steps}
 use Rattle.jr_world.specs.Plays.{AreNamed, AreFrames, OthersGoOn, ActsNext, LeavesOthers, Plays, SharedStands}
+use Rattle.jr_world.specs.Plays.{open_part}
 use Rattle.jr_world.specs.Plays.AreNamed.{no_local, one_local}
 use Rattle.jr_world.specs.Plays.AreFrames.{no_frame, one_frame}
 use Rattle.jr_world.specs.Plays.Plays.{has_ended, moves, waits, does, unseen, says, listens}
@@ -28,6 +29,7 @@ use Rattle.jr_world.specs.Schedules.{AreHeard, Machine, PlayersRunTo, RunTogethe
 use Rattle.jr_world.specs.Schedules.{board_after, board_from, events_of}
 use Rattle.jr_world.specs.Schedules.Runs.{stops, turn}
 use Rattle.jr_world.proofs.Births.BornLists.{by_test, entry_stays}
+use Rattle.jr_world.proofs.OpenParts.{open_grows}
 use Rattle.one_order.specs.Orders.{Item, done_by}
 use Rattle.one_order.specs.Orders.Item.{does as acting, posts as posting, hears as hearing}
 
@@ -45,6 +47,13 @@ frames_later : (u : ℕ) (now since : History) {fs : List (List ℕ)} {gs : List
 frames_later u now since no_frame = no_frame
 frames_later u now since (one_frame here rest) =
     one_frame (named_later u now since here) (frames_later u now since rest)
+
+-- .. so they do as what is shown goes on
+pub frames_shown : (u : ℕ) (now since : History) {fs : List (List ℕ)} {gs : List (List LocalRef)}
+    → AreFrames u (births (open_part now)).refs fs gs → AreFrames u (births (open_part (now ++ since))).refs fs gs
+frames_shown u now since {fs} {gs} frames =
+    let more = open_grows now since in
+    subst (λ h. AreFrames u (births h).refs fs gs) more.1 (frames_later u (open_part now) more.0 frames)
 
 -- frames agree with a history by what the thread itself did in it
 agree_by_own : (u : ℕ) (f : Frames) (now later : History) → mine later u ≡ mine now u → Agree u f now → Agree u f later
@@ -85,9 +94,9 @@ module _ (c : Config) (whole : History) where
     many = theirs.many;
     roles = theirs.roles;
     lists = theirs.lists;
-    frames = subst (λ l. AreFrames u (births later).refs l k.frames) (sym same)
-        (subst (λ h. AreFrames u (births h).refs (slice_index_or s.frames u []) k.frames) (sym goes.is)
-        (frames_later u now goes.since own.frames));
+    frames = subst (λ l. AreFrames u (births (open_part later)).refs l k.frames) (sym same)
+        (subst (λ h. AreFrames u (births (open_part h)).refs (slice_index_or s.frames u []) k.frames) (sym goes.is)
+        (frames_shown u now goes.since own.frames));
     posted = theirs.posted;
     places = own.places;
     agreed = agree_by_own u k now later (ap (λ h. mine h u) goes.is ∙ (mine_append now goes.since u

@@ -20,12 +20,12 @@ use Rattle.jr_world.specs.World.{Ref, type_in, type_meant}
 use Rattle.jr_world.specs.Births.{RefIsSo, births, found_at_place}
 use Rattle.jr_world.specs.Doing.{Doing, Shared, as_left, as_seen, by_step, is_foreign_to, over_world, typed}
 use Rattle.jr_world.specs.Doing.Doing.{ended}
-use Rattle.jr_world.specs.Plays.{Plays, SharedStands}
+use Rattle.jr_world.specs.Plays.{Plays, InStands}
 use Rattle.jr_world.specs.Plays.Plays.{has_ended}
 use Rattle.jr_world.specs.Playing.{AnsweredBy, WordIs}
 use Rattle.jr_world.proofs.Births.BornFound.{found_row}
 use Rattle.jr_world.proofs.BornHandles.{own_is_local, own_stands}
-use Rattle.jr_world.proofs.InStay.{EndingPlays, IsAt, Scene, Then, at_now}
+use Rattle.jr_world.proofs.InStay.{EndingPlays, IsAt, Scene, Then, at_now, at_within}
 use Rattle.jr_world.proofs.NamedPlays.{ComesTo, comes_next, comes_now, foreign_is, owner_is, ref_is, told_so, word_then}
 use Rattle.jr_world.proofs.NamedPlays.{word_within}
 use Rattle.jr_world.proofs.LookStands.{look_stands}
@@ -112,12 +112,13 @@ module _ (k : Scene) (x : Result ℕ Fault) (behind : List (Item Act)) where
       subst (λ l. Plays k.config k.whole k.thread (Then k number x) f behind (by_step (typed n)) past f (map acting l))
       (sym was.0)
       (moves_so k.config k.whole k.thread (Then k number x) f behind (typed n) (λ r. ended r) past f f []
+      k.last k.legal (at_within k past acts at)
       (λ now s goes st. record {
         answer = Ok 0;
-        left = as_left k.thread s (as_seen k.thread true s);
+        left = as_left k.thread s (as_seen k.thread s);
         is = ap (λ m. typed m k.thread true s) word;
-        stands = seen_stands k.config k.thread now f true s st;
-        keeps = seen_keeps k.thread true s;
+        stands = seen_stands k.config k.thread now f s st;
+        keeps = seen_keeps k.thread s;
         plays = ends_so past now f (Ok 0) (comes_now k past now [] (subst (IsAt k past) was.0 at) goes) was.1 refl;
       }))
   types_own (Parts h) (suc i) past f acts at word own was = go (is_local h) refl was
@@ -126,12 +127,12 @@ module _ (k : Scene) (x : Result ℕ Fault) (behind : List (Item Act)) where
       program = by_step (typed (suc i))
 
       -- what the step answers, where this is the reference
-      answers : (now : History) (s : Shared) → SharedStands k.config k.thread now f s → WordIs now (Parts h) (suc i)
+      answers : (now : History) (s : Shared) → InStands k.config k.thread now f s → WordIs now (Parts h) (suc i)
           → (q : Option Ref) → slice_get (births now).refs i ≡ Some (h, q)
-          → typed (suc i) k.thread true s ≡ (Ok (type_in q), as_left k.thread s (as_seen k.thread true s))
+          → typed (suc i) k.thread true s ≡ (Ok (type_in q), as_left k.thread s (as_seen k.thread s))
       answers now s st word q e =
           typed_is (suc i) k.thread s false (foreign_is k.config k.thread now f s st (Parts h) (suc i) word ∙ own)
-          ∙ ap (λ z. (Ok (type_in z), as_left k.thread s (as_seen k.thread true s)))
+          ∙ ap (λ z. (Ok (type_in z), as_left k.thread s (as_seen k.thread s)))
           (ref_is k.config k.thread now f s st i h q e)
 
       go : (b : Bool) → is_local h ≡ b → cond b ((acts ≡ []) × (x ≡ Ok (type_local (object_of f h))))
@@ -141,6 +142,7 @@ module _ (k : Scene) (x : Result ℕ Fault) (behind : List (Item Act)) where
           subst (λ l. Plays k.config k.whole k.thread (Then k number x) f behind program past f (map acting l))
           (sym did.0)
           (moves_so k.config k.whole k.thread (Then k number x) f behind (typed (suc i)) (λ r. ended r) past f f []
+          k.last k.legal (at_within k past acts at)
           (λ now s goes st.
           let comes = comes_now k past now [] (subst (IsAt k past) did.0 at) goes in
           let n = word_then k past now (Parts h) (suc i) goes word in
@@ -153,17 +155,17 @@ module _ (k : Scene) (x : Result ℕ Fault) (behind : List (Item Act)) where
           ∙ local_type (object_of f h) in
           record {
             answer = Ok (type_in n.0);
-            left = as_left k.thread s (as_seen k.thread true s);
+            left = as_left k.thread s (as_seen k.thread s);
             is = answers now s st n n.0 n.1;
-            stands = seen_stands k.config k.thread now f true s st;
-            keeps = seen_keeps k.thread true s;
+            stands = seen_stands k.config k.thread now f s st;
+            keeps = seen_keeps k.thread s;
             plays = ends_so past now f (Ok (type_in n.0)) comes (did.1 ∙ ap (λ z. Ok z) (sym told)) refl;
           }))
       go false row did =
           subst (λ l. Plays k.config k.whole k.thread (Then k number x) f behind program past f (map acting l))
           (sym did.1)
           (does_so k.config k.whole k.thread (Then k number x) f behind (typed (suc i)) (λ r. ended r) past
-          (Look h did.0) f f []
+          (Look h did.0) f f [] k.last k.legal (at_within k past acts at) refl
           (λ now s next_is st.
           let was_at = subst (IsAt k past) did.1 at in
           let here = at_now k past now (Look h did.0 ∷ []) was_at next_is.goes in
@@ -174,12 +176,12 @@ module _ (k : Scene) (x : Result ℕ Fault) (behind : List (Item Act)) where
           (found_row (births now) (state now) h row ∙ needs.1.1)) in
           record {
             answer = Ok (type_in n.0);
-            left = as_left k.thread s (as_seen k.thread true s);
+            left = as_left k.thread s (as_seen k.thread s);
             is = answers now s st n n.0 n.1;
             stands = look_stands k.config k.thread now f
-                (as_left k.thread s (as_seen k.thread true s)) (Look h did.0) refl
-                (seen_stands k.config k.thread now f true s st);
-            keeps = seen_keeps k.thread true s;
+                (as_left k.thread s (as_seen k.thread s)) (Look h did.0) refl
+                (seen_stands k.config k.thread now f s st);
+            keeps = seen_keeps k.thread s;
             plays = ends_so past (now ++ by k.thread (Look h did.0) ∷ []) f (Ok (type_in n.0))
                 (comes_next k past now (Look h did.0) [] was_at next_is refl) (did.2 ∙ ap (λ z. Ok z) (sym told)) refl;
           }))
@@ -189,6 +191,7 @@ module _ (k : Scene) (x : Result ℕ Fault) (behind : List (Item Act)) where
       → Plays k.config k.whole k.thread (Then k number x) f behind (by_step (typed n)) past f []
   types_anothers w n past f at word foreign is =
       moves_so k.config k.whole k.thread (Then k number x) f behind (typed n) (λ r. ended r) past f f []
+      k.last k.legal (at_within k past [] at)
       (λ now s goes st. record {
         answer = Ok 0;
         left = s;

@@ -1,6 +1,6 @@
 -- PROGRAMS OF STEPS over one world that threads share: what a call does, one step after the other, while others may
 -- take steps of theirs between any two.
-use Rattle.std.specs.Prelude.{◌+◌, ◌==◌, ◌&&◌, ◌||◌, ℕ, zero, suc, Bool, true, false, cond, not}
+use Rattle.std.specs.Prelude.{◌+◌, ◌==◌, ◌&&◌, ◌||◌, ℕ, zero, suc, Bool, false, cond, not}
 use Rattle.std.specs.Prelude.{nat_lt, nat_le, Option, Some, None, is_some, Result, Ok, Err, List, [], ◌∷◌, ◌++◌, map}
 use Rattle.std.specs.Prelude.{length, replicate, drop, slice_index, slice_index_or, slice_set}
 use Rattle.std.specs.List.{filter, flat_map}
@@ -16,15 +16,16 @@ use Rattle.jr_model.specs.declared.event.Role.TheVariants.{Outside, Within, Knoc
 use Rattle.jr_model.specs.State.{Contents, same_kind, is_barring}
 use Rattle.jr_model.specs.Programs.{AnswerKind}
 use Rattle.jr_model.specs.Programs.{Which, one, other, at_both, set_known, Ending}
-use Rattle.jr_model.specs.Programs.{types, creates, deletes, deletes_local, pops_to, frees, makes, fills}
-use Rattle.jr_model.specs.Programs.{reads_from, copies, writes_from, Program, ends, names}
+use Rattle.jr_model.specs.Checks.{same_object}
+use Rattle.jr_model.specs.Programs.{gives_kind, gives_number, gives_object, compares, types, creates, refers, deletes}
+use Rattle.jr_model.specs.Programs.{deletes_local, asks_room, pushes, pops_to, frees, makes, fills, reads}
+use Rattle.jr_model.specs.Programs.{reads_from, copies, writes, writes_to, writes_from, Program, ends, names}
 use Rattle.jr_model.specs.Programs.{names_both, wants, looks, tests, finds}
 use Rattle.jr_model.specs.Tests.{refused_by}
-use Rattle.jr_world.specs.World.{Meaning, MeantOf, Ref, World, added, ask, change, contents, delete, element_for}
-use Rattle.jr_world.specs.World.{ending_meant}
-use Rattle.jr_world.specs.World.{held, named_by, new_local, new_object, new_ref, newest_frame, not_null, object}
-use Rattle.jr_world.specs.World.{overwritten}
-use Rattle.jr_world.specs.World.{refs_of, removed, reserve, rewrites, room_for, type_meant, all_but_last, refuse_where}
+use Rattle.jr_world.specs.World.{Meaning, MeantOf, Ref, World, added, all_but_last, ask, change, contents, delete}
+use Rattle.jr_world.specs.World.{element_for, element_to, held, named_by, new_local, new_object, new_ref, newest_frame}
+use Rattle.jr_world.specs.World.{not_null, object, overwritten, push, refs_of, refuse_where, removed, reserve, rewrites}
+use Rattle.jr_world.specs.World.{room_for, type_meant}
 
 -- WHAT THREADS SHARE: what was made, whose each local reference is, the frames of each thread, where each stands at the
 -- gate, and the words that were posted, each with its name
@@ -97,13 +98,12 @@ abbrev pub owner_if : ℕ → Option Ref → Option ℕ
 owner_if t None = None
 owner_if t (Some r) = cond (same_kind Local r.kind) (Some t) None
 
-abbrev pub as_seen : ℕ → Bool → Shared → World
-as_seen t luck s = record {
+abbrev pub as_seen : ℕ → Shared → World
+as_seen t s = record {
   objects = s.objects;
   refs = s.refs;
   frames = slice_index_or s.frames t [];
   used = s.used;
-  memory = luck ∷ [];
 }
 
 abbrev pub as_left : ℕ → Shared → World → Shared
@@ -119,7 +119,7 @@ abbrev pub left_by_step : {A : Type 0} → ℕ → Shared → Result A Fault × 
 left_by_step t s (r, w) = (r, as_left t s w)
 
 abbrev pub over_world : {A : Type 0} → Meaning A → Act A
-over_world m t luck s = left_by_step t s (m (as_seen t luck s))
+over_world m t luck s = left_by_step t s (m (as_seen t s))
 
 abbrev pub atom : {A : Type 0} → Meaning A → Doing A
 atom m = by_step (over_world m)
@@ -132,7 +132,7 @@ pub record Noted : Type 0 where
   pub used : ℕ
 
 abbrev pub in_row : Shared → ℕ
-in_row s = refs_of Global (as_seen 0 true s) + refs_of Weak (as_seen 0 true s)
+in_row s = refs_of Global (as_seen 0 s) + refs_of Weak (as_seen 0 s)
 
 abbrev pub noted : Shared → Noted
 noted s = record { standing = in_row s; made = length s.refs; used = s.used }
@@ -254,20 +254,29 @@ abbrev pub deleted_in_steps : ℕ → Doing (Unit {0})
 deleted_in_steps n = own_or_shared n >> atom (delete n)
 
 module _ (c : Config) (from : Noted) (words : Which → ℕ) where
-  -- WHAT A PROGRAM ENDS WITH, step by step: each ending that isn't named here is one step
+  -- WHAT A PROGRAM ENDS WITH, step by step, where this is known of its places, and this is the object at hand
   abbrev pub ending_steps : {n : ℕ} {a : AnswerKind} → Ending n a → (Which → Option ℕ) → ℕ → Doing (MeantOf a)
+  ending_steps (gives_kind k) known o = atom (ask (λ w. k))
+  ending_steps (gives_number n) known o = atom (ask (λ w. n))
+  ending_steps gives_object known o = atom (ask (λ w. o))
+  ending_steps compares known o = atom (ask (λ w. same_object (known one) (known other)))
   ending_steps (types p) known o = by_step (typed (words p))
   ending_steps (creates k p) known o = created_in_steps c from k (known p)
+  ending_steps (refers p) known o = atom (new_local c (known p))
   ending_steps (deletes k p) known o = deleted_in_steps (words p)
   ending_steps (deletes_local p) known o = deleted_in_steps (words p)
+  ending_steps (asks_room n) known o = atom (room_for c n)
+  ending_steps (pushes n) known o = atom (push c n)
   ending_steps (pops_to p) known o = popped_in_steps c (words p)
   ending_steps frees known o = freed_in_steps
   ending_steps (makes k ws) known o = made_in_steps c from k ws
   ending_steps (fills k n p) known o = made_in_steps c from k (replicate n (element_for known p))
+  ending_steps (reads i) known o = element_read o i
   ending_steps (reads_from i n) known o = read_in_steps o i n
   ending_steps (copies n) known o = copied_in_steps o n
+  ending_steps (writes i v) known o = atom (rewrites (overwritten i (v ∷ [])) o)
+  ending_steps (writes_to i p) known o = atom (rewrites (overwritten i (element_to (known p) ∷ [])) o)
   ending_steps (writes_from i vs) known o = written_in_steps o i vs
-  ending_steps e known o = atom (ending_meant c words e known o)
 
   -- WHAT A PROGRAM DOES, step by step
   abbrev pub program_steps : {n : ℕ} {a : AnswerKind} → Program n a → (Which → Option ℕ) → ℕ → Doing (MeantOf a)
@@ -327,3 +336,8 @@ entered_in_steps work = step go_in (inside (λ from. then_out (work from)))
 
 abbrev pub opened_in_steps : {A : Type 0} → (Noted → Doing A) → Doing A
 opened_in_steps work = step go_in (inside (λ from. out_if_refused (work from)))
+
+-- A PROGRAM ALONE: its steps one after the other, each taken by the first thread with this luck
+abbrev pub run_alone : {A : Type 0} → Bool → Doing A → Shared → Result A Fault × Shared
+run_alone luck (ended r) s = (r, s)
+run_alone luck (steps more leaves) s = run_alone luck (more 0 luck s) (leaves 0 luck s)

@@ -6,5 +6,3 @@ pub mod Board
 pub mod Plays
 pub mod Playing
 pub mod Schedules
-pub mod Alone
-pub mod AloneCalls

@@ -5,7 +5,7 @@ use Rattle.std.specs.List.{AllByRecursion}
 use mathlib.Core.List.{IsPrefix}
 use Rattle.jr_word.specs.declared.config.Config.{Config}
 use Rattle.jr_word.specs.declared.fault.Fault.{Fault}
-use Rattle.jr_word.specs.declared.fault.Fault.TheVariants.{Raced}
+use Rattle.jr_word.specs.declared.fault.Fault.TheVariants.{Moved, Raced}
 use Rattle.jr_word.specs.declared.handle.RefKind.TheVariants.{Local, Global, Weak}
 use Rattle.jr_word.specs.declared.kind.Kind.{Kind}
 use Rattle.jr_model.specs.declared.event.Act.{Act}
@@ -58,9 +58,11 @@ AnswerIs h (perhaps a) x y = BothAre (AnswerIs h a) x y
 AnswerIs h (several number) x y = x ≡ y
 AnswerIs h _ x y = ⊥
 
--- one refusal: of a reservation that was lost to another thread's the counts may differ
+-- one refusal: of a reservation that was lost to another thread's, and of a gate at which others moved, the counts may
+-- differ
 abbrev pub SameFault : Fault → Fault → Type 0
 SameFault (Raced looked found) (Raced noted now) = Unit {0}
+SameFault (Moved looked found) (Moved noted now) = Unit {0}
 SameFault e d = e ≡ d
 
 abbrev pub AnsweredBy : (a : AnswerKind) → Result (AnswerOf a) Fault → History → Result (MeantOf a) Fault → Type 0

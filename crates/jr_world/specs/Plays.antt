@@ -8,13 +8,15 @@ use Rattle.jr_word.specs.declared.config.Config.{Config}
 use Rattle.jr_word.specs.declared.fault.Fault.{Fault}
 use Rattle.jr_model.specs.declared.event.Role.TheVariants.{Outside}
 use Rattle.jr_model.specs.declared.event.Act.{Act}
+use Rattle.jr_model.specs.declared.event.Act.TheVariants.{Gate}
+use Rattle.jr_model.specs.declared.event.GateAct.TheVariants.{Reopen, Shut}
 use Rattle.jr_model.specs.declared.frames.LocalRef.{LocalRef}
 use Rattle.jr_model.specs.State.{Handle}
 use Rattle.jr_model.specs.Frames.{Agree, AreSound, Frames}
 use Rattle.jr_model.specs.History.{History, by, mine, state}
 use Rattle.jr_model.specs.Checks.{is_local}
 use Rattle.jr_world.specs.World.{Ref}
-use Rattle.jr_world.specs.Births.{births}
+use Rattle.jr_world.specs.Births.{Births, births}
 use Rattle.jr_world.specs.Doing.{Doing, Shared}
 use Rattle.jr_world.specs.Doing.Doing.{ended, steps}
 use Rattle.jr_world.specs.Board.{IsOnBoard}
@@ -41,20 +43,49 @@ pub data AreFrames (t : ℕ) (refs : List (Handle × Option Ref)) : List (List �
 abbrev pub WereBorn : History → List (List ℕ × ℕ) → Type 0
 WereBorn now board = AllByRecursion (λ x. x.1 ≤ length (births now).refs) board
 
--- WHAT IS SHARED STANDS as in the history, for a thread with these frames
-pub record SharedStands (c : Config) (t : ℕ) (now : History) (f : Frames) (s : Shared) : Type 0 where
-  pub objects : s.objects ≡ map (λ e. e.1) (births now).objects
-  pub refs : s.refs ≡ map (λ e. e.1) (births now).refs
-  pub owners : s.owners ≡ map (λ e. owner_of_handle e.0) (births now).refs
-  pub used : s.used ≡ (births now).used
+-- A COLLECTION UNDER WAY: the history up to its shut, where its reopening hasn't come; by each event in turn
+abbrev pub under_way : History → Option History → Act → Option History
+under_way seen shut (Gate Shut) = Some seen
+under_way seen shut (Gate Reopen) = None
+under_way seen shut _ = shut
+
+abbrev pub sweep_from : History → Option History → History → Option History
+sweep_from seen shut [] = shut
+sweep_from seen shut (e ∷ es) = sweep_from (seen ++ e ∷ []) (under_way seen shut e.act) es
+
+abbrev pub sweep_of : History → Option History
+sweep_of now = sweep_from [] None now
+
+-- what a history shows to all threads: while a collection is under way, no more than up to its shut
+abbrev pub open_or : History → Option History → History
+open_or now None = now
+open_or now (Some shut) = shut
+
+abbrev pub open_part : History → History
+open_part now = open_or now (sweep_of now)
+
+-- WHAT IS SHARED STANDS as in the history, for a thread with these frames, with objects and references as here
+pub record StandsBy (b : Births) (c : Config) (t : ℕ) (now : History) (f : Frames) (s : Shared) : Type 0 where
+  pub objects : s.objects ≡ map (λ e. e.1) b.objects
+  pub refs : s.refs ≡ map (λ e. e.1) b.refs
+  pub owners : s.owners ≡ map (λ e. owner_of_handle e.0) b.refs
+  pub used : s.used ≡ b.used
   pub many : length s.roles ≡ c.threads
   pub roles : (u : ℕ) → slice_index_or s.roles u Outside ≡ (state now).role u
   pub lists : length s.frames ≡ c.threads
-  pub frames : AreFrames t (births now).refs (slice_index_or s.frames t []) f.frames
-  pub posted : WereBorn now s.board
+  pub frames : AreFrames t b.refs (slice_index_or s.frames t []) f.frames
+  pub posted : AllByRecursion (λ x. x.1 ≤ length b.refs) s.board
   pub places : length f.given ≡ c.locals
   pub agreed : Agree t f now
   pub sound : AreSound f
+
+-- .. as the history shows them
+abbrev pub SharedStands : Config → ℕ → History → Frames → Shared → Type 0
+SharedStands c t now f s = StandsBy (births (open_part now)) c t now f s
+
+-- .. as they were born, where no collection is under way
+abbrev pub InStands : Config → ℕ → History → Frames → Shared → Type 0
+InStands c t now f s = StandsBy (births now) c t now f s
 
 -- nothing of other threads is changed, and nothing posted
 pub record LeavesOthers (t : ℕ) (s s' : Shared) : Type 0 where

@@ -1,28 +1,20 @@
--- THE WORLD that calls speak of, without handles, slots, places or object numbers, and what a call does in it
--- where nobody else does anything meanwhile
-use Rattle.std.specs.Prelude.{◌+◌, ◌==◌, ◌&&◌, ℕ, zero, suc, Bool, true, false, cond}
-use Rattle.std.specs.Prelude.{not, nat_lt, nat_le}
-use Rattle.std.specs.Prelude.{Option, Some, None, is_some, Result, Ok, Err, List, [], ◌∷◌, ◌++◌, map, length, replicate}
-use Rattle.std.specs.Prelude.{drop, take, slice_index, slice_index_or, slice_set}
-use Rattle.std.specs.List.{filter, flat_map, sum_by}
+-- THE WORLD that calls speak of, without handles, slots, places or object numbers, and what single steps do in it
+use Rattle.std.specs.Prelude.{◌+◌, ◌==◌, ℕ, zero, suc, Bool, false, cond, not, nat_lt, nat_le}
+use Rattle.std.specs.Prelude.{Option, Some, None, is_some, Result, Ok, Err, List, [], ◌∷◌, ◌++◌, map, length}
+use Rattle.std.specs.Prelude.{slice_index_or, slice_set}
+use Rattle.std.specs.List.{filter, sum_by}
 use Rattle.jr_word.specs.declared.config.Config.{Config}
 use Rattle.jr_word.specs.declared.fault.Fault.{Fault}
 use Rattle.jr_word.specs.declared.fault.Fault.TheVariants as fault
 use Rattle.jr_word.specs.declared.handle.Handle.{Handle}
 use Rattle.jr_word.specs.declared.handle.RefKind.{RefKind}
-use Rattle.jr_word.specs.declared.handle.RefKind.TheVariants.{Local, Global, Weak}
+use Rattle.jr_word.specs.declared.handle.RefKind.TheVariants.{Local}
 use Rattle.jr_word.specs.declared.kind.Kind.{Kind}
 use Rattle.jr_word.specs.declared.kind.Kind.TheVariants.{Plain}
 use Rattle.jr_model.specs.declared.frames.TheConstants.{FRAMES}
 use Rattle.jr_model.specs.State.{Contents, same_kind}
-use Rattle.jr_model.specs.Checks.{kind_number, same_object}
-use Rattle.jr_model.specs.Programs.{AnswerKind, nothing, truth, object_kind, handle, perhaps, several}
-use Rattle.jr_model.specs.Programs.{Which, one, other, at_both, set_known, Ending}
-use Rattle.jr_model.specs.Tests.{refused_by}
-use Rattle.jr_model.specs.Programs.{gives_kind, gives_number, gives_object, compares, types, creates}
-use Rattle.jr_model.specs.Programs.{refers, deletes, deletes_local, asks_room, pushes, pops_to, frees, makes, fills}
-use Rattle.jr_model.specs.Programs.{reads, reads_from, copies, writes, writes_to, writes_from, Program, ends, names}
-use Rattle.jr_model.specs.Programs.{names_both, wants, looks, tests, finds}
+use Rattle.jr_model.specs.Checks.{kind_number}
+use Rattle.jr_model.specs.Programs.{AnswerKind, nothing, truth, object_kind, handle, perhaps, several, Which}
 
 -- a reference: its kind, and the number of its object, none once it is cleared
 pub record Ref : Type 0 where
@@ -37,11 +29,6 @@ pub record World : Type 0 where
   pub refs : List (Option Ref)
   pub frames : List (List ℕ)  -- the local references of each frame, by their numbers, the oldest frame first
   pub used : ℕ  -- the words of array space that are used
-  pub memory : List Bool  -- of each copy to come, whether it finds memory
-
--- before the first command: nothing was made, and the base frame alone is there
-abbrev pub first_world : List Bool → World
-first_world memory = record { objects = []; refs = []; frames = [] ∷ []; used = 0; memory = memory }
 
 -- A MEANING: from a world an answer or a refusal, and the world then
 abbrev pub Meaning : Type 0 → Type 0
@@ -149,13 +136,6 @@ delete (suc n) = do
   object (suc n)
   change (removed n)
 
--- the objects of two references, one after the other
-abbrev pub both_objects : ℕ → ℕ → Meaning (Option ℕ × Option ℕ)
-both_objects m n = do
-  x ← object m
-  y ← object n
-  done (x, y)
-
 -- one more reference to an object: the word for it
 abbrev pub new_ref : RefKind → ℕ → Meaning Handle
 new_ref k o = do
@@ -199,18 +179,6 @@ module _ (c : Config) where
     h ← added o
     done (Some h)
 
-  -- a new global or weak one: E8 where every slot has one
-  abbrev pub create : RefKind → ℕ → Meaning Handle
-  create k o = do
-    refuse_where (λ w. refs_of Global w + refs_of Weak w == c.slots) fault.RowFull
-    new_ref k o
-
-  abbrev pub new_global : RefKind → Option ℕ → Meaning (Option Handle)
-  new_global k None = done None
-  new_global k (Some o) = do
-    h ← create k o
-    done (Some h)
-
   -- FRAMES
 
   -- one more frame: E9 where there are as many as may be, or too few places
@@ -219,19 +187,6 @@ module _ (c : Config) where
     refuse_where (λ w. nat_le FRAMES (length w.frames)) fault.LocalsFull
     room_for n
     change (λ w. record w { frames = w.frames ++ [] ∷ [] })
-
-  -- the last frame goes with its references: E15 where none was pushed, E9 where the result then finds no place
-  abbrev pub pop : ℕ → Meaning (Option Handle)
-  pop n = do
-    refuse_where (λ w. nat_lt (length w.frames) 2) fault.NoFrame
-    o ← object n
-    refuse_where (λ w. is_some o && (held w == length (newest_frame w.frames) + c.locals)) fault.LocalsFull
-    change (λ w. record w { refs = without (newest_frame w.frames) w.refs; frames = all_but_last w.frames })
-    new_local o
-
-  -- all local references go, and one frame stands
-  abbrev pub free : Meaning (Unit {0})
-  free = change (λ w. record w { refs = without (flat_map (λ f. f) w.frames) w.refs; frames = [] ∷ [] })
 
   -- OBJECTS
 
@@ -249,14 +204,6 @@ module _ (c : Config) where
     o ← ask (λ w. length w.objects)
     change (λ w. record w { objects = w.objects ++ Some (record { kind = k; words = words }) ∷ [] })
     done o
-
-  -- a new object of these words, and a local reference to it; the words stay used where the object is refused
-  abbrev pub made : Kind → List ℕ → Meaning Handle
-  made k words = do
-    room_for 1
-    reserve (length words)
-    o ← new_object k words
-    added o
 
 -- the element that names an object, and the object that an element names
 abbrev pub element_to : Option ℕ → ℕ
@@ -292,13 +239,6 @@ abbrev pub overwritten : ℕ → List ℕ → List ℕ → List ℕ
 overwritten i [] words = words
 overwritten i (v ∷ vs) words = overwritten (i + 1) vs (slice_set words i v)
 
--- a copy of words: E16 where there are some, and it finds no memory
-abbrev pub copy : List ℕ → Meaning (List ℕ)
-copy [] = done []
-copy (word ∷ words) = do
-  refuse_where (λ w. not (slice_index_or w.memory 0 true)) fault.Memory
-  done (word ∷ words)
-
 -- CALLS, which are the machine's, as programs
 
 -- what a call answers here: of an object its number, of a reference its word
@@ -315,41 +255,3 @@ MeantOf _ = ℕ
 abbrev pub element_for : (Which → Option ℕ) → Option Which → ℕ
 element_for known None = 0
 element_for known (Some p) = element_to (known p)
-
-module _ (c : Config) (words : Which → ℕ) where
-  -- WHAT A PROGRAM ENDS WITH, where this is known of its places, and this is the object at hand
-  abbrev pub ending_meant : {n : ℕ} {a : AnswerKind} → Ending n a → (Which → Option ℕ) → ℕ → Meaning (MeantOf a)
-  ending_meant (gives_kind k) known o = done k
-  ending_meant (gives_number n) known o = done n
-  ending_meant gives_object known o = done o
-  ending_meant compares known o = done (same_object (known one) (known other))
-  ending_meant (types p) known o = type_meant (words p)
-  ending_meant (creates k p) known o = new_global c k (known p)
-  ending_meant (refers p) known o = new_local c (known p)
-  ending_meant (deletes k p) known o = delete (words p)
-  ending_meant (deletes_local p) known o = delete (words p)
-  ending_meant (asks_room n) known o = room_for c n
-  ending_meant (pushes n) known o = push c n
-  ending_meant (pops_to p) known o = pop c (words p)
-  ending_meant frees known o = free c
-  ending_meant (makes k ws) known o = made c k ws
-  ending_meant (fills k n p) known o = made c k (replicate n (element_for known p))
-  ending_meant (reads i) known o = ask (λ w. slice_index (contents w o).words i)
-  ending_meant (reads_from i n) known o = ask (λ w. take n (drop i (contents w o).words))
-  ending_meant (copies n) known o = ask (λ w. (contents w o).words) >>= copy
-  ending_meant (writes i v) known o = rewrites (overwritten i (v ∷ [])) o
-  ending_meant (writes_to i p) known o = rewrites (overwritten i (element_to (known p) ∷ [])) o
-  ending_meant (writes_from i vs) known o = rewrites (overwritten i vs) o
-
-  -- WHAT A PROGRAM MEANS
-  abbrev pub program_meant : {n : ℕ} {a : AnswerKind} → Program n a → (Which → Option ℕ) → ℕ → Meaning (MeantOf a)
-  program_meant (ends e) known o = ending_meant e known o
-  program_meant (names p next) known o = object (words p) >>= (λ x. program_meant next (set_known known p x) o)
-  program_meant (names_both next) known o =
-      both_objects (words one) (words other) >>= (λ x. program_meant next (at_both x.0 x.1) o)
-  program_meant (wants p next) known o = decided (not_null (known p)) >>= (λ q. program_meant next known q)
-  program_meant (looks next) known o =
-      ask (λ w. contents w o) >>= (λ x. program_meant (next x.kind (length x.words)) known o)
-  program_meant (tests ts silent next) known o = decided (refused_by ts) >> program_meant next known o
-  program_meant (finds i next) known o = ask (λ w. slice_index (contents w o).words i)
-      >>= (λ v. program_meant next (set_known known one (named_by v)) o)

@@ -1,5 +1,3 @@
-ghost use Rattle.jr_world.specs.Alone.{AloneMeans};
-ghost use Rattle.jr_world.specs.AloneCalls.{AloneCallsMean, EachIsFit, FirstIsSound};
 ghost use Rattle.jr_world.specs.Births.{WorldsAreSo};
 ghost use Rattle.jr_world.specs.Playing.{EnteredPlays, OpenedPlays, OutsidePlays, StayedPlays};
 ghost use Rattle.jr_world.specs.Fullness.{CreationsAreBorn, FullBeforeExit, NotFullWithoutTheBound, RefusedForAWindow};
@@ -91,24 +89,4 @@ pub fn players_run<A>()
 /// Programs that are played by their threads' stories in one history run together, each to its end.
 pub fn stories_run<A>()
     ensures { StoriesRunTo A }
-{}
-
-/// The steps of a program that one thread takes in a row end as it is meant where nobody else does anything.
-pub fn steps_alone_mean()
-    ensures { AloneMeans }
-{}
-
-/// So does a whole call of a lone thread, from its entry to its exit.
-pub fn calls_alone_mean()
-    ensures { AloneCallsMean }
-{}
-
-/// In a sound world the program of each call is as these two ask.
-pub fn each_call_is_fit()
-    ensures { EachIsFit }
-{}
-
-/// Before the first step, what one thread has stands as the first world, which is sound.
-pub fn first_is_sound()
-    ensures { FirstIsSound }
 {}

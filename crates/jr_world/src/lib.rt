@@ -4,9 +4,8 @@
 mod laws;
 
 pub use laws::{
-    births_fill_the_row, calls_alone_mean, calls_in_stays_play, calls_outside_play, calls_play,
-    creations_are_born, creations_have_room, each_call_is_fit, first_is_sound, first_stands,
-    full_before_exit, not_full_without_the_bound, opened_calls_play, players_run,
-    refused_for_a_window, row_is_born, runs_by_a_schedule, steps_alone_mean, stories_run,
-    windows_are_full, worlds_are_so,
+    births_fill_the_row, calls_in_stays_play, calls_outside_play, calls_play, creations_are_born,
+    creations_have_room, first_stands, full_before_exit, not_full_without_the_bound,
+    opened_calls_play, players_run, refused_for_a_window, row_is_born, runs_by_a_schedule,
+    stories_run, windows_are_full, worlds_are_so,
 };

@@ -1,7 +1,7 @@
 -- What is written of a script is what it means.
-use Rattle.std.proofs.Common.{◌≡◌, ◌≢◌, ◌≤◌, ◌+◌, ℕ, suc, Bool, false, not, List, [], ◌∷◌, ◌++◌, length, nat_le, true}
+use Rattle.std.proofs.Common.{◌≡◌, ◌≢◌, ◌≤◌, ◌+◌, ℕ, suc, Bool, not, List, [], ◌∷◌, ◌++◌, length, nat_le, true}
 use Rattle.std.proofs.Common.{Option, None, Some, codes, refl, sym, ap, ◌∙◌, subst, arith}
-use Rattle.std.specs.List.{AllByRecursion, filter, flat_map}
+use Rattle.std.specs.List.{filter, flat_map}
 use Rattle.std.specs.Io.KnownBytes.{Appends, Keeps}
 use Rattle.std.proofs.lemmas.List.{append-nil, length-append, length-map}
 use Rattle.std.proofs.lemmas.List.Filters.{length-filter_both}
@@ -14,9 +14,9 @@ use Rattle.jr_syntax.specs.declared.script.Script.{Script}
 use Rattle.jr_syntax.specs.Script.{IsScript, part_lines, script_lines, text_of}
 use Rattle.jr_syntax.specs.Faults.{first_fault}
 use Rattle.jr_syntax.proofs.Texts.{no_fault, one_script}
-use Rattle.jr_scripts.specs.AllRuns.{RunsAll, is_collection}
+use Rattle.jr_scripts.specs.AllRuns.{RunsAll}
 use Rattle.jr_world.specs.World.{how_many}
-use Rattle.jr_scripts.specs.Meaning.{gives_up}
+use Rattle.jr_scripts.specs.Commands.{gives_up}
 use Rattle.jr_scripts.specs.Posted.{commands_of}
 use Rattle.jr_scripts.specs.Together.{MeansTogether}
 use Rattle.jrefs.specs.declared.request.Request.{Request}
@@ -64,15 +64,15 @@ single_means c part is output runs =
     let run = runs.alone (sym is.threads) in
     let same : run.part ≡ part = cc in
     let given_up = ap (how_many gives_up) (append-nil part.commands) in
-    let means = run.means (λ e. absurd (omega (arith, e))) (omega arith)
+    let means = run.means (omega arith)
     (subst (λ (p : ThreadPart). how_many gives_up p.commands ≤ 4294967295) (sym same)
     (subst (λ (n : ℕ). n ≤ 4294967295) given_up (few_given_up (single c part) is))) in
     subst (IsTextOf c part) (sym run.grew) (subst (λ (p : ThreadPart). IsTextOf c p run.text) same means)
 
-all_mean : (s : Script) → AllByRecursion (λ x. is_collection x ≡ false) (commands_of s.threads) → IsScript s
-    → (output : List ℕ) → RunsAll 10000000 4294967295 s [] output → MeansTogether 10000000 s output
-all_mean s none is output runs =
-    subst (MeansTogether 10000000 s) (sym runs.grew) (runs.means (omega arith) (few_given_up s is) none)
+all_mean : (s : Script) → IsScript s → (output : List ℕ) → RunsAll 10000000 4294967295 s [] output
+    → MeansTogether 10000000 s output
+all_mean s is output runs =
+    subst (MeansTogether 10000000 s) (sym runs.grew) (runs.means (omega arith) (few_given_up s is))
 
 -- ---- what is written
 
@@ -122,7 +122,7 @@ pub answer_writes : (words : List Text) (known old new : Option (List ℕ)) → 
     → WritesWhatIsMeant words known old new 0
 answer_writes words known old new done = (
   λ c part. by_answer (single c part) (IsTextOf c part) (single_means c part) words known old new done,
-  λ s none. by_answer s (MeansTogether 10000000 s) (all_mean s none) words known old new done,
+  λ s. by_answer s (MeansTogether 10000000 s) (all_mean s) words known old new done,
 )
 
 pub failure_writes : (t : Trouble) (words : List Text) (known left old new : Option (List ℕ))
@@ -130,5 +130,5 @@ pub failure_writes : (t : Trouble) (words : List Text) (known left old new : Opt
     → WritesWhatIsMeant words known old new (status_of t)
 failure_writes t words known left old new apart leaves = (
   λ c part. by_failure (single c part) (IsTextOf c part) (single_means c part) t words known left old new apart leaves,
-  λ s none. by_failure s (MeansTogether 10000000 s) (all_mean s none) t words known left old new apart leaves,
+  λ s. by_failure s (MeansTogether 10000000 s) (all_mean s) t words known left old new apart leaves,
 )

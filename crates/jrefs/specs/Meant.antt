@@ -1,15 +1,12 @@
 -- What `jrefs run` writes of a script, from bytes to bytes.
-use Rattle.std.specs.Prelude.{◌≡◌, ℕ, Bool, false, List, [], ◌∷◌, Option, Some, codes}
+use Rattle.std.specs.Prelude.{◌≡◌, ℕ, Bool, List, [], ◌∷◌, Option, Some, codes}
 use Rattle.std.specs.Io.KnownBytes.{Appends, Keeps}
-use Rattle.std.specs.List.{AllByRecursion}
 use Rattle.clap.specs.Words.{Text}
 use Rattle.jr_word.specs.declared.config.Config.{Config}
 use Rattle.jr_syntax.specs.declared.thread.ThreadPart.{ThreadPart}
 use Rattle.jr_syntax.specs.declared.script.Script.{Script}
 use Rattle.jr_syntax.specs.Script.{IsScript, text_of}
-use Rattle.jr_scripts.specs.AllRuns.{is_collection}
 use Rattle.jr_scripts.specs.Meaning.{text_of_part}
-use Rattle.jr_scripts.specs.Posted.{commands_of}
 use Rattle.jr_scripts.specs.Together.{MeansTogether}
 use Rattle.jrefs.specs.Act.{AppendsBeginning}
 
@@ -33,12 +30,11 @@ single c part = record { config = c; threads = part ∷ [] }
 
 -- the text of the part, for some choice of which copies find memory
 abbrev pub IsTextOf : Config → ThreadPart → List ℕ → Type 0
-IsTextOf c part text = (memory : List Bool) × (text ≡ text_of_part memory c part)
+IsTextOf c part text = (memory : List Bool) × (text ≡ text_of_part memory 10000000 c part)
 
--- WHAT IS WRITTEN IS WHAT THE SCRIPT MEANS: of one thread, the text of its part; of any number of threads, none of
--- which collects, a text that they mean together
+-- WHAT IS WRITTEN IS WHAT THE SCRIPT MEANS: of one thread, the text of its part; of any number of threads, a text
+-- that they mean together
 abbrev pub WritesWhatIsMeant : List Text → Option (List ℕ) → Option (List ℕ) → Option (List ℕ) → ℕ → Type 0
 WritesWhatIsMeant words known old new status =
     ((c : Config) (part : ThreadPart) → WritesOf (single c part) (IsTextOf c part) words known old new status)
-    × ((s : Script) → AllByRecursion (λ x. is_collection x ≡ false) (commands_of s.threads)
-    → WritesOf s (MeansTogether 10000000 s) words known old new status)
+    × ((s : Script) → WritesOf s (MeansTogether 10000000 s) words known old new status)

@@ -48,7 +48,7 @@ pub(crate) fn act<'a, T: Threads + Wait, R: Read + Drop, W: Write + Drop, F: Wri
     ensures faulty { (r : AnyRequest) → Asks r (map (λ w. w.now) words.entry.now) → AsksOfScript r
         → IfSome (R.remaining reader.old) (λ text. IsSome (first_fault text)
         → (result ≡ 1) ⊎ (result ≡ 3) ⊎ ((result ≡ 4) × Keeps (W.contents writer.old) (W.contents writer.new))) }
-    // A script of one thread, or of several that don't collect, is answered by a text that it means: all of it at status 0, nothing at 3, and a beginning or nothing at 4. There is no other status.
+    // A script, of one thread or of several, is answered by a text that it means: all of it at status 0, nothing at 3, and a beginning or nothing at 4. There is no other status.
     ensures means { WritesWhatIsMeant (map (λ w. w.now) words.entry.now) (R.remaining reader.old) (W.contents writer.old) (W.contents writer.new) result }
     // No more is read than a script may have, and one byte.
     ensures reads { ReadsAtMost 65537 (R.remaining reader.old) (R.remaining reader.new) }

@@ -3,7 +3,6 @@ use Rattle.std.proofs.Common.{◌≡◌, ◌≤◌, ◌<◌, ◌+◌, ◌==◌, 
 use Rattle.std.proofs.Common.{Some, None, Ok, List, [], ◌∷◌, ◌++◌, length, slice_index_or, Contains}
 use Rattle.std.proofs.Common.{refl, sym, ap, subst, ◌∙◌, arith}
 use Rattle.std.proofs.lemmas.List.Elements.{Contains-append_cases}
-use Rattle.std.specs.List.{AllByRecursion}
 use Rattle.jr_word.specs.declared.config.Config.{Config}
 use Rattle.jr_word.specs.Config.{IsLimited}
 use Rattle.jr_word.proofs.Limits.{limited}
@@ -24,16 +23,18 @@ use Rattle.jr_syntax.specs.declared.command.Command.TheVariants as commands
 use Rattle.jr_syntax.specs.declared.verb.OnName.TheVariants as on_name
 use Rattle.jr_syntax.specs.declared.script.Script.{Script}
 use Rattle.jr_syntax.specs.declared.thread.ThreadPart.{ThreadPart}
-use Rattle.jr_scripts.specs.Meaning.{gives_up}
+use Rattle.jr_scripts.specs.Commands.{gives_up}
 use Rattle.jr_scripts.specs.Posted.{IsPosted, commands_of}
 use Rattle.jr_scripts.specs.Text.{ending, text_of_parts}
 use Rattle.jr_scripts.specs.Together.{thread_of}
-use Rattle.jr_scripts.specs.AllRuns.{ArePartsOf, IsRunOfAll, MeansAll, is_collection}
+use Rattle.jr_scripts.specs.AllRuns.{ArePartsOf, IsRunOfAll, MeansAll}
 use Rattle.jr_scripts.proofs.TogetherRun.Moments.{Room}
-use Rattle.jr_scripts.proofs.TogetherRun.Lists.{all_first, all_second, how_many_both}
+use Rattle.jr_scripts.proofs.TogetherRun.Lists.{how_many_both}
 use Rattle.jr_scripts.proofs.TogetherRun.HandedOn.{told_board, told_of_board}
+use Rattle.jr_scripts.proofs.TogetherRun.PartsRun.{IsRunOfParts, parts_of_all}
 use Rattle.jr_scripts.proofs.TogetherRun.PlayedTexts.{played_means}
-use Rattle.jr_scripts.proofs.TogetherRun.WholeCounts.{few_deletions, few_puts, summary_is}
+use Rattle.jr_scripts.proofs.TogetherRun.WholeCounts.{few_deletions, few_puts, nobody_collects, summary_is}
+use Rattle.jr_scripts.proofs.TogetherRun.SettledEnds.{settled_end}
 use Rattle.jr_scripts.proofs.TogetherRun.Texts.{PartPlays, part_plays}
 
 -- nobody else acts in a room
@@ -141,22 +142,19 @@ module _ (r : Room) (turns : ℕ) (board : List ℕ → Option (ℕ × History))
 
   gathered : (t line : ℕ) (parts : List ThreadPart) (lines : List (List ℕ))
       → ArePartsOf board rank turns r.last r.config r.whole t line parts lines → t + length parts ≤ r.config.threads
-      → how_many gives_up (commands_of parts) ≤ r.last
-      → AllByRecursion (λ x. is_collection x ≡ false) (commands_of parts) → Gathered t line parts lines
-  gathered t line [] [] are all few none = no_parts t line
-  gathered t line (p ∷ ps) (l ∷ ls) are all few none =
+      → how_many gives_up (commands_of parts) ≤ r.last → Gathered t line parts lines
+  gathered t line [] [] are all few = no_parts t line
+  gathered t line (p ∷ ps) (l ∷ ls) are all few =
       let both = how_many_both gives_up p.commands (commands_of ps) in
       part_more t line p ps l ls (omega arith)
-      (part_plays r t (omega arith) turns board rank (line + 1) p l are.0 (omega (arith, both, few))
-      (all_first (λ x. is_collection x ≡ false) p.commands (commands_of ps) none))
-      (gathered (suc t) (line + 1 + length p.commands) ps ls are.1 (omega arith) (omega (arith, both, few))
-      (all_second (λ x. is_collection x ≡ false) p.commands (commands_of ps) none))
-  gathered t line [] (l ∷ ls) are all few none = absurd are
-  gathered t line (p ∷ ps) [] are all few none = absurd are
+      (part_plays r t (omega arith) turns board rank (line + 1) p l are.0 (omega (arith, both, few)))
+      (gathered (suc t) (line + 1 + length p.commands) ps ls are.1 (omega arith) (omega (arith, both, few)))
+  gathered t line [] (l ∷ ls) are all few = absurd are
+  gathered t line (p ∷ ps) [] are all few = absurd are
 
-module _ (turns last : ℕ) (s : Script) (text : List ℕ) (run : IsRunOfAll turns last s text) where
-  pub all_mean : MeansAll turns last s text
-  all_mean short few none = played_means turns s text (record {
+module _ (turns last : ℕ) (s : Script) (text : List ℕ) (run : IsRunOfParts turns last s text) where
+  pub parts_mean : MeansAll turns last s text
+  parts_mean short few = played_means turns s text (record {
     whole = run.whole;
     board = told_board (births run.whole).refs run.board;
     rank = run.rank;
@@ -173,12 +171,13 @@ module _ (turns last : ℕ) (s : Script) (text : List ℕ) (run : IsRunOfAll tur
     lines_each = all.each;
     left = all.left;
     plays = plays;
+    settled = settled_end s.config last run.whole run.legal (nobody_collects turns last s text run few);
     text_is = run.text_is
         ∙ ap (λ x. text_of_parts s.threads run.lines ++ ending x) (summary_is s.config last run.whole run.legal);
   })
     where
       limits : IsLimited s.config
-      limits = limited s.config run.right.limits
+      limits = limited s.config run.limits
 
       room : Room
       room = record {
@@ -188,15 +187,15 @@ module _ (turns last : ℕ) (s : Script) (text : List ℕ) (run : IsRunOfAll tur
         legal = run.legal;
         limits = limits;
         few = short;
-        serials = few_deletions turns last s text run few none;
-        puts = few_puts turns last s text run few none;
+        serials = few_deletions turns last s text run few;
+        puts = few_puts turns last s text run few;
       }
 
       one_each : length s.threads ≡ s.config.threads
-      one_each = run.right.one_each
+      one_each = run.one_each
 
       all : Gathered room turns run.board run.rank 0 2 s.threads run.lines
-      all = gathered room turns run.board run.rank 0 2 s.threads run.lines run.parts (omega (arith, one_each)) few none
+      all = gathered room turns run.board run.rank 0 2 s.threads run.lines run.parts (omega (arith, one_each)) few
 
       many : length all.stories ≡ s.config.threads
       many = all.many ∙ one_each
@@ -225,3 +224,6 @@ module _ (turns last : ℕ) (s : Script) (text : List ℕ) (run : IsRunOfAll tur
             subst (λ v. Contains (slice_index_or all.stories x.0 []) (posting n v))
                 (same_word (x.1, x.2) (w, seen) (sym x.3 ∙ is)) x.4,
           )
+
+pub all_mean : (turns last : ℕ) (s : Script) (text : List ℕ) → IsRunOfAll turns last s text → MeansAll turns last s text
+all_mean turns last s text run = parts_mean turns last s text (parts_of_all turns last s text run)

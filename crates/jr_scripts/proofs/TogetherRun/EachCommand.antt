@@ -30,9 +30,8 @@ use Rattle.jr_scripts.specs.declared.binding.Binding.{Binding}
 use Rattle.jr_scripts.specs.declared.binding.Binding.TheVariants as bound
 use Rattle.jr_scripts.specs.declared.reply.Reply.{Reply}
 use Rattle.jr_scripts.specs.declared.reply.Reply.TheVariants as replies
-use Rattle.jr_scripts.specs.AllRuns.{is_collection}
 use Rattle.jr_scripts.specs.Commands.{awaited, deed}
-use Rattle.jr_scripts.specs.Meaning.{gives_up}
+use Rattle.jr_scripts.specs.Commands.{gives_up}
 use Rattle.jr_scripts.specs.Names.{Names, binding, word_of_reference, word_posted}
 use Rattle.jr_scripts.specs.Places.{Place, by_region, objects_after, place_after}
 use Rattle.jr_scripts.specs.Posting.{ThreadWords, said, words_after}
@@ -48,6 +47,8 @@ use Rattle.jr_scripts.proofs.TogetherRun.PlayedDeeds.{own_come, own_since, repli
 use Rattle.jr_scripts.proofs.TogetherRun.OutsideCommands.{outside_did, outside_plays}
 use Rattle.jr_scripts.proofs.TogetherRun.RegionCommands.{gives_up_level, giving_up_did, giving_up_plays, inside_did}
 use Rattle.jr_scripts.proofs.TogetherRun.RegionCommands.{inside_plays, inside_stays}
+use Rattle.jr_scripts.proofs.TogetherRun.CollectedCommand.{collecting_did, collecting_plays}
+use Rattle.jr_scripts.proofs.TogetherRun.AnnouncedCommand.{announced_did, announced_plays}
 use Rattle.jr_scripts.proofs.TogetherRun.HandedOn.{items_of, post_plays, wait_plays}
 
 -- WHERE A COMMAND HAS ENDED: its thread has come there with the pass. The text is the same, and the place and the words
@@ -91,13 +92,13 @@ closed_levels h v mode (Err e) a os js so is are = absurd cc
 
 module _ (r : Room) (t : ℕ) (small : t < r.config.threads) (turns : ℕ) where
   -- WHAT A COMMAND DOES are acts of its thread
-  outside_acts : (names : Names) (x : Command) → is_collection x ≡ false → HasDid r t (deed turns names x)
-  outside_acts names (commands.Make make.Wait n) none =
+  outside_acts : (names : Names) (x : Command) → HasDid r t (deed turns names x)
+  outside_acts names (commands.Make make.Wait n) =
       λ old new answer pass did. ([], awaited_did old new answer pass did)
-  outside_acts names (commands.OnName on_name.Post n) none = decided_did r t (Ok replies.Done)
-  outside_acts names (commands.OfRoom v) none = absurd cc
-  outside_acts names (commands.WithTries v tries) none = absurd cc
-  outside_acts names x none = outside_did r t small turns names x tt
+  outside_acts names (commands.OnName on_name.Post n) = decided_did r t (Ok replies.Done)
+  outside_acts names (commands.OfRoom v) = collecting_did r t small
+  outside_acts names (commands.WithTries v tries) = announced_did r t small turns tries
+  outside_acts names x = outside_did r t small turns names x tt
 
   inside_acts : (p : Place) (x : Command) → HasDid r t (deed_within p x)
   inside_acts p (commands.Make make.Wait n) = λ old new answer pass did. ([], awaited_did old new answer pass did)
@@ -106,11 +107,11 @@ module _ (r : Room) (t : ℕ) (small : t < r.config.threads) (turns : ℕ) where
       formed_did r t (λ u. replies.Done) (giving_up_did r t small (length p.objects))
   inside_acts p x = inside_did r t small p x tt
 
-  pub command_did : (p : Place) (x : Command) → is_collection x ≡ false → HasDid r t (deed_at turns p x)
-  command_did p x none = go p.objects
+  pub command_did : (p : Place) (x : Command) → HasDid r t (deed_at turns p x)
+  command_did p x = go p.objects
     where
       go : (os : List ℕ) → HasDid r t (by_region os (deed turns p.names x) (deed_within p x))
-      go [] = outside_acts p.names x none
+      go [] = outside_acts p.names x
       go (o ∷ os) = inside_acts p x
 
   -- BETWEEN THE MOMENTS of a command
@@ -203,16 +204,22 @@ module _ (r : Room) (t : ℕ) (small : t < r.config.threads) (turns : ℕ) where
         (posted_is past (binding p.names n) (binding q.names n) (stands.names n))))
 
     -- WHERE NO REGION STANDS
-    outside_on : (x : Command) → is_collection x ≡ false → LevelsStand → deed turns p.names x old answer new
+    outside_on : (x : Command) → LevelsStand → deed turns p.names x old answer new
         → said board rank p.names had x old.pass.seen answer new.pass.seen
         → HasLeft r.last (times (gives_up x)) old.frames
         → PlaysOn x (doing_outside r.config turns q.names told x)
         (items_of (births r.whole).refs p.names had x answer (map acting acts))
-    outside_on (commands.Make make.Wait n) none levels done spoke left = waits_on n levels done spoke
-    outside_on (commands.OnName on_name.Post n) none levels done spoke left = posts_on n levels done.0 done.1
-    outside_on (commands.OfRoom v) none levels done spoke left = absurd cc
-    outside_on (commands.WithTries v tries) none levels done spoke left = absurd cc
-    outside_on x none levels done spoke left = ends_so x levels (EndsSo r t ReplyIs new answer) (λ later a is. is)
+    outside_on (commands.Make make.Wait n) levels done spoke left = waits_on n levels done spoke
+    outside_on (commands.OnName on_name.Post n) levels done spoke left = posts_on n levels done.0 done.1
+    outside_on (commands.OfRoom v) levels done spoke left = ends_so (commands.OfRoom v) levels
+        (EndsSo r t ReplyIs new answer) (λ later a is. is)
+        ((collecting_plays r t small {h = past} {F = any_frames}).plays old new past answer acts behind pass done did
+        begins come (prefix_self past, refl) tt)
+    outside_on (commands.WithTries v tries) levels done spoke left = ends_so (commands.WithTries v tries) levels
+        (EndsSo r t ReplyIs new answer) (λ later a is. is)
+        ((announced_plays r t small turns tries {h = past} {F = any_frames}).plays old new past answer acts behind pass
+        done did begins come (prefix_self past, refl) tt)
+    outside_on x levels done spoke left = ends_so x levels (EndsSo r t ReplyIs new answer) (λ later a is. is)
         ((outside_plays r t small turns p.names past q.names told stands.names x tt).plays old new past answer acts
         behind pass done did begins come (prefix_self past, refl) left)
 
@@ -321,7 +328,7 @@ module _ (r : Room) (t : ℕ) (small : t < r.config.threads) (turns : ℕ) where
         begins come (prefix_self past, refl) tt)
 
   pub command_plays : (board : List ℕ → Option (ℕ × History))
-      (rank : List ℕ → ℕ) (p q : Place) (had told : ThreadWords) (x : Command) → is_collection x ≡ false
+      (rank : List ℕ → ℕ) (p q : Place) (had told : ThreadWords) (x : Command)
       → (old new : ThreadState) (past : History) (answer : Result Reply Fault) (acts : List Act)
       (behind : List (Item Act)) → IsPass r.config r.last t old.pass → deed_at turns p x old answer new
       → Did old.pass new.pass acts → said board rank p.names had x old.pass.seen answer new.pass.seen
@@ -331,7 +338,7 @@ module _ (r : Room) (t : ℕ) (small : t < r.config.threads) (turns : ℕ) where
       → Plays r.config r.whole t (HasEndedSo r.whole new p q had told x answer) new.frames behind
       (doing_at r.config turns q told q.objects x) past old.frames
       (items_of (births r.whole).refs p.names had x answer (map acting acts))
-  command_plays board rank p q had told x none old new past answer acts behind pass done did spoke begins come stands
+  command_plays board rank p q had told x old new past answer acts behind pass done did spoke begins come stands
       left role = go p.objects q.objects refl refl stands.objects done
     where
       go : (os js : List ℕ) → p.objects ≡ os → q.objects ≡ js → LevelsAre past os js
@@ -340,7 +347,7 @@ module _ (r : Room) (t : ℕ) (small : t < r.config.threads) (turns : ℕ) where
           (doing_at r.config turns q told js x) past old.frames
           (items_of (births r.whole).refs p.names had x answer (map acting acts))
       go [] [] is is' are done = outside_on board rank p q had told old new past answer acts behind pass did begins come
-          stands x none
+          stands x
           (λ later since there. subst (λ l. LevelsAre later l q.objects) (sym is)
           (subst (λ l. LevelsAre later [] l) (sym is') tt)) done spoke left
       go (o ∷ os) (j ∷ js) is is' are done = inside_on board rank p q had told old new past answer acts behind pass did

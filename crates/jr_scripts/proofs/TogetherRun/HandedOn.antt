@@ -27,13 +27,15 @@ use Rattle.jr_world.specs.Births.{births}
 use Rattle.jr_world.specs.Board.{word_under}
 use Rattle.jr_world.specs.Doing.{Doing, Shared, by_step}
 use Rattle.jr_world.specs.Doing.Doing.{ended}
-use Rattle.jr_world.specs.Plays.{OthersGoOn, Plays, SharedStands}
+use Rattle.jr_world.specs.Plays.{OthersGoOn, Plays, SharedStands, open_part}
 use Rattle.jr_world.specs.Plays.Plays.{has_ended, listens, moves, says}
 use Rattle.jr_world.specs.Playing.{HasComeTo}
 use Rattle.jr_world.specs.Schedules.{pairs}
 use Rattle.jr_world.proofs.Births.{worlds_are_so}
 use Rattle.jr_world.proofs.Births.BornLists.{entry_stays, refs_stay, some_same}
 use Rattle.jr_world.proofs.WordsPosted.{heard_born, posted_with}
+use Rattle.jr_world.proofs.OpenParts.{open_long}
+use Rattle.jr_world.proofs.Standing.{front_legal}
 use Rattle.one_order.specs.Orders.{BoardOf, Item, NamedWords, Story}
 use Rattle.one_order.specs.Orders.Story.{goes_on, has_heard, has_posted}
 use Rattle.one_order.specs.Orders.Item.{does as acting, posts as posting, hears as hearing}
@@ -204,7 +206,7 @@ items_of refs names words _ answer acts = acts
 
 -- WHAT IS SHARED STANDS with one more word on the board
 with_word : (c : Config) (t : ℕ) (now : History) (f : Frames) (s : Shared) (n : List ℕ) (k : ℕ)
-    → SharedStands c t now f s → k ≤ length (births now).refs
+    → SharedStands c t now f s → k ≤ length (births (open_part now)).refs
     → SharedStands c t now f (record s { board = s.board ++ (n, k) ∷ [] })
 with_word c t now f s n k st small = record {
   objects = st.objects;
@@ -215,7 +217,7 @@ with_word c t now f s n k st small = record {
   roles = st.roles;
   lists = st.lists;
   frames = st.frames;
-  posted = posted_with now s.board n k st.posted small;
+  posted = posted_with (open_part now) s.board n k st.posted small;
   places = st.places;
   agreed = st.agreed;
   sound = st.sound;
@@ -327,8 +329,9 @@ module _ (r : Room) (t : ℕ) (small : t < r.config.threads) where
       × EndsSo r t ReplyIs m (Ok replies.Done) later x) f behind (by_step (posts_word n k)) past f (posting n v ∷ []))
       (sym (number_is r past come.begins w k told))
       (says true n k (λ now s goes st. (
-        with_word r.config t now f s n k st
-            (told_small now w k (handle_later past now (goes.since, sym goes.is) w k told)),
+        with_word r.config t now f s n k st (subst (λ m. k ≤ m)
+            (sym (open_long r.config r.last now (front_legal r.config r.last r.whole t r.legal now goes.begins)))
+            (told_small now w k (handle_later past now (goes.since, sym goes.is) w k told))),
         record { frames = λ u. refl; board = refl },
       )) (λ now s goes st. has_ended (Ok replies.Done) (
         (goes.since, sym goes.is),
@@ -389,7 +392,9 @@ module _ (r : Room) (t : ℕ) (small : t < r.config.threads) where
             (goes.since, sym goes.is),
             (
               come_with_others r.config r.whole t new.pass past now (waited.did.thread ∙ is.thread) there goes,
-              made_too (told_is r now goes.begins w (heard_born now s.board n (number_of Refs w) st.posted on)),
+              made_too (told_is r now goes.begins w (subst (λ m. number_of Refs w ≤ m)
+                  (open_long r.config r.last now (front_legal r.config r.last r.whole t r.legal now goes.begins))
+                  (heard_born (open_part now) s.board n (number_of Refs w) st.posted on))),
             ),
           )))))
 

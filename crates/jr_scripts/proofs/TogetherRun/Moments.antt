@@ -1,6 +1,6 @@
 -- HOW A THREAD STANDS at a moment of a run of several, beside what is told of it by births. What it is for a deed to be
 -- played by a program of steps.
-use Rattle.std.proofs.Common.{◌≡◌, ◌⊎◌, ◌≤◌, ◌<◌, ◌+◌, ◌^◌, ℕ, zero, suc, Bool, true, false, Option, Some, None}
+use Rattle.std.proofs.Common.{◌≡◌, ◌≢◌, ◌⊎◌, ◌≤◌, ◌<◌, ◌+◌, ◌^◌, ℕ, zero, suc, Bool, true, false, Option, Some, None}
 use Rattle.std.proofs.Common.{Result, Ok, Err, List, [], ◌∷◌, ◌++◌, map, length, slice_get, slice_index}
 use mathlib.Core.List.{IsPrefix}
 use Rattle.jr_word.specs.declared.config.Config.{Config}
@@ -9,9 +9,11 @@ use Rattle.jr_word.specs.declared.handle.Handle.{Handle as HandleWord}
 use Rattle.jr_word.specs.Config.{IsLimited}
 use Rattle.jr_word.specs.Handle.{handle_word}
 use Rattle.jr_model.specs.declared.event.Act.{Act}
+use Rattle.jr_model.specs.declared.event.Role.{Role}
+use Rattle.jr_model.specs.declared.event.Role.TheVariants.{Collecting}
 use Rattle.jr_model.specs.State.{Handle}
 use Rattle.jr_model.specs.Frames.{Frames, all_refs, is_held, stored_at}
-use Rattle.jr_model.specs.History.{Did, History, IsLegal, PassView, mine}
+use Rattle.jr_model.specs.History.{Did, History, IsLegal, PassView, mine, role_from}
 use Rattle.jr_model.specs.Programs.{AnswerKind, AnswerOf}
 use Rattle.jr_gate.specs.Performing.{ThreadState}
 use Rattle.jr_env.specs.Deeds.{Deed}
@@ -117,6 +119,10 @@ abbrev pub deleted_in : List Act → List Handle
 deleted_in [] = []
 deleted_in (a ∷ acts) = deleted_by a ++ deleted_in acts
 
+-- who wasn't collecting before these acts isn't behind them
+abbrev pub Settles : List Act → Type 0
+Settles acts = (r : Role) → r ≢ Collecting → role_from r acts ≢ Collecting
+
 -- as often as the test says references are given up
 abbrev pub times : Bool → ℕ
 times true = 1
@@ -130,13 +136,15 @@ module _ (c : Config) (last t : ℕ) where
     pub thread : p.thread ≡ t
     pub legal : IsLegal c last p.seen
 
--- WHAT A DEED COUNTS: what it adds to the serials that are given, where it gives up references so often at the most
+-- WHAT A DEED COUNTS: what it adds to the serials that are given, where it gives up references so often at the most.
+-- A collection that it begins it also ends
 pub record Counts (last n : ℕ) (old new : ThreadState) : Type 0 where
   pub acts : List Act
   pub did : Did old.pass new.pass acts
   pub given : (p : ℕ) → slice_index new.frames.given p ≡ slice_index old.frames.given p + stored_at p acts
   pub left : (k : ℕ) → HasLeft last (n + k) old.frames → HasLeft last k new.frames
   pub deletes : length (deleted_in acts) ≤ n
+  pub settles : Settles acts
 
 -- nothing is asked of frames
 abbrev pub any_frames : Frames → Type 0

@@ -31,7 +31,7 @@ use Rattle.jr_scripts.specs.declared.reply.Reply.{Reply}
 use Rattle.jr_scripts.specs.declared.reply.Reply.TheVariants as replies
 use Rattle.jr_scripts.specs.Buffers.{Copied, copy_of}
 use Rattle.jr_scripts.specs.Commands.{deed, deletion, get_critical, kind_made, opening_by, opening_levels, type_of}
-use Rattle.jr_scripts.specs.Meaning.{gives_up}
+use Rattle.jr_scripts.specs.Commands.{gives_up}
 use Rattle.jr_scripts.specs.Names.{Names, binding, buffer_in, getting, putting, reference_in, referent, wanted}
 use Rattle.jr_scripts.specs.Numbers.{first_number, word_of_number}
 use Rattle.jr_scripts.specs.Posting.{ThreadWords}

@@ -47,6 +47,7 @@ same_worth A B e d same = go e d same
 
     go : (x y : Fault) → SameFault x y → is_tried_again {A = A} (Err x) ≡ is_tried_again {A = B} (Err y)
     go (Raced looked found) (Raced noted now) alike = refl
+    go (Moved looked found) (Moved noted now) alike = refl
     go x y alike = itself x ∙ ap (λ (z : Fault). is_tried_again {A = B} (Err z)) alike
 
 -- .. and so is one answer where the other is

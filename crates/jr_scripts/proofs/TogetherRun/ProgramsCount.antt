@@ -1,6 +1,7 @@
 -- What calls count, whatever their programs: how many handles each place gives, and how many references are given up.
-use Rattle.std.proofs.Common.{◌≡◌, ◌≤◌, ◌+◌, ℕ, zero, suc, Bool, true, false, nat_lt, nat_le, ◌==◌, ◌||◌, Option, Some}
-use Rattle.std.proofs.Common.{cond, None, List, [], ◌∷◌, ◌++◌, length, replicate, slice_index, Result, Ok, Err, refl}
+use Rattle.std.proofs.Common.{◌≡◌, ◌≢◌, ◌≤◌, ◌+◌, ℕ, zero, suc, Bool, true, false, nat_lt, nat_le, ◌==◌, ◌||◌, Option}
+use Rattle.std.proofs.Common.{Some, cond, None, List, [], ◌∷◌, ◌++◌, length, replicate, slice_index, Result, Ok, Err}
+use Rattle.std.proofs.Common.{refl}
 use Rattle.std.proofs.Common.{sym, ap, subst, ◌∙◌, arith}
 use Rattle.std.proofs.lemmas.Bool.Decides.{nat_tests}
 use Rattle.std.proofs.lemmas.List.{length-append, length-map}
@@ -17,12 +18,16 @@ use Rattle.jr_model.specs.declared.event.Act.TheVariants.{Delete, DeleteStale, G
 use Rattle.jr_model.specs.declared.event.Act.TheVariants.{Reserve, ReserveFull, ReserveLost, Write}
 use Rattle.jr_model.specs.declared.event.Found.{Found}
 use Rattle.jr_model.specs.declared.event.Found.TheVariants.{Cleared, Object, Stale}
-use Rattle.jr_model.specs.declared.event.GateAct.TheVariants.{Enter, Leave}
+use Rattle.jr_model.specs.declared.event.GateAct.TheVariants.{Announce, Cancel, Enter, Knock, Leave, Reopen, Shut}
+use Rattle.jr_model.specs.declared.event.GateAct.TheVariants.{Withdraw}
+use Rattle.jr_model.specs.declared.event.Role.{Role}
+use Rattle.jr_model.specs.declared.event.Role.TheVariants.{Collecting}
 use Rattle.jr_model.specs.declared.frames.LocalRef.{LocalRef}
 use Rattle.jr_model.specs.declared.frames.TheConstants.{FRAMES}
 use Rattle.jr_model.specs.State.{Handle, State}
 use Rattle.jr_model.specs.Frames.{Frames, IsAdded, all_refs, drop_all, is_held, last_frame, frames_before, pushed}
 use Rattle.jr_model.specs.Frames.{stored_at, with_last}
+use Rattle.jr_model.specs.History.{role_after, role_from}
 use Rattle.jr_model.specs.Calls.{Call, ◌>>=◌, ◌>>◌, act, done, entered, one_of, opened, refuse, refuse_if, some_act}
 use Rattle.jr_model.specs.Checks.{Word, Malformed, Nothing, Parts}
 use Rattle.jr_model.specs.Parts.{create, created, delete_at, delete_found, delete_local_at, drop_local, frame_left}
@@ -48,16 +53,18 @@ use Rattle.jr_model.proofs.Preludes.{not_null_prelude, probes_prelude, resolved_
 use Rattle.jr_model.proofs.Preludes.{type_prelude}
 use Rattle.jr_model.proofs.ShownRefusals.{Purpose, silent_unshown, words_alone}
 use Rattle.jr_model.proofs.Moves.{after_room}
+use Rattle.jr_model.proofs.Stays.{role_from_append}
 use Rattle.jr_model.proofs.Updates.{and_left, eq_true}
 use Rattle.one_order.proofs.Lists.{all_weaker}
-use Rattle.jr_scripts.proofs.TogetherRun.Moments.{HasLeft, deleted_in}
+use Rattle.jr_scripts.proofs.TogetherRun.Moments.{HasLeft, Settles, deleted_in}
 
 -- ACTS
 
--- an act that stores no local reference and deletes no other
+-- an act that stores no local reference, deletes no other, and begins no collection
 abbrev pub IsUncounted : Act → Type 0
 IsUncounted (LocalPut q o) = ⊥
 IsUncounted (Delete h) = ⊥
+IsUncounted (Gate Shut) = ⊥
 IsUncounted _ = Unit {0}
 
 -- none of them does
@@ -70,7 +77,29 @@ pub uncounted : (acts : List Act) → AreUncounted acts
 uncounted [] none = ((λ p. refl), refl)
 uncounted (LocalPut q o ∷ acts) none = absurd none.0
 uncounted (Delete h ∷ acts) none = absurd none.0
+uncounted (Gate Shut ∷ acts) none = absurd none.0
 uncounted (_ ∷ acts) none = uncounted acts none.1
+
+-- a thread comes to collect by a shut alone
+role_behind_act : (r : Role) (a : Act) → IsUncounted a → r ≢ Collecting → role_after r a ≢ Collecting
+role_behind_act r (Gate Shut) none out = absurd none
+role_behind_act r (Gate Enter) none out = λ e. cc
+role_behind_act r (Gate Knock) none out = λ e. cc
+role_behind_act r (Gate Leave) none out = λ e. cc
+role_behind_act r (Gate Withdraw) none out = λ e. cc
+role_behind_act r (Gate Announce) none out = λ e. cc
+role_behind_act r (Gate Cancel) none out = λ e. cc
+role_behind_act r (Gate Reopen) none out = λ e. cc
+role_behind_act r _ none out = out
+
+pub uncounted_settle : (acts : List Act) → AreUncounted acts → Settles acts
+uncounted_settle [] none r out = out
+uncounted_settle (a ∷ acts) none r out =
+    uncounted_settle acts none.1 (role_after r a) (role_behind_act r a none.0 out)
+
+-- lists that settle do so one behind the other
+pub both_settle : (xs ys : List Act) → Settles xs → Settles ys → Settles (xs ++ ys)
+both_settle xs ys first second r out e = second (role_from r xs) (first r out) (sym (role_from_append r xs ys) ∙ e)
 
 pub many_deleted : (xs ys : List Act)
     → length (deleted_in (xs ++ ys)) ≡ length (deleted_in xs) + length (deleted_in ys)
@@ -82,6 +111,7 @@ many_deleted (_ ∷ xs) ys = many_deleted xs ys
 harmless_uncounted : (a : Act) → is_harmless a ≡ true → IsUncounted a
 harmless_uncounted (LocalPut q o) h = absurd cc
 harmless_uncounted (Delete g) h = absurd cc
+harmless_uncounted (Gate Shut) h = absurd cc
 harmless_uncounted _ h = tt
 
 pub precede_uncounted : (e : Fault) (a : Act) → may_precede e a ≡ true → IsUncounted a
@@ -117,6 +147,7 @@ pub record Counted (last need leave n : ℕ) (old : Frames) (acts : List Act) (n
   pub framed : need ≤ length old.frames → leave ≤ length new.frames
   pub left : need ≤ length old.frames → (k : ℕ) → HasLeft last (n + k) old → HasLeft last k new
   pub deletes : length (deleted_in acts) ≤ n
+  pub settles : Settles acts
 
 -- whatever a refusal leaves
 abbrev pub Anyhow : Refusing
@@ -127,18 +158,25 @@ abbrev pub IsCounted : {A : Type 0} → ℕ → ℕ → Call A → Type 0
 IsCounted last n call = Gives (Counted last 1 1 n) Anyhow call
 
 module _ {last : ℕ} where
-  -- acts that don't count, by which the frames stay
-  pub same_counts : {m n : ℕ} {old new : Frames} {acts : List Act} → AreUncounted acts → new ≡ old
-      → Counted last m m n old acts new
-  same_counts {m} {n} {old} {new} {acts} none same = record {
+  -- acts that store and delete nothing and settle, by which the frames stay
+  pub settled_counts : {m n : ℕ} {old new : Frames} {acts : List Act} → ((p : ℕ) → stored_at p acts ≡ 0)
+      → length (deleted_in acts) ≡ 0 → Settles acts → new ≡ old → Counted last m m n old acts new
+  settled_counts {m} {n} {old} {new} {acts} puts_none deletes_none settled same = record {
     given = λ p.
         let is : slice_index new.given p ≡ slice_index old.given p = ap (λ (f : Frames). slice_index f.given p) same in
-        let zero = (uncounted acts none).0 p in
+        let zero = puts_none p in
         omega (arith, is, zero);
     framed = λ enough. subst (λ (f : Frames). m ≤ length f.frames) (sym same) enough;
     left = λ enough k left. subst (HasLeft last k) (sym same) (less_left (omega arith) left);
-    deletes = let zero = (uncounted acts none).1 in omega (arith, zero);
+    deletes = omega (arith, deletes_none);
+    settles = settled;
   }
+
+  -- .. as acts that don't count
+  pub same_counts : {m n : ℕ} {old new : Frames} {acts : List Act} → AreUncounted acts → new ≡ old
+      → Counted last m m n old acts new
+  same_counts {acts = acts} none same =
+      let zero = uncounted acts none in settled_counts zero.0 zero.1 (uncounted_settle acts none) same
 
   -- .. or some references are given up
   given_up_counts : {need : ℕ} {old new : Frames} {acts : List Act} → AreUncounted acts → new.given ≡ old.given
@@ -161,6 +199,7 @@ module _ {last : ℕ} where
           omega (arith, is, most);
     };
     deletes = let zero = (uncounted acts none).1 in omega (arith, zero);
+    settles = uncounted_settle acts none;
   }
 
   pub both_count : {a b c m n s : ℕ} → m + n ≤ s → (f g h : Frames) (xs ys : List Act) → Counted last a b m f xs g
@@ -179,6 +218,7 @@ module _ {last : ℕ} where
         let y = q.deletes in
         let all = many_deleted xs ys in
         omega (arith, x, y, all, most);
+    settles = both_settle xs ys p.settles q.settles;
   }
 
   -- .. and where they are given up more often
@@ -189,6 +229,7 @@ module _ {last : ℕ} where
     framed = p.framed;
     left = λ enough k left. p.left enough k (less_left (omega (arith, less)) left);
     deletes = let most = p.deletes in omega (arith, less, most);
+    settles = p.settles;
   }
 
   -- one call and then another
@@ -251,6 +292,7 @@ module _ {last : ℕ} where
     framed = λ enough. enough;
     left = λ enough k left. less_left (omega arith) left;
     deletes = omega arith;
+    settles = λ r out. out;
   }
 
   found_deleted : (h : Handle) → IsCounted last 1 (one_of (act (Delete h)) (act (DeleteStale h) >> refuse fault.Stale))
@@ -371,6 +413,7 @@ module _ {last : ℕ} where
       framed = still_framed;
       left = λ enough k left. added_left k (less_left (omega arith) left);
       deletes = omega arith;
+      settles = λ role out. out;
     }
 
   added_counts : (c : Config) (thread o : ℕ) → IsCounted last 0 (added c last thread o)
@@ -430,6 +473,7 @@ module _ {last : ℕ} where
           all = λ p. let most = left.all p in omega (arith, most);
         };
         deletes = omega arith;
+        settles = λ r out. out;
       }
 
   pushing_counts : (c : Config) (thread n : ℕ)
@@ -458,6 +502,7 @@ module _ {last : ℕ} where
             framed = λ one. same.framed enough;
             left = λ one. same.left enough;
             deletes = same.deletes;
+            settles = same.settles;
           }
 
   take_counts : Gives (Counted last 2 1 1) Anyhow take_frame

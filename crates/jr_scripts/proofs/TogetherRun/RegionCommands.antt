@@ -379,7 +379,7 @@ module _ (r : Room) (t : ℕ) (small : t < r.config.threads) where
           (acting (Gate Leave) ∷ [])) (sym is.2)
           (leaves_plays r.config r.last r.whole t r.legal
           (EndsSo r t (λ later (x y : Unit {0}). Unit {0}) new answer) behind (Ok tt) Leave past old.frames refl
-          (λ now next. (
+          (λ seen shut. refl) (λ now next. (
             come_later old.pass new.pass acts past (now ++ by t (Gate Leave) ∷ []) pass did come next.next
                 (mine_push now t (Gate Leave) ∙ ap (λ l. l ++ Gate Leave ∷ []) (others past now next.goes.since
                 next.goes.is next.goes.others) ∙ ap (λ l. mine past t ++ l) (sym is.0)),

@@ -1,5 +1,5 @@
 -- What commands leave of serials: how many handles each place gives, and how many references are given up.
-use Rattle.std.proofs.Common.{◌≡◌, ◌≤◌, inl, inr, ℕ, ℤ, zero, suc, ◌+◌, true, false, Option, Some, None, List, [], ◌∷◌}
+use Rattle.std.proofs.Common.{◌≡◌, ◌≤◌, inl, inr, ℕ, ℤ, zero, suc, ◌+◌, true, Option, Some, None, List, [], ◌∷◌}
 use Rattle.std.proofs.Common.{◌++◌, length, Result, Ok, Err, refl, sym, subst, arith}
 use Rattle.jr_word.specs.declared.config.Config.{Config}
 use Rattle.jr_word.specs.declared.fault.Fault.{Fault}
@@ -16,7 +16,7 @@ use Rattle.jr_model.specs.declared.frames.Mode.TheVariants.{Abort, Commit, Copy}
 use Rattle.jr_model.specs.State.{State}
 use Rattle.jr_model.specs.Frames.{Frames, all_refs, stored_at}
 use Rattle.jr_model.specs.History.{Did, state}
-use Rattle.jr_model.specs.Calls.{Call}
+use Rattle.jr_model.specs.Calls.{Call, Ran}
 use Rattle.jr_model.specs.Checks.{Malformed, Nothing, Parts, Word}
 use Rattle.jr_model.specs.Programs.{AnswerKind, Program, at_object, handed_none, handed_one, none_known}
 use Rattle.jr_model.specs.CallPrograms as programs
@@ -26,6 +26,8 @@ use Rattle.jr_model.proofs.EachCall.{lawful, part_lawful}
 use Rattle.jr_model.proofs.Exactly.{append_all}
 use Rattle.jr_model.proofs.Stays.{did_then}
 use Rattle.jr_gate.specs.Performing.{ThreadState}
+use Rattle.jr_weak.specs.declared.collecting.Collected.{Collected}
+use Rattle.jr_env.specs.Collections.{announced_collection}
 use Rattle.jr_env.specs.Deeds.{Deed, answered_by, call_apart, call_on_by, decided, done, free_locals}
 use Rattle.jr_env.specs.Deeds.{release_array_elements, whole, within_by, ◌>>=◌}
 use Rattle.jr_env.specs.Requests.{Request, asks, gives, named, on_word, on_words, told_by}
@@ -48,22 +50,25 @@ use Rattle.jr_syntax.specs.declared.verb.Release.TheVariants as release
 use Rattle.jr_syntax.specs.declared.verb.OpenLevel.{OpenLevel}
 use Rattle.jr_syntax.specs.declared.verb.OpenLevel.TheVariants as at
 use Rattle.jr_scripts.specs.declared.reply.Reply.{Reply}
-use Rattle.jr_scripts.specs.Meaning.{gives_up}
+use Rattle.jr_scripts.specs.Commands.{gives_up}
+use Rattle.jr_scripts.specs.declared.reply.Reply.TheVariants as replies
 use Rattle.jr_scripts.specs.Names.{Names}
 use Rattle.jr_scripts.specs.Places.{Place, by_region, nth_object}
-use Rattle.jr_scripts.specs.Commands.{awaited, deed, deleted_as, deleted_of, deletion, get_critical, kind_made}
-use Rattle.jr_scripts.specs.Commands.{making_from, opening_by, the_reference, tried, type_of}
+use Rattle.jr_scripts.specs.Commands.{awaited, collecting, collecting_announced, deed, deleted_as, deleted_of}
+use Rattle.jr_scripts.specs.Commands.{deletion, get_critical, kind_made, making_from, opening_by, the_reference}
+use Rattle.jr_scripts.specs.Commands.{tried, type_of}
 use Rattle.jr_scripts.specs.RegionCommands.{deed_at, deed_within, giving_up, giving_up_all, level_reading}
 use Rattle.jr_scripts.specs.RegionCommands.{level_writing, nesting, read_kind}
 use Rattle.jr_scripts.specs.Runs.{IsFreed}
 use Rattle.jr_scripts.specs.Tries.{Tried, again, answered, gave_up}
-use Rattle.jr_scripts.specs.AllRuns.{is_collection}
-use Rattle.jr_scripts.proofs.TogetherRun.Moments.{Counts, IsPass, deleted_in, times}
+use Rattle.jr_scripts.proofs.TogetherRun.Moments.{Counts, IsPass, Settles, deleted_in, times}
 use Rattle.jr_scripts.proofs.TogetherRun.PlayedDeeds.{nothing_did, pass_later}
 use Rattle.jr_scripts.proofs.TogetherRun.ProgramsCount.{Anyhow, AreUncounted, CallCounts, CallGiving, Counted, IsGiving}
 use Rattle.jr_scripts.proofs.TogetherRun.ProgramsCount.{IsUncounted, both_count, call_counts, drops_uncounted}
-use Rattle.jr_scripts.proofs.TogetherRun.ProgramsCount.{lawful_counts, more_counts, precede_uncounted, program_counts}
-use Rattle.jr_scripts.proofs.TogetherRun.ProgramsCount.{released_counts, same_counts, uncounted}
+use Rattle.jr_scripts.proofs.TogetherRun.ProgramsCount.{lawful_counts, more_counts, precede_uncounted}
+use Rattle.jr_scripts.proofs.TogetherRun.ProgramsCount.{program_counts, released_counts, same_counts}
+use Rattle.jr_scripts.proofs.TogetherRun.ProgramsCount.{uncounted, uncounted_settle}
+use Rattle.jr_scripts.proofs.TogetherRun.CollectionCounts.{announced_collection_counts, collection_counts}
 
 -- a request for a program gives up references so often at the most, whatever the words say
 abbrev RequestGiving : ℕ → {A : Type 0} → Request A → Type 0
@@ -301,6 +306,44 @@ module _ (c : Config) (last t : ℕ) where
   barred : DeedCounts 0 (decided {A = Reply} (Err InCritical))
   barred = decided_counts (Err InCritical)
 
+  -- COLLECTIONS
+
+  -- a part of calls that was made
+  ran_counted : {n : ℕ} {A : Type 0} {call : Call A} {answer : Result A Fault} (old new : ThreadState)
+      → CallCounts last n call → Ran old.pass new.pass old.frames new.frames call answer → HasCounted n old new
+  ran_counted {answer = answer} old new part ran = record {
+    acts = ran.acts;
+    did = ran.did;
+    counted = part.counts old.frames new.frames ran.acts answer ran.is;
+  }
+
+  collecting_counts : DeedCounts 0 collecting
+  collecting_counts = record { counts = counts }
+    where
+      counts : (old new : ThreadState) (answer : Result Reply Fault) → IsPass c last t old.pass
+          → collecting old answer new → HasCounted 0 old new
+      counts old new (Ok (replies.Collected x)) pass d = ran_counted old new (collection_counts last) d.ran
+      counts old new (Ok (replies.Busy n)) pass d = ran_counted old new (collection_counts last) d.made.ran
+      counts old new _ pass d = absurd d
+
+  tried_once_counts : (tries : ℕ) → TryCounts 0 (announced_collection tries)
+  tried_once_counts tries = record { each = record { counts = counts }; refuses = refuses }
+    where
+      refuses : (old new : ThreadState) (e : Fault) → IsPass c last t old.pass
+          → announced_collection tries old (Err e) new → HasCounted 0 old new
+      refuses old new e pass d = ran_counted old new (announced_collection_counts last tries) d.made.ran
+
+      counts : (old new : ThreadState) (answer : Result Collected Fault) → IsPass c last t old.pass
+          → announced_collection tries old answer new → HasCounted 0 old new
+      counts old new (Ok x) pass d = ran_counted old new (announced_collection_counts last tries) d.done.ran
+      counts old new (Err e) pass d = refuses old new e pass d
+
+  announced_counts : (turns tries : ℕ) → DeedCounts 0 (collecting_announced turns tries)
+  announced_counts turns tries = record {
+    counts = λ old new answer pass d.
+        (tried_counts {turns = turns} (tried_once_counts tries)).counts old new d.0 pass d.2;
+  }
+
   -- THE COMMANDS WHERE NO REGION STANDS
 
   module _ (turns : ℕ) where
@@ -336,58 +379,57 @@ module _ (c : Config) (last t : ℕ) where
     type_of_counts None = done_counts 0
     type_of_counts (Some h) = tried_counts (whole_counts (requests.for_get_object_ref_type h.0) (λ a. refl))
 
-    outside_counts : (names : Names) (x : Command) → is_collection x ≡ false
-        → DeedCounts (times (gives_up x)) (deed turns names x)
-    outside_counts names (commands.Make make.Plain n) none = replied _ (whole_counts requests.for_new_plain refl)
-    outside_counts names (commands.Make make.Wait n) none = awaited_counts
-    outside_counts names (commands.MakeFrom v n r) none = with_reference names r (λ w. making_from_counts v n r w.0)
-    outside_counts names (commands.On on.Drop r) none =
+    outside_counts : (names : Names) (x : Command) → DeedCounts (times (gives_up x)) (deed turns names x)
+    outside_counts names (commands.Make make.Plain n) = replied _ (whole_counts requests.for_new_plain refl)
+    outside_counts names (commands.Make make.Wait n) = awaited_counts
+    outside_counts names (commands.MakeFrom v n r) = with_reference names r (λ w. making_from_counts v n r w.0)
+    outside_counts names (commands.On on.Drop r) =
         with_reference names r (λ w. told_counts _ (deletion_counts w.0))
-    outside_counts names (commands.On on.Type r) none =
+    outside_counts names (commands.On on.Type r) =
         before (decided_counts _) (λ h. told_counts _ (type_of_counts h))
-    outside_counts names (commands.On on.Len r) none = with_reference names r (λ w.
+    outside_counts names (commands.On on.Len r) = with_reference names r (λ w.
         replied _ (whole_counts (requests.for_get_array_length w.0) (λ a k m. refl)))
-    outside_counts names (commands.On on.TextLength r) none = with_reference names r (λ w.
+    outside_counts names (commands.On on.TextLength r) = with_reference names r (λ w.
         replied _ (whole_counts (requests.for_get_string_length w.0) (λ a k m. refl)))
-    outside_counts names (commands.On on.Chars r) none = with_reference names r (λ w.
+    outside_counts names (commands.On on.Chars r) = with_reference names r (λ w.
         replied _ (whole_counts (requests.for_get_string_chars w.0) (λ a k m. refl)))
-    outside_counts names (commands.OnBoth on_both.Same q r) none =
+    outside_counts names (commands.OnBoth on_both.Same q r) =
         with_reference names q (λ v. with_reference names r (λ w.
         replied _ (whole_counts (requests.for_is_same_object v.0 w.0) (λ a b. refl))))
-    outside_counts names (commands.OnName on_name.Post n) none = done_counts _
-    outside_counts names (commands.WithCount with_count.Push n) none =
+    outside_counts names (commands.OnName on_name.Post n) = done_counts _
+    outside_counts names (commands.WithCount with_count.Push n) =
         replied _ (apart_counts (programs.push_local_frame n) refl)
-    outside_counts names (commands.WithCount with_count.Ensure n) none =
+    outside_counts names (commands.WithCount with_count.Ensure n) =
         replied _ (apart_counts (programs.ensure_local_capacity n) refl)
-    outside_counts names (commands.MakeSized v n len) none =
+    outside_counts names (commands.MakeSized v n len) =
         replied _ (whole_counts (requests.for_new_array (kind_made v) len) refl)
-    outside_counts names (commands.MakeFilled v n len r) none = with_reference names r (λ w.
+    outside_counts names (commands.MakeFilled v n len r) = with_reference names r (λ w.
         replied _ (whole_counts (requests.for_new_object_array len w.0) (λ a. refl)))
-    outside_counts names (commands.MakeText v n units) none =
+    outside_counts names (commands.MakeText v n units) =
         replied _ (whole_counts (requests.for_new_string units) refl)
-    outside_counts names (commands.MakeAt v n r i) none = with_reference names r (λ w.
+    outside_counts names (commands.MakeAt v n r i) = with_reference names r (λ w.
         replied _ (whole_counts (requests.for_get_object_array_element w.0 i) (λ a k m. refl)))
-    outside_counts names (commands.OnAt v r i) none = with_reference names r (λ w.
+    outside_counts names (commands.OnAt v r i) = with_reference names r (λ w.
         before (tried_counts (whole_counts (requests.for_kind_of w.0) (λ a k m. refl))) (λ k.
         before (decided_counts _) (λ u. replied _
         (whole_counts (requests.for_get_array_region k w.0 i 1) (λ a l m. refl)))))
-    outside_counts names (commands.SetAt v r i q) none =
+    outside_counts names (commands.SetAt v r i q) =
         with_reference names r (λ a. with_reference names q (λ w.
         replied _ (whole_counts (requests.for_set_object_array_element a.0 i w.0) (λ x y k m. refl))))
-    outside_counts names (commands.StoreAt v r i x) none = with_reference names r (λ w.
+    outside_counts names (commands.StoreAt v r i x) = with_reference names r (λ w.
         before (tried_counts (whole_counts (requests.for_kind_of w.0) (λ a k m. refl))) (λ k.
         before (decided_counts _) (λ u. before (decided_counts _) (λ word. replied _
         (whole_counts (requests.for_set_array_region k w.0 i (word ∷ [])) (λ a l m. refl))))))
-    outside_counts names (commands.OpenLevel v n r) none =
+    outside_counts names (commands.OpenLevel v n r) =
         told_counts _ (with_reference names r (λ w. tried_counts (opening_counts v w.0)))
-    outside_counts names (commands.CloseLevel v mode) none = barred
-    outside_counts names (commands.OfRoom v) none = absurd cc
-    outside_counts names (commands.WithTries v tries) none = absurd cc
-    outside_counts names (commands.OnNameAt on_name_at.GetInLevel n i) none = barred
-    outside_counts names (commands.OnNameAt on_name_at.Get n i) none = told_counts _ (decided_counts _)
-    outside_counts names (commands.PutAt put_at.PutInLevel n i x) none = barred
-    outside_counts names (commands.PutAt put_at.Put n i x) none = told_counts _ (decided_counts _)
-    outside_counts names (commands.Release release.Elements n r mode) none =
+    outside_counts names (commands.CloseLevel v mode) = barred
+    outside_counts names (commands.OfRoom v) = collecting_counts
+    outside_counts names (commands.WithTries v tries) = announced_counts turns tries
+    outside_counts names (commands.OnNameAt on_name_at.GetInLevel n i) = barred
+    outside_counts names (commands.OnNameAt on_name_at.Get n i) = told_counts _ (decided_counts _)
+    outside_counts names (commands.PutAt put_at.PutInLevel n i x) = barred
+    outside_counts names (commands.PutAt put_at.Put n i x) = told_counts _ (decided_counts _)
+    outside_counts names (commands.Release release.Elements n r mode) =
         before (decided_counts _) (λ b. with_reference names r (λ w.
         replied _ (release_counts b.kind w.0 b.words mode)))
 
@@ -424,12 +466,11 @@ module _ (c : Config) (last t : ℕ) where
 
   -- WHEREVER THE THREAD STANDS
 
-  place_counts : (turns : ℕ) (p : Place) (x : Command) → is_collection x ≡ false
-      → DeedCounts (times (gives_up x)) (deed_at turns p x)
-  place_counts turns p x none = go p.objects
+  place_counts : (turns : ℕ) (p : Place) (x : Command) → DeedCounts (times (gives_up x)) (deed_at turns p x)
+  place_counts turns p x = go p.objects
     where
       go : (os : List ℕ) → DeedCounts (times (gives_up x)) (by_region os (deed turns p.names x) (deed_within p x))
-      go [] = outside_counts turns p.names x none
+      go [] = outside_counts turns p.names x
       go (o ∷ os) = inside_counts p x
 
   given_up_counts : (os : List ℕ) → DeedCounts 0 (giving_up_all os)
@@ -443,14 +484,15 @@ module _ (c : Config) (last t : ℕ) where
     given = x.counted.given;
     left = λ k left. x.counted.left left.some_frame k left;
     deletes = x.counted.deletes;
+    settles = x.counted.settles;
   }
 
   -- A COMMAND counts as often as it gives up references
-  pub command_counts : (turns : ℕ) (p : Place) (x : Command) → is_collection x ≡ false → (old new : ThreadState)
+  pub command_counts : (turns : ℕ) (p : Place) (x : Command) → (old new : ThreadState)
       (answer : Result Reply Fault) → IsPass c last t old.pass → deed_at turns p x old answer new
       → Counts last (times (gives_up x)) old new
-  command_counts turns p x none old new answer pass d =
-      counts_of old new ((place_counts turns p x none).counts old new answer pass d)
+  command_counts turns p x old new answer pass d =
+      counts_of old new ((place_counts turns p x).counts old new answer pass d)
 
   -- a region that stands at the end is given up
   pub levels_count : (objects : List ℕ) (old new : ThreadState) → IsPass c last t old.pass
@@ -512,7 +554,7 @@ module _ (c : Config) (last t : ℕ) where
   -- .. and so the thread has come to its end
   pub freed_counts : (turns : ℕ) (told left : ThreadState) → IsPass c last t told.pass → IsFreed turns told left
       → (acts : List Act) × Did told.pass left.pass acts × ((p : ℕ) → stored_at p acts ≡ 0)
-      × (length (deleted_in acts) ≡ 0)
+      × (length (deleted_in acts) ≡ 0) × Settles acts
   freed_counts turns told left pass freed =
       let x = freed_tries turns told left freed.answer pass freed.tries in
-      let none = uncounted x.acts x.none in (x.acts, x.did, none.0, none.1)
+      let none = uncounted x.acts x.none in (x.acts, x.did, none.0, none.1, uncounted_settle x.acts x.none)

@@ -1,5 +1,5 @@
 -- A THREAD'S TEXT IS PLAYED: its commands, one after the other, and then its end.
-use Rattle.std.proofs.Common.{◌≡◌, ◌≢◌, ◌⊎◌, ◌≤◌, ◌<◌, ◌+◌, ℕ, zero, suc, false, length, Option, Some, Result, Ok, Err}
+use Rattle.std.proofs.Common.{◌≡◌, ◌≢◌, ◌⊎◌, ◌≤◌, ◌<◌, ◌+◌, ℕ, zero, suc, length, Option, Some, Result, Ok, Err}
 use Rattle.std.proofs.Common.{List, [], ◌∷◌, ◌++◌, map, Contains, inl, inr, refl, sym, ap, subst, ◌∙◌, arith}
 use Rattle.std.proofs.Common.{append_assoc, append-nil}
 use Rattle.std.proofs.lemmas.List.{map-append}
@@ -28,7 +28,7 @@ use Rattle.jr_world.specs.Plays.Plays.{has_ended, unseen}
 use Rattle.jr_world.specs.Playing.{HasComeTo}
 use Rattle.jr_world.specs.Schedules.{pairs}
 use Rattle.jr_world.proofs.Joining.{joined_later, weakened}
-use Rattle.jr_world.proofs.LookStands.{look_stands}
+use Rattle.jr_world.proofs.LookStands.{look_shows}
 use Rattle.jr_world.proofs.Fullness.Counting.{both_long}
 use Rattle.one_order.specs.Orders.{BoardOf, Item, NamedWords, Story, done_by}
 use Rattle.one_order.specs.Orders.Item.{does as acting, posts as posting}
@@ -39,9 +39,9 @@ use Rattle.jr_syntax.specs.declared.verb.OnName.TheVariants as on_name
 use Rattle.jr_syntax.specs.declared.thread.ThreadPart.{ThreadPart}
 use Rattle.jr_scripts.specs.declared.binding.Binding.{Binding}
 use Rattle.jr_scripts.specs.declared.reply.Reply.{Reply}
-use Rattle.jr_scripts.specs.AllRuns.{IsPartOf, closing_acts, is_collection, opening_of}
+use Rattle.jr_scripts.specs.AllRuns.{IsPartOf, closing_acts, opening_of}
 use Rattle.jr_scripts.specs.Explains.{Explained, Explains, nothing as no_command, then}
-use Rattle.jr_scripts.specs.Meaning.{gives_up}
+use Rattle.jr_scripts.specs.Commands.{gives_up}
 use Rattle.jr_scripts.specs.Names.{Names, name_order, or_nothing, word_posted}
 use Rattle.jr_scripts.specs.Places.{Place, nowhere, place_after}
 use Rattle.jr_scripts.specs.Posted.{IsPosted}
@@ -53,7 +53,7 @@ use Rattle.jr_scripts.specs.Together.{calls_on_none, closes_level, doing_at, end
 use Rattle.jr_scripts.proofs.LoneWords.{Has}
 use Rattle.jr_scripts.proofs.TogetherRun.Moments.{BindingIs, Counts, EndsSo, HasDid, HasLeft, IsPass, LevelsAre, Meant}
 use Rattle.jr_scripts.proofs.TogetherRun.Moments.{Room, Stands, any_frames, times}
-use Rattle.jr_scripts.proofs.TogetherRun.Lists.{all_first, all_second, done_pairs, given_up_more, none_given}
+use Rattle.jr_scripts.proofs.TogetherRun.Lists.{done_pairs, given_up_more, none_given}
 use Rattle.jr_scripts.proofs.TogetherRun.PlayedDeeds.{own_acts, pass_later, tried_did, tried_plays}
 use Rattle.jr_scripts.proofs.TogetherRun.PlayedCalls.{entering_did, entering_refused, entering_none_plays}
 use Rattle.jr_scripts.proofs.TogetherRun.RegionCommands.{giving_up_did, giving_up_plays, role_after}
@@ -159,10 +159,10 @@ module _ (r : Room) (t : ℕ) (small : t < r.config.threads) (turns : ℕ) (boar
         (x : Command) (answer : Result Reply Fault) → Reached before text mid place had
         → deed_at turns place x mid answer new
         → said board rank place.names had x mid.pass.seen answer new.pass.seen
-        → how_many gives_up (before ++ x ∷ []) ≤ r.last → is_collection x ≡ false
+        → how_many gives_up (before ++ x ∷ []) ≤ r.last
         → Reached (before ++ x ∷ []) (text ++ printed (first + length before) x answer) new (place_after x answer place)
         (words_after place.names x answer had)
-    one_more before text mid new place had x answer so did spoke few none = record {
+    one_more before text mid new place had x answer so did spoke few = record {
       pass = pass_later acts done so.pass;
       items = so.items ++ more_items;
       words = goes.0;
@@ -175,7 +175,7 @@ module _ (r : Room) (t : ℕ) (small : t < r.config.threads) (turns : ℕ) (boar
     }
       where
         did_acts : (acts : List Act) × Did mid.pass new.pass acts
-        did_acts = command_did r t small turns place x none mid new answer so.pass did
+        did_acts = command_did r t small turns place x mid new answer so.pass did
 
         acts : List Act
         acts = did_acts.0
@@ -190,7 +190,7 @@ module _ (r : Room) (t : ℕ) (small : t < r.config.threads) (turns : ℕ) (boar
         many = given_up_more before x
 
         counts : Counts r.last (times (gives_up x)) mid new
-        counts = command_counts r.config r.last t turns place x none mid new answer so.pass did
+        counts = command_counts r.config r.last t turns place x mid new answer so.pass did
 
         goes : (words : NamedWords)
             × AllByRecursion (λ y. Has (words_after place.names x answer had) y.0) words
@@ -225,7 +225,7 @@ module _ (r : Room) (t : ℕ) (small : t < r.config.threads) (turns : ℕ) (boar
                 (λ a. lines_from r.config turns (place_after x a q) (words_after q.names x a told)
                 (first + length before + 1) (text ++ printed (first + length before) x a) rest) more []
                 (doing_at r.config turns q told q.objects x) later mid.frames more_items
-                (command_plays r t small turns board rank place q had told x none mid new later answer acts (more ++ [])
+                (command_plays r t small turns board rank place q had told x mid new later answer acts (more ++ [])
                 so.pass did done spoke begins come stands (so.left (times (gives_up x)) (omega (arith, many, few)))
                 so.role)
                 (λ after a since ended. subst (λ l. Plays r.config r.whole t V g []
@@ -240,15 +240,12 @@ module _ (r : Room) (t : ℕ) (small : t < r.config.threads) (turns : ℕ) (boar
     -- all of them
     reached : {before : List Command} {text : List ℕ} {m : ThreadState} {place : Place} {had : ThreadWords}
         → Explains (said board rank) turns first (opening_of r.config r.last t) before text m place had
-        → how_many gives_up before ≤ r.last → AllByRecursion (λ x. is_collection x ≡ false) before
-        → Reached before text m place had
-    reached no_command few none = none_yet
+        → how_many gives_up before ≤ r.last → Reached before text m place had
+    reached no_command few = none_yet
     reached (then {before = before} {text = text} {mid = mid} {new = new} {place = place} {words = had} x answer earlier
-        did spoke) few none =
+        did spoke) few =
         let many = given_up_more before x in
-        one_more before text mid new place had x answer (reached earlier (omega (arith, many, few))
-        (all_first (λ x. is_collection x ≡ false) before (x ∷ []) none)) did spoke few
-        (all_second (λ x. is_collection x ≡ false) before (x ∷ []) none).0
+        one_more before text mid new place had x answer (reached earlier (omega (arith, many, few))) did spoke few
 
   -- THE END: a region's, where one stands, and then the local references are freed
   record Ends (os : List ℕ) (done left : ThreadState) : Type 0 where
@@ -354,16 +351,15 @@ module _ (r : Room) (t : ℕ) (small : t < r.config.threads) (turns : ℕ) (boar
   closing_plays : (u : ℕ) (lines : List ℕ) (g : Frames) (later : History)
       → Plays r.config r.whole t (λ later answer. answer ≡ Ok lines) g [] (doing_done lines) later g
       (map acting (closing_acts u))
-  closing_plays zero lines g later = unseen Meet (λ now s next st. look_stands r.config t now g s Meet refl st)
+  closing_plays zero lines g later = unseen Meet (λ now s next st. look_shows r.config t now g s Meet refl st)
       (λ now next. has_ended (Ok lines) refl)
   closing_plays (suc u) lines g later = has_ended (Ok lines) refl
 
   -- THE WHOLE PART
   pub part_plays : (first : ℕ) (part : ThreadPart) (lines : List ℕ)
       → IsPartOf board rank turns r.last r.config r.whole t first part lines
-      → how_many gives_up part.commands ≤ r.last
-      → AllByRecursion (λ x. is_collection x ≡ false) part.commands → PartPlays first part lines
-  part_plays first part lines is few none = record {
+      → how_many gives_up part.commands ≤ r.last → PartPlays first part lines
+  part_plays first part lines is few = record {
     items = so.items ++ map acting (end.acts ++ closing_acts t);
     words = so.words;
     story = story;
@@ -380,7 +376,7 @@ module _ (r : Room) (t : ℕ) (small : t < r.config.threads) (turns : ℕ) (boar
       explained = is.explained
 
       so : Reached first V is.left.frames part.commands lines explained.done explained.place explained.words
-      so = reached first V is.left.frames explained.explains few none
+      so = reached first V is.left.frames explained.explains few
 
       seen_is : is.left.pass.seen ≡ is.seen
       seen_is = ap (λ (p : PassView). p.seen) is.saw

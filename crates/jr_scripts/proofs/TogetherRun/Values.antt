@@ -410,9 +410,10 @@ module _ (h : History) where
   says_same x (level_too {o = o} {j = j} is) = silent_level x o j
   says_same x (the_same a plain) = refl
 
-  -- of a reservation that was lost no count is printed
+  -- of a reservation that was lost, and of a gate at which others moved, no count is printed
   refused_alike : (line : ℕ) (e d : Fault) → SameFault e d → refused line e ≡ refused line d
   refused_alike line (fault.Raced looked found) (fault.Raced noted now) same = refl
+  refused_alike line (fault.Moved looked found) (fault.Moved noted now) same = refl
   refused_alike line e d same = ap (refused line) same
 
   -- WHAT NAMES STAND FOR

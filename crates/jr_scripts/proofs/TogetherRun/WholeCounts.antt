@@ -2,7 +2,6 @@
 -- serials. Its last lines tell of what was born.
 use Rattle.std.proofs.Common.{◌≡◌, ⊎_elim, ◌≤◌, ◌<◌, ◌+◌, ◌==◌, ℕ, zero, suc, Bool, true, false, cond, Option, List, []}
 use Rattle.std.proofs.Common.{◌∷◌, ◌++◌, length, slice_index, refl, sym, ap, subst, ◌∙◌, arith}
-use Rattle.std.specs.List.{AllByRecursion}
 use Rattle.std.proofs.lemmas.Bool.{cases_lt}
 use Rattle.jr_word.specs.declared.config.Config.{Config}
 use Rattle.jr_word.specs.declared.handle.RefKind.TheVariants.{Global, Weak}
@@ -24,17 +23,19 @@ use Rattle.jr_syntax.specs.declared.command.Command.{Command}
 use Rattle.jr_syntax.specs.declared.script.Script.{Script}
 use Rattle.jr_syntax.specs.declared.thread.ThreadPart.{ThreadPart}
 use Rattle.jr_scripts.specs.Explains.{Explains, nothing, then}
-use Rattle.jr_scripts.specs.Meaning.{gives_up, summary_of}
+use Rattle.jr_scripts.specs.Together.{summary_of}
+use Rattle.jr_scripts.specs.Commands.{gives_up}
 use Rattle.jr_scripts.specs.Places.{Place}
 use Rattle.jr_scripts.specs.Posted.{commands_of}
 use Rattle.jr_scripts.specs.Posting.{Speech, ThreadWords, said}
-use Rattle.jr_scripts.specs.AllRuns.{ArePartsOf, IsPartOf, IsRunOfAll, closing_acts, is_collection, opening_of}
-use Rattle.jr_scripts.proofs.TogetherRun.Moments.{Counts, HasLeft, IsPass, deleted_in, times}
-use Rattle.jr_scripts.proofs.TogetherRun.Lists.{all_first, all_second, given_up_more, how_many_both, none_given}
+use Rattle.jr_scripts.specs.AllRuns.{ArePartsOf, IsPartOf, closing_acts, opening_of}
+use Rattle.jr_scripts.proofs.TogetherRun.Moments.{Counts, HasLeft, IsPass, Settles, deleted_in, times}
+use Rattle.jr_scripts.proofs.TogetherRun.Lists.{given_up_more, how_many_both, none_given}
 use Rattle.jr_scripts.proofs.TogetherRun.PlayedDeeds.{own_acts, pass_later}
-use Rattle.jr_scripts.proofs.TogetherRun.ProgramsCount.{many_deleted}
+use Rattle.jr_scripts.proofs.TogetherRun.ProgramsCount.{both_settle, many_deleted}
 use Rattle.jr_scripts.proofs.TogetherRun.SerialsLeft.{command_counts, freed_counts, levels_count}
 use Rattle.jr_scripts.proofs.TogetherRun.KindsBorn.{kind_is_born}
+use Rattle.jr_scripts.proofs.TogetherRun.PartsRun.{IsRunOfParts}
 use Rattle.jr_scripts.proofs.TogetherRun.PlayedTexts.{world_born}
 
 -- A THREAD at a moment: references may be given up k times yet, and were so n times at the most
@@ -43,6 +44,7 @@ record IsCounted (c : Config) (last t k n : ℕ) (m : ThreadState) : Type 0 wher
   given : (p : ℕ) → slice_index m.frames.given p ≡ stored_at p (mine m.pass.seen t)
   left : HasLeft last k m.frames
   deletes : length (deleted_in (mine m.pass.seen t)) ≤ n
+  settles : Settles (mine m.pass.seen t)
 
 module _ (c : Config) (last t : ℕ) where
   -- what a deed counts
@@ -60,15 +62,16 @@ module _ (c : Config) (last t : ℕ) where
             let more = counts.deletes in
             let both = ap (λ acts. length (deleted_in acts)) own ∙ many_deleted (mine old.pass.seen t) counts.acts in
             omega (arith, few, more, both);
+        settles = subst Settles (sym own)
+            (both_settle (mine old.pass.seen t) counts.acts was.settles counts.settles);
       }
 
   -- WHAT COMMANDS COUNT
   commands_counted : (speech : Speech) (turns first k : ℕ) (commands : List Command) (text : List ℕ) (new : ThreadState)
       (place : Place) (words : ThreadWords) → how_many gives_up commands + k ≤ last
-      → AllByRecursion (λ x. is_collection x ≡ false) commands
       → Explains speech turns first (opening_of c last t) commands text new place words
       → IsCounted c last t k (how_many gives_up commands) new
-  commands_counted speech turns first k commands text new place words few none nothing = record {
+  commands_counted speech turns first k commands text new place words few nothing = record {
     pass = record { config = refl; last_is = refl; thread = refl; legal = tt };
     given = λ p. none_given c.locals p;
     left = record {
@@ -77,14 +80,14 @@ module _ (c : Config) (last t : ℕ) where
       all = λ p. (let zero = none_given c.locals p in omega (arith, zero, few));
     };
     deletes = omega arith;
+    settles = λ r out. out;
   }
-  commands_counted speech turns first k commands text new place words few none
+  commands_counted speech turns first k commands text new place words few
       (then {before = before} {text = lines} {mid = mid} {place = stood} {words = had} x answer done did spoken) =
       let more = given_up_more before x in
       let was = commands_counted speech turns first (times (gives_up x) + k) before lines mid stood had
-      (omega (arith, few, more)) (all_first (λ x. is_collection x ≡ false) before (x ∷ []) none) done in
-      let counts = command_counts c last t turns stood x
-      (all_second (λ x. is_collection x ≡ false) before (x ∷ []) none).0 mid new answer was.pass did in
+      (omega (arith, few, more)) done in
+      let counts = command_counts c last t turns stood x mid new answer was.pass did in
       subst (λ n. IsCounted c last t k n new) (sym more)
       (counted_later k (times (gives_up x)) (how_many gives_up before) mid new was counts)
 
@@ -96,6 +99,10 @@ closing_stores (suc t) p = refl
 closing_deletes : (t : ℕ) → length (deleted_in (closing_acts t)) ≡ 0
 closing_deletes zero = refl
 closing_deletes (suc t) = refl
+
+closing_settles : (t : ℕ) → Settles (closing_acts t)
+closing_settles zero r out = out
+closing_settles (suc t) r out = out
 
 -- SUMS over so many threads, from one on
 abbrev sum_from : ℕ → ℕ → (ℕ → ℕ) → ℕ
@@ -173,16 +180,16 @@ module _ (board : List ℕ → Option (ℕ × History)) (rank : List ℕ → ℕ
   record IsThreadOf (t n : ℕ) : Type 0 where
     puts : (p : ℕ) → stored_at p (mine whole t) ≤ suc last
     deletes : deleted_by_thread whole t ≤ n
+    settles : Settles (mine whole t)
 
   part_counts : (t first : ℕ) (part : ThreadPart) (lines : List ℕ) → how_many gives_up part.commands ≤ last
-      → AllByRecursion (λ x. is_collection x ≡ false) part.commands
       → IsPartOf board rank turns last c whole t first part lines → IsThreadOf t (how_many gives_up part.commands)
   unfolding deleted_by_thread
-  part_counts t first part lines few none p =
+  part_counts t first part lines few p =
       let n = how_many gives_up part.commands in
       let e = p.explained in
       let done = commands_counted c last t (said board rank) turns first 0 part.commands lines e.done e.place e.words
-      (omega (arith, few)) none e.explains in
+      (omega (arith, few)) e.explains in
       let told = counted_later c last t 0 0 n e.done p.told done
       (levels_count c last t e.place.objects e.done p.told done.pass e.ended) in
       let freed = freed_counts c last t turns p.told p.left told.pass p.freed in
@@ -212,20 +219,20 @@ module _ (board : List ℕ → Option (ℕ × History)) (rank : List ℕ → ℕ
             = ap (λ acts. length (deleted_in acts)) p.own ∙ many_deleted (mine p.seen t) (closing_acts t) in
             let closing = closing_deletes t in
             omega (arith, few_told, freed_none, seen, end, closing);
+        settles = subst Settles (sym p.own) (both_settle (mine p.seen t) (closing_acts t)
+            (subst Settles (sym own) (both_settle by_commands freed.0 told.settles freed.4)) (closing_settles t));
       }
 
   -- THE THREADS from t on
   parts_puts : (t line : ℕ) (parts : List ThreadPart) (lines : List (List ℕ))
       → how_many gives_up (commands_of parts) ≤ last
-      → AllByRecursion (λ x. is_collection x ≡ false) (commands_of parts)
       → ArePartsOf board rank turns last c whole t line parts lines → (u p : ℕ) → t ≤ u → u < t + length parts
       → stored_at p (mine whole u) ≤ suc last
-  parts_puts t line [] lines few none parts u p least most = absurd (omega arith)
-  parts_puts t line (part ∷ parts) [] few none are u p least most = absurd are
-  parts_puts t line (part ∷ parts) (l ∷ lines) few none are u p least most =
+  parts_puts t line [] lines few parts u p least most = absurd (omega arith)
+  parts_puts t line (part ∷ parts) [] few are u p least most = absurd are
+  parts_puts t line (part ∷ parts) (l ∷ lines) few are u p least most =
       go (t == u) refl (λ later. parts_puts (suc t) (line + 1 + length part.commands) parts lines
-      (omega (arith, few, both)) (all_second (λ x. is_collection x ≡ false) part.commands (commands_of parts) none)
-      are.1 u p later (omega arith))
+      (omega (arith, few, both)) are.1 u p later (omega arith))
     where
       both : how_many gives_up (part.commands ++ commands_of parts)
           ≡ how_many gives_up part.commands + how_many gives_up (commands_of parts)
@@ -234,47 +241,74 @@ module _ (board : List ℕ → Option (ℕ × History)) (rank : List ℕ → ℕ
       go : (b : Bool) → (t == u) ≡ b → (suc t ≤ u → stored_at p (mine whole u) ≤ suc last)
           → stored_at p (mine whole u) ≤ suc last
       go true is rest = subst (λ v. stored_at p (mine whole v) ≤ suc last) (eq_true t u is)
-          ((part_counts t (line + 1) part l (let sum = both in omega (arith, few, sum))
-          (all_first (λ x. is_collection x ≡ false) part.commands (commands_of parts) none) are.0).puts p)
+          ((part_counts t (line + 1) part l (let sum = both in omega (arith, few, sum)) are.0).puts p)
+      go false is rest = let apart = eq_false t u is in rest (omega (arith, apart, least))
+
+  parts_settle : (t line : ℕ) (parts : List ThreadPart) (lines : List (List ℕ))
+      → how_many gives_up (commands_of parts) ≤ last
+      → ArePartsOf board rank turns last c whole t line parts lines → (u : ℕ) → t ≤ u → u < t + length parts
+      → Settles (mine whole u)
+  parts_settle t line [] lines few parts u least most = absurd (omega arith)
+  parts_settle t line (part ∷ parts) [] few are u least most = absurd are
+  parts_settle t line (part ∷ parts) (l ∷ lines) few are u least most =
+      go (t == u) refl (λ later. parts_settle (suc t) (line + 1 + length part.commands) parts lines
+      (omega (arith, few, both)) are.1 u later (omega arith))
+    where
+      both : how_many gives_up (part.commands ++ commands_of parts)
+          ≡ how_many gives_up part.commands + how_many gives_up (commands_of parts)
+      both = how_many_both gives_up part.commands (commands_of parts)
+
+      go : (b : Bool) → (t == u) ≡ b → (suc t ≤ u → Settles (mine whole u)) → Settles (mine whole u)
+      go true is rest = subst (λ v. Settles (mine whole v)) (eq_true t u is)
+          (part_counts t (line + 1) part l (let sum = both in omega (arith, few, sum)) are.0).settles
       go false is rest = let apart = eq_false t u is in rest (omega (arith, apart, least))
 
   parts_delete : (t line : ℕ) (parts : List ThreadPart) (lines : List (List ℕ))
       → how_many gives_up (commands_of parts) ≤ last
-      → AllByRecursion (λ x. is_collection x ≡ false) (commands_of parts)
       → ArePartsOf board rank turns last c whole t line parts lines
       → sum_from t (length parts) (deleted_by_thread whole) ≤ how_many gives_up (commands_of parts)
-  parts_delete t line [] lines few none are = omega arith
-  parts_delete t line (part ∷ parts) [] few none are = absurd are
-  parts_delete t line (part ∷ parts) (l ∷ lines) few none are =
+  parts_delete t line [] lines few are = omega arith
+  parts_delete t line (part ∷ parts) [] few are = absurd are
+  parts_delete t line (part ∷ parts) (l ∷ lines) few are =
       let both = how_many_both gives_up part.commands (commands_of parts) in
-      let here = (part_counts t (line + 1) part l (omega (arith, few, both))
-      (all_first (λ x. is_collection x ≡ false) part.commands (commands_of parts) none) are.0).deletes in
+      let here = (part_counts t (line + 1) part l (omega (arith, few, both)) are.0).deletes in
       let rest = parts_delete (suc t) (line + 1 + length part.commands) parts lines (omega (arith, few, both))
-      (all_second (λ x. is_collection x ≡ false) part.commands (commands_of parts) none) are.1 in
+      are.1 in
       omega (arith, both, here, rest)
 
-module _ (turns last : ℕ) (s : Script) (text : List ℕ) (run : IsRunOfAll turns last s text)
-    (few : how_many gives_up (commands_of s.threads) ≤ last)
-    (none : AllByRecursion (λ x. is_collection x ≡ false) (commands_of s.threads)) where
+module _ (turns last : ℕ) (s : Script) (text : List ℕ) (run : IsRunOfParts turns last s text)
+    (few : how_many gives_up (commands_of s.threads) ≤ last) where
   pub few_deletions : length (deletions run.whole) ≤ last
   few_deletions =
       let all = deleted_by_threads s.config last opening run.whole run.legal in
-      let each = parts_delete run.board run.rank turns last s.config run.whole 0 2 s.threads run.lines few none
+      let each = parts_delete run.board run.rank turns last s.config run.whole 0 2 s.threads run.lines few
       run.parts in
       let most = subst (λ n. length (deletions run.whole) ≤ sum_from 0 n (deleted_by_thread run.whole))
-      (sym run.right.one_each) all in
+      (sym run.one_each) all in
       omega (arith, each, most, few)
 
   pub few_puts : (u p : ℕ) → stored_at p (mine run.whole u) ≤ suc last
   few_puts u p = ⊎_elim within beyond (cases_lt u s.config.threads)
     where
       within : u < s.config.threads → stored_at p (mine run.whole u) ≤ suc last
-      within small = parts_puts run.board run.rank turns last s.config run.whole 0 2 s.threads run.lines few none
-          run.parts u p (omega arith) (let long = run.right.one_each in omega (arith, small, long))
+      within small = parts_puts run.board run.rank turns last s.config run.whole 0 2 s.threads run.lines few
+          run.parts u p (omega arith) (let long = run.one_each in omega (arith, small, long))
 
       beyond : s.config.threads ≤ u → stored_at p (mine run.whole u) ≤ suc last
       beyond large = subst (λ acts. stored_at p acts ≤ suc last)
           (sym (others_do_nothing s.config last opening run.whole u run.legal large)) (omega arith)
+
+  -- no thread still collects behind its acts
+  pub nobody_collects : (u : ℕ) → Settles (mine run.whole u)
+  nobody_collects u = ⊎_elim within beyond (cases_lt u s.config.threads)
+    where
+      within : u < s.config.threads → Settles (mine run.whole u)
+      within small = parts_settle run.board run.rank turns last s.config run.whole 0 2 s.threads run.lines few
+          run.parts u (omega arith) (let long = run.one_each in omega (arith, small, long))
+
+      beyond : s.config.threads ≤ u → Settles (mine run.whole u)
+      beyond large = subst Settles
+          (sym (others_do_nothing s.config last opening run.whole u run.legal large)) (λ r out. out)
 
 -- THE LAST LINES tell of what was born
 pub summary_is : (c : Config) (last : ℕ) (es : History) → IsLegal c last es

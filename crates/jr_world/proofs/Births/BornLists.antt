@@ -1,14 +1,14 @@
 -- Lists that grow, or whose elements become others; and what was born earlier, which keeps its place.
 use Rattle.std.proofs.Common.{◌≡◌, ◌≤◌, ◌⊎◌, inl, inr, ℕ, zero, suc, Bool, true, false, cond, Option, Some, None}
-use Rattle.std.proofs.Common.{List, [], ◌∷◌, ◌++◌, map, length, slice_get, refl, sym, ap, subst, ◌==◌, arith}
+use Rattle.std.proofs.Common.{List, [], ◌∷◌, ◌++◌, map, length, slice_get, refl, sym, ap, subst, arith}
 use Rattle.std.proofs.lemmas.List.{length-append, length-map}
 use Rattle.jr_model.specs.declared.event.Act.{Act}
-use Rattle.jr_model.specs.declared.event.Act.TheVariants.{Create, Delete, Clear, LocalPut, LocalDrop, New, Write, Drop}
+use Rattle.jr_model.specs.declared.event.Act.TheVariants.{Create, Delete, Clear, LocalPut, LocalDrop}
 use Rattle.jr_model.specs.declared.event.Event.{Event}
 use Rattle.jr_model.specs.State.{Handle, Contents, same_handle}
 use Rattle.jr_model.specs.History.{History}
 use Rattle.jr_world.specs.World.{Ref}
-use Rattle.jr_world.specs.Births.{Births, no_births, rewritten, gone_where, is_at, emptied}
+use Rattle.jr_world.specs.Births.{Births, no_births, gone_where, is_at, emptied}
 use Rattle.jr_world.specs.Births.{born_by, births_from, births}
 
 pub by_test : {P : Type 0} (b : Bool) → (b ≡ true → P) → (b ≡ false → P) → P
@@ -89,28 +89,11 @@ pub entry_along : (b : Births) (es : History) (i : ℕ) (h : Handle) → HasEntr
 entry_along b [] i h e = e
 entry_along b (x ∷ es) i h e = entry_along (born_by b x.thread x.act) es i h (entry_act b x.thread x.act i h e)
 
-pub object_act : (b : Births) (t : ℕ) (a : Act) (i o : ℕ) → HasObject b i o → HasObject (born_by b t a) i o
-object_act b t (New p k ws) i o e = (e.0, get_old b.objects _ i (o, e.0) e.1)
-object_act b t (Write p j v) i o e =
-    (_, map_get (λ x. (x.0, cond (x.0 == p) (rewritten b.objects j v x.1) x.1)) b.objects i (o, e.0) e.1)
-object_act b t (Drop p) i o e = (_, map_get (λ x. (x.0, cond (x.0 == p) None x.1)) b.objects i (o, e.0) e.1)
-object_act b t _ i o e = e
-
--- an object's number stays
-pub object_along : (b : Births) (es : History) (i o : ℕ) → HasObject b i o → HasObject (births_from b es) i o
-object_along b [] i o e = e
-object_along b (x ∷ es) i o e = object_along (born_by b x.thread x.act) es i o (object_act b x.thread x.act i o e)
-
 -- an entry of a history stays in each that it begins
 pub entry_stays : (past rest : History) (i : ℕ) (h : Handle) → HasEntry (births past) i h
     → HasEntry (births (past ++ rest)) i h
 entry_stays past rest i h e = subst (λ b. HasEntry b i h) (sym (births_append no_births past rest))
     (entry_along (births past) rest i h e)
-
-pub object_stays : (past rest : History) (i o : ℕ) → HasObject (births past) i o
-    → HasObject (births (past ++ rest)) i o
-object_stays past rest i o e = subst (λ b. HasObject b i o) (sym (births_append no_births past rest))
-    (object_along (births past) rest i o e)
 
 -- BIRTHS OF REFERENCES are never fewer
 

@@ -298,9 +298,6 @@ module _ (b : Births) (s : State) (a : IsAs b s) (t p : ℕ) where
         let below : g.serial < n = (let x = d.1 in omega arith) in
         not_newest g l e (not_equal g.serial n below)
 
-    both_at : (g : Handle) → is_local g ≡ true → is_here g ≡ true → is_at t p g ≡ true
-    both_at g l e = ap (λ z. z && is_here g) l ∙ e
-
     is_new : (g : Handle) → is_local g ≡ true → is_here g ≡ true → suc g.serial ≡ suc n → g ≡ the_new
     is_new g l e same =
         let d = and_yes (t == g.owner) (p == g.index) e in

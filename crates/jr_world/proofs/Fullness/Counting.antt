@@ -2,13 +2,10 @@
 -- and a row that was full in a part of a call.
 use Rattle.std.proofs.Common.{◌≡◌, ◌≢◌, ◌⊎◌, inl, inr, ⊎_elim, ◌<◌, ◌≤◌, ◌+◌, ◌==◌, ℕ, zero, suc, Bool, true, false}
 use Rattle.std.proofs.Common.{cond, List, [], ◌∷◌, ◌++◌, map, length, refl, sym, ap, subst, ◌∙◌, arith, append_assoc}
-use mathlib.Core.List.{IsPrefix}
 use Rattle.jr_model.specs.Maps.{sum_below, count_below}
-use Rattle.jr_model.specs.History.{History, PassView}
-use Rattle.jr_model.specs.Refusals.{RowWasFull}
+use Rattle.jr_model.specs.History.{History}
 use Rattle.jr_model.proofs.Counts.{count_none}
 use Rattle.jr_model.proofs.Updates.{eq_true, eq_false}
-use Rattle.jr_model.proofs.Moments.{prefix_trans}
 use Rattle.jr_world.specs.Fullness.{created_by, creations, deleted_by, deletions}
 
 -- x is one of the list
@@ -190,20 +187,3 @@ creations_long xs ys = ap length (creations_append xs ys) ∙ both_long (creatio
 
 pub deletions_long : (xs ys : History) → length (deletions (xs ++ ys)) ≡ length (deletions xs) + length (deletions ys)
 deletions_long xs ys = ap length (deletions_append xs ys) ∙ both_long (deletions xs) (deletions ys)
-
--- a row that was full since some moment was so since each earlier one
-pub full_earlier : (begun begun' : History) (new : PassView) → IsPrefix begun begun' → RowWasFull begun' new
-    → RowWasFull begun new
-full_earlier begun begun' new earlier full i l =
-    let w = full i l in
-    record {
-      found = w.found;
-      probed = record {
-        before = w.probed.before;
-        since = w.probed.since;
-        taken = w.probed.taken;
-        from = prefix_trans begun begun' w.probed.before earlier w.probed.from;
-        needs = w.probed.needs;
-      };
-      occupied = w.occupied;
-    }

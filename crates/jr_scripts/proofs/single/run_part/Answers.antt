@@ -3,7 +3,7 @@ use Rattle.jr_scripts.specs.Posting.{WasInVain}
 use Rattle.jr_scripts.specs.Text.{heading, ending}
 use Rattle.jr_scripts.proofs.Speaking.{carried}
 use Rattle.jr_scripts.proofs.ToEnd.{ran_still}
-use Rattle.jr_scripts.proofs.LoneRun.MeaningRun.{meant}
+use Rattle.jr_scripts.proofs.AloneCase.LoneMeans.{lone_means}
 use Rattle.jr_scripts.proofs.WholeRun.{plain_run}
 use Rattle.jr_scripts.proofs.single.run_part.Goals as goal
 
@@ -27,5 +27,5 @@ returns-clause-ok c =
     (λ n v. tt)) x.2) c.summary-summary.ensures whole
 
 pub returns-clause-means : goal.returns-clause-means
-returns-clause-means c = meant c.args.turns 4294967295 c.args.config c.args.part.now
-    c.extend_from_slice.new.self.items c.requires.one c.requires.limits (returns-clause-ok c)
+returns-clause-means c = lone_means c.args.turns 4294967295 c.args.config c.args.part.now
+    c.extend_from_slice.new.self.items c.requires.one c.requires.limits c.requires.once (returns-clause-ok c)
