@@ -1,5 +1,5 @@
 -- What a call of a thread that is alone leads to, whatever call it is.
-use Rattle.std.proofs.Common.{◌≡◌, ℕ, true, false, Option, None, List, [], ◌∷◌, ◌++◌, map, Result, Ok, Err, IfErr}
+use Rattle.std.proofs.Common.{◌≡◌, ℕ, true, false, Option, None, List, [], ◌∷◌, ◌++◌, Result, Ok, Err, IfErr}
 use Rattle.std.proofs.Common.{refl, sym, subst, ◌∙◌, ap, append_assoc}
 use Rattle.std.specs.List.{AllByRecursion}
 use mathlib.Core.List.{IsPrefix}
@@ -22,7 +22,7 @@ use Rattle.jr_model.proofs.Lawful.{IsLawful}
 use Rattle.jr_model.proofs.Moments.{prefix_trans}
 use Rattle.jr_model.proofs.RefusedCalls.{harmless_changes_nothing}
 use Rattle.jr_model.proofs.ShownRefusals.{LoseOnly, LosesOnly, Purpose, lost_at}
-use Rattle.jr_model.proofs.Stays.{append_cancel, mine_did, sees_its_own_acts}
+use Rattle.jr_model.proofs.Stays.{append_cancel, mine_did}
 use Rattle.jr_model.proofs.TrueRefusals.{truly}
 use Rattle.jr_gate.specs.Performing.{HasLearned, ThreadState}
 use Rattle.jr_env.specs.Deeds.{Deed, within_by}

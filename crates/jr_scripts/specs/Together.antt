@@ -1,6 +1,6 @@
 -- WHAT A SCRIPT OF SEVERAL THREADS MEANS: its threads' texts, each of a program of steps over what all share, in some
 -- order of their steps
-use Rattle.std.specs.Prelude.{◌≡◌, ◌<◌, ◌+◌, ◌-◌, ◌==◌, ◌&&◌, ◌||◌, ℕ, zero, suc, Bool, cond, not, nat_lt}
+use Rattle.std.specs.Prelude.{◌≡◌, ◌<◌, ◌+◌, ◌==◌, ◌&&◌, ◌||◌, ℕ, zero, suc, Bool, cond, not, nat_lt}
 use Rattle.std.specs.Prelude.{Option, Some, None, Result, Ok, Err, List, [], ◌∷◌, ◌++◌, length, slice_index_or}
 use Rattle.jr_word.specs.declared.config.Config.{Config}
 use Rattle.jr_word.specs.declared.fault.Fault.{Fault}
@@ -99,27 +99,17 @@ abbrev pub announces : Act (Unit {0})
 announces t luck s = cond (is_kept_closed t s || (not luck && nat_lt 0 (others_in t s))) (is_busy t s, s)
     (Ok tt, in_role Announcing t s)
 
--- the sweep, or a further try
-abbrev pub sweep_or_again : Doing Collected → Result (Unit {0}) Fault → Doing Collected
-sweep_or_again again (Ok shut) = by_step sweeps_out
-sweep_or_again again (Err e) = again
-
--- the last try: the sweep, or the announcement is taken back
+-- the gate is shut, and all goes that isn't reached; or the announcement is taken back
 abbrev pub sweep_or_out : Result (Unit {0}) Fault → Doing Collected
 sweep_or_out (Ok shut) = by_step sweeps_out
 sweep_or_out (Err e) = step go_out (λ out. ended (Err e))
 
--- the gate is shut at the first try, or at one of so many more; and else the announcement is taken back
-abbrev pub shut_in_tries : ℕ → Doing Collected
-shut_in_tries zero = whatever (by_step shuts) sweep_or_out
-shut_in_tries (suc more) = whatever (by_step shuts) (λ answer. sweep_or_again (shut_in_tries more) answer)
-
--- a collection that is announced
-abbrev pub announced_in_steps : ℕ → Doing Collected
-announced_in_steps more = do
+-- a collection that is announced. How often it is tried tells nothing: this is the last try
+abbrev pub announced_in_steps : Doing Collected
+announced_in_steps = do
   by_step finds_gate_still
   by_step announces
-  shut_in_tries more
+  whatever (by_step shuts) sweep_or_out
 
 -- THE BOARD
 
@@ -262,7 +252,7 @@ module _ (c : Config) (turns : ℕ) (names : Names) (words : ThreadWords) where
       the_named r >>= (λ h. in_reply (λ o. replies.Level o) (calls_opening h (get_critical v 0)))
   doing_outside (commands.OfRoom v) = whatever collected_in_steps (λ counts. decided (told counts))
   doing_outside (commands.WithTries v tries) =
-      whatever (tried_in_steps turns (announced_in_steps (tries - 1))) (λ counts. decided (told counts))
+      whatever (tried_in_steps turns announced_in_steps) (λ counts. decided (told counts))
   doing_outside (commands.OnNameAt on_name_at.Get n i) =
       in_reply (λ x. replies.Value x) (decided (getting i (binding names n)))
   doing_outside (commands.PutAt put_at.Put n i x) =

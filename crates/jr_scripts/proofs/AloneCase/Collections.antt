@@ -1,15 +1,15 @@
 -- COLLECTIONS of a thread alone: luck counts for nothing, since there are no others.
-use Rattle.std.proofs.Common.{◌≡◌, ◌==◌, ◌||◌, ℕ, zero, suc, false, cond, not, nat_lt, None, Ok, Err, List, [], ◌∷◌}
+use Rattle.std.proofs.Common.{◌≡◌, ◌==◌, ◌||◌, false, cond, not, nat_lt, None, Ok, Err, List, [], ◌∷◌}
 use Rattle.std.proofs.Common.{length, slice_set, refl, ap, arith}
 use Rattle.jr_word.specs.declared.fault.Fault.TheVariants as fault
 use Rattle.jr_model.specs.declared.event.Role.{Role}
 use Rattle.jr_model.specs.declared.event.Role.TheVariants.{Outside, Announcing, Collecting}
 use Rattle.jr_model.specs.State.{is_outside}
 use Rattle.jr_world.specs.World.{how_many}
-use Rattle.jr_world.specs.Doing.{Shared, by_step, in_role}
+use Rattle.jr_world.specs.Doing.{Shared, by_step, in_role, whatever}
 use Rattle.jr_scripts.specs.Posting.{ThreadWords}
 use Rattle.jr_scripts.specs.Together.{announced_in_steps, announces, collected_in_steps, finds_gate_still, is_busy}
-use Rattle.jr_scripts.specs.Together.{is_kept_closed, others_in, shut_in_tries, shuts, sweep_or_again, sweep_or_out}
+use Rattle.jr_scripts.specs.Together.{is_kept_closed, others_in, shuts, sweep_or_out}
 use Rattle.jr_scripts.specs.Together.{sweeps_out}
 use Rattle.jr_scripts.proofs.AloneCase.Grows.{sweep_grows}
 use Rattle.jr_scripts.proofs.AloneCase.Lone.{Goes, IsLone, Stands, either, ended_goes, goes_bind, goes_then}
@@ -39,12 +39,10 @@ module _ {words : ThreadWords} where
   pub collected_goes : Goes false words None None collected_in_steps
   collected_goes = goes_bind shut_goes (λ u. sweep_goes)
 
-  -- .. in tries, behind an announcement
-  shut_tries_go : (more : ℕ) → Goes false words None None (shut_in_tries more)
-  shut_tries_go zero = goes_then sweep_or_out shut_goes (λ u. sweep_goes)
+  -- .. behind an announcement, or it is taken back
+  try_goes : Goes false words None None (whatever (by_step shuts) sweep_or_out)
+  try_goes = goes_then sweep_or_out shut_goes (λ u. sweep_goes)
       (λ e. goes_whatever out_goes (λ out. ended_goes (Err e)))
-  shut_tries_go (suc more) = goes_then (sweep_or_again (shut_in_tries more)) shut_goes (λ u. sweep_goes)
-      (λ e. shut_tries_go more)
 
   still_goes : Goes false words None None (by_step finds_gate_still)
   still_goes = step_goes finds_gate_still
@@ -56,5 +54,5 @@ module _ {words : ThreadWords} where
       (none_other s lone))
       (λ s lone. either (Stands words None) (is_kept_closed 0 s || false) _ _ lone (role_lone Announcing s lone))
 
-  pub announced_goes : (more : ℕ) → Goes false words None None (announced_in_steps more)
-  announced_goes more = goes_bind still_goes (λ u. goes_bind announce_goes (λ v. shut_tries_go more))
+  pub announced_goes : Goes false words None None announced_in_steps
+  announced_goes = goes_bind still_goes (λ u. goes_bind announce_goes (λ v. try_goes))

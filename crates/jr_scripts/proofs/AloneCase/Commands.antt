@@ -158,7 +158,7 @@ module _ (c : Config) (turns : ℕ) (names : Names) (words : ThreadWords) where
       on_named r (λ h. reply_goes _ (opening_goes h (get_critical v 0) (critical_suits true v 0)))
   outside_is (commands.OfRoom v) = goes_whatever collected_goes (λ counts. ended_goes (told counts))
   outside_is (commands.WithTries v tries) =
-      goes_whatever (tried_goes turns (announced_goes _)) (λ counts. ended_goes (told counts))
+      goes_whatever (tried_goes turns announced_goes) (λ counts. ended_goes (told counts))
   outside_is (commands.OnNameAt on_name_at.Get n i) = reply_goes _ (ended_goes (getting i (binding names n)))
   outside_is (commands.PutAt put_at.Put n i x) = reply_goes _ (ended_goes (putting i x (binding names n)))
   outside_is (commands.Release v n r mode) =

@@ -1,6 +1,6 @@
 -- THE COMMAND WHOSE COLLECTION IS ANNOUNCED is played, and what it does are acts of its thread.
-use Rattle.std.proofs.Common.{◌≡◌, ◌<◌, ◌-◌, ℕ, Result, Ok, Err, List, [], ◌∷◌, ◌++◌, map, length}
-use Rattle.std.proofs.Common.{refl, sym, ap, subst, ◌∙◌, arith, append_assoc, append-nil}
+use Rattle.std.proofs.Common.{◌≡◌, ◌<◌, ℕ, Result, Ok, Err, List, [], ◌∷◌, ◌++◌, map, length}
+use Rattle.std.proofs.Common.{refl, sym, ap, subst, ◌∙◌, append_assoc, append-nil}
 use mathlib.Core.List.{IsPrefix}
 use Rattle.jr_word.specs.declared.fault.Fault.{Fault}
 use Rattle.jr_word.specs.declared.fault.Fault.TheVariants.{Busy, Moved, Raced}
@@ -33,7 +33,6 @@ use Rattle.jr_scripts.specs.Together.{announced_in_steps, tried_in_steps}
 use Rattle.jr_scripts.proofs.TogetherRun.KeptFrames.{announced_keeps, same_collected}
 use Rattle.jr_scripts.proofs.TogetherRun.AnnouncedPlays.{announced_tries, closed_plays, late_plays, moved_plays}
 use Rattle.jr_scripts.proofs.TogetherRun.AnnouncedPlays.{moved_several, others_own, swept_plays, taken_back_plays}
-use Rattle.jr_scripts.proofs.TogetherRun.AnnouncedPlays.{tries_after, tries_long}
 use Rattle.jr_scripts.proofs.TogetherRun.CollectedCommand.{shut_whole}
 use Rattle.jr_scripts.proofs.TogetherRun.Moments.{AnswerSo, DeedPlays, EndsSo, HasDid, IsPass, ReplyIs, Room, Since}
 use Rattle.jr_scripts.proofs.TogetherRun.Moments.ReplyIs.{the_same}
@@ -78,7 +77,7 @@ module _ (r : Room) (t : ℕ) (small : t < r.config.threads) where
   abbrev OncePlays : ℕ → ThreadState → ThreadState → History → List (Item Act) → Result Collected Fault → Frames
       → List Act → Type 0
   OncePlays tries old new past behind answer g acts = Plays r.config r.whole t (EndsSo r t Same new answer) g behind
-      (announced_in_steps (tries - 1)) past old.frames (map acting acts)
+      announced_in_steps past old.frames (map acting acts)
 
   -- between its moments
   module _ (tries : ℕ) (old new : ThreadState) (past : History) (behind : List (Item Act))
@@ -93,11 +92,9 @@ module _ (r : Room) (t : ℕ) (small : t < r.config.threads) where
         → OncePlays tries old new past behind (Ok x) old.frames
         (announcing_acts d.refused ++ collection_acts d.done.cleared d.done.dropped x.used)
     collected_once x d =
-        subst (λ m. Plays r.config r.whole t (Ends (Ok x)) old.frames behind (announced_in_steps m) past old.frames
-        (map acting (before ++ sweep))) many
-        (announced_tries r.config r.last r.whole t r.legal (Ends (Ok x)) old.frames behind d.refused more sweep past
-        (λ later own. swept_plays r.config r.last r.whole t r.legal (Ends (Ok x)) old.frames behind more later
-        cleared dropped x.used (complete later own) (ends later own)))
+        announced_tries r.config r.last r.whole t r.legal (Ends (Ok x)) old.frames behind d.refused sweep past
+        (λ later own. swept_plays r.config r.last r.whole t r.legal (Ends (Ok x)) old.frames behind later
+        cleared dropped x.used (complete later own) (ends later own))
       where
         cleared : List Handle
         cleared = d.done.cleared
@@ -113,12 +110,6 @@ module _ (r : Room) (t : ℕ) (small : t < r.config.threads) where
 
         first : Did old.pass d.done.collects.shutting before
         first = d.done.collects.announced
-
-        more : ℕ
-        more = tries - 1 - length d.refused
-
-        many : tries_after d.refused more ≡ tries - 1
-        many = let few = d.few in let long = tries_long d.refused more in omega (arith, few, long)
 
         complete : (later : History) → mine later t ≡ mine past t ++ before → (shutting : History)
             → ActsNext r.config r.whole t later shutting (Gate Shut) → IsWhole (state shutting) cleared dropped
@@ -156,37 +147,32 @@ module _ (r : Room) (t : ℕ) (small : t < r.config.threads) where
         → OncePlays tries old new past behind (Err e) old.frames acts
     refused_once e acts did (closed_at_look n are busy some closed held) =
         subst (OncePlays tries old new past behind (Err e) old.frames) (sym are)
-        (closed_plays r.config r.last r.whole t r.legal (Ends (Err e)) old.frames behind (tries - 1) n past
+        (closed_plays r.config r.last r.whole t r.legal (Ends (Err e)) old.frames behind n past
         (refused_there e acts (ShutBusy n ∷ []) did are (Busy n) (same_busy e n busy)))
     refused_once e acts did (closed_at_exchange n are busy some closed held) =
         subst (OncePlays tries old new past behind (Err e) old.frames) (sym are)
-        (late_plays r.config r.last r.whole t r.legal (Ends (Err e)) old.frames behind (tries - 1) n past
+        (late_plays r.config r.last r.whole t r.legal (Ends (Err e)) old.frames behind n past
         (refused_there e acts (Meet ∷ ShutBusy n ∷ []) did are (Busy n) (same_busy e n busy)))
     refused_once e acts did (moved_at_exchange looked found are moved gate held) =
         subst (OncePlays tries old new past behind (Err e) old.frames) (sym are)
-        (moved_plays r.config r.last r.whole t r.legal (Ends (Err e)) old.frames behind (tries - 1) past
+        (moved_plays r.config r.last r.whole t r.legal (Ends (Err e)) old.frames behind past
         (moved_several r.config t looked found old.pass new.pass small (pass_later acts did is).config
         (own_acts (Meet ∷ Meet ∷ []) is (subst (Did old.pass new.pass) are did)) gate)
         (refused_there e acts (Meet ∷ Meet ∷ []) did are (Moved 0 0)
         (subst (λ z. SameFault z (Moved 0 0)) (sym moved) tt)))
     refused_once e acts did (taken_back refused n are busy some all until held) =
         subst (OncePlays tries old new past behind (Err e) old.frames) (sym are)
-        (subst (λ m. Plays r.config r.whole t (Ends (Err e)) old.frames behind (announced_in_steps m) past old.frames
-        (map acting (announcing_acts refused ++ out))) many
-        (announced_tries r.config r.last r.whole t r.legal (Ends (Err e)) old.frames behind refused 0 out past
+        (announced_tries r.config r.last r.whole t r.legal (Ends (Err e)) old.frames behind refused out past
         (λ later own. taken_back_plays r.config r.last r.whole t r.legal (Ends (Err e)) old.frames behind n later
         (λ end end_begins since. refused_there e acts (announcing_acts refused ++ out) did are (Busy n)
         (same_busy e n busy) end end_begins (since
-        ∙ (ap (λ l. l ++ out) own ∙ append_assoc (mine past t) (announcing_acts refused) out))))))
+        ∙ (ap (λ l. l ++ out) own ∙ append_assoc (mine past t) (announcing_acts refused) out)))))
       where
         out : List Act
         out = ShutBusy n ∷ Gate Cancel ∷ []
 
-        many : tries_after refused 0 ≡ tries - 1
-        many = let long = tries_long refused 0 in omega (arith, all, long)
-
   once_plays : (tries : ℕ) {h : History} {F : Frames → Type 0}
-      → DeedPlays r t h F Same (announced_collection tries) (announced_in_steps (tries - 1))
+      → DeedPlays r t h F Same (announced_collection tries) announced_in_steps
   once_plays tries {h} {F} = record { plays = plays }
     where
       plays : (old new : ThreadState) (past : History) (answer : Result Collected Fault) (acts : List Act)
@@ -215,13 +201,13 @@ module _ (r : Room) (t : ℕ) (small : t < r.config.threads) where
 
     -- its tries, one after the other
     turns_play : {h : History} {F : Frames → Type 0} → DeedPlays r t h F Same (Tried (announced_collection tries) turns)
-        (tried_in_steps turns (announced_in_steps (tries - 1)))
+        (tried_in_steps turns announced_in_steps)
     turns_play = tried_plays r t turns (once_did tries)
         (λ old new e is d. given_up_keeps tries old new e d) (λ later since. once_plays tries)
 
     pub announced_plays : {h : History} {F : Frames → Type 0}
         → DeedPlays r t h F ReplyIs (collecting_announced turns tries)
-        (whatever (tried_in_steps turns (announced_in_steps (tries - 1))) (λ counts. ended (told counts)))
+        (whatever (tried_in_steps turns announced_in_steps) (λ counts. ended (told counts)))
     announced_plays {h} {F} = record { plays = plays }
       where
         plays : (old new : ThreadState) (past : History) (answer : Result Reply Fault) (acts : List Act)
@@ -229,17 +215,17 @@ module _ (r : Room) (t : ℕ) (small : t < r.config.threads) where
             → collecting_announced turns tries old answer new → Did old.pass new.pass acts
             → IsPrefix new.pass.seen r.whole → HasComeTo r.whole old.pass past → Since r t h past → F old.frames
             → Plays r.config r.whole t (EndsSo r t ReplyIs new answer) new.frames behind
-            (whatever (tried_in_steps turns (announced_in_steps (tries - 1))) (λ counts. ended (told counts))) past
+            (whatever (tried_in_steps turns announced_in_steps) (λ counts. ended (told counts))) past
             old.frames (map acting acts)
         plays old new past answer acts behind is d did begins come since f =
             subst (λ z. Plays r.config r.whole t (EndsSo r t ReplyIs new z) new.frames behind
-            (whatever (tried_in_steps turns (announced_in_steps (tries - 1))) (λ counts. ended (told counts))) past
+            (whatever (tried_in_steps turns announced_in_steps) (λ counts. ended (told counts))) past
             old.frames (map acting acts)) (sym d.1)
             (subst (λ l. Plays r.config r.whole t (EndsSo r t ReplyIs new (told d.0)) new.frames behind
-            (whatever (tried_in_steps turns (announced_in_steps (tries - 1))) (λ counts. ended (told counts))) past
+            (whatever (tried_in_steps turns announced_in_steps) (λ counts. ended (told counts))) past
             old.frames l) (append-nil (map acting acts))
             (joined_later r.config r.whole t (EndsSo r t Same new d.0) (EndsSo r t ReplyIs new (told d.0)) new.frames
-            new.frames (λ counts. ended (told counts)) [] behind (tried_in_steps turns (announced_in_steps (tries - 1)))
+            new.frames (λ counts. ended (told counts)) [] behind (tried_in_steps turns announced_in_steps)
             past old.frames (map acting acts)
             ((turns_play {h = h} {F = F}).plays old new past d.0 acts behind is d.2 did begins come since f)
             (λ later y later_begins so. has_ended (told y) (so.0, told_so later d.0 y so.1))))

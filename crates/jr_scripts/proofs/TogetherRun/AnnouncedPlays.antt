@@ -1,6 +1,6 @@
 -- AN ANNOUNCED COLLECTION IS PLAYED by the steps of its page: the look and the announcement, the tries that are
 -- refused, and then the collection or the way back.
-use Rattle.std.proofs.Common.{◌≡◌, ◌≤◌, ◌<◌, ◌+◌, ◌||◌, ℕ, zero, suc, Bool, true, false, cond, nat_lt, ⊎_elim}
+use Rattle.std.proofs.Common.{◌≡◌, ◌≤◌, ◌<◌, ◌||◌, ℕ, Bool, true, false, cond, nat_lt, ⊎_elim}
 use Rattle.std.proofs.Common.{Result, Ok, Err, List, [], ◌∷◌, ◌++◌, map, length}
 use Rattle.std.proofs.Common.{refl, sym, ap, subst, ◌∙◌, arith, append_assoc, append-nil, lt-ltb}
 use Rattle.std.specs.List.{AllByRecursion}
@@ -34,7 +34,7 @@ use Rattle.jr_world.proofs.Standing.{next_needs}
 use Rattle.one_order.specs.Orders.{Item}
 use Rattle.one_order.specs.Orders.Item.{does as acting}
 use Rattle.jr_scripts.specs.Together.{announced_in_steps, announces, finds_gate_still, is_kept_closed, others_in}
-use Rattle.jr_scripts.specs.Together.{shut_in_tries, sweep_or_again, sweep_or_out}
+use Rattle.jr_scripts.specs.Together.{shuts, sweep_or_out}
 use Rattle.jr_scripts.proofs.TogetherRun.CollectionPlays.{collected_plays, kept_plays, others_told}
 use Rattle.jr_scripts.proofs.AloneHistories.{all_front}
 
@@ -95,15 +95,6 @@ moved_several c t looked found old new small config own moved = ⊎_elim
         let only : t ≡ u = omega (arith, small, few, row) in
         subst (λ z. (state moved.looked_at.moment).role z ≡ (state moved.later.moment).role z) only both
 
--- SO MANY TRIES, of which these were refused, and then so many more
-abbrev pub tries_after : List ℕ → ℕ → ℕ
-tries_after [] more = more
-tries_after (n ∷ ns) more = suc (tries_after ns more)
-
-pub tries_long : (refused : List ℕ) (more : ℕ) → tries_after refused more ≡ length refused + more
-tries_long [] more = omega arith
-tries_long (n ∷ ns) more = let rest = tries_long ns more in omega (arith, rest)
-
 module _ (c : Config) (last : ℕ) (whole : History) (t : ℕ) (legal : IsLegal c last whole) where
   -- WHAT THE THREAD HAS DONE is no more where others went on
   pub others_own : (past now : History) → OthersGoOn c whole t past now → mine now t ≡ mine past t
@@ -143,22 +134,25 @@ module _ (c : Config) (last : ℕ) (whole : History) (t : ℕ) (legal : IsLegal 
     Played d past items = Plays c whole t V g behind d past g items
 
     -- THE LOOK, and then the announcement
-    abbrev announcing : ℕ → Doing Collected
-    announcing more = whatever (by_step announces) (unless_refused (λ (u : Unit {0}). shut_in_tries more))
+    abbrev trying : Doing Collected
+    trying = whatever (by_step shuts) sweep_or_out
 
-    look_plays : (more : ℕ) (past : History) (items : List (Item Act))
-        → ((now : History) → ActsNext c whole t past now Meet → Played (announcing more) (now ++ by t Meet ∷ []) items)
-        → Played (announced_in_steps more) past (acting Meet ∷ items)
-    look_plays more past items next = does true Meet g
+    abbrev announcing : Doing Collected
+    announcing = whatever (by_step announces) (unless_refused (λ (u : Unit {0}). trying))
+
+    look_plays : (past : History) (items : List (Item Act))
+        → ((now : History) → ActsNext c whole t past now Meet → Played announcing (now ++ by t Meet ∷ []) items)
+        → Played (announced_in_steps) past (acting Meet ∷ items)
+    look_plays past items next = does true Meet g
         (λ now s goes st. (look_shows c t now g s Meet refl st, keeps s))
         (λ now s goes st. next now goes)
 
     -- IT IS ANNOUNCED, and then the tries
-    announce_plays : (more : ℕ) (past : History) (items : List (Item Act))
+    announce_plays : (past : History) (items : List (Item Act))
         → ((now : History) → ActsNext c whole t past now (Gate Announce)
-        → Played (shut_in_tries more) (now ++ by t (Gate Announce) ∷ []) items)
-        → Played (announcing more) past (acting (Gate Announce) ∷ items)
-    announce_plays more past items next = does true (Gate Announce) g
+        → Played trying (now ++ by t (Gate Announce) ∷ []) items)
+        → Played announcing past (acting (Gate Announce) ∷ items)
+    announce_plays past items next = does true (Gate Announce) g
         (λ now s goes st.
         subst (λ (z : Result (Unit {0}) Fault × Shared). SharedStands c t (now ++ by t (Gate Announce) ∷ []) g z.1
         × LeavesOthers t s z.1) (sym (found now s goes st)) (
@@ -167,7 +161,7 @@ module _ (c : Config) (last : ℕ) (whole : History) (t : ℕ) (legal : IsLegal 
           record { frames = λ u ne. refl; board = refl },
         ))
         (λ now s goes st. subst (λ (z : Result (Unit {0}) Fault × Shared).
-        Played (unless_refused (λ (u : Unit {0}). shut_in_tries more) z.0) (now ++ by t (Gate Announce) ∷ []) items)
+        Played (unless_refused (λ (u : Unit {0}). trying) z.0) (now ++ by t (Gate Announce) ∷ []) items)
         (sym (found now s goes st)) (next now goes))
       where
         found : (now : History) (s : Shared) → ActsNext c whole t past now (Gate Announce) → SharedStands c t now g s
@@ -176,17 +170,17 @@ module _ (c : Config) (last : ℕ) (whole : History) (t : ℕ) (legal : IsLegal 
             ((next_needs c last whole t legal past now (Gate Announce) goes).1).1 st)
 
     -- IT IS NOT: others are in the way, and that is all
-    busy_plays : (more : ℕ) (past : History) (n : ℕ)
+    busy_plays : (past : History) (n : ℕ)
         → ((now : History) → ActsNext c whole t past now (ShutBusy n)
         → V (now ++ by t (ShutBusy n) ∷ []) (Err (fault.Busy n)))
-        → Played (announcing more) past (acting (ShutBusy n) ∷ [])
-    busy_plays more past n so = does false (ShutBusy n) g
+        → Played announcing past (acting (ShutBusy n) ∷ [])
+    busy_plays past n so = does false (ShutBusy n) g
         (λ now s goes st.
         subst (λ (z : Result (Unit {0}) Fault × Shared). SharedStands c t (now ++ by t (ShutBusy n) ∷ []) g z.1
         × LeavesOthers t s z.1) (sym (found now s goes st))
         (look_shows c t now g s (ShutBusy n) refl st, keeps s))
         (λ now s goes st. subst (λ (z : Result (Unit {0}) Fault × Shared).
-        Played (unless_refused (λ (u : Unit {0}). shut_in_tries more) z.0) (now ++ by t (ShutBusy n) ∷ []) [])
+        Played (unless_refused (λ (u : Unit {0}). trying) z.0) (now ++ by t (ShutBusy n) ∷ []) [])
         (sym (found now s goes st)) (has_ended (Err (fault.Busy n)) (so now goes)))
       where
         found : (now : History) (s : Shared) → ActsNext c whole t past now (ShutBusy n) → SharedStands c t now g s
@@ -197,48 +191,44 @@ module _ (c : Config) (last : ℕ) (whole : History) (t : ℕ) (legal : IsLegal 
             (others_told c last whole t legal now g s n needs.0 (needs.1).1 st)
             ∙ busy_by (is_kept_closed t s) n s (needs.1).2
 
-    -- TRIES ARE REFUSED, and then the rest
-    shut_tries : (refused : List ℕ) (more : ℕ) (rest : List Act) (past : History)
+    -- TRIES ARE REFUSED, which no step tells, and then the rest
+    refused_tries : (refused : List ℕ) (rest : List Act) (past : History)
         → ((later : History) → mine later t ≡ mine past t ++ map ShutBusy refused
-        → Played (shut_in_tries more) later (map acting rest))
-        → Played (shut_in_tries (tries_after refused more)) past (map acting (map ShutBusy refused ++ rest))
-    shut_tries [] more rest past next = next past (sym (append-nil (mine past t)))
-    shut_tries (n ∷ ns) more rest past next = kept_plays c last whole t legal V g behind
-        (λ answer. sweep_or_again (shut_in_tries (tries_after ns more)) answer) past g
-        (map acting (map ShutBusy ns ++ rest)) n
-        (λ now goes. shut_tries ns more rest (now ++ by t (ShutBusy n) ∷ []) (λ later own. next later
+        → Played trying later (map acting rest))
+        → Played trying past (map acting (map ShutBusy refused ++ rest))
+    refused_tries [] rest past next = next past (sym (append-nil (mine past t)))
+    refused_tries (n ∷ ns) rest past next = unseen (ShutBusy n)
+        (λ now s goes st. look_shows c t now g s (ShutBusy n) refl st)
+        (λ now goes. refused_tries ns rest (now ++ by t (ShutBusy n) ∷ []) (λ later own. next later
         (next_left past now later (ShutBusy n) (map ShutBusy ns) goes own)))
 
     -- THE BEGINNING of one that is announced
-    pub announced_tries : (refused : List ℕ) (more : ℕ) (rest : List Act) (past : History)
+    pub announced_tries : (refused : List ℕ) (rest : List Act) (past : History)
         → ((later : History) → mine later t ≡ mine past t ++ announcing_acts refused
-        → Played (shut_in_tries more) later (map acting rest))
-        → Played (announced_in_steps (tries_after refused more)) past (map acting (announcing_acts refused ++ rest))
-    announced_tries refused more rest past next =
-        look_plays (tries_after refused more) past (map acting (Gate Announce ∷ map ShutBusy refused ++ rest))
-        (λ now goes. announce_plays (tries_after refused more) (now ++ by t Meet ∷ [])
-        (map acting (map ShutBusy refused ++ rest))
-        (λ now' goes'. shut_tries refused more rest (now' ++ by t (Gate Announce) ∷ []) (λ later own. next later
+        → Played trying later (map acting rest))
+        → Played announced_in_steps past (map acting (announcing_acts refused ++ rest))
+    announced_tries refused rest past next =
+        look_plays past (map acting (Gate Announce ∷ map ShutBusy refused ++ rest))
+        (λ now goes. announce_plays (now ++ by t Meet ∷ []) (map acting (map ShutBusy refused ++ rest))
+        (λ now' goes'. refused_tries refused rest (now' ++ by t (Gate Announce) ∷ []) (λ later own. next later
         (next_left past now later Meet (Gate Announce ∷ map ShutBusy refused) goes
         (next_left (now ++ by t Meet ∷ []) now' later (Gate Announce) (map ShutBusy refused) goes' own)))))
 
     -- ITS ENDS: the collection
-    pub swept_plays : (more : ℕ) (past : History) (cleared : List Handle) (dropped : List ℕ) (used : ℕ)
+    pub swept_plays : (past : History) (cleared : List Handle) (dropped : List ℕ) (used : ℕ)
         → ((before : History) → ActsNext c whole t past before (Gate Shut) → IsWhole (state before) cleared dropped)
         → ((later : History) → IsPrefix later whole
         → mine later t ≡ mine past t ++ collection_acts cleared dropped used
         → V later (Ok (record { cleared = length cleared; dropped = length dropped; used = used })))
-        → Played (shut_in_tries more) past (map acting (collection_acts cleared dropped used))
-    swept_plays zero past cleared dropped used complete so = collected_plays c last whole t legal V g behind (λ x. x)
+        → Played trying past (map acting (collection_acts cleared dropped used))
+    swept_plays past cleared dropped used complete so = collected_plays c last whole t legal V g behind (λ x. x)
         sweep_or_out past cleared dropped used refl complete so
-    swept_plays (suc more) past cleared dropped used complete so = collected_plays c last whole t legal V g behind
-        (λ x. x) (λ answer. sweep_or_again (shut_in_tries more) answer) past cleared dropped used refl complete so
 
     -- .. the last try is refused, and the announcement taken back
     pub taken_back_plays : (n : ℕ) (past : History)
         → ((later : History) → IsPrefix later whole → mine later t ≡ mine past t ++ (ShutBusy n ∷ Gate Cancel ∷ [])
         → V later (Err (fault.Busy n)))
-        → Played (shut_in_tries 0) past (map acting (ShutBusy n ∷ Gate Cancel ∷ []))
+        → Played trying past (map acting (ShutBusy n ∷ Gate Cancel ∷ []))
     taken_back_plays n past so = kept_plays c last whole t legal V g behind sweep_or_out past g
         (acting (Gate Cancel) ∷ []) n
         (λ now goes. leaves_plays c last whole t legal V behind (Err (fault.Busy n)) Cancel
@@ -248,34 +238,34 @@ module _ (c : Config) (last : ℕ) (whole : History) (t : ℕ) (legal : IsLegal 
         (next_own (now ++ by t (ShutBusy n) ∷ []) now' (Gate Cancel) goes'))))
 
     -- .. the look found others in the way
-    pub closed_plays : (more n : ℕ) (past : History)
+    pub closed_plays : (n : ℕ) (past : History)
         → ((later : History) → IsPrefix later whole → mine later t ≡ mine past t ++ (ShutBusy n ∷ [])
         → V later (Err (fault.Busy n)))
-        → Played (announced_in_steps more) past (map acting (ShutBusy n ∷ []))
-    closed_plays more n past so = moves true g (λ now s goes st. (st, keeps s))
-        (λ now s goes st. busy_plays more now n (λ now' goes'. so (now' ++ by t (ShutBusy n) ∷ []) goes'.next
+        → Played (announced_in_steps) past (map acting (ShutBusy n ∷ []))
+    closed_plays n past so = moves true g (λ now s goes st. (st, keeps s))
+        (λ now s goes st. busy_plays now n (λ now' goes'. so (now' ++ by t (ShutBusy n) ∷ []) goes'.next
         (next_own now now' (ShutBusy n) goes' ∙ ap (λ l. l ++ ShutBusy n ∷ []) (others_own past now goes))))
 
     -- .. or the exchange did
-    pub late_plays : (more n : ℕ) (past : History)
+    pub late_plays : (n : ℕ) (past : History)
         → ((later : History) → IsPrefix later whole → mine later t ≡ mine past t ++ (Meet ∷ ShutBusy n ∷ [])
         → V later (Err (fault.Busy n)))
-        → Played (announced_in_steps more) past (map acting (Meet ∷ ShutBusy n ∷ []))
-    late_plays more n past so = look_plays more past (acting (ShutBusy n) ∷ [])
-        (λ now goes. busy_plays more (now ++ by t Meet ∷ []) n
+        → Played (announced_in_steps) past (map acting (Meet ∷ ShutBusy n ∷ []))
+    late_plays n past so = look_plays past (acting (ShutBusy n) ∷ [])
+        (λ now goes. busy_plays (now ++ by t Meet ∷ []) n
         (λ now' goes'. so (now' ++ by t (ShutBusy n) ∷ []) goes'.next
         (next_left past now (now' ++ by t (ShutBusy n) ∷ []) Meet (ShutBusy n ∷ []) goes
         (next_own (now ++ by t Meet ∷ []) now' (ShutBusy n) goes'))))
 
     -- .. or both looks found it open, with two counts
-    pub moved_plays : (more : ℕ) (past : History) → 1 < c.threads
+    pub moved_plays : (past : History) → 1 < c.threads
         → ((later : History) → IsPrefix later whole → mine later t ≡ mine past t ++ (Meet ∷ Meet ∷ [])
         → V later (Err (fault.Moved 0 0)))
-        → Played (announced_in_steps more) past (map acting (Meet ∷ Meet ∷ []))
-    moved_plays more past several so = unseen Meet (λ now s goes st. look_shows c t now g s Meet refl st)
+        → Played (announced_in_steps) past (map acting (Meet ∷ Meet ∷ []))
+    moved_plays past several so = unseen Meet (λ now s goes st. look_shows c t now g s Meet refl st)
         (λ now goes. does false Meet g
         (λ now' s goes' st. (look_shows c t now' g s Meet refl st, keeps s))
-        (λ now' s goes' st. subst (λ z. Played (unless_refused (λ (u : Unit {0}). announcing more) z)
+        (λ now' s goes' st. subst (λ z. Played (unless_refused (λ (u : Unit {0}). announcing) z)
         (now' ++ by t Meet ∷ []) []) (sym (found now' s st))
         (has_ended (Err (fault.Moved 0 0)) (so (now' ++ by t Meet ∷ []) goes'.next
         (next_left past now (now' ++ by t Meet ∷ []) Meet (Meet ∷ []) goes
