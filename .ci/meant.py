@@ -1,14 +1,15 @@
 """What the definitions say of texts, run by `.ci/antt.py`, for the scripts beside this file: which fault a text has, and what a script may
-print: of one thread by `Meaning.antt`, of several by `Together.antt` and `.ci/schedules.py`."""
+print: of one thread by `Meaning.antt`, of several by `Together.antt` and `.ci/schedules.py`, and by `OneRow.antt` and `.ci/rows.py`."""
 
 from functools import cached_property
 
 from antt import Definitions
-from schedules import DOING, TOGETHER, TURNS, Schedules
+from rows import in_turns, rows_of
+from schedules import DOING, TEXT, TOGETHER, TURNS, Schedules
 
-WORLD, SWEEPS, MEANING = "jr_world.specs.World", "jr_scripts.specs.Sweeps", "jr_scripts.specs.Meaning"
+WORLD, SWEEPS, MEANING, ONE_ROW = "jr_world.specs.World", "jr_scripts.specs.Sweeps", "jr_scripts.specs.Meaning", "jr_scripts.specs.OneRow"
 # The files of what scripts mean, of which each equation is to be come to.
-READ = (WORLD, DOING, SWEEPS, TOGETHER, MEANING)
+READ = (WORLD, DOING, SWEEPS, TOGETHER, MEANING, ONE_ROW)
 CALLS = "jr_model.specs.CallPrograms"
 # What no script comes to: a frame always stands, and so do a thread's role, its part, a reference that was just made, and each object that
 # a reference, an element or a level names; a `drop` of any kind takes the steps of a local one; here no call is made so often that it is E20; and
@@ -19,6 +20,16 @@ UNUSED = {
 }  # fmt: skip
 # Definitions whose list is asked for its elements alone, and those that each line asks again of all lines before it.
 AS_SETS, KEPT = ("reached_by",), ("verb_of", "is_thread_line", "second_word", "posted_by")
+# Kept scripts of several threads whose commands stand in no row: two threads take steps beside each other, or a collection comes beside a
+# thread's end.
+IN_NO_ROW = {
+    "examples/threads", "scripts/references/what_another_thread_names_in_each_command", "scripts/regions/sixty_three_regions_stand",
+    "scripts/rows/a_collection_is_refused_beside_an_end", "scripts/rows/what_a_third_thread_does_not_hear", "scripts/threads/a_shared_reference",
+    "scripts/threads/regions_at_once", "scripts/threads/sixty_four_threads_in_a_circle", "scripts/threads/two_regions_at_one_array",
+    "scripts/threads/words_beside",
+}  # fmt: skip
+# What tells in a text that no memory was found for a copy, or that a wait was in vain.
+DISTURBED = (("Memory",), ("Turns",))
 # Scripts of so many threads run by all schedules, where these come to no more states.
 MOST_THREADS, MOST_STATES = 3, 8_000
 
@@ -28,7 +39,8 @@ class Meant:
 
     def __init__(self, texts=None):
         """Takes texts in the place of files of definitions, by their modules."""
-        self.definitions, self.noting, self.by_all = Definitions(texts, AS_SETS, KEPT), Definitions(texts, AS_SETS, KEPT), []
+        self.definitions, self.noting = Definitions(texts, AS_SETS, KEPT), Definitions(texts, AS_SETS, KEPT)
+        self.by_all, self.ordered = [], []
 
     @cached_property
     def schedules(self):
@@ -73,6 +85,25 @@ class Meant:
         found = self.schedules.texts(script, MOST_STATES) if len(script["threads"]) <= MOST_THREADS else None
         self.by_all.append(len(found or ()))
         return found or {self.schedules.text_in_order(script)}
+
+    def is_disturbed(self, printed):
+        """Returns whether a text says that a copy found no memory, or that a wait was in vain."""
+        return any(bytes(self.definitions.run(TEXT, "refused", 0, it)[1:]) in printed for it in DISTURBED)
+
+    def is_ordered(self, script, row):
+        """Returns whether a row of the commands of a script is ordered."""
+        return self.definitions.run(ONE_ROW, "is_ordered", len(script["threads"]), self.definitions.run(ONE_ROW, "no_news"), row)
+
+    def in_rows(self, text):
+        """Returns what a script of several threads prints by ordered rows of its commands: nothing where none that is tried is ordered."""
+        script = self.script(text)
+        rows = [it for it in rows_of(script) if self.is_ordered(script, it)]
+        self.ordered.append(bool(rows))
+        return {bytes(self.definitions.run(ONE_ROW, "text_of_row", TURNS, script, it)) for it in rows}
+
+    def in_turns(self, text, draw):
+        """Returns the text of a script whose commands stand in one row: those of this one, with posts and waits between."""
+        return bytes(self.run("Script", "text_of", in_turns(self.script(text), draw)))
 
     def printed_without(self, text):
         """Returns what a script of one thread may print where one of its copies finds no memory."""

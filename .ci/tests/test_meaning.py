@@ -6,7 +6,7 @@ import unittest
 from shared import CI, repository
 from antt import Definitions, constant
 from cases import cases
-from meant import AS_SETS, CALLS, KEPT, SWEEPS, WORLD, Meant
+from meant import AS_SETS, CALLS, IN_NO_ROW, KEPT, ONE_ROW, SWEEPS, WORLD, Meant
 from rattle import text_of
 from schedules import DOING, TOGETHER
 
@@ -119,6 +119,48 @@ PLANTED = {
         "    h ← the_named r\n    b ← decided (buffer_in (binding names n))\n",
     ),
 }  # fmt: skip
+# What is planted in `OneRow.antt`, in the same form: by it a kept script prints another text, or stands in a row and must not, or in none.
+PLANTED_IN_ROWS = {
+    "who posts tells nothing": (
+        "examples/handing",
+        "is_told_by = cond (k.is_known_to t) (and_name n k.is_told_by) k.is_told_by;",
+        "is_told_by = k.is_told_by;",
+    ),
+    "who posts tells what it does not know": (
+        "scripts/rows/what_a_third_thread_does_not_hear",
+        "is_told_by = cond (k.is_known_to t) (and_name n k.is_told_by) k.is_told_by;",
+        "is_told_by = and_name n k.is_told_by;",
+    ),
+    "a wait tells all": ("scripts/rows/what_a_third_thread_does_not_hear", "(k.is_told_by n && u == t) ||", "k.is_told_by n ||"),
+    "all know of a step": ("examples/threads", "is_known_to = λ u. u == t; is_told_by", "is_known_to = λ u. true; is_told_by"),
+    "who knew of the step before knows of the next": (
+        "scripts/threads/a_shared_reference",
+        "is_known_to = λ u. u == t; is_told_by",
+        "is_known_to = λ u. u == t || k.is_known_to u; is_told_by",
+    ),
+    "a wait tells who waits what nobody told": ("scripts/threads/regions_at_once", "(k.is_told_by n && u == t) ||", "u == t ||"),
+    "a collection may come beside an end": (
+        "scripts/rows/a_collection_is_refused_beside_an_end",
+        "k.is_known_to t && each_hears threads (news_of t k) xs",
+        "k.is_known_to t",
+    ),
+    "a collection may come beside a step": (
+        "scripts/threads/regions_at_once",
+        "k.is_known_to t && each_hears threads (news_of t k) xs",
+        "each_hears threads (news_of t k) xs",
+    ),
+    "who hears of a collection knows of it at the end": ("examples/held", "hears t k (x ∷ xs) = k.is_known_to t || hears", "hears t k (x ∷ xs) = hears"),
+    "an element of a buffer is shared": ("scripts/rows/a_buffer_is_its_threads_own", "on_name_at.Get n i) = apart", "on_name_at.Get n i) = acts"),
+    "an element is put for all": ("scripts/rows/a_buffer_is_its_threads_own", "put_at.Put n i x) = apart", "put_at.Put n i x) = acts"),
+    "an abort is shared": ("scripts/rows/a_buffer_is_its_threads_own", "(commands.Release v n r Abort) = apart", "(commands.Release v n r Abort) = acts"),
+    "lines have other numbers": ("examples/held", "printed p.line x answer", "printed (p.line + 1) x answer"),
+    "a thread's line has no number": (
+        "scripts/threads/a_local_reference_is_of_its_own_thread_alone",
+        "first_stand (line + 1 + length p.commands) ps t",
+        "first_stand (line + length p.commands) ps t",
+    ),
+    "the first thread takes all steps": ("scripts/threads/a_local_reference_is_of_its_own_thread_alone", "run_alone t true", "run_alone 0 true"),
+}  # fmt: skip
 
 
 class SmallDefinitions(unittest.TestCase):
@@ -183,6 +225,30 @@ class Scripts(unittest.TestCase):
             planted = Meant({module: text.replace(old, new)})
             self.assertEqual(whole.printed(kept[name].text), kept[name].output, what)
             self.assertNotEqual(planted.printed(kept[name].text), kept[name].output, what)
+
+    def test_kept_scripts_tell_what_is_planted_in_rows(self):
+        kept, whole, text = {it.name: it for it in cases()}, Meant(), text_of(f"crates/{ONE_ROW.replace('.', '/')}.antt")
+        for what, (name, old, new) in PLANTED_IN_ROWS.items():
+            self.assertEqual(text.count(old), 1, what)
+            said = whole.in_rows(kept[name].text)
+            self.assertEqual(said, set() if name in IN_NO_ROW else {kept[name].output}, what)
+            self.assertNotEqual(Meant({ONE_ROW: text.replace(old, new)}).in_rows(kept[name].text), said, what)
+
+    def test_a_name_is_posted_once_and_before_each_wait(self):
+        meant = Meant()
+        script = meant.script(b"vm threads 2 slots 1 objects 1 words 1 locals 16\nthread a\npost x\nthread b\nwait x\n")
+        post, wait = ((number, it["commands"][0]) for number, it in enumerate(script["threads"]))
+        said = [meant.is_ordered(script, it) for it in ((post, wait), (post, wait, wait), (wait, post), (post, post))]
+        self.assertEqual(said, [True, True, False, False])
+
+    def test_a_collection_must_be_heard_of_announced_or_not(self):
+        text, heard = b"vm threads 2 slots 1 objects 1 words 1 locals 16\nthread a\n%sthread b\n%s\n%s", (b"wait x\n", b"post x\n")
+        for verb in (b"gc", b"gcann 1"):
+            self.assertEqual(Meant().in_rows(text % (b"", verb, b"")), set())
+            self.assertEqual(len(Meant().in_rows(text % (heard[0], verb, heard[1]))), 1)
+
+    def test_names_of_kept_scripts_in_no_row_stand(self):
+        self.assertEqual(IN_NO_ROW - {it.name for it in cases() if it.text.count(b"\nthread ") > 1 and not it.fault}, set())
 
     def test_definitions_that_are_run_otherwise_stand(self):
         definitions = Meant().definitions

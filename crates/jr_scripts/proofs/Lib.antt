@@ -31,3 +31,4 @@ pub mod LoneRun
 pub mod GivenUpLevels
 pub mod TogetherRun
 pub mod AloneCase
+pub mod OneRow

@@ -16,6 +16,7 @@ pub mod AloneAnswers
 pub mod Sweeps
 pub mod Together
 pub mod Meaning
+pub mod OneRow
 pub mod Runs
 pub mod AllRuns
 pub mod Jobs

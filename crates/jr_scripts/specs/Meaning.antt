@@ -49,7 +49,7 @@ tells line x t (answer, s) = record {
 module _ (c : Config) (turns : ℕ) where
   abbrev pub told_after : ℕ → Command → Told → Told
   told_after line x t = tells line x t
-      (run_alone (luck_of x t.memory) (doing_at c turns t.place t.words t.place.objects x) t.shared)
+      (run_alone 0 (luck_of x t.memory) (doing_at c turns t.place t.words t.place.objects x) t.shared)
 
   -- THE TEXT of commands, of which the first stands on this line
   abbrev pub told_from : ℕ → List Command → Told → Told
@@ -58,7 +58,7 @@ module _ (c : Config) (turns : ℕ) where
 
   -- what stands behind the thread's end
   abbrev pub left_behind : Told → Shared
-  left_behind t = (run_alone true (ends_thread c turns t.place.names t.words t.place.objects) t.shared).1
+  left_behind t = (run_alone 0 true (ends_thread c turns t.place.names t.words t.place.objects) t.shared).1
 
 abbrev pub first_told : List Bool → Told
 first_told memory =

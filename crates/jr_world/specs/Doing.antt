@@ -337,7 +337,7 @@ entered_in_steps work = step go_in (inside (λ from. then_out (work from)))
 abbrev pub opened_in_steps : {A : Type 0} → (Noted → Doing A) → Doing A
 opened_in_steps work = step go_in (inside (λ from. out_if_refused (work from)))
 
--- A PROGRAM ALONE: its steps one after the other, each taken by the first thread with this luck
-abbrev pub run_alone : {A : Type 0} → Bool → Doing A → Shared → Result A Fault × Shared
-run_alone luck (ended r) s = (r, s)
-run_alone luck (steps more leaves) s = run_alone luck (more 0 luck s) (leaves 0 luck s)
+-- A PROGRAM ALONE: its steps one after the other, each taken by this thread with this luck
+abbrev pub run_alone : {A : Type 0} → ℕ → Bool → Doing A → Shared → Result A Fault × Shared
+run_alone t luck (ended r) s = (r, s)
+run_alone t luck (steps more leaves) s = run_alone t luck (more t luck s) (leaves t luck s)

@@ -1,14 +1,12 @@
 -- What is written of a script is what it means.
-use Rattle.std.proofs.Common.{◌≡◌, ◌≢◌, ◌≤◌, ◌+◌, ℕ, suc, Bool, not, List, [], ◌∷◌, ◌++◌, length, nat_le, true}
-use Rattle.std.proofs.Common.{Option, None, Some, codes, refl, sym, ap, ◌∙◌, subst, arith}
-use Rattle.std.specs.List.{filter, flat_map}
-use Rattle.std.specs.Io.KnownBytes.{Appends, Keeps}
+use Rattle.std.proofs.Common.{◌≡◌, ◌≢◌, ◌≤◌, ◌+◌, ℕ, suc, not, List, [], ◌∷◌, length, nat_le, true, Option, Some, codes}
+use Rattle.std.proofs.Common.{refl, sym, ap, ◌∙◌, subst, arith}
+use Rattle.std.specs.List.{flat_map}
 use Rattle.std.proofs.lemmas.List.{append-nil, length-append, length-map}
 use Rattle.std.proofs.lemmas.List.Filters.{length-filter_both}
 use Rattle.std.proofs.lemmas.Bool.Decides.{nat_tests}
 use Rattle.clap.specs.Words.{Text}
 use Rattle.jr_word.specs.declared.config.Config.{Config}
-use Rattle.jr_syntax.specs.declared.command.Command.{Command}
 use Rattle.jr_syntax.specs.declared.thread.ThreadPart.{ThreadPart}
 use Rattle.jr_syntax.specs.declared.script.Script.{Script}
 use Rattle.jr_syntax.specs.Script.{IsScript, part_lines, script_lines, text_of}
@@ -23,10 +21,9 @@ use Rattle.jrefs.specs.declared.request.Request.{Request}
 use Rattle.jrefs.specs.declared.request.Request.TheVariants.{Run}
 use Rattle.jrefs.specs.declared.trouble.Trouble.{Trouble}
 use Rattle.jrefs.specs.declared.trouble.Trouble.TheVariants as troubles
-use Rattle.jrefs.specs.Act.{AnswersWords, AppendsBeginning, Fails, IsOutput, IsOutputFor, LeavesWritten, Stops}
+use Rattle.jrefs.specs.Act.{AnswersWords, IsOutput, IsOutputFor, LeavesWritten}
 use Rattle.jrefs.specs.Meant.{IsTextOf, WritesText, WritesWhatIsMeant, single, stopped_before, stopped_within}
 use Rattle.jrefs.specs.Meant.{wrote_all, wrote_nothing}
-use Rattle.jrefs.specs.Request.{asked_for}
 use Rattle.jrefs.specs.Trouble.{status_of}
 use Rattle.jrefs.proofs.CommandLine.{asks_found}
 

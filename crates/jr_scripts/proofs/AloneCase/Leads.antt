@@ -41,7 +41,7 @@ pub record Parts {A B : Type 0} (once : Bool) (K : Result A Fault → Shared →
   pub so : K answer between
   pub luck : Bool
   pub is : (other : Bool) → (once ≡ true → other ≡ luck)
-      → ◌≡◌ {A = Result A Fault × Shared} (run_alone other d s) (answer, between)
+      → ◌≡◌ {A = Result A Fault × Shared} (run_alone 0 other d s) (answer, between)
   pub rest : EndsIn r z (next answer) between
 
 with_luck : {A : Type 0} (more : ℕ → Bool → Shared → Doing A) (leaves : ℕ → Bool → Shared → Shared) (s : Shared)
@@ -64,7 +64,7 @@ parts_of {A} {B} {r} {z} once K (steps more leaves) next s (inl both) e =
       between = p.between;
       so = p.so;
       luck = p.luck;
-      is = λ other which. ap (λ (x : Doing A × Shared). run_alone other x.0 x.1)
+      is = λ other which. ap (λ (x : Doing A × Shared). run_alone 0 other x.0 x.1)
           (with_luck more leaves s both.0 other) ∙ p.is other which;
       rest = p.rest;
     }
@@ -75,7 +75,7 @@ parts_of once K (steps more leaves) next s (inr counts) e =
       between = p.between;
       so = p.so.0;
       luck = one.0;
-      is = λ other which. ap (λ luck. run_alone luck (steps more leaves) s) (which counts.0)
+      is = λ other which. ap (λ luck. run_alone 0 luck (steps more leaves) s) (which counts.0)
           ∙ p.is one.0 (λ bad. absurd cc);
       rest = p.rest;
     }

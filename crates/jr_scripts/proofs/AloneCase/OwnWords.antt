@@ -1,6 +1,6 @@
 -- WORDS THAT A THREAD ALONE POSTS AND HEARS: under a name under which it has none, none is on the board.
 use Rattle.std.proofs.Common.{◌≡◌, ◌++◌, ℕ, Bool, true, false, cond, Option, Some, None, is_some, Result, Ok, List, []}
-use Rattle.std.proofs.Common.{◌∷◌, refl, sym, ap, ◌∙◌}
+use Rattle.std.proofs.Common.{◌∷◌, refl, sym, ap, ◌∙◌, ◌⊎◌, inl, inr}
 use Rattle.std.specs.Str.{bytes_eq}
 use Rattle.std.proofs.lemmas.Slice.Eq.{bytes_eq-Decides}
 use Rattle.jr_word.specs.declared.fault.Fault.{Fault}
@@ -16,12 +16,12 @@ use Rattle.jr_scripts.specs.Posting.{ThreadWords, words_after, words_with}
 abbrev pub AreOwn : ThreadWords → List (List ℕ × ℕ) → Type 0
 AreOwn words board = (n : List ℕ) → word_under words n ≡ None → word_under board n ≡ None
 
--- a word of either list
-abbrev or_else : Option ℕ → Option ℕ → Option ℕ
+-- WORDS OF TWO LISTS, one behind the other: the first under a name counts
+abbrev pub or_else : Option ℕ → Option ℕ → Option ℕ
 or_else None y = y
 or_else (Some v) y = Some v
 
-under_both : (xs ys : List (List ℕ × ℕ)) (n : List ℕ)
+pub under_both : (xs ys : List (List ℕ × ℕ)) (n : List ℕ)
     → word_under (xs ++ ys) n ≡ or_else (word_under xs n) (word_under ys n)
 under_both [] ys n = refl
 under_both (x ∷ xs) ys n = ap (cond (bytes_eq n x.0) (Some x.1)) (under_both xs ys n) ∙ go (bytes_eq n x.0)
@@ -30,6 +30,27 @@ under_both (x ∷ xs) ys n = ap (cond (bytes_eq n x.0) (Some x.1)) (under_both x
         ≡ or_else (cond b (Some x.1) (word_under xs n)) (word_under ys n)
     go true = refl
     go false = refl
+
+-- a word more is under its name
+pub under_one_more : (words : List (List ℕ × ℕ)) (n m : List ℕ) (w v : ℕ)
+    → word_under (words ++ (n, w) ∷ []) m ≡ Some v → (word_under words m ≡ Some v) ⊎ (m ≡ n)
+under_one_more words n m w v is =
+    go (word_under words m) (bytes_eq m n) refl (sym (under_both words ((n, w) ∷ []) m) ∙ is)
+  where
+    go : (o : Option ℕ) (b : Bool) → bytes_eq m n ≡ b → or_else o (cond b (Some w) None) ≡ Some v
+        → (o ≡ Some v) ⊎ (m ≡ n)
+    go (Some x) b same is = inl is
+    go None true same is = inr ((bytes_eq-Decides m n).0 same)
+    go None false same is = absurd cc
+
+pub under_words_with : (words : ThreadWords) (n m : List ℕ) (w v : ℕ) → word_under (words_with words n w) m ≡ Some v
+    → (word_under words m ≡ Some v) ⊎ (m ≡ n)
+under_words_with words n m w v is = go (is_some (word_under words n)) is
+  where
+    go : (b : Bool) → word_under (cond b words (words ++ (n, w) ∷ [])) m ≡ Some v
+        → (word_under words m ≡ Some v) ⊎ (m ≡ n)
+    go true is = inl is
+    go false is = under_one_more words n m w v is
 
 neither : (x y : Option ℕ) → or_else x y ≡ None → (x ≡ None) × (y ≡ None)
 neither None y none = (refl, none)

@@ -32,7 +32,8 @@ use Rattle.jr_scripts.specs.Commands.{collecting_announced, told}
 use Rattle.jr_scripts.specs.Together.{announced_in_steps, tried_in_steps}
 use Rattle.jr_scripts.proofs.TogetherRun.KeptFrames.{announced_keeps, same_collected}
 use Rattle.jr_scripts.proofs.TogetherRun.AnnouncedPlays.{announced_tries, closed_plays, late_plays, moved_plays}
-use Rattle.jr_scripts.proofs.TogetherRun.AnnouncedPlays.{moved_several, others_own, swept_plays, taken_back_plays}
+use Rattle.jr_scripts.proofs.TogetherRun.AnnouncedPlays.{moved_several, swept_plays, taken_back_plays}
+use Rattle.jr_scripts.proofs.TogetherRun.CollectionPlays.{others_own}
 use Rattle.jr_scripts.proofs.TogetherRun.CollectedCommand.{shut_whole}
 use Rattle.jr_scripts.proofs.TogetherRun.Moments.{AnswerSo, DeedPlays, EndsSo, HasDid, IsPass, ReplyIs, Room, Since}
 use Rattle.jr_scripts.proofs.TogetherRun.Moments.ReplyIs.{the_same}
@@ -115,7 +116,7 @@ module _ (r : Room) (t : ℕ) (small : t < r.config.threads) where
             → ActsNext r.config r.whole t later shutting (Gate Shut) → IsWhole (state shutting) cleared dropped
         complete later own shutting goes = shut_whole r.whole t d.done.collects.shutting new.pass cleared dropped x.used
             d.done.collects.done (pass_later before first is).thread begins shutting goes.next
-            (others_own r.config r.last r.whole t r.legal later shutting goes.goes
+            (others_own r.config r.whole t later shutting goes.goes
             ∙ (own ∙ (ap (λ l. l ++ before) (own_come old.pass past is come) ∙ sym (own_acts before is first))))
 
         ends : (later : History) → mine later t ≡ mine past t ++ before → (end : History) → IsPrefix end r.whole

@@ -26,7 +26,7 @@ use Rattle.jr_model.proofs.Moments.{prefix_trans}
 use Rattle.jr_model.proofs.Stays.{append_cancel, role_from_append, role_of_state}
 use Rattle.jr_weak.specs.declared.collecting.Collected.{Collected}
 use Rattle.jr_world.specs.Doing.{Doing, Shared, by_step, in_role, unless_refused, whatever}
-use Rattle.jr_world.specs.Plays.{ActsNext, LeavesOthers, OthersGoOn, Plays, SharedStands}
+use Rattle.jr_world.specs.Plays.{ActsNext, LeavesOthers, Plays, SharedStands}
 use Rattle.jr_world.specs.Plays.Plays.{does, has_ended, moves, unseen}
 use Rattle.jr_world.proofs.GatePlays.{gate_open, leaves_plays, role_stands}
 use Rattle.jr_world.proofs.LookStands.{look_shows}
@@ -35,7 +35,7 @@ use Rattle.one_order.specs.Orders.{Item}
 use Rattle.one_order.specs.Orders.Item.{does as acting}
 use Rattle.jr_scripts.specs.Together.{announced_in_steps, announces, finds_gate_still, is_kept_closed, others_in}
 use Rattle.jr_scripts.specs.Together.{shuts, sweep_or_out}
-use Rattle.jr_scripts.proofs.TogetherRun.CollectionPlays.{collected_plays, kept_plays, others_told}
+use Rattle.jr_scripts.proofs.TogetherRun.CollectionPlays.{collected_plays, kept_plays, others_own, others_told}
 use Rattle.jr_scripts.proofs.AloneHistories.{all_front}
 
 -- WHERE THE GATE HAS MOVED there are several threads: a thread that only looked changed no count
@@ -96,16 +96,10 @@ moved_several c t looked found old new small config own moved = ⊎_elim
         subst (λ z. (state moved.looked_at.moment).role z ≡ (state moved.later.moment).role z) only both
 
 module _ (c : Config) (last : ℕ) (whole : History) (t : ℕ) (legal : IsLegal c last whole) where
-  -- WHAT THE THREAD HAS DONE is no more where others went on
-  pub others_own : (past now : History) → OthersGoOn c whole t past now → mine now t ≡ mine past t
-  others_own past now goes = ap (λ h. mine h t) goes.is
-      ∙ (mine_append past goes.since t
-      ∙ (ap (λ l. mine past t ++ l) goes.others ∙ append-nil (mine past t)))
-
-  -- .. and one act more behind its next one
+  -- what the thread has done, and one act more behind its next one
   next_own : (past now : History) (a : Act) → ActsNext c whole t past now a
       → mine (now ++ by t a ∷ []) t ≡ mine past t ++ a ∷ []
-  next_own past now a goes = mine_push now t a ∙ ap (λ l. l ++ a ∷ []) (others_own past now goes.goes)
+  next_own past now a goes = mine_push now t a ∙ ap (λ l. l ++ a ∷ []) (others_own c whole t past now goes.goes)
 
   -- .. before all that comes later
   next_left : (past now later : History) (a : Act) (acts : List Act) → ActsNext c whole t past now a
@@ -244,7 +238,7 @@ module _ (c : Config) (last : ℕ) (whole : History) (t : ℕ) (legal : IsLegal 
         → Played (announced_in_steps) past (map acting (ShutBusy n ∷ []))
     closed_plays n past so = moves true g (λ now s goes st. (st, keeps s))
         (λ now s goes st. busy_plays now n (λ now' goes'. so (now' ++ by t (ShutBusy n) ∷ []) goes'.next
-        (next_own now now' (ShutBusy n) goes' ∙ ap (λ l. l ++ ShutBusy n ∷ []) (others_own past now goes))))
+        (next_own now now' (ShutBusy n) goes' ∙ ap (λ l. l ++ ShutBusy n ∷ []) (others_own c whole t past now goes))))
 
     -- .. or the exchange did
     pub late_plays : (n : ℕ) (past : History)

@@ -23,7 +23,7 @@ use Rattle.jr_weak.specs.declared.collecting.Collected.{Collected}
 use Rattle.jr_env.specs.Collections.{IsCollected, IsKeptOut}
 use Rattle.jr_world.specs.Doing.{Doing, by_step, unless_refused, whatever}
 use Rattle.jr_world.specs.Doing.Doing.{ended}
-use Rattle.jr_world.specs.Plays.{ActsNext, Plays}
+use Rattle.jr_world.specs.Plays.{Plays}
 use Rattle.jr_world.specs.Plays.Plays.{has_ended}
 use Rattle.jr_world.specs.Playing.{HasComeTo}
 use Rattle.one_order.specs.Orders.{Item}
@@ -35,7 +35,7 @@ use Rattle.jr_scripts.specs.Together.{collected_in_steps, sweeps_out}
 use Rattle.jr_scripts.proofs.TogetherRun.Moments.{DeedPlays, EndsSo, HasDid, IsPass, ReplyIs, Room, Since}
 use Rattle.jr_scripts.proofs.TogetherRun.Moments.ReplyIs.{the_same}
 use Rattle.jr_scripts.proofs.TogetherRun.PlayedDeeds.{come_later, one_did, own_come}
-use Rattle.jr_scripts.proofs.TogetherRun.CollectionPlays.{collected_plays, kept_plays}
+use Rattle.jr_scripts.proofs.TogetherRun.CollectionPlays.{collected_plays, kept_plays, others_own}
 
 -- ONE PLACE in a history: a thread has done as much before it
 
@@ -156,11 +156,6 @@ module _ (r : Room) (t : ℕ) (small : t < r.config.threads) where
   collecting_did old new (Ok (replies.Busy n)) pass d = (d.made.ran.acts, d.made.ran.did)
   collecting_did old new answer pass d = absurd d
 
-  -- where its next act comes, the thread has done as much
-  pub own_now : (past now : History) (a : Act) → ActsNext r.config r.whole t past now a → mine now t ≡ mine past t
-  own_now past now a next = ap (λ h. mine h t) next.goes.is ∙ (mine_append past next.goes.since t
-      ∙ (ap (λ acts. mine past t ++ acts) next.goes.others ∙ append-nil (mine past t)))
-
   abbrev program : Doing Reply
   program = whatever collected_in_steps (λ counts. ended (told counts))
 
@@ -189,7 +184,8 @@ module _ (r : Room) (t : ℕ) (small : t < r.config.threads) where
         (λ now next. has_ended (Ok (replies.Busy n)) (
           come_later old.pass new.pass (ShutBusy n ∷ []) past (now ++ by t (ShutBusy n) ∷ []) pass
               (subst (Did old.pass new.pass) one did) come next.next
-              (mine_push now t (ShutBusy n) ∙ ap (λ l. l ++ ShutBusy n ∷ []) (own_now past now (ShutBusy n) next)),
+              (mine_push now t (ShutBusy n)
+              ∙ ap (λ l. l ++ ShutBusy n ∷ []) (others_own r.config r.whole t past now next.goes)),
           the_same (replies.Busy n) refl,
         ))))
 
@@ -207,7 +203,8 @@ module _ (r : Room) (t : ℕ) (small : t < r.config.threads) where
         (collected_plays r.config r.last r.whole t r.legal (EndsSo r t ReplyIs new (Ok (replies.Collected c)))
         new.frames behind told follows past it.cleared it.dropped c.used refl
         (λ before next. shut_whole r.whole t old.pass new.pass it.cleared it.dropped c.used it.collects pass.thread
-        begins before next.next (own_now past before (Gate Shut) next ∙ own_come old.pass past pass come))
+        begins before next.next
+        (others_own r.config r.whole t past before next.goes ∙ own_come old.pass past pass come))
         (λ later so_far own. (
           come_later old.pass new.pass (collection_acts it.cleared it.dropped c.used) past later pass
               it.collects.did come so_far own,

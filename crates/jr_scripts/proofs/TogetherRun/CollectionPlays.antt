@@ -4,7 +4,7 @@ use Rattle.std.proofs.Common.{nat_eq}
 use Rattle.std.proofs.Common.{if◌then◌else◌, inl, inr, Option, Some, Result, Ok, Err, List, [], ◌∷◌, ◌++◌, map}
 use Rattle.std.proofs.Common.{length, slice_index_or, slice_set, refl, sym, ap, subst, ◌∙◌, arith, append_assoc}
 use Rattle.std.proofs.Common.{append-nil}
-use Rattle.std.specs.List.{AllByRecursion, filter, flat_map, list_any, sum_by}
+use Rattle.std.specs.List.{AllByRecursion, flat_map, list_any, sum_by}
 use Rattle.std.proofs.lemmas.List.{get_or-set_same, get_or-set_other, length-map, length-set, map-append, set-get_or}
 use mathlib.Core.List.{IsPrefix}
 use Rattle.jr_word.specs.declared.config.Config.{Config}
@@ -49,6 +49,7 @@ use Rattle.jr_scripts.specs.Sweeps.{told_of}
 use Rattle.jr_scripts.specs.Together.{others_in, shuts, sweeps_out}
 use Rattle.jr_scripts.proofs.TogetherRun.PlayedTexts.{world_born}
 use Rattle.jr_scripts.proofs.TogetherRun.SweptBirths.{BornRef, SweepsTo, collection_sweeps, each_on, empty_one}
+use Rattle.jr_scripts.proofs.TogetherRun.SweptBirths.{many_next}
 
 -- WHAT A SWEEP LEAVES is told by objects and references alone
 
@@ -72,6 +73,12 @@ told_alike w v objects refs =
     ∙ ap (λ l. told_of (record w { objects = v.objects; refs = l })
     (swept (is_found_reached v) (record w { objects = v.objects; refs = l }))) refs
 
+-- what a thread has done is no more where others went on
+pub others_own : (c : Config) (whole : History) (t : ℕ) (past now : History) → OthersGoOn c whole t past now
+    → mine now t ≡ mine past t
+others_own c whole t past now goes = ap (λ h. mine h t) goes.is ∙ mine_append past goes.since t
+    ∙ ap (λ l. mine past t ++ l) goes.others ∙ append-nil (mine past t)
+
 -- a sweep keeps whose references are
 same_owner : (hs : List Handle) (e : BornRef) → (each_on empty_one hs e).0 ≡ e.0
 same_owner [] e = refl
@@ -93,13 +100,6 @@ sum_first : (n : ℕ) (f : ℕ → ℕ) → sum_below (suc n) f ≡ f 0 + sum_be
 unfolding sum_below
 sum_first zero f = omega arith
 sum_first (suc n) f = let rest = sum_first n f in omega (arith, rest)
-
-many_next : {A : Type 0} (p : A → Bool) (x : A) (xs : List A) → how_many p (x ∷ xs) ≡ bit (p x) + how_many p xs
-many_next p x xs = go (p x)
-  where
-    go : (b : Bool) → length (cond b (x ∷ filter p xs) (filter p xs)) ≡ bit b + length (filter p xs)
-    go true = omega arith
-    go false = omega arith
 
 -- of a list there pass as many as of its numbers
 many_roles : (p : Role → Bool) (rs : List Role)
@@ -543,11 +543,7 @@ module _ (c : Config) (last : ℕ) (whole : History) (t : ℕ) (legal : IsLegal 
             mine_push now t (Gate Reopen)
             ∙ ap (λ l. l ++ Gate Reopen ∷ []) (ap (λ h. mine h t) under.is
             ∙ mine_append before (by t (Gate Shut) ∷ under.inside) t
-            ∙ ap (λ l. l ++ mine (by t (Gate Shut) ∷ under.inside) t) (others_own before goes)
+            ∙ ap (λ l. l ++ mine (by t (Gate Shut) ∷ under.inside) t) (others_own c whole t past before goes.goes)
             ∙ ap (λ b. mine past t ++ cond b (Gate Shut ∷ mine under.inside t) (mine under.inside t)) (eq_self t)
             ∙ ap (λ l. mine past t ++ Gate Shut ∷ l) under.own)
             ∙ append_assoc (mine past t) (Gate Shut ∷ sweeping_acts cleared dropped used) (Gate Reopen ∷ [])
-          where
-            others_own : (before : History) → ActsNext c whole t past before (Gate Shut) → mine before t ≡ mine past t
-            others_own before goes = ap (λ h. mine h t) goes.goes.is ∙ mine_append past goes.goes.since t
-                ∙ ap (λ l. mine past t ++ l) goes.goes.others ∙ append-nil (mine past t)

@@ -72,7 +72,7 @@ map_none [] = refl
 map_none (x ∷ xs) = ap (λ l. x ∷ l) (map_none xs)
 
 -- HOW MANY PASS
-many_next : {A : Type 0} (p : A → Bool) (x : A) (xs : List A) → how_many p (x ∷ xs) ≡ bit (p x) + how_many p xs
+pub many_next : {A : Type 0} (p : A → Bool) (x : A) (xs : List A) → how_many p (x ∷ xs) ≡ bit (p x) + how_many p xs
 many_next p x xs = go (p x)
   where
     go : (b : Bool) → length (cond b (x ∷ filter p xs) (filter p xs)) ≡ bit b + length (filter p xs)

@@ -1,0 +1,248 @@
+-- THE PARTS OF CALLS follow: references that are handed in, created and given up, frames, new objects and elements.
+use Rattle.std.proofs.Common.{◌≡◌, ◌+◌, ◌==◌, ◌&&◌, ℕ, zero, suc, Bool, true, false, cond, not, nat_lt, nat_le, Option}
+use Rattle.std.proofs.Common.{Some, None, is_some, Result, Ok, Err, List, [], ◌∷◌, length, slice_index, refl, sym, ap}
+use Rattle.std.proofs.Common.{subst, ◌∙◌, inl, inr, arith}
+use Rattle.std.specs.List.{AllByRecursion, flat_map, sum_by}
+use Rattle.std.proofs.lemmas.Bool.Decides.{nat_tests}
+use Rattle.jr_word.specs.declared.config.Config.{Config}
+use Rattle.jr_word.specs.declared.fault.Fault.{Fault}
+use Rattle.jr_word.specs.declared.fault.Fault.TheVariants.{Foreign, LocalsFull, NoFrame, Raced, RowFull}
+use Rattle.jr_word.specs.declared.handle.Handle.{Handle}
+use Rattle.jr_word.specs.declared.handle.RefKind.{RefKind}
+use Rattle.jr_word.specs.declared.handle.RefKind.TheVariants.{Local}
+use Rattle.jr_word.specs.declared.kind.Kind.{Kind}
+use Rattle.jr_model.specs.State.{Contents}
+use Rattle.jr_world.specs.World.{all_but_last, contents, contents_in, delete, found, held, new_ref, newest_frame}
+use Rattle.jr_world.specs.World.{object, overwritten, refused_if, reserve, room_for, standing_at, type_meant}
+use Rattle.jr_world.specs.Doing.{Doing, Noted, Shared, atom, by_step, copied_in_steps, created_in_steps}
+use Rattle.jr_world.specs.Doing.{created_or_full, deleted_in_steps, element_read, finds_memory, freed_in_steps}
+use Rattle.jr_world.specs.Doing.{given_up_in_steps, in_row, is_foreign_to, made_in_steps, made_since, named, named_both}
+use Rattle.jr_world.specs.Doing.{over_world, own_or_shared, popped_in_steps, read_in_steps, reserved, run_alone}
+use Rattle.jr_world.specs.Doing.{taken_or_lost, typed, unless_refused, written_in_steps, ◌>>=◌, ◌>>◌}
+use Rattle.jr_scripts.proofs.AloneCase.Lone.{NothingCame}
+use Rattle.jr_scripts.proofs.OneRow.Alike.{Alike, Tidy, kept_itself}
+use Rattle.jr_scripts.proofs.OneRow.Blind.{added_blind, delete_alike, foreign_alike, frames_blind, look_blind}
+use Rattle.jr_scripts.proofs.OneRow.Blind.{new_local_blind, new_object_blind, new_ref_blind, object_alike}
+use Rattle.jr_scripts.proofs.OneRow.Blind.{removed_blind, reserve_blind, rewrites_blind, room_blind, row_alike}
+use Rattle.jr_scripts.proofs.OneRow.Blind.{step_alike, type_alike}
+use Rattle.jr_scripts.proofs.OneRow.Follows.{Follows, LeadsTo, Outcome, SameStep, but}
+use Rattle.jr_scripts.proofs.OneRow.Goes.{Beside, From, Goes, Stands, act_goes, atom_goes, ended_goes, from_then}
+use Rattle.jr_scripts.proofs.OneRow.Goes.{from_tidy, goes_bind, goes_less, look_goes, seen_is, stands, step_from}
+use Rattle.jr_scripts.proofs.OneRow.Goes.{unless_keeps}
+
+-- WHOSE A REFERENCE IS that is handed in: behind this test it is known to be no other's
+own_from : (u n : ℕ) (z : Shared) → Follows (but u) u (own_or_shared n) z
+own_from u n z = step_from u (λ t luck s. (cond (is_foreign_to t s n) (Err Foreign) (Ok tt), s)) z
+    (λ gone s mine alike luck. (
+      ap (λ b. cond b (Err Foreign) (Ok tt)) (foreign_alike u luck mine alike n),
+      alike,
+      kept_itself u s,
+    ))
+
+own_then : {A : Type 0} (u : ℕ) (after : Option Noted) (n : ℕ) (d : Doing A) (z : Shared) → Tidy z
+    → (is_foreign_to u z n ≡ false → From u after d z) → From u after (own_or_shared n >> d) z
+own_then {A} u after n d z tidy rest = from_then u after (own_or_shared n) (unless_refused (λ v. d)) z
+    (unless_keeps u (λ v. d)) (own_from u n z) (go (is_foreign_to u z n) refl)
+  where
+    go : (b : Bool) → is_foreign_to u z n ≡ b
+        → From u after (unless_refused (λ (v : Unit {0}). d) (cond b (Err Foreign) (Ok tt))) z
+    go true is = (inl (refl, refl), tidy)
+    go false is = rest is
+
+-- its object is only looked at
+object_is : (u n : ℕ) (luck : Bool) (z : Shared) → Tidy z → (over_world (object n) u luck z).1 ≡ z
+object_is u zero luck z tidy = seen_is u z tidy
+object_is u (suc n) luck z tidy = seen_is u z tidy
+
+object_from : (u n : ℕ) (z : Shared) → is_foreign_to u z n ≡ false → Follows (but u) u (atom (object n)) z
+object_from u n z own =
+    step_from u (over_world (object n)) z (λ gone s mine alike luck. object_alike u luck mine alike n own)
+
+object_then : {A : Type 0} (u : ℕ) (after : Option Noted) (n : ℕ) (next : Option ℕ → Doing A) (z : Shared) → Tidy z
+    → is_foreign_to u z n ≡ false → ((x : Option ℕ) → From u after (next x) z)
+    → From u after (atom (object n) >>= next) z
+object_then u after n next z tidy own rest = from_then u after (atom (object n)) (unless_refused next) z
+    (unless_keeps u next) (object_from u n z own)
+    (subst (λ y. From u after (unless_refused next (over_world (object n) u true z).0) y)
+    (sym (object_is u n true z tidy)) (go (over_world (object n) u true z).0))
+  where
+    go : (r : Result (Option ℕ) Fault) → From u after (unless_refused next r) z
+    go (Ok x) = rest x
+    go (Err e) = (inl (refl, refl), tidy)
+
+given_up_goes : {u : ℕ} {before : Option Noted} (ns : List ℕ) → Goes u before None (given_up_in_steps ns)
+given_up_goes {before = before} [] = goes_less (ended_goes {before = before} (Ok tt))
+given_up_goes (n ∷ ns) = goes_bind (atom_goes (removed_blind n)) (λ v. given_up_goes ns)
+
+write_goes : {u : ℕ} {before : Option Noted} (o i : ℕ) (vs : List ℕ) → Goes u before None (written_in_steps o i vs)
+write_goes {before = before} o i [] = goes_less (ended_goes {before = before} (Ok tt))
+write_goes o i (v ∷ vs) =
+    goes_bind (atom_goes (rewrites_blind (overwritten i (v ∷ [])) o)) (λ x. write_goes o (i + 1) vs)
+
+-- what only frames tell
+frames_look : {A : Type 0} {u : ℕ} {before : Option Noted} (f : List (List ℕ) → Result A Fault)
+    → Goes u before before (atom (found (λ w. f w.frames)))
+frames_look f = look_goes (λ w. f w.frames) (look_blind _ (λ hidden w v views. ap f views.frames))
+
+module _ {u : ℕ} {before : Option Noted} where
+  pub named_goes : (n : ℕ) → Goes u before before (named n)
+  named_goes n = record {
+    so = λ z tidy noted. own_then u before n (atom (object n)) z tidy (λ own. (
+      object_from u n z own,
+      subst (Stands before (over_world (object n) u true z).0) (sym (object_is u n true z tidy))
+          (stands before (over_world (object n) u true z).0 z tidy noted),
+    ));
+  }
+
+  pub both_goes : (m n : ℕ) → Goes u before before (named_both m n)
+  both_goes m n = record {
+    so = λ z tidy noted. own_then u before m _ z tidy (λ one. own_then u before n _ z tidy
+        (λ other. object_then u before m _ z tidy one (λ x. object_then u before n _ z tidy other
+        (λ y. (inl (refl, refl), (tidy, noted))))));
+  }
+
+  pub typed_goes : (n : ℕ) → Goes u before None (by_step (typed n))
+  typed_goes n = act_goes (typed n) (λ gone s z mine alike noted luck. go gone s z mine alike luck
+      (is_foreign_to u s n) (is_foreign_to u z n) (foreign_alike u luck mine alike n) refl)
+    where
+      go : (gone : ℕ → Bool) (s z : Shared) → gone u ≡ false → Alike gone s z → (luck : Bool) → (b d : Bool) → b ≡ d
+          → is_foreign_to u z n ≡ d → Beside u gone s (cond b (Ok 0, s) (over_world (type_meant n) u luck s))
+          (cond d (Ok 0, z) (over_world (type_meant n) u true z))
+      go gone s z mine alike luck true true same is = (refl, alike, kept_itself u s)
+      go gone s z mine alike luck false false same is = type_alike u luck mine alike n is
+      go gone s z mine alike luck true false same is = absurd cc
+      go gone s z mine alike luck false true same is = absurd cc
+
+  pub deleted_goes : (n : ℕ) → Goes u before None (deleted_in_steps n)
+  deleted_goes n = record {
+    so = λ z tidy noted. own_then u None n (atom (delete n)) z tidy (λ own. from_tidy u (atom (delete n)) z tidy
+        (step_from u (over_world (delete n)) z (λ gone s mine alike luck. delete_alike u luck mine alike n own)));
+  }
+
+  pub room_goes : (c : Config) (n : ℕ) → Goes u before before (atom (room_for c n))
+  room_goes c n = look_goes (λ w. refused_if (nat_lt c.locals (held w + n)) LocalsFull) (room_blind c n)
+
+  -- ELEMENTS
+  pub element_goes : (o i : ℕ) → Goes u before before (element_read o i)
+  element_goes o i = look_goes (λ w. Ok (slice_index (contents w o).words i)) (look_blind _ (λ hidden w v views.
+      ap (λ (objects : List (Option Contents)). Ok (slice_index (contents_in (standing_at objects o)).words i))
+      views.objects))
+
+  pub read_goes : (o i n : ℕ) → Goes u before before (read_in_steps o i n)
+  read_goes o i zero = ended_goes (Ok [])
+  read_goes o i (suc n) =
+      goes_bind (element_goes o i) (λ v. goes_bind (read_goes o (i + 1) n) (λ vs. ended_goes (Ok (v ∷ vs))))
+
+  -- without luck a copy is refused by E16, which spoils the text
+  pub copied_goes : (o n : ℕ) → Goes u before None (copied_in_steps o n)
+  copied_goes o zero = goes_less (ended_goes {before = before} (Ok []))
+  copied_goes o (suc n) = record {
+    so = λ z tidy noted. let both = reads.so z tidy noted in (inr (go z both.0), both.1);
+  }
+    where
+      reads : Goes u before None (read_in_steps o 0 (suc n))
+      reads = goes_less (read_goes o 0 (suc n))
+
+      go : (z : Shared) → Follows (but u) u (read_in_steps o 0 (suc n)) z → (luck : Bool) → SameStep (but u) u
+          (λ t luck s. unless_refused (λ (v : Unit {0}). read_in_steps o 0 (suc n)) (finds_memory t luck s).0)
+          (λ t luck s. s) z luck
+          (unless_refused (λ (v : Unit {0}). read_in_steps o 0 (suc n)) (finds_memory u luck z).0) z
+          × LeadsTo (but u) u (Outcome (but u) u (run_alone u true (read_in_steps o 0 (suc n)) z).0
+          (run_alone u true (read_in_steps o 0 (suc n)) z).1)
+          (unless_refused (λ (v : Unit {0}). read_in_steps o 0 (suc n)) (finds_memory u luck z).0) z
+      go z reads true = (λ gone s mine alike. (refl, alike, kept_itself u s), reads)
+      go z reads false = (λ gone s mine alike. (refl, alike, kept_itself u s), inr (inl refl))
+
+  pub written_goes : (o i : ℕ) (vs : List ℕ) → Goes u before None (written_in_steps o i vs)
+  written_goes o i vs = write_goes o i vs
+
+  -- FRAMES
+  pub popped_goes : (c : Config) (n : ℕ) → Goes u before None (popped_in_steps c n)
+  popped_goes c n = goes_bind (frames_look (λ fs. refused_if (nat_lt (length fs) 2) NoFrame))
+      (λ v. goes_bind (named_goes n) (λ o. goes_bind (frames_look
+      (λ fs. refused_if (is_some o && (sum_by length fs == length (newest_frame fs) + c.locals)) LocalsFull))
+      (λ x. goes_bind (frames_look (λ fs. Ok (newest_frame fs))) (λ ns. goes_bind (given_up_goes ns)
+      (λ y. goes_bind (atom_goes (frames_blind all_but_last fewer)) (λ a. atom_goes (new_local_blind c o)))))))
+    where
+      fewer : (Q : ℕ → Type 0) (fs : List (List ℕ)) → AllByRecursion (AllByRecursion Q) fs
+          → AllByRecursion (AllByRecursion Q) (all_but_last fs)
+      fewer Q [] all = tt
+      fewer Q (f ∷ []) all = tt
+      fewer Q (f ∷ g ∷ fs) all = (all.0, fewer Q (g ∷ fs) all.1)
+
+  pub freed_goes : Goes u before None freed_in_steps
+  freed_goes = goes_bind (frames_look (λ fs. Ok (flat_map (λ f. f) fs)))
+      (λ ns. goes_bind (given_up_goes ns) (λ x. atom_goes (frames_blind (λ fs. [] ∷ []) (λ Q fs all. (tt, tt)))))
+
+-- CREATION: as many slots are free as were at the entry
+module _ {u : ℕ} (c : Config) (from : Noted) where
+  pub created_goes : (k : RefKind) (x : Option ℕ) → (k ≡ Local → ⊥)
+      → Goes u (Some from) None (created_in_steps c from k x)
+  created_goes k None shared = goes_less (ended_goes {before = Some from} (Ok None))
+  created_goes k (Some o) shared =
+      goes_bind (act_goes (created_or_full c from k o) same) (λ h. ended_goes (Ok (Some h)))
+    where
+      full : (row slots : ℕ) → nat_le slots row ≡ not (nat_lt row slots)
+      full row slots = grind (arith, nat_tests)
+
+      the_row : (z : Shared) → in_row z ≡ from.standing → made_since from.made z.owners ≡ 0
+          → from.standing + made_since from.made z.owners ≡ in_row z
+      the_row z standing none = omega arith
+
+      settled : {X : Type 0} (luck lt le : Bool) (x y : X) → le ≡ not lt
+          → cond (luck && lt) x (cond le y x) ≡ cond lt x y
+      settled true true le x y is = refl
+      settled true false le x y is = ap (λ b. cond b y x) is
+      settled false true le x y is = ap (λ b. cond b y x) is
+      settled false false le x y is = ap (λ b. cond b y x) is
+
+      -- so luck counts for nothing
+      created_is : (luck : Bool) (s z : Shared) → in_row s ≡ in_row z → s.owners ≡ z.owners → NothingCame from z
+          → ◌≡◌ {A = Result Handle Fault × Shared} (created_or_full c from k o u luck s)
+          (cond (nat_lt (in_row z) c.slots) (over_world (new_ref k o) u luck s) (Err RowFull, s))
+      created_is luck s z row owners came = settled luck (nat_lt (in_row s) c.slots)
+          (nat_le c.slots (from.standing + made_since from.made s.owners)) (over_world (new_ref k o) u luck s)
+          (Err RowFull, s)
+          (ap (λ l. nat_le c.slots (from.standing + made_since from.made l)) owners
+          ∙ (ap (λ n. nat_le c.slots n) (the_row z came.standing came.made) ∙ (full (in_row z) c.slots
+          ∙ ap (λ n. not (nat_lt n c.slots)) (sym row)))) ∙ ap (λ n. cond {A = Result Handle Fault × Shared}
+          (nat_lt n c.slots) (over_world (new_ref k o) u luck s) (Err RowFull, s)) row
+
+      same : (gone : ℕ → Bool) (s z : Shared) → gone u ≡ false → Alike gone s z → NothingCame from z → (luck : Bool)
+          → Beside u gone s (created_or_full c from k o u luck s) (created_or_full c from k o u true z)
+      same gone s z mine alike came luck =
+          subst (λ x. Beside u gone s x (created_or_full c from k o u true z))
+          (sym (created_is luck s z (row_alike u luck mine alike) alike.owners came))
+          (subst (λ y. Beside u gone s (cond (nat_lt (in_row z) c.slots) (over_world (new_ref k o) u luck s)
+          (Err RowFull, s)) y) (sym (created_is true z z refl refl came)) (go (nat_lt (in_row z) c.slots)))
+        where
+          go : (b : Bool) → Beside u gone s (cond b (over_world (new_ref k o) u luck s) (Err RowFull, s))
+              (cond b (over_world (new_ref k o) u true z) (Err RowFull, z))
+          go true = step_alike u luck mine alike (new_ref_blind k o shared)
+          go false = (refl, alike, kept_itself u s)
+
+  -- NEW OBJECTS: no more words are used than were at the entry
+  reserved_goes : (n : ℕ) → Goes u (Some from) None (reserved c from n)
+  reserved_goes zero = goes_less (ended_goes {before = Some from} (Ok tt))
+  reserved_goes (suc n) = act_goes (taken_or_lost c from (suc n)) same
+    where
+      not_less : (n : ℕ) → nat_lt n n ≡ false
+      not_less n = grind (arith, nat_tests)
+
+      taken : {X : Type 0} (luck lt : Bool) (x y : X) → lt ≡ false → cond (not luck && lt) x y ≡ y
+      taken true lt x y is = refl
+      taken false lt x y is = ap (λ b. cond b x y) is
+
+      same : (gone : ℕ → Bool) (s z : Shared) → gone u ≡ false → Alike gone s z → NothingCame from z → (luck : Bool)
+          → Beside u gone s (taken_or_lost c from (suc n) u luck s) (taken_or_lost c from (suc n) u true z)
+      same gone s z mine alike came luck =
+          subst (λ x. Beside u gone s x (over_world (reserve c (suc n)) u true z))
+          (sym (taken luck (nat_lt from.used s.used) (Err (Raced from.used s.used), s)
+          (over_world (reserve c (suc n)) u luck s)
+          (ap (λ m. nat_lt from.used m) (alike.used ∙ sym came.used) ∙ not_less from.used)))
+          (step_alike u luck mine alike (reserve_blind c (suc n)))
+
+  pub made_goes : (k : Kind) (words : List ℕ) → Goes u (Some from) None (made_in_steps c from k words)
+  made_goes k words = goes_bind (room_goes c 1)
+      (λ v. goes_bind (reserved_goes (length words)) (λ x. goes_bind (atom_goes (new_object_blind c k words))
+      (λ o. atom_goes (added_blind o))))
