@@ -16,12 +16,11 @@ TOGETHER = b"[a]\ngc busy 1\n[b]\ngc busy 1\n[end]\nglobals 0 weaks 0 live 0 use
 BUSY = b"[c]\ngc busy 2\ngc busy 1\n[a]\n[b]\n[end]\nglobals 0 weaks 0 live 2 used 0\n"
 KEPT = BUSY.replace(b"gc busy 2", b"gc cleared 0 dropped 0 used 0")
 DROPPED = BUSY.replace(b"gc busy 1", b"gc cleared 0 dropped 2 used 0").replace(b"live 2", b"live 0")
+MEANT = Meant()
 
 
 class Fought(unittest.TestCase):
     """Contests in their small forms, fought by a program that prints one text after the other."""
-
-    meant = Meant()
 
     def setUp(self):
         os.chdir(f"{CI}/..")
@@ -37,7 +36,7 @@ class Fought(unittest.TestCase):
 
         self.contend.ended, self.contend.NEVER = lambda *_: next(runs), {small: {*never}}
         with contextlib.redirect_stdout(io.StringIO()) as told:
-            found = self.contend.contended(small, deeply(self.contend.allowed, small, self.meant), [("out/jrefs", None)], 2)
+            found = self.contend.contended(small, deeply(self.contend.allowed, small, MEANT), [("out/jrefs", None)], 2)
         return found, told.getvalue()
 
     def test_outcomes_that_are_allowed_are_counted(self):
@@ -77,6 +76,28 @@ class Fought(unittest.TestCase):
 
     def test_an_outcome_that_the_program_does_not_come_to_is_not_awaited(self):
         self.assertEqual(self.said(self.contend.ends, KEPT, BUSY, never={"cleared 0 dropped some used 0"})[0], (2 * 3, 0, 0))
+
+
+class Allowed(unittest.TestCase):
+    """What the page allows in a contest."""
+
+    def setUp(self):
+        os.chdir(f"{CI}/..")
+        self.contend = script("contend")
+
+    def test_what_two_threads_cannot_both_have_is_not_allowed(self):
+        outside = {"deletions": "- -", "one_slot_by_turns": "E8/E2/0 E8/E2/0", "numbers": "E8", "words": "-/-/- own/own/own", "cleared": "true/-/1/true/-"}
+        inside = {"deletions": "E2 -", "one_slot_by_turns": "-/-/0 -/-/0", "numbers": "E11", "words": "-/-/- own/0/own", "cleared": "false/null/0/true/-"}
+        for it, wrong in [*outside.items(), ("regions", "-/0/-/-"), ("barred", "busy 2/1/busy 2"), ("barred", "busy 2/busy 1/busy 2")]:
+            allowed = deeply(self.contend.allowed, getattr(self.contend, it), MEANT)
+            self.assertNotIn(wrong, allowed)
+            self.assertLessEqual({inside[it]} if it in inside else set(), allowed)
+
+    def test_what_is_looked_at_by_hand_holds_of_all_that_the_page_allows(self):
+        for it in ("numbers", "words", "cleared", "slots_by_turns", "ends"):
+            text, judge = getattr(self.contend, it)(1, "ab")
+            for printed in deeply(MEANT.schedules.texts, MEANT.script(text), self.contend.MOST_STATES):
+                self.assertIs(judge(self.contend.Printed(text, printed))[-1], True)
 
 
 class Printed(unittest.TestCase):
