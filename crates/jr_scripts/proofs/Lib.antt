@@ -32,3 +32,4 @@ pub mod GivenUpLevels
 pub mod TogetherRun
 pub mod AloneCase
 pub mod OneRow
+pub mod Apart

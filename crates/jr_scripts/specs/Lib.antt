@@ -17,6 +17,7 @@ pub mod Sweeps
 pub mod Together
 pub mod Meaning
 pub mod OneRow
+pub mod Apart
 pub mod Runs
 pub mod AllRuns
 pub mod Jobs

@@ -4,6 +4,7 @@ ghost use Rattle.jr_syntax.specs.Script.{IsScript};
 ghost use Rattle.jr_scripts.specs.AllRuns.{CanBeRun, RunsMean};
 ghost use Rattle.jr_scripts.specs.Meaning.{AloneIsACase};
 ghost use Rattle.jr_scripts.specs.OneRow.{PrintOneText};
+ghost use Rattle.jr_scripts.specs.Apart.{PrintAsAlone};
 
 /// A script that `parse` gives can be run, so that `run_all` never refuses it by E17.
 pub fn a_script_that_was_read_can_be_run()
@@ -24,4 +25,9 @@ pub fn one_thread_is_a_case()
 /// schedule by which no copy and no wait is in vain.
 pub fn ordered_scripts_print_one_text()
     ensures { PrintOneText }
+{}
+
+/// Threads that share nothing, where all that they make fits together, print what each prints alone.
+pub fn threads_apart_print_as_alone()
+    ensures { PrintAsAlone }
 {}

@@ -64,7 +64,7 @@ same_set (x ∷ xs) (y ∷ ys) long zero (suc m) a d same = same
 same_set (x ∷ xs) (y ∷ ys) long (suc n) zero a d same = same
 same_set (x ∷ xs) (y ∷ ys) long (suc n) (suc m) a d same = same_set xs ys (omega arith) n m a d same
 
-set_has : {X : Type 0} (P : X → Type 0) (xs : List X) (n m : ℕ) (a d : X) → P a → P (slice_index_or xs m d)
+pub set_has : {X : Type 0} (P : X → Type 0) (xs : List X) (n m : ℕ) (a d : X) → P a → P (slice_index_or xs m d)
     → P (slice_index_or (slice_set xs n a) m d)
 set_has P [] n m a d new old = old
 set_has P (x ∷ xs) zero zero a d new old = new
@@ -105,7 +105,7 @@ otherwise views objects frames used = record {
   bound = views.bound;
 }
 
-lays_same : (w : World) (objects : List (Option Contents)) (used : ℕ)
+pub lays_same : (w : World) (objects : List (Option Contents)) (used : ℕ)
     → Lays w (record w { objects = objects; used = used })
 lays_same w objects used = record { grows = omega arith; kinds = λ n lt is. is; framed = λ Q all new. all }
 
@@ -300,7 +300,7 @@ removed_blind n = change_blind (removed n) (λ hidden w v views. record {
     all_filter Q (m ∷ ms) all = all_choice Q (not (m == n)) m _ all.0 (all_filter Q ms all.1)
 
 -- WHOSE A REFERENCE IS that came by a step
-has_owner : (owners : List (Option ℕ)) (n t : ℕ) → slice_index_or owners n None ≡ Some t → n < length owners
+pub has_owner : (owners : List (Option ℕ)) (n t : ℕ) → slice_index_or owners n None ≡ Some t → n < length owners
 has_owner [] n t is = absurd cc
 has_owner (o ∷ os) zero t is = omega arith
 has_owner (o ∷ os) (suc n) t is = let lt = has_owner os n t is in omega arith
@@ -332,7 +332,7 @@ module _ (u : ℕ) (s : Shared) (w : World) where
   owner_stays n t is = get_or_append_left s.owners (map (owner_if u) (drop (length s.owners) w.refs)) None n
       (has_owner s.owners n t is) ∙ is
 
-  tidy_left : Tidy s → Lays (as_seen u s) w → Tidy (as_left u s w)
+  pub tidy_left : Tidy s → Lays (as_seen u s) w → Tidy (as_left u s w)
   tidy_left tidy lays = record {
     owned = length-append s.owners (map (owner_if u) new) ∙ (ap (λ n. length s.owners + n)
         (length-map new (owner_if u)) ∙ (let long = length-drop (length s.owners) w.refs in omega arith));

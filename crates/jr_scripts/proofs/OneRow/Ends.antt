@@ -54,7 +54,7 @@ each_filter : {X : Type 0} (P : X → Type 0) (k : X → Bool) (xss : List (List
 each_filter P k [] all = tt
 each_filter P k (xs ∷ xss) all = (all_filter P k xs all.0, each_filter P k xss all.1)
 
-all_flat : {X : Type 0} (P : X → Type 0) (xss : List (List X)) → AllByRecursion (AllByRecursion P) xss
+pub all_flat : {X : Type 0} (P : X → Type 0) (xss : List (List X)) → AllByRecursion (AllByRecursion P) xss
     → AllByRecursion P (flat_map (λ f. f) xss)
 all_flat P [] all = tt
 all_flat P (xs ∷ xss) all = append_all P xs (flat_map (λ f. f) xss) all.0 (all_flat P xss all.1)

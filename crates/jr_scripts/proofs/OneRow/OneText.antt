@@ -34,7 +34,7 @@ use Rattle.jr_scripts.proofs.OneRow.Swaps.{Good, SameCourse, same_of}
 use Rattle.jr_scripts.proofs.OneRow.Turns.{turn_stands}
 
 -- AT FIRST
-outside_at : (n t : ℕ) → slice_index_or (replicate n Outside) t Outside ≡ Outside
+pub outside_at : (n t : ℕ) → slice_index_or (replicate n Outside) t Outside ≡ Outside
 outside_at zero t = refl
 outside_at (suc n) zero = refl
 outside_at (suc n) (suc t) = outside_at n t
@@ -44,7 +44,7 @@ fresh_at P zero t = tt
 fresh_at P (suc n) zero = (tt, tt)
 fresh_at P (suc n) (suc t) = fresh_at P n t
 
-first_tidy : (n : ℕ) → Tidy (first_shared n)
+pub first_tidy : (n : ℕ) → Tidy (first_shared n)
 first_tidy n = record {
   owned = refl;
   local = λ k t is. tt;
@@ -103,10 +103,11 @@ first_stands turns s row one is ordered = record {
         bad none = absurd cc
 
 -- A RUN stands beside its row, or a text is spoilt. Who is none of the threads takes no step
-abbrev AreIdle : ℕ → Machine (List ℕ) → Type 0
+abbrev pub AreIdle : ℕ → Machine (List ℕ) → Type 0
 AreIdle threads m = (t : ℕ) → threads ≤ t → m.programs t ≡ ended (Ok [])
 
-idle_on : (threads t : ℕ) (luck : Bool) (m : Machine (List ℕ)) (d : Doing (List ℕ)) → t < threads → AreIdle threads m
+pub idle_on : (threads t : ℕ) (luck : Bool) (m : Machine (List ℕ)) (d : Doing (List ℕ)) → t < threads
+    → AreIdle threads m
     → AreIdle threads (stepped m t luck d)
 idle_on threads t luck m (ended r) less idle = idle
 idle_on threads t luck m (steps more leaves) less idle = λ v most.

@@ -50,7 +50,7 @@ own_then {A} u after n d z tidy rest = from_then u after (own_or_shared n) (unle
     go false is = rest is
 
 -- its object is only looked at
-object_is : (u n : ℕ) (luck : Bool) (z : Shared) → Tidy z → (over_world (object n) u luck z).1 ≡ z
+pub object_is : (u n : ℕ) (luck : Bool) (z : Shared) → Tidy z → (over_world (object n) u luck z).1 ≡ z
 object_is u zero luck z tidy = seen_is u z tidy
 object_is u (suc n) luck z tidy = seen_is u z tidy
 

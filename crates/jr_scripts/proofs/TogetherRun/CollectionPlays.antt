@@ -96,7 +96,7 @@ found_by cleared dropped used = record { cleared = length cleared; dropped = len
 
 -- HOW MANY OTHERS ARE IN
 
-sum_first : (n : ℕ) (f : ℕ → ℕ) → sum_below (suc n) f ≡ f 0 + sum_below n (λ k. f (suc k))
+pub sum_first : (n : ℕ) (f : ℕ → ℕ) → sum_below (suc n) f ≡ f 0 + sum_below n (λ k. f (suc k))
 unfolding sum_below
 sum_first zero f = omega arith
 sum_first (suc n) f = let rest = sum_first n f in omega (arith, rest)
