@@ -20,14 +20,14 @@ TOKEN = re.compile(rf'"[^"]*"|(?<=\))(?:\.{NAME})+|{NAME}(?:\.{NAME})*|[(){{}}.;
 FIXITY = re.compile(r"^\s*infix([lr]?) (\d+) (.*)$", re.M)
 ENDS = ("", "=", "←", "then", "else", "in", ")", "}", ";", ",")
 OPERATORS = {
-    "||": (30, "l"), "&&": (35, "l"), "==": (40, ""), "++": (65, "r"), "+": (65, "l"), "-": (65, "l"), "∷": (67, "r"), "*": (70, "l"), "^": (75, "r"),
+    "||": (30, "l"), "&&": (35, "l"), "==": (40, ""), "++": (65, "r"), "+": (65, "l"), "-": (65, "l"), "-ℤ": (65, "l"), "∷": (67, "r"), "*": (70, "l"), "^": (75, "r"),
 }  # fmt: skip
 LIBRARY = {
     "zero": 0, "true": True, "false": False, "tt": (), "[]": (), "empty": {}, "w8": 8, "w16": 16, "w32": 32, "w64": 64,
     "suc": lambda n: n + 1, "◌+◌": lambda m, n: m + n, "◌-◌": lambda m, n: max(m - n, 0), "◌*◌": lambda m, n: m * n, "◌^◌": lambda m, n: m**n,
     "◌==◌": lambda m, n: m == n, "nat_eq": lambda m, n: m == n, "nat_lt": lambda m, n: m < n, "nat_le": lambda m, n: m <= n, "not": lambda b: not b,
-    "pos": lambda n: n, "negsuc": lambda n: -1 - n, "neg_ℤ": lambda k: -k, "int_lt": lambda k, l: k < l, "int_le": lambda k, l: k <= l,
-    "unsigned_abs": abs, "int_rem_euclid": lambda k, l: k % abs(l), "cast_signed": lambda w, n: n if n < 2 ** (w - 1) else -1 - max(2**w - 1 - n, 0),
+    "pos": lambda n: n, "negsuc": lambda n: -1 - n, "neg_ℤ": lambda k: -k, "◌-ℤ◌": lambda k, l: k - l,
+    "int_eq": lambda k, l: k == l, "int_le": lambda k, l: k <= l, "unsigned_abs": abs, "int_rem_euclid": lambda k, l: k % abs(l) if l else max(k, 0),
     "decimal": lambda n: tuple(b"%d" % n), "signed_decimal": lambda k: tuple(b"%d" % k), "codes": tuple, "bytes_eq": lambda xs, ys: xs == ys,
     "◌∷◌": lambda x, xs: (x, *xs), "◌++◌": lambda xs, ys: xs + ys, "length": len, "replicate": lambda n, x: (x,) * n,
     "drop": lambda n, xs: xs[n:], "take": lambda n, xs: xs[:n], "refl": (), "slice_index": lambda xs, n: xs[n] if n < len(xs) else 0,

@@ -1,7 +1,8 @@
 -- Elements of arrays as the numbers of a script.
-use Rattle.std.specs.Prelude.{ℕ, ℤ, pos, neg_ℤ, ◌^◌, ◌&&◌, Bool, List, [], ◌∷◌, Result}
-use Rattle.std.specs.Prelude.{Ok, Err, int_le, int_lt, unsigned_abs, if◌then◌else◌}
-use Rattle.std.specs.Int.{w8, w16, w32, w64, cast_signed, int_rem_euclid}
+use Rattle.std.specs.Prelude.{ℕ, ℤ, pos, ◌+◌, ◌-ℤ◌, ◌&&◌, Bool, true, false, nat_le, List, [], ◌∷◌, Result}
+use Rattle.std.specs.Prelude.{Ok, Err, unsigned_abs, if◌then◌else◌}
+use Rattle.std.specs.Int.{w8, w16, w32, w64, int_rem_euclid}
+use Rattle.std.specs.Ordering.{int_eq}
 use Rattle.jr_word.specs.declared.fault.Fault.{Fault}
 use Rattle.jr_word.specs.declared.fault.Fault.TheVariants as fault
 use Rattle.jr_word.specs.declared.kind.Kind.{Kind}
@@ -20,39 +21,29 @@ has_numbers Text = Err fault.NotArray
 has_numbers Objects = Err fault.WrongElement
 has_numbers _ = Ok tt
 
--- the least number that an element of a kind is
-abbrev pub least_number : Kind → ℤ
-least_number Byte = neg_ℤ (pos (2 ^ 7))
-least_number Short = neg_ℤ (pos (2 ^ 15))
-least_number Int = neg_ℤ (pos (2 ^ 31))
-least_number Long = neg_ℤ (pos (2 ^ 63))
-least_number _ = pos 0
-
--- the number above the greatest one
-abbrev pub number_limit : Kind → ℤ
-number_limit Byte = pos (2 ^ 7)
-number_limit Short = pos (2 ^ 15)
-number_limit Int = pos (2 ^ 31)
-number_limit Long = pos (2 ^ 63)
-number_limit k = pos (word_limit k)
-
--- some element of a kind is this number
-abbrev pub is_number_of : Kind → ℤ → Bool
-is_number_of k v = int_le (least_number k) v && int_lt v (number_limit k)
-
--- THE WORD OF A NUMBER:
--- the number modulo the count of words that the kind has, and E18 where no element of the kind is that number
-abbrev pub word_of_number : Kind → ℤ → Result ℕ Fault
-word_of_number k v =
-    if is_number_of k v then Ok (unsigned_abs (int_rem_euclid v (pos (word_limit k)))) else Err fault.Value
+-- elements of a kind have a sign: the upper half of its words are numbers below 0
+abbrev pub has_sign : Kind → Bool
+has_sign Byte = true
+has_sign Short = true
+has_sign Int = true
+has_sign Long = true
+has_sign _ = false
 
 -- THE NUMBER OF A WORD: bytes, shorts, ints and longs have a sign, a boolean is 0 or 1, and a char is 0 to 65,535
 abbrev pub number_of_word : Kind → ℕ → ℤ
-number_of_word Byte w = cast_signed w8 w
-number_of_word Short w = cast_signed w16 w
-number_of_word Int w = cast_signed w32 w
-number_of_word Long w = cast_signed w64 w
-number_of_word _ w = pos w
+number_of_word k w = if has_sign k && nat_le (word_limit k) (w + w) then pos w -ℤ pos (word_limit k) else pos w
+
+-- the word that a number would have: the number modulo the count of words that the kind has
+abbrev pub word_for : Kind → ℤ → ℕ
+word_for k v = unsigned_abs (int_rem_euclid v (pos (word_limit k)))
+
+-- some element of a kind is this number: it is that of its word
+abbrev pub is_number_of : Kind → ℤ → Bool
+is_number_of k v = int_eq (number_of_word k (word_for k v)) v
+
+-- THE WORD OF A NUMBER, and E18 where no element of the kind is that number
+abbrev pub word_of_number : Kind → ℤ → Result ℕ Fault
+word_of_number k v = if is_number_of k v then Ok (word_for k v) else Err fault.Value
 
 -- the number of the first of these words, 0 where there is none
 abbrev pub first_number : Kind → List ℕ → ℤ

@@ -43,17 +43,26 @@ said_of_collection _ = []
 
 -- what is printed for a command that was not refused
 abbrev pub says : Command → Reply → List ℕ
+-- `global N null`, `weak`, `local`, `pop`
 says (commands.MakeFrom v n r) (replies.Made None) = text_line (verb_word (MakeFrom v) ∷ n ∷ codes "null" ∷ [])
+-- `type REF T`
 says (commands.On v r) (replies.Type t) = text_line (verb_word (On v) ∷ reference_word r ∷ decimal t ∷ [])
+-- `len REF L`, `slen`
 says (commands.On v r) (replies.Length n) = text_line (verb_word (On v) ∷ reference_word r ∷ decimal n ∷ [])
+-- `chars REF UNIT ..`
 says (commands.On v r) (replies.Units units) = text_line (verb_word (On v) ∷ reference_word r ∷ map decimal units)
+-- `same REF REF true`, `same REF REF false`
 says (commands.OnBoth v q r) (replies.Same same) =
     text_line (verb_word (OnBoth v) ∷ reference_word q ∷ reference_word r ∷ verdict same ∷ [])
+-- `get N null`
 says (commands.MakeAt v n r i) (replies.Made None) = text_line (verb_word (MakeAt v) ∷ n ∷ codes "null" ∷ [])
+-- `load REF I V`
 says (commands.OnAt v r i) (replies.Value x) =
     text_line (verb_word (OnAt v) ∷ reference_word r ∷ decimal i ∷ signed_decimal x ∷ [])
+-- `eget N I V`, `cget`
 says (commands.OnNameAt v n i) (replies.Value x) =
     text_line (verb_word (OnNameAt v) ∷ n ∷ decimal i ∷ signed_decimal x ∷ [])
+-- `gc cleared C dropped D used U`, `gc busy K`
 says (commands.OfRoom v) reply = said_of_collection reply
 says (commands.WithTries v tries) reply = said_of_collection reply
 says _ _ = []

@@ -181,10 +181,15 @@ module _ (c : Config) (turns : ℕ) (names : Names) (words : ThreadWords) where
 
   -- what is made of what a reference names
   abbrev pub doing_from : MakeFrom → Handle → Doing Reply
+  -- `global N REF`
   doing_from make_from.Global h = makes_a_reference (calls_on h (new_reference Global))
+  -- `weak N REF`
   doing_from make_from.Weak h = makes_a_reference (calls_on h (new_reference Weak))
+  -- `local N REF`
   doing_from make_from.Local h = makes_a_reference (calls_on h new_local_ref)
+  -- `pop N REF`
   doing_from make_from.Pop h = makes_a_reference (calls_on h pop_local_frame)
+  -- `elems N REF`
   doing_from make_from.Elements h = do
     k ← calls_on h kind_of
     decided (has_numbers k)
@@ -195,16 +200,22 @@ module _ (c : Config) (turns : ℕ) (names : Names) (words : ThreadWords) where
   doing_type None = done 0
   doing_type (Some h) = calls_on h get_object_ref_type
 
-  -- what is about one reference; the delete calls of all kinds take the same steps
+  -- what is about one reference
   abbrev pub doing_about : On → Handle → Doing Reply
+  -- `len REF`
   doing_about on.Len h = in_reply (λ n. replies.Length n) (calls_on h get_array_length)
+  -- `slen REF`
   doing_about on.TextLength h = in_reply (λ n. replies.Length n) (calls_on h get_string_length)
+  -- `chars REF`
   doing_about on.Chars h = in_reply (λ units. replies.Units units) (calls_on h get_string_chars)
+  -- `drop REF`: the delete calls of all kinds take the same steps
   doing_about _ h = makes_nothing (calls_on h delete_local_ref)
 
   -- these calls enter no gate
   abbrev pub doing_room : WithCount → ℕ → Doing (Unit {0})
+  -- `push K`
   doing_room with_count.Push n = tried_in_steps turns (calls_within null 0 (push_local_frame n))
+  -- `ensure K`
   doing_room with_count.Ensure n = tried_in_steps turns (calls_within null 0 (ensure_local_capacity n))
 
   -- a buffer is copied back to an array; to abort takes no step, where there is a turn
@@ -214,53 +225,75 @@ module _ (c : Config) (turns : ℕ) (names : Names) (words : ThreadWords) where
 
   -- A COMMAND WHERE NO REGION STANDS: E19 for those of a region
   abbrev pub doing_outside : Command → Doing Reply
+  -- `plain N`
   doing_outside (commands.Make make.Plain n) = makes_an_object (calls_on_none new_plain)
+  -- `wait N`
   doing_outside (commands.Make make.Wait n) = waits_for (word_under words n) n
+  -- `global N REF`, `weak`, `local`, `pop`, `elems`
   doing_outside (commands.MakeFrom v n r) = the_named r >>= doing_from v
+  -- `type REF`
   doing_outside (commands.On on.Type r) = do
     h ← decided (reference_in (referent names r))
     in_reply (λ k. replies.Type k) (doing_type h)
+  -- `len REF`, `slen`, `chars`, `drop`
   doing_outside (commands.On v r) = the_named r >>= doing_about v
+  -- `same REF REF`
   doing_outside (commands.OnBoth v q r) = do
     h ← the_named q
     g ← the_named r
     in_reply (λ b. replies.Same b) (calls_on_both h g is_same_object)
+  -- `post N`
   doing_outside (commands.OnName v n) = by_step (posts_word n (word_posted names n))
+  -- `push K`, `ensure`
   doing_outside (commands.WithCount v n) = makes_nothing (doing_room v n)
+  -- `boolean N LEN`, `byte`, `char`, `short`, `int`, `long`
   doing_outside (commands.MakeSized v n len) = makes_an_object (calls_on_none (new_array (kind_made v) len))
+  -- `objs N LEN REF`
   doing_outside (commands.MakeFilled v n len r) =
       the_named r >>= (λ h. makes_an_object (calls_on h (new_object_array len)))
+  -- `string N UNIT ..`
   doing_outside (commands.MakeText v n units) = makes_an_object (calls_on_none (new_string units))
+  -- `get N REF I`
   doing_outside (commands.MakeAt v n r i) =
       the_named r >>= (λ h. makes_a_reference (calls_on h (get_object_array_element i)))
+  -- `set REF I REF`
   doing_outside (commands.SetAt v r i q) = do
     h ← the_named r
     g ← the_named q
     makes_nothing (calls_on_both h g (set_object_array_element i))
+  -- `load REF I`
   doing_outside (commands.OnAt v r i) = do
     h ← the_named r
     k ← calls_on h kind_of
     decided (has_numbers k)
     in_reply (λ found. replies.Value (first_number k found)) (calls_on h (get_array_region k i 1))
+  -- `store REF I VALUE`
   doing_outside (commands.StoreAt v r i x) = do
     h ← the_named r
     k ← calls_on h kind_of
     decided (has_numbers k)
     word ← decided (word_of_number k x)
     makes_nothing (calls_on h (set_array_region k i (word ∷ [])))
+  -- `crit N REF`, `critstr`
   doing_outside (commands.OpenLevel v n r) =
       the_named r >>= (λ h. in_reply (λ o. replies.Level o) (calls_opening h (get_critical v 0)))
+  -- `gc`
   doing_outside (commands.OfRoom v) = whatever collected_in_steps (λ counts. decided (told counts))
+  -- `gcann TRIES`
   doing_outside (commands.WithTries v tries) =
       whatever (tried_in_steps turns announced_in_steps) (λ counts. decided (told counts))
+  -- `eget N I`
   doing_outside (commands.OnNameAt on_name_at.Get n i) =
       in_reply (λ x. replies.Value x) (decided (getting i (binding names n)))
+  -- `eput N I VALUE`
   doing_outside (commands.PutAt put_at.Put n i x) =
       in_reply (λ b. replies.Done) (decided (putting i x (binding names n)))
+  -- `release N REF MODE`
   doing_outside (commands.Release v n r mode) = do
     b ← decided (buffer_in (binding names n))
     h ← the_named r
     makes_nothing (doing_back mode b h)
+  -- `cget`, `cset`, `endcrit`
   doing_outside _ = decided (Err fault.InCritical)
 
   -- what is done at the level that a name means, where levels of these names have these objects: E2 where none does
@@ -276,21 +309,28 @@ module _ (c : Config) (turns : ℕ) (names : Names) (words : ThreadWords) where
 
   -- A COMMAND IN A REGION: E19 for those that may not be made there
   abbrev pub doing_within : List (List ℕ) → List ℕ → Command → Doing Reply
+  -- `crit N REF`, `critstr`
   doing_within levels objects (commands.OpenLevel v n r) = the_named r >>= (λ h.
       in_reply (λ o. replies.Level o) (calls_within h 0 (get_critical v (length objects))))
+  -- `cget N I`
   doing_within levels objects (commands.OnNameAt on_name_at.GetInLevel n i) = doing_at_level levels objects n (λ o. do
     k ← calls_within null o region_kind
     decided (has_numbers (read_kind k))
     in_reply (λ word. replies.Value (number_of_word (read_kind k) word))
         (calls_within null o (region_get (read_kind k) i)))
+  -- `cset N I VALUE`
   doing_within levels objects (commands.PutAt put_at.PutInLevel n i x) = doing_at_level levels objects n (λ o. do
     k ← calls_within null o region_kind
     decided (has_numbers k)
     word ← decided (word_of_number k x)
     makes_nothing (calls_within null o (region_set k i word)))
+  -- `endcrit MODE`
   doing_within levels objects (commands.CloseLevel v mode) = makes_nothing (closes_level (length objects))
+  -- `post N`
   doing_within levels objects (commands.OnName v n) = by_step (posts_word n (word_posted names n))
+  -- `wait N`
   doing_within levels objects (commands.Make make.Wait n) = waits_for (word_under words n) n
+  -- all others
   doing_within levels objects _ = decided (Err fault.InCritical)
 
 module _ (c : Config) (turns : ℕ) where
