@@ -1,7 +1,7 @@
 """Runs definitions of specs/, for the scripts beside this file. Each that is asked for becomes a function of Python, equation by equation,
 and so do those that it names. Types are passed over. A number is an int, a boolean a bool, a list or a tuple a tuple, a map a dict; a
-constructor's value is a tuple of its name and its arguments, and a record a dict of its fields, by their labels. A function that is a
-value takes one argument at a time.
+constructor's value is a tuple of its name and its arguments, and a record a dict of its fields, by their labels. A record of claims is
+whether all of them hold. A function that is a value takes one argument at a time.
 
 Of the kit's library the words that definitions use stand here by hand (`LIBRARY`)."""
 
@@ -20,12 +20,12 @@ TOKEN = re.compile(rf'"[^"]*"|(?<=\))(?:\.{NAME})+|{NAME}(?:\.{NAME})*|[(){{}}.;
 FIXITY = re.compile(r"^\s*infix([lr]?) (\d+) (.*)$", re.M)
 ENDS = ("", "=", "←", "then", "else", "in", ")", "}", ";", ",")
 OPERATORS = {
-    "||": (30, "l"), "&&": (35, "l"), "==": (40, ""), "++": (65, "r"), "+": (65, "l"), "-": (65, "l"), "-ℤ": (65, "l"), "∷": (67, "r"), "*": (70, "l"), "^": (75, "r"),
+    "||": (30, "l"), "&&": (35, "l"), "==": (40, ""), "≡": (40, ""), "≤": (40, ""), "++": (65, "r"), "+": (65, "l"), "-": (65, "l"), "-ℤ": (65, "l"), "∷": (67, "r"), "*": (70, "l"), "^": (75, "r"),
 }  # fmt: skip
 LIBRARY = {
     "zero": 0, "true": True, "false": False, "tt": (), "[]": (), "empty": {}, "w8": 8, "w16": 16, "w32": 32, "w64": 64,
     "suc": lambda n: n + 1, "◌+◌": lambda m, n: m + n, "◌-◌": lambda m, n: max(m - n, 0), "◌*◌": lambda m, n: m * n, "◌^◌": lambda m, n: m**n,
-    "◌==◌": lambda m, n: m == n, "nat_eq": lambda m, n: m == n, "nat_lt": lambda m, n: m < n, "nat_le": lambda m, n: m <= n, "not": lambda b: not b,
+    "◌==◌": lambda m, n: m == n, "◌≡◌": lambda m, n: m == n, "◌≤◌": lambda m, n: m <= n, "nat_eq": lambda m, n: m == n, "nat_lt": lambda m, n: m < n, "nat_le": lambda m, n: m <= n, "not": lambda b: not b,
     "pos": lambda n: n, "negsuc": lambda n: -1 - n, "neg_ℤ": lambda k: -k, "◌-ℤ◌": lambda k, l: k - l,
     "int_eq": lambda k, l: k == l, "int_le": lambda k, l: k <= l, "unsigned_abs": abs, "int_rem_euclid": lambda k, l: k % abs(l) if l else max(k, 0),
     "decimal": lambda n: tuple(b"%d" % n), "signed_decimal": lambda k: tuple(b"%d" % k), "codes": tuple, "bytes_eq": lambda xs, ys: xs == ys,
@@ -33,7 +33,7 @@ LIBRARY = {
     "drop": lambda n, xs: xs[n:], "take": lambda n, xs: xs[:n], "refl": (), "slice_index": lambda xs, n: xs[n] if n < len(xs) else 0,
     "slice_index_or": lambda xs, n, x: xs[n] if n < len(xs) else x, "slice_set": lambda xs, n, x: (*xs[:n], x, *xs[n + 1 :]) if n < len(xs) else xs,
     "map": lambda f, xs: tuple(map(f, xs)), "filter": lambda p, xs: tuple(filter(p, xs)), "flat_map": lambda f, xs: tuple(y for x in xs for y in f(x)),
-    "list_any": lambda p, xs: any(map(p, xs)), "list_all": lambda p, xs: all(map(p, xs)), "sum_by": lambda f, xs: sum(map(f, xs)),
+    "list_any": lambda p, xs: any(map(p, xs)), "list_all": lambda p, xs: all(map(p, xs)), "AllByRecursion": lambda p, xs: all([p(x) for x in xs]), "sum_by": lambda f, xs: sum(map(f, xs)),
     "find": lambda p, xs: next((("Some", x) for x in xs if p(x)), ("None",)), "join_with_byte": lambda c, xs: tuple(bytes([c]).join(map(bytes, xs))),
     "is_some": lambda o: o[0] == "Some", "option_map": lambda f, o: ("Some", f(o[1])) if o[0] == "Some" else o,
     "option_map_or": lambda f, o, x: f(o[1]) if o[0] == "Some" else x, "get": lambda m, k: ("Some", m[k]) if k in m else ("None",),
@@ -244,7 +244,12 @@ class File:
             self.blocks.update({it.name[1]: (number, named) for it in its})
 
     def equations(self, name):
-        """Returns the lines of each equation of a definition."""
+        """Returns the lines of each equation of a definition: one for a record of claims."""
+        if " record " in self.lines[name][0]:
+            head, *fields = "\n".join(self.lines[name]).split("\n  pub ")
+            values = [value for names in re.findall(r"\(([^()]*) :", head) for value in names.split()]
+            claims = "".join(f"({it.partition(' : ')[2]}) ∷ " for it in fields)
+            return [[f"{' '.join([name, *values])} = AllByRecursion (λ it. it) ({claims}[])"]]
         found = []
         for line in self.lines[name]:
             if not line.startswith((" ", "}", ")")):

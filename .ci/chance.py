@@ -4,7 +4,7 @@ each other references and then make calls beside each other, where no race decid
 
 import random
 
-from language import first_fault
+from language import first_fault, script_of
 from machine import BOUNDS
 
 MOST_THREADS, MOST_COMMANDS, FEW_COMMANDS = 16, 120, 8
@@ -157,7 +157,7 @@ def alone(draw, most):
         part.lines[at:at] = [f"post {name}"]
         at = draw.randrange(at + 1, len(part.lines) + 1)
         part.lines[at:at] = [f"wait {name}"]
-    return "vm threads 1 slots %d objects %d words %d locals %d\nthread t\n" % sizes + "".join(f"{it}\n" for it in part.lines)
+    return script_of(sizes, {"t": part.lines})
 
 
 def given_by(number):
@@ -168,11 +168,11 @@ def given_by(number):
 def beside(draw, most):
     """Returns a script of several threads, in a room with enough of all that they share, of so many further commands twice in each thread
     at the most."""
-    threads, lines = draw.choice((2, 2, 3, 4, 8, MOST_THREADS)[: 4 if most == FEW_COMMANDS else 6]), []
+    threads, parts = draw.choice((2, 2, 3, 4, 8, MOST_THREADS)[: 4 if most == FEW_COMMANDS else 6]), {}
     most = min(most, 1_000 // threads)
     for number in range(threads):
         (array, objects, string), local = given_by(number)
-        kind, first = draw.choice([*BOUNDS]), [f"thread t{number}", f"plain {local}"]
+        kind, first = draw.choice([*BOUNDS]), [f"plain {local}"]
         first += [f"{kind} x 3", f"global {array} x", f"objs x 2 {array}", f"global {objects} x", "string x 7 8 9", f"global {string} x", "drop x"]
         first += [f"post {it}" for it in (array, objects, string, local)]
         others = draw.sample([it for it in range(threads) if it != number], draw.randrange(threads))
@@ -183,17 +183,17 @@ def beside(draw, most):
         second = Drawn(draw, False, [array, objects, string, *(it for it in taken if not it.endswith("l"))])
         second.add(draw.randrange(5, most))
         foreign = [f"{draw.choice(('type', 'len', 'drop', 'global r0', 'crit r0', 'local r0', 'chars', 'elems b0'))} {it}" for it in taken if it.endswith("l")]
-        lines += [*first, *part.lines, *(f"wait {it}" for it in taken), *foreign, *second.lines]
+        parts[f"t{number}"] = [*first, *part.lines, *(f"wait {it}" for it in taken), *foreign, *second.lines]
     # A command makes one reference and one object at the most, of up to three elements.
-    sizes = (threads, len(lines), len(lines), 3 * len(lines), draw.choice((24, 64, 200)))
-    return "vm threads %d slots %d objects %d words %d locals %d\n" % sizes + "".join(f"{it}\n" for it in lines)
+    made = threads + sum(map(len, parts.values()))
+    return script_of((made, made, 3 * made, draw.choice((24, 64, 200))), parts)
 
 
 def drawn(seed, most=MOST_COMMANDS):
     """Returns the script of a seed: the first that isn't too long."""
     draw = random.Random(seed)
     while True:
-        text = (alone(draw, most) if seed % 2 else beside(draw, most)).encode()
+        text = alone(draw, most) if seed % 2 else beside(draw, most)
         if first_fault(text) is None:
             return text
 

@@ -157,6 +157,12 @@ def checked(text):
     return 0, b"ok threads %d commands %d\n" % (threads, text.count(b"\n") - 1 - threads), b""
 
 
+def script_of(sizes, parts):
+    """Returns a script of the sizes of a room and the lines of each thread."""
+    lines = ["vm threads %d slots %d objects %d words %d locals %d" % (len(parts), *sizes)]
+    return "".join(f"{it}\n" for it in [*lines, *(it for name, part in parts.items() for it in (f"thread {name}", *part))]).encode()
+
+
 def sizes_of(text):
     """Returns the sizes of a script."""
     return dict(zip(SIZES, map(int, VM.match(text).groups())))

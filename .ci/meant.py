@@ -1,5 +1,6 @@
 """What the definitions say of texts, run by `.ci/antt.py`, for the scripts beside this file: which fault a text has, and what a script may
-print: of one thread by `Meaning.antt`, of several by `Together.antt` and `.ci/schedules.py`, and by `OneRow.antt` and `.ci/rows.py`."""
+print: of one thread by `Meaning.antt`, of several by `Together.antt` and `.ci/schedules.py`, by `OneRow.antt` and `.ci/rows.py`, and by
+`Apart.antt`."""
 
 from functools import cached_property
 
@@ -8,8 +9,9 @@ from rows import in_turns, rows_of
 from schedules import DOING, TEXT, TOGETHER, TURNS, Schedules
 
 WORLD, SWEEPS, MEANING, ONE_ROW = "jr_world.specs.World", "jr_scripts.specs.Sweeps", "jr_scripts.specs.Meaning", "jr_scripts.specs.OneRow"
+APART = "jr_scripts.specs.Apart"
 # The files of what scripts mean, of which each equation is to be come to.
-READ = (WORLD, DOING, SWEEPS, TOGETHER, MEANING, ONE_ROW)
+READ = (WORLD, DOING, SWEEPS, TOGETHER, MEANING, ONE_ROW, APART)
 CALLS = "jr_model.specs.CallPrograms"
 # What no script comes to: a frame always stands, and so do a thread's role, its part, a reference that was just made, and each object that
 # a reference, an element or a level names; a `drop` of any kind takes the steps of a local one; here no call is made so often that it is E20; and
@@ -28,10 +30,12 @@ IN_NO_ROW = {
     "scripts/threads/regions_at_once", "scripts/threads/sixty_four_threads_in_a_circle", "scripts/threads/two_regions_at_one_array",
     "scripts/threads/words_beside",
 }  # fmt: skip
+# Those whose threads share nothing.
+SHARE_NOTHING = {"examples/threads", "scripts/threads/a_thread_without_commands"}
 # What tells in a text that no memory was found for a copy, or that a wait was in vain.
 DISTURBED = (("Memory",), ("Turns",))
 # Scripts of so many threads run by all schedules, where these come to no more states.
-MOST_THREADS, MOST_STATES = 3, 8_000
+MOST_THREADS, MOST_STATES = 3, 2_000
 
 
 class Meant:
@@ -40,7 +44,7 @@ class Meant:
     def __init__(self, texts=None):
         """Takes texts in the place of files of definitions, by their modules."""
         self.definitions, self.noting = Definitions(texts, AS_SETS, KEPT), Definitions(texts, AS_SETS, KEPT)
-        self.by_all, self.ordered = [], []
+        self.by_all, self.ordered, self.apart = [], [], []
 
     @cached_property
     def schedules(self):
@@ -79,10 +83,10 @@ class Meant:
             return self.schedules.text_in_order(script)
         return bytes(self.definitions.run(MEANING, "text_of_part", memory, TURNS, script["config"], script["threads"][0]))
 
-    def texts(self, text):
+    def texts(self, text, is_hasty=True):
         """Returns what a script of several threads may print: by all schedules where these are few, and else in one order."""
         script = self.script(text)
-        found = self.schedules.texts(script, MOST_STATES) if len(script["threads"]) <= MOST_THREADS else None
+        found = self.schedules.texts(script, MOST_STATES, is_hasty) if len(script["threads"]) <= MOST_THREADS else None
         self.by_all.append(len(found or ()))
         return found or {self.schedules.text_in_order(script)}
 
@@ -101,6 +105,12 @@ class Meant:
         self.ordered.append(bool(rows))
         return {bytes(self.definitions.run(ONE_ROW, "text_of_row", TURNS, script, it)) for it in rows}
 
+    def alone(self, text):
+        """Returns what the threads of a script of several print each alone, as a set: nothing where they share something."""
+        script = self.script(text)
+        self.apart.append(self.definitions.run(APART, "SharesNothing", script))
+        return {bytes(self.definitions.run(APART, "text_alone", TURNS, script))} if self.apart[-1] else set()
+
     def in_turns(self, text, draw):
         """Returns the text of a script whose commands stand in one row: those of this one, with posts and waits between."""
         return bytes(self.run("Script", "text_of", in_turns(self.script(text), draw)))
@@ -110,12 +120,12 @@ class Meant:
         copies = text.count(b"\nelems ") + text.count(b"\nchars ")
         return {self.printed(text, (True,) * it + (False,)) for it in range(copies)}
 
-    def answers(self, text, is_by_all):
+    def answers(self, text, is_by_all, is_hasty=True):
         """Returns the fault of a text, or else what it may print, by all schedules or in one order, or that it is not spelled so."""
         fault = self.fault(text)
         if fault or not self.is_spelled(text):
             return {fault or b"spelled otherwise"}
-        return self.texts(text) if is_by_all and text.count(b"\nthread ") > 1 else {self.printed(text)}
+        return self.texts(text, is_hasty) if is_by_all and text.count(b"\nthread ") > 1 else {self.printed(text)}
 
     def unused(self):
         """Returns the equations of what scripts mean that no text has come to, and that some text can come to."""

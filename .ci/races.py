@@ -1,12 +1,13 @@
 """Scripts of two and three threads that race, drawn by chance, for `.ci/soak`, and all that each may print, by `.ci/meant.py`. Beside what
 happens to be drawn here a race decides what is printed: who drops, sets or makes first, and whether a collection finds another inside.
+Of the same commands are scripts, for `.ci/meaning`, whose threads share nothing.
 
 The first thread makes an array of numbers and one of objects, a global reference to each and a weak one, and posts them. The others wait for
 these, and all threads wait for each other. Each has a few commands then, on what was posted and on its own. No `wait` is in vain."""
 
 import random
 
-from language import first_fault
+from language import first_fault, script_of
 from machine import BOUNDS
 
 # A script is drawn whose schedules come to no more states.
@@ -127,16 +128,41 @@ def any_script(draw):
     races = races_of(draw, threads, is_tight, is_collected)
     # A room that has enough, or that has none or one more than the first thread makes.
     more = (0, 1) if is_tight else (sum(map(len, races)),)
-    sizes = (threads, 3 + draw.choice(more), 2 + draw.choice(more), 2 * length + draw.choice(more), draw.choice((16, 24)))
-    lines = [line for name, its, raced in zip(names, starts, races) for line in (f"thread {name}", *its, *raced)]
-    return "vm threads %d slots %d objects %d words %d locals %d\n" % sizes + "".join(f"{it}\n" for it in lines)
+    sizes = (3 + draw.choice(more), 2 + draw.choice(more), 2 * length + draw.choice(more), draw.choice((16, 24)))
+    return script_of(sizes, {name: its + raced for name, its, raced in zip(names, starts, races)})
+
+
+def asked(commands):
+    """Returns how many slots, objects and words commands ask for."""
+    words = [it.split() for it in commands]
+    made = [it for it in words if it[0] in (*BOUNDS, "objs", "string", "plain")]
+    return sum(it[0] in ("global", "weak") for it in words), len(made), sum(len(it) - 2 if it[0] == "string" else int([*it, 0][2]) for it in made)
+
+
+def apart(seed):
+    """Yields a script of threads that share nothing, in a room that has what they ask for and no more; then the same where a thread waits or
+    collects, and in rooms that have one less. Beside each stands whether its threads share nothing."""
+    draw, parts = random.Random(seed), {}
+    threads = draw.choice((2, 2, 2, 3))
+    for number in range(threads):
+        # (a name is posted once)
+        left_out = ("gc", "post")[: number + 1]
+        lines = [it for it in [*start(draw, ())[0], *Racing(draw).lines(4), *Racing(draw).make()] if not it.startswith(left_out)]
+        parts[f"t{number}"] = [lines[it] for it in sorted(draw.sample(range(len(lines)), draw.randrange(5 - threads, 8 - threads)))]
+    slots, objects, words = asked(sum(parts.values(), []))
+    sizes = (max(slots, 1), max(objects, 1), words)
+    yield script_of((*sizes, 16), parts), True
+    for it in ("wait z", "gc", "gcann 1"):
+        yield script_of((*sizes, 16), {**parts, "t0": ["post z", *parts["t0"]], "t1": [*parts["t1"], it]}), False
+    less = [script_of((*(size - (it == at) for it, size in enumerate(sizes)), 16), parts) for at, _ in enumerate(sizes)]
+    yield from ((it, False) for it in less if first_fault(it) is None)
 
 
 def raced(seed, meant):
     """Returns the script of a seed with all that it may print: the first of which that can be found, and is more than one text with memory."""
     draw = random.Random(seed)
     while True:
-        text = any_script(draw).encode()
+        text = any_script(draw)
         assert first_fault(text) is None, text
         texts = meant.schedules.texts(meant.script(text), MOST_STATES)
         if texts and len(with_memory(texts)) > 1:

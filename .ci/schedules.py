@@ -202,14 +202,14 @@ class Schedules:
         grown = [len(world[it]) - len(shared[it]) for it in ("objects", "refs")] + [world["used"] - shared["used"]]
         return any(it > 0 for it in grown) and all(world[it][: len(shared[it])] == shared[it] for it in ("objects", "refs")) and grown[2] >= 0
 
-    def first(self, script):
-        """Returns the state before the first step of a script."""
+    def first(self, script, is_hasty=True):
+        """Returns the state before the first step of a script. Without haste no step that makes something is unseen."""
         commands = [it for part in script["threads"] for it in part["commands"]]
         self.posted = {it[2] for it in commands if it[0] == "OnName"}
         making = [it for it in commands if it[:2] == ("Make", ("Plain",)) or it[0] in (*MAKING, "MakeText")]
         sizes = [0 if it[1] == ("Plain",) else it[3] if it[0] in MAKING else len(it[2]) for it in making]
         refs, config = sum(it[0] == "MakeFrom" and it[1][0] in ("Global", "Weak") for it in commands), script["config"]
-        self.is_roomy = refs <= config["slots"] and len(sizes) <= config["objects"] and sum(sizes) <= config["words"]
+        self.is_roomy = is_hasty and refs <= config["slots"] and len(sizes) <= config["objects"] and sum(sizes) <= config["words"]
         machine = self.run(TOGETHER, "first_machine", TURNS, script)
         programs, commands = [], []
         for it, _ in enumerate(script["threads"]):
@@ -260,9 +260,9 @@ class Schedules:
         lines = tuple(it[1][1] for it in state.programs)
         return bytes(self.run(TEXT, "text_of_parts", script["threads"], lines) + self.run(TEXT, "ending", self.run(TOGETHER, "summary_of", world)))
 
-    def texts(self, script, most):
+    def texts(self, script, most, is_hasty=True):
         """Returns all that a script may print, or None where its schedules come to more states than these."""
-        found, known, todo, numbers = set(), set(), [self.first(script)], Numbers()
+        found, known, todo, numbers = set(), set(), [self.first(script, is_hasty)], Numbers()
         while todo and len(known) <= most:
             state = todo.pop()
             key = state.key(numbers)

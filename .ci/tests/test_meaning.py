@@ -3,10 +3,12 @@
 import os
 import unittest
 
-from shared import CI, repository
+from shared import CI, repository, script
 from antt import Definitions, constant
 from cases import cases
-from meant import AS_SETS, CALLS, IN_NO_ROW, KEPT, ONE_ROW, SWEEPS, WORLD, Meant
+from machine import printed
+from meant import APART, AS_SETS, CALLS, IN_NO_ROW, KEPT, ONE_ROW, SHARE_NOTHING, SWEEPS, WORLD, Meant
+from races import apart
 from rattle import text_of
 from schedules import DOING, TOGETHER
 
@@ -51,6 +53,12 @@ both ns = record {
   left = 0;
   right = ns;
 }
+
+-- claims
+pub record Are (least k : ℕ) (ns : List ℕ) : Type 0 where
+  pub are : AllByRecursion (λ n. n ≡ k)
+      ns
+  pub is_least : least ≤ k
 
 abbrev pub lost : ℕ → ℕ
 lost zero = 7
@@ -161,6 +169,24 @@ PLANTED_IN_ROWS = {
     ),
     "the first thread takes all steps": ("scripts/threads/a_local_reference_is_of_its_own_thread_alone", "run_alone t true", "run_alone 0 true"),
 }  # fmt: skip
+# What is planted in `Apart.antt`: what takes the place of what.
+PLANTED_APART = {
+    "a wait is for itself": ("is_for_itself (waits n) = false", "is_for_itself (waits n) = true"),
+    "a collection is for itself": ("is_for_itself collects = false", "is_for_itself collects = true"),
+    "no other command is for itself": ("is_for_itself _ = true", "is_for_itself _ = false"),
+    "a weak reference asks for no slot": ("make_from.Weak n r) = 1", "make_from.Weak n r) = 0"),
+    "each command asks for a slot": ("slots_wanted _ = 0", "slots_wanted _ = 1"),
+    "a string asks for no object": ("objects_wanted (commands.MakeText v n units) = 1", "objects_wanted (commands.MakeText v n units) = 0"),
+    "objects ask for no words": ("words_wanted (commands.MakeFilled v n len r) = len", "words_wanted (commands.MakeFilled v n len r) = 0"),
+    "a string asks for no words": ("MakeText v n units) = length units", "MakeText v n units) = 0"),
+    "slots are objects": ("in_all slots_wanted s.threads ≤ s.config.slots", "in_all slots_wanted s.threads ≤ s.config.objects"),
+    "all words but one fit": ("in_all words_wanted s.threads ≤", "in_all words_wanted s.threads + 1 ≤"),
+    "lines begin one early": ("line = line + 1; text", "line = line; text"),
+    "a thread's line has no number": ("courses_alone (line + 1 + length", "courses_alone (line + length"),
+    "another thread takes the steps": ("map (λ x. (0, x))", "map (λ x. (1, x))"),
+    "words are told for objects": ("live = sum_by (λ w. (summary_of_course w).live)", "live = sum_by (λ w. (summary_of_course w).used)"),
+    "no summary is told": ("ending (summary_of_all ws)", "ending (summary_of_all [])"),
+}
 
 
 class SmallDefinitions(unittest.TestCase):
@@ -184,6 +210,9 @@ class SmallDefinitions(unittest.TestCase):
 
     def test_a_record_may_be_another_but_for_a_field(self):
         self.assertEqual(self.said("both", (4, 5, 6)), {"left": 4, "right": (6,)})
+
+    def test_a_record_of_claims_is_whether_they_hold(self):
+        self.assertEqual([self.said("Are", *it) for it in ((1, 1, (1, 1)), (2, 1, (1, 1)), (1, 1, (1, 2)))], [True, False, False])
 
     def test_what_is_no_word_that_is_known_is_refused(self):
         for equation in ("f Never = 0", "f n = never n"):
@@ -233,6 +262,24 @@ class Scripts(unittest.TestCase):
             said = whole.in_rows(kept[name].text)
             self.assertEqual(said, set() if name in IN_NO_ROW else {kept[name].output}, what)
             self.assertNotEqual(Meant({ONE_ROW: text.replace(old, new)}).in_rows(kept[name].text), said, what)
+
+    def test_drawn_scripts_tell_what_is_planted_of_threads_that_share_nothing(self):
+        beside, text = script("meaning").beside, text_of(f"crates/{APART.replace('.', '/')}.antt")
+        drawn = [(it, printed(it), is_so) for seed in range(1, 8) for it, is_so in apart(seed)]
+
+        def told(meant):
+            """Returns what is told of the first of the drawn scripts of which something is told."""
+            return next((told for it, wanted, is_so in drawn for told in beside(meant, "drawn", it, wanted, {wanted}, meant.alone(it), is_so)), None)
+
+        self.assertIsNone(told(Meant()))
+        for what, (old, new) in PLANTED_APART.items():
+            self.assertEqual(text.count(old), 1, what)
+            self.assertIsNotNone(told(Meant({APART: text.replace(old, new)})), what)
+
+    def test_kept_scripts_tell_whether_threads_share_nothing(self):
+        meant = Meant()
+        said = {it.name: meant.alone(it.text) for it in cases() if it.text.count(b"\nthread ") > 1 and not it.fault}
+        self.assertEqual({name for name, its in said.items() if its}, SHARE_NOTHING)
 
     def test_a_name_is_posted_once_and_before_each_wait(self):
         meant = Meant()

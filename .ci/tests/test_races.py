@@ -48,7 +48,7 @@ class DrawnRaces(unittest.TestCase):
 
     def test_each_is_a_script_whose_waits_are_not_in_vain(self):
         for seed in range(100):
-            text = any_script(random.Random(seed)).encode()
+            text = any_script(random.Random(seed))
             self.assertIsNone(first_fault(text))
             self.assertNotIn(b" ! E20", printed(text))
             posts = [it.words[0] for part in parts_of(text) for it in part.commands if it.verb == "post"]
