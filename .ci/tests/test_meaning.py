@@ -108,6 +108,13 @@ PLANTED = {
         "rooted (Some r) = listed r.object",
         SWEEPS,
     ),
+    "three elements lead no further": ("scripts/collections/what_a_long_row_names_is_reached", "reached_by w (length w.objects)", "reached_by w 3", SWEEPS),
+    "a fourth element is not looked at": (
+        "scripts/collections/what_a_long_row_names_is_reached",
+        "(λ word. listed (named_by word)) x.words)",
+        "(λ word. listed (named_by word)) (take 3 x.words))",
+        SWEEPS,
+    ),
     "an array's kind comes after E17": (
         "scripts/regions/a_kind_before_a_seventeenth_level",
         "(not (is_primitive k), WrongElement) ∷ (nat_le LEVELS levels, Size) ∷ []",
