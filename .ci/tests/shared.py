@@ -10,6 +10,15 @@ import tempfile
 sys.dont_write_bytecode = True
 CI = os.path.dirname(os.path.dirname(os.path.abspath(__file__)))
 sys.path.insert(0, CI)
+from meant import Meant
+from rattle import text_of
+
+
+def planted(module, old, new):
+    """Returns what the definitions say of texts where something takes the place of what stands once in a file of these."""
+    text = text_of(f"crates/{module.replace('.', '/')}.antt")
+    assert text.count(old) == 1, old
+    return Meant({module: text.replace(old, new)})
 
 
 def script(name):

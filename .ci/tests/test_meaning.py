@@ -3,13 +3,12 @@
 import os
 import unittest
 
-from shared import CI, repository, script
+from shared import CI, planted, repository, script
 from antt import Definitions, constant
 from cases import cases
 from machine import printed
 from meant import APART, AS_SETS, CALLS, IN_NO_ROW, KEPT, ONE_ROW, SHARE_NOTHING, SWEEPS, WORLD, Meant
 from races import apart
-from rattle import text_of
 from schedules import DOING, TOGETHER
 
 SMALL = """-- Of no use.
@@ -255,23 +254,18 @@ class Scripts(unittest.TestCase):
     def test_kept_scripts_tell_what_is_planted(self):
         kept, whole = {it.name: it for it in cases()}, Meant()
         for what, (name, old, new, *of) in PLANTED.items():
-            module = of[0] if of else TOGETHER
-            text = text_of(f"crates/{module.replace('.', '/')}.antt")
-            self.assertEqual(text.count(old), 1, what)
-            planted = Meant({module: text.replace(old, new)})
             self.assertEqual(whole.printed(kept[name].text), kept[name].output, what)
-            self.assertNotEqual(planted.printed(kept[name].text), kept[name].output, what)
+            self.assertNotEqual(planted(*of or [TOGETHER], old, new).printed(kept[name].text), kept[name].output, what)
 
     def test_kept_scripts_tell_what_is_planted_in_rows(self):
-        kept, whole, text = {it.name: it for it in cases()}, Meant(), text_of(f"crates/{ONE_ROW.replace('.', '/')}.antt")
+        kept, whole = {it.name: it for it in cases()}, Meant()
         for what, (name, old, new) in PLANTED_IN_ROWS.items():
-            self.assertEqual(text.count(old), 1, what)
             said = whole.in_rows(kept[name].text)
             self.assertEqual(said, set() if name in IN_NO_ROW else {kept[name].output}, what)
-            self.assertNotEqual(Meant({ONE_ROW: text.replace(old, new)}).in_rows(kept[name].text), said, what)
+            self.assertNotEqual(planted(ONE_ROW, old, new).in_rows(kept[name].text), said, what)
 
     def test_drawn_scripts_tell_what_is_planted_of_threads_that_share_nothing(self):
-        beside, text = script("meaning").beside, text_of(f"crates/{APART.replace('.', '/')}.antt")
+        beside = script("meaning").beside
         drawn = [(it, printed(it), is_so) for seed in range(1, 8) for it, is_so in apart(seed)]
 
         def told(meant):
@@ -279,9 +273,8 @@ class Scripts(unittest.TestCase):
             return next((told for it, wanted, is_so in drawn for told in beside(meant, "drawn", it, wanted, {wanted}, meant.alone(it), is_so)), None)
 
         self.assertIsNone(told(Meant()))
-        for what, (old, new) in PLANTED_APART.items():
-            self.assertEqual(text.count(old), 1, what)
-            self.assertIsNotNone(told(Meant({APART: text.replace(old, new)})), what)
+        for what, its in PLANTED_APART.items():
+            self.assertIsNotNone(told(planted(APART, *its)), what)
 
     def test_kept_scripts_tell_whether_threads_share_nothing(self):
         meant = Meant()

@@ -3,18 +3,16 @@
 import os
 import unittest
 
-from shared import CI, script
+from shared import CI, planted, script
 from cases import Case
 from meant import Meant
 from preloaded import OUT_OF_MEMORY, Ended
-from rattle import text_of
 from schedules import DOING
 
 # A copy of an element, one of none, and one that is refused before it asks for memory.
 TEXT = b"vm threads 1 slots 1 objects 2 words 1 locals 16\nthread a\nint a 1\nelems b a\nint c 0\nelems b c\nelems b null\n"
 HEAD, END = b"[a]\n", b"7 ! E1\n[end]\nglobals 0 weaks 0 live 2 used 1\n"
 WHOLE, FIRST, SECOND = HEAD + END, HEAD + b"4 ! E16\n" + END, HEAD + b"6 ! E16\n" + END
-NOTHING_COPIED = "copied_in_steps o zero = done []"
 MEANT = Meant()
 
 
@@ -60,8 +58,6 @@ class RefusedAllocations(unittest.TestCase):
             self.assertTrue(told.startswith(f"WRONG   jrefs run a/b, allocation 3 of thread {len(threads) - 1}: "), told)
 
     def test_definitions_that_allow_more_than_happens_are_told(self):
-        text = text_of(f"crates/{DOING.replace('.', '/')}.antt")
-        self.assertEqual(text.count(NOTHING_COPIED), 1)
-        more = Meant({DOING: text.replace(NOTHING_COPIED, "copied_in_steps o zero = by_step finds_memory >> done []")})
+        more = planted(DOING, "copied_in_steps o zero = done []", "copied_in_steps o zero = by_step finds_memory >> done []")
         (told,) = self.said([OUT_OF_MEMORY, (0, FIRST, b"")], meant=more)
         self.assertTrue(told.endswith(f"\n{SECOND.decode()}"), told)
