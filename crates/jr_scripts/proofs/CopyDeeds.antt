@@ -122,12 +122,6 @@ pub release_handed : {A : Type 0} (words : A → List ℕ) (left : Option A)
 release_handed words None = refl
 release_handed words (Some x) = refl
 
--- and one that was refused all of them
-pub all_left : {A : Type 0} (mode : Mode) (x y : A) (e : Fault) → y ≡ x → Some y ≡ elements_left mode (Err e) x
-all_left Copy x y e is = ap (λ z. Some z) is
-all_left Commit x y e is = ap (λ z. Some z) is
-all_left Abort x y e is = ap (λ z. Some z) is
-
 -- what is left of elements of a type, as what a name stands for
 pub left_mapped : {V : Type 0} (k : Kind) (word_of : V → ℕ) (wrap : List V → CopiedElements)
     → ((vs : List V) → copied_in (wrap vs) ≡ copied_as k word_of vs) → (mode : Mode) (answer : Result Reply Fault)

@@ -39,7 +39,7 @@ none_of_all : (f : Role → Bool) (rs : List Role) → ((u : ℕ) → f (slice_i
 none_of_all f [] none = refl
 none_of_all f (r ∷ rs) none = ap (λ b. b || of_all f rs) (none 0) ∙ none_of_all f rs (λ u. none (suc u))
 
-none_of_others : (f : Role → Bool) (t : ℕ) (rs : List Role) → ((u : ℕ) → f (slice_index_or rs u Outside) ≡ false)
+pub none_of_others : (f : Role → Bool) (t : ℕ) (rs : List Role) → ((u : ℕ) → f (slice_index_or rs u Outside) ≡ false)
     → of_others f t rs ≡ false
 none_of_others f t [] none = refl
 none_of_others f zero (r ∷ rs) none = none_of_all f rs (λ u. none (suc u))

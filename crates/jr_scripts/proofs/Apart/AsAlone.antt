@@ -1,10 +1,7 @@
 -- THREADS THAT SHARE NOTHING print as alone.
-use Rattle.std.proofs.Common.{◌≡◌, ◌⊎◌, ◌<◌, ◌≤◌, ◌+◌, ◌++◌, ◌==◌, ℕ, zero, suc, Bool, true, false, None, Some, Result}
-use Rattle.std.proofs.Common.{Ok}
-use Rattle.std.proofs.Common.{List, [], ◌∷◌, map, length, replicate, slice_index_or, nat_lt, inl, inr, refl, sym, ap}
-use Rattle.std.proofs.Common.{subst, ◌∙◌, arith}
+use Rattle.std.proofs.Common.{◌≡◌, ◌⊎◌, ◌<◌, ◌≤◌, ◌+◌, ◌++◌, ℕ, zero, suc, true, None, Result, Ok, List, [], ◌∷◌, map}
+use Rattle.std.proofs.Common.{length, slice_index_or, inl, inr, refl, sym, ap, subst, ◌∙◌, arith}
 use Rattle.std.specs.List.{AllByRecursion, sum_by}
-use Rattle.std.proofs.lemmas.Bool.Decides.{nat_tests}
 use Rattle.std.proofs.lemmas.List.{get_or-replicate, length-replicate}
 use Rattle.std.proofs.lemmas.List.Sums.{sum_by-cons}
 use Rattle.jr_word.specs.declared.config.Config.{Config}
@@ -16,22 +13,18 @@ use Rattle.jr_model.specs.Maps.{sum_below}
 use Rattle.jr_model.specs.State.{is_barring}
 use Rattle.jr_model.proofs.Lengths.{sum_none, sum_same}
 use Rattle.jr_world.specs.World.{refs_of, standing}
-use Rattle.jr_world.specs.Doing.{Doing, Shared, as_seen, first_shared}
-use Rattle.jr_world.specs.Doing.Doing.{ended}
-use Rattle.jr_world.specs.Schedules.{Machine, run, stepped}
+use Rattle.jr_world.specs.Doing.{as_seen, first_shared}
+use Rattle.jr_world.specs.Schedules.{Machine, run}
 use Rattle.jr_syntax.specs.declared.command.Command.{Command}
-use Rattle.jr_syntax.specs.declared.script.Script.{Script}
 use Rattle.jr_syntax.specs.declared.thread.ThreadPart.{ThreadPart}
 use Rattle.jr_scripts.specs.Places.{nowhere}
 use Rattle.jr_scripts.specs.Text.{ending, text_of_parts}
 use Rattle.jr_scripts.specs.Together.{first_machine, lines_from, summary_of, thread_of}
 use Rattle.jr_scripts.specs.OneRow.{Course, ThreadStand, manner_of, part_commands}
-use Rattle.jr_scripts.specs.Apart.{PrintAsAlone, SharesNothing, course_alone, courses_alone, in_all, is_for_itself}
-use Rattle.jr_scripts.specs.Apart.{objects_wanted, slots_wanted, summary_of_all, summary_of_course, text_alone}
-use Rattle.jr_scripts.specs.Apart.{words_wanted}
-use Rattle.jr_scripts.proofs.OneRow.Alike.{role_of}
-use Rattle.jr_scripts.proofs.OneRow.OneText.{AreIdle, first_tidy, idle_on, outside_at}
-use Rattle.jr_scripts.proofs.OneRow.Spoilt.{EachEnds, IsSpoiltEnd, SpoiltBy, none_spoilt, spoilt_run}
+use Rattle.jr_scripts.specs.Apart.{PrintAsAlone, course_alone, courses_alone, in_all, is_for_itself, objects_wanted}
+use Rattle.jr_scripts.specs.Apart.{slots_wanted, summary_of_all, summary_of_course, text_alone, words_wanted}
+use Rattle.jr_scripts.proofs.OneRow.OneText.{first_idle, first_tidy, outside_at, run_holds}
+use Rattle.jr_scripts.proofs.OneRow.Spoilt.{EachEnds, IsSpoiltEnd, SpoiltBy, none_spoilt}
 use Rattle.jr_scripts.proofs.TogetherRun.CollectionPlays.{sum_first}
 use Rattle.jr_scripts.proofs.Apart.Lines.{EndsAsAlone, LinesLead, asked_by_all, lines_lead}
 use Rattle.jr_scripts.proofs.Apart.Mirrors.{Asks, IsAlone, Mirrors, and_asks}
@@ -142,40 +135,9 @@ asked_all f (p ∷ ps) = sum_first (length ps) (λ t. sum_by f (part_commands (p
     ∙ ap (λ n. sum_by f p.commands + n) (asked_all f ps)
     ∙ sym (sum_by-cons (λ (q : ThreadPart). sum_by f q.commands) p ps)
 
--- A RUN stays beside the worlds alone, or a text is spoilt
-run_beside : (c : Config) (courses : ℕ → Course) (schedule : List (ℕ × Bool)) (m : Machine (List ℕ))
-    → AreIdle c.threads m → Beside c courses m
-    → Beside c courses (run schedule m) ⊎ SpoiltBy c.threads (run schedule m)
-run_beside c courses [] m idle B = inl B
-run_beside c courses (x ∷ xs) m idle B =
-    go (λ n idle B. run_beside c courses xs n idle B) (nat_lt x.0 c.threads) refl
-  where
-    after : Machine (List ℕ)
-    after = stepped m x.0 x.1 (m.programs x.0)
-
-    Leads : Machine (List ℕ) → Type 0
-    Leads n = Beside c courses (run xs n) ⊎ SpoiltBy c.threads (run xs n)
-
-    below : (n threads : ℕ) → nat_lt n threads ≡ true → n < threads
-    below n threads is = grind (arith, nat_tests)
-
-    not_below : (n threads : ℕ) → nat_lt n threads ≡ false → threads ≤ n
-    not_below n threads is = grind (arith, nat_tests)
-
-    go : ((n : Machine (List ℕ)) → AreIdle c.threads n → Beside c courses n → Leads n) → (b : Bool)
-        → nat_lt x.0 c.threads ≡ b → Leads after
-    go rest true is = turned (turn_beside c courses m B x.0 (below x.0 c.threads is) x.1)
-      where
-        turned : Beside c courses after ⊎ SpoiltBy c.threads after → Leads after
-        turned (inl stands) =
-            rest after (idle_on c.threads x.0 x.1 m (m.programs x.0) (below x.0 c.threads is) idle) stands
-        turned (inr spoilt) = inr (spoilt_run c.threads xs after spoilt)
-    go rest false is = subst Leads (sym (ap (stepped m x.0 x.1) (idle x.0 (not_below x.0 c.threads is))))
-        (rest m idle B)
-
 pub print_as_alone : PrintAsAlone
-print_as_alone turns s text tried one shares means undisturbed = means.text_is ∙ go (run_beside c courses
-    means.schedule (first_machine turns s) (λ t most. none_at 2 s.threads t (subst (λ n. n ≤ t) (sym one) most)) first)
+print_as_alone turns s text tried one shares means undisturbed = means.text_is ∙ go (run_holds c.threads
+    (Beside c courses) (turn_beside c courses) means.schedule (first_machine turns s) (first_idle turns s one) first)
   where
     c : Config
     c = s.config
@@ -219,11 +181,6 @@ print_as_alone turns s text tried one shares means undisturbed = means.text_is �
       live = sym (sum_none c.threads);
       used = sym (sum_none c.threads);
     }
-
-    none_at : (line : ℕ) (ps : List ThreadPart) (t : ℕ) → length ps ≤ t → thread_of c turns line ps t ≡ ended (Ok [])
-    none_at line [] t most = refl
-    none_at line (p ∷ ps) zero most = absurd (omega arith)
-    none_at line (p ∷ ps) (suc t) most = none_at (line + 1 + length p.commands) ps t (omega arith)
 
     after : Machine (List ℕ)
     after = run means.schedule (first_machine turns s)

@@ -1,24 +1,22 @@
 -- ELEMENTS are read and written as alone.
-use Rattle.std.proofs.Common.{◌≡◌, ◌<◌, ◌+◌, ℕ, zero, suc, false, true, Bool, Option, Some, None, Ok, List, [], ◌∷◌}
-use Rattle.std.proofs.Common.{length, map, slice_index, slice_set, refl, sym, ap, subst, ◌∙◌, inl, inr, arith}
+use Rattle.std.proofs.Common.{◌≡◌, ◌+◌, ℕ, zero, suc, false, true, Bool, cond, Option, Some, None, Ok, Err, List, []}
+use Rattle.std.proofs.Common.{◌∷◌, map, slice_index, slice_set, refl, sym, ap, subst, ◌∙◌, inl, inr, arith}
 use Rattle.std.proofs.lemmas.List.{get_or-set_same, map-set}
 use Rattle.std.specs.List.{AllByRecursion}
 use Rattle.jr_word.specs.declared.config.Config.{Config}
+use Rattle.jr_word.specs.declared.fault.Fault.TheVariants.{Memory}
 use Rattle.jr_model.specs.State.{Contents}
 use Rattle.jr_model.specs.Checks.{is_objects}
-use Rattle.jr_model.specs.Programs.{handle, perhaps}
-use Rattle.jr_world.specs.World.{ask, contents, contents_in, element_to, new_local, overwritten, push, rewrites}
-use Rattle.jr_world.specs.World.{room_for, standing_at}
-use Rattle.jr_world.specs.Doing.{Noted, Shared, as_seen, atom, by_step, copied_in_steps, deleted_in_steps, done}
-use Rattle.jr_world.specs.Doing.{element_read, finds_memory, freed_in_steps, named, named_both, popped_in_steps}
-use Rattle.jr_world.specs.Doing.{read_in_steps, run_alone, typed, unless_refused, written_in_steps, ◌>>=◌}
-use Rattle.jr_scripts.proofs.Apart.Goes.{Goes, Of, anywhere, ended_goes, goes_bind, same}
-use Rattle.jr_scripts.proofs.Apart.Leads.{Leaps, LeadsTo, Outcome, WasNoted}
-use Rattle.jr_scripts.proofs.Apart.Mirrors.{Asks, Fits, IsAlone, Mirrors, elements_within}
-use Rattle.jr_scripts.proofs.Apart.Numbers.{Extends, HasElement, HasKnown, HasWord, IsFor, Numbers, contents_as}
-use Rattle.jr_scripts.proofs.Apart.Numbers.{element_of, known_of, object_as, object_of, reads_on, word_of}
-use Rattle.jr_scripts.proofs.Apart.Writes.{contents_are, elements_in, leaps_itself, look_goes, rewrite_goes}
-use Rattle.jr_scripts.proofs.Apart.Parts.{OfObjects, contents_for, element_for_other, known_for}
+use Rattle.jr_world.specs.World.{contents, contents_in, element_to, overwritten, rewrites, standing_at}
+use Rattle.jr_world.specs.Doing.{Noted, Shared, as_seen, atom, copied_in_steps, element_read, read_in_steps, run_alone}
+use Rattle.jr_world.specs.Doing.{unless_refused, written_in_steps}
+use Rattle.jr_scripts.proofs.Apart.Goes.{Goes, bind_at, ended_goes, goes_bind, look_goes}
+use Rattle.jr_scripts.proofs.Apart.Grown.{still_leaps}
+use Rattle.jr_scripts.proofs.Apart.Leads.{LeadsTo, Outcome}
+use Rattle.jr_scripts.proofs.Apart.Mirrors.{Asks, IsAlone, elements_within}
+use Rattle.jr_scripts.proofs.Apart.Numbers.{ElementFor, Extends, HasElement, KnownFor, Numbers, ObjectFor, contents_as}
+use Rattle.jr_scripts.proofs.Apart.Numbers.{element_of, known_later, object_as, object_later, same}
+use Rattle.jr_scripts.proofs.Apart.Writes.{OfObjects, contents_are, elements_in, rewrite_goes}
 
 -- an element that is read
 element_at : (k : Numbers) (words : List ℕ) (i : ℕ) → AllByRecursion (HasElement k) words
@@ -35,145 +33,86 @@ all_set P [] i x all new = tt
 all_set P (y ∷ ys) zero x all new = (new, all.1)
 all_set P (y ∷ ys) (suc i) x all new = (all.0, all_set P ys i x all.1 new)
 
-element_to_is : (k : Numbers) (x : Option ℕ) → HasKnown k x
-    → (element_of k (element_to x) ≡ element_to (known_of k x)) × HasElement k (element_to x)
-element_to_is k None has = (refl, omega arith)
-element_to_is k (Some o) has = (refl, omega arith)
-
--- an object keeps its number where more was made
-object_stays : (j k : Numbers) → Extends j k → (o : ℕ) → o < length j.objects
-    → (object_of k o ≡ object_of j o) × (o < length k.objects)
-object_stays j k more o small = reads_on j.objects more.objects k.objects more.objects_are o small
+pub element_to_for : (k : Numbers) (x y : Option ℕ) → KnownFor k x y → ElementFor k (element_to x) (element_to y)
+element_to_for k x None is = (ap element_to is.0, omega arith)
+element_to_for k x (Some o) is = let has = is.1 in (ap element_to is.0, omega arith)
 
 -- of what kind the object is, and its words, of numbers or of objects
 words_are : (k : Numbers) (b : Bool) (x : Option Contents) → is_objects (contents_in x).kind ≡ b
     → (contents_in (object_as k x)).words ≡ contents_as k b (contents_in x).words
 words_are k b x is = ap (λ y. y.words) (contents_are k x) ∙ ap (λ d. contents_as k d (contents_in x).words) is
 
-module _ (c : Config) (t : ℕ) where
-  a_word_goes : (k : Numbers) (o i : ℕ) → o < length k.objects
-      → Goes c t (OfObjects false o) same k (element_read (object_of k o) i) (element_read o i)
-  a_word_goes k o i small = look_goes c t k (OfObjects false o) same
-      (λ w. Ok (slice_index (contents w (object_of k o)).words i)) (λ w. Ok (slice_index (contents w o).words i))
-      (λ s z mirrors at. ap (λ x. slice_index (contents_in x).words i) (mirrors.objects o small)
-      ∙ ap (λ ws. slice_index ws i) (words_are k false (standing_at z.objects o) at))
+module _ {c : Config} {t : ℕ} where
+  -- what stands at an index, of whichever elements
+  at_goes : {k : Numbers} (b : Bool) (Q : Numbers → ℕ → ℕ → Type 0)
+      → ((j : Numbers) (ws : List ℕ) (i : ℕ) → elements_within j b ws
+      → Q j (slice_index (contents_as j b ws) i) (slice_index ws i)) → (o u i : ℕ) → ObjectFor k o u
+      → Goes c t (OfObjects b u) Q k (element_read o i) (element_read u i)
+  at_goes b Q so o u i for = look_goes (λ w. Ok (slice_index (contents w o).words i))
+      (λ w. Ok (slice_index (contents w u).words i)) (λ j s z more m at. let it = object_later more o u for in
+      subst (λ x. Q j x (slice_index (contents_in (standing_at z.objects u)).words i))
+      (sym (ap (λ p. slice_index (contents_in (standing_at s.objects p)).words i) it.0
+      ∙ (ap (λ x. slice_index (contents_in x).words i) (m.objects u it.1)
+      ∙ ap (λ ws. slice_index ws i) (words_are j b (standing_at z.objects u) at))))
+      (so j (contents_in (standing_at z.objects u)).words i
+      (subst (λ d. elements_within j d (contents_in (standing_at z.objects u)).words) at
+      (elements_in j (standing_at z.objects u) (m.alone.have_elements u)))))
+
+  pub element_goes : {k : Numbers} (o u i : ℕ) → ObjectFor k o u
+      → Goes c t (OfObjects false u) same k (element_read o i) (element_read u i)
+  element_goes o u i for = at_goes false same (λ j ws i all. refl) o u i for
+
+  pub found_goes : {k : Numbers} (o u i : ℕ) → ObjectFor k o u
+      → Goes c t (OfObjects true u) ElementFor k (element_read o i) (element_read u i)
+  found_goes o u i for = at_goes true ElementFor element_at o u i for
 
   -- what is only looked at keeps its kind
-  words_go : (k : Numbers) (o i n : ℕ) → o < length k.objects
-      → Goes c t (OfObjects false o) same k (read_in_steps (object_of k o) i n) (read_in_steps o i n)
-  words_go k o i zero small = ended_goes c t (OfObjects false o) same k (Ok []) (Ok []) refl
-  words_go k o i (suc n) small = goes_bind c t (OfObjects false o) (OfObjects false o) same same k
-      (element_read (object_of k o) i) (element_read o i)
-      (λ v. read_in_steps (object_of k o) (i + 1) n >>= (λ vs. done (v ∷ vs)))
-      (λ v. read_in_steps o (i + 1) n >>= (λ vs. done (v ∷ vs)))
-      (a_word_goes k o i small)
-      (λ z alone at. at)
-      (λ j more x y is. let stays = object_stays k j more o small in rest j x y is
-      (subst (λ p. Goes c t (OfObjects false o) same j (read_in_steps p (i + 1) n) (read_in_steps o (i + 1) n))
-      stays.0 (words_go j o (i + 1) n stays.1)))
-    where
-      rest : (j : Numbers) (x y : ℕ) → x ≡ y
-          → Goes c t (OfObjects false o) same j (read_in_steps (object_of k o) (i + 1) n) (read_in_steps o (i + 1) n)
-          → Goes c t (OfObjects false o) same j (read_in_steps (object_of k o) (i + 1) n >>= (λ vs. done (x ∷ vs)))
-          (read_in_steps o (i + 1) n >>= (λ vs. done (y ∷ vs)))
-      rest j x y is others = goes_bind c t (OfObjects false o) (anywhere c t) same same j
-          (read_in_steps (object_of k o) (i + 1) n) (read_in_steps o (i + 1) n) (λ vs. done (x ∷ vs))
-          (λ vs. done (y ∷ vs)) others (λ z alone at. tt)
-          (λ l more vs ws so. ended_goes c t (anywhere c t) same l (Ok (x ∷ vs)) (Ok (y ∷ ws))
-          (λ e. is e ∷ so e))
+  pub read_goes : {k : Numbers} (o u i n : ℕ) → ObjectFor k o u
+      → Goes c t (OfObjects false u) same k (read_in_steps o i n) (read_in_steps u i n)
+  read_goes o u i zero for = ended_goes (Ok []) (Ok []) (λ j more. refl)
+  read_goes o u i (suc n) for = bind_at (element_goes o u i for) (λ j more z alone at. at)
+      (λ j more x y is. goes_bind (read_goes o u (i + 1) n (object_later more o u for))
+      (λ l later vs ws so. ended_goes (Ok (x ∷ vs)) (Ok (y ∷ ws)) (λ h on e. is e ∷ so e)))
 
-  a_write_goes : (k : Numbers) (o i v : ℕ) → o < length k.objects → Goes c t (OfObjects false o) same k
-      (atom (rewrites (overwritten i (v ∷ [])) (object_of k o))) (atom (rewrites (overwritten i (v ∷ [])) o))
-  a_write_goes k o i v small = rewrite_goes c t k o small false (overwritten i (v ∷ [])) (overwritten i (v ∷ []))
-      (λ ws has. (refl, tt))
+  pub rewritten_goes : {k : Numbers} (o u i v : ℕ) → ObjectFor k o u → Goes c t (OfObjects false u) same k
+      (atom (rewrites (overwritten i (v ∷ [])) o)) (atom (rewrites (overwritten i (v ∷ [])) u))
+  rewritten_goes o u i v for =
+      rewrite_goes o u for false (overwritten i (v ∷ [])) (overwritten i (v ∷ [])) (λ j more ws has. (refl, tt))
 
   -- .. and so does what is written
-  kind_stays : (k : Numbers) (o : ℕ) (f : List ℕ → List ℕ) → o < length k.objects → (z : Shared) → IsAlone k z
-      → OfObjects false o z → OfObjects false o (run_alone 0 true (atom (rewrites f o)) z).1
-  kind_stays k o f small z alone at = ap (λ x. is_objects (contents_in x).kind)
-      (get_or-set_same z.objects o (Some (record {
-        kind = (contents (as_seen 0 z) o).kind;
-        words = f (contents (as_seen 0 z) o).words;
-      })) None (let long = alone.as_many_objects in omega arith)) ∙ at
+  pub written_goes : {k : Numbers} (o u i : ℕ) (vs : List ℕ) → ObjectFor k o u
+      → Goes c t (OfObjects false u) same k (written_in_steps o i vs) (written_in_steps u i vs)
+  written_goes o u i [] for = ended_goes (Ok tt) (Ok tt) (λ j more. refl)
+  written_goes o u i (v ∷ vs) for = bind_at (rewritten_goes o u i v for)
+      (λ j more z alone at. let there = (object_later more o u for).1 in let many = alone.as_many_objects in
+      ap (λ x. is_objects (contents_in x).kind) (get_or-set_same z.objects u (Some (record {
+        kind = (contents (as_seen 0 z) u).kind;
+        words = slice_set (contents (as_seen 0 z) u).words i v;
+      })) None (omega arith)) ∙ at)
+      (λ j more x y is. written_goes o u (i + 1) vs (object_later more o u for))
 
-  writes_go : (k : Numbers) (o i : ℕ) (vs : List ℕ) → o < length k.objects
-      → Goes c t (OfObjects false o) same k (written_in_steps (object_of k o) i vs) (written_in_steps o i vs)
-  writes_go k o i [] small = ended_goes c t (OfObjects false o) same k (Ok tt) (Ok tt) refl
-  writes_go k o i (v ∷ vs) small = goes_bind c t (OfObjects false o) (OfObjects false o) same same k
-      (atom (rewrites (overwritten i (v ∷ [])) (object_of k o))) (atom (rewrites (overwritten i (v ∷ [])) o))
-      (λ _. written_in_steps (object_of k o) (i + 1) vs) (λ _. written_in_steps o (i + 1) vs)
-      (a_write_goes k o i v small)
-      (kind_stays k o (overwritten i (v ∷ [])) small)
-      (λ j more x y is. let stays = object_stays k j more o small in
-      subst (λ p. Goes c t (OfObjects false o) same j (written_in_steps p (i + 1) vs) (written_in_steps o (i + 1) vs))
-      stays.0 (writes_go j o (i + 1) vs stays.1))
-
-module _ (c : Config) (t : ℕ) (k : Numbers) where
-  pub contents_goes : (o : ℕ) → o < length k.objects → Goes c t (anywhere c t) contents_for k
-      (atom (ask (λ w. contents w (object_of k o)))) (atom (ask (λ w. contents w o)))
-  contents_goes o small = look_goes c t k (anywhere c t) contents_for (λ w. Ok (contents w (object_of k o)))
-      (λ w. Ok (contents w o)) (λ s z mirrors at. ap contents_in (mirrors.objects o small)
-      ∙ contents_are k (standing_at z.objects o))
-
-  pub found_goes : (o i : ℕ) → o < length k.objects
-      → Goes c t (OfObjects true o) element_for_other k (element_read (object_of k o) i) (element_read o i)
-  found_goes o i small = look_goes c t k (OfObjects true o) element_for_other
-      (λ w. Ok (slice_index (contents w (object_of k o)).words i)) (λ w. Ok (slice_index (contents w o).words i))
-      (λ s z mirrors at. let it = element_at k (contents_in (standing_at z.objects o)).words i
-      (subst (λ b. elements_within k b (contents_in (standing_at z.objects o)).words) at
-      (elements_in k (standing_at z.objects o) (mirrors.alone.have_elements o))) in (
-        ap (λ x. slice_index (contents_in x).words i) (mirrors.objects o small)
-            ∙ (ap (λ ws. slice_index ws i) (words_are k true (standing_at z.objects o) at) ∙ it.0),
-        it.1,
-      ))
-
-  pub element_goes : (o i : ℕ) → o < length k.objects
-      → Goes c t (OfObjects false o) same k (element_read (object_of k o) i) (element_read o i)
-  element_goes o i small = a_word_goes c t k o i small
-
-  pub read_goes : (o i n : ℕ) → o < length k.objects
-      → Goes c t (OfObjects false o) same k (read_in_steps (object_of k o) i n) (read_in_steps o i n)
-  read_goes o i n small = words_go c t k o i n small
-
-  pub copied_goes : (o n : ℕ) → o < length k.objects
-      → Goes c t (OfObjects false o) same k (copied_in_steps (object_of k o) n) (copied_in_steps o n)
-  copied_goes o zero small = ended_goes c t (OfObjects false o) same k (Ok []) (Ok []) refl
-  copied_goes o (suc n) small = λ noted q z alone at. go noted q z alone at
+  pub copied_goes : {k : Numbers} (o u n : ℕ) → ObjectFor k o u
+      → Goes c t (OfObjects false u) same k (copied_in_steps o n) (copied_in_steps u n)
+  copied_goes o u zero for = ended_goes (Ok []) (Ok []) (λ j more. refl)
+  copied_goes {k} o u (suc n) for = record {
+    so = λ j more noted q z alone at luck s m fits was.
+        (j, q, z, noted, still_leaps m, was, go j more noted q z alone at luck);
+  }
     where
-      go : (noted : Option Noted) (q : Asks) (z : Shared) → IsAlone k z → OfObjects false o z
-          → (luck : Bool) (s : Shared) → Mirrors t k s z → Fits c q s → WasNoted noted s
-          → (j : Numbers) × (p : Asks) × (y : Shared) × (since : Option Noted)
-          × Leaps c t k q s z s j p y × WasNoted since s × LeadsTo c t since
-          (Outcome c t noted same (run_alone 0 true (read_in_steps o 0 (suc n)) z).0
-          (run_alone 0 true (read_in_steps o 0 (suc n)) z).1 q)
-          (unless_refused (λ (v : Unit {0}). read_in_steps (object_of k o) 0 (suc n)) (finds_memory t luck s).0) j p y
-      go noted q z alone at true s mirrors fits was = (
-        k,
-        q,
-        z,
-        noted,
-        leaps_itself c t k q s z mirrors,
-        was,
-        words_go c t k o 0 (suc n) small noted q z alone at,
-      )
-      go noted q z alone at false s mirrors fits was =
-          (k, q, z, noted, leaps_itself c t k q s z mirrors, was, inr (inl refl))
+      go : (j : Numbers) → Extends k j → (noted : Option Noted) (q : Asks) (z : Shared) → IsAlone j z
+          → OfObjects false u z → (luck : Bool) → LeadsTo c t noted
+          (Outcome noted same (run_alone 0 true (read_in_steps u 0 (suc n)) z) q)
+          (unless_refused (λ (v : Unit {0}). read_in_steps o 0 (suc n)) (cond luck (Ok tt) (Err Memory))) j q z
+      go j more noted q z alone at true = (read_goes o u 0 (suc n) for).so j more noted q z alone at
+      go j more noted q z alone at false = inr (inl refl)
 
-  pub rewritten_goes : (o i v : ℕ) → o < length k.objects → Goes c t (OfObjects false o) same k
-      (atom (rewrites (overwritten i (v ∷ [])) (object_of k o))) (atom (rewrites (overwritten i (v ∷ [])) o))
-  rewritten_goes o i v small = a_write_goes c t k o i v small
-
-  pub set_goes : (o i : ℕ) (x : Option ℕ) → o < length k.objects → HasKnown k x
-      → Goes c t (OfObjects true o) same k
-      (atom (rewrites (overwritten i (element_to (known_of k x) ∷ [])) (object_of k o)))
+  pub set_goes : {k : Numbers} (o u i : ℕ) (x y : Option ℕ) → ObjectFor k o u → KnownFor k x y
+      → Goes c t (OfObjects true u) same k
       (atom (rewrites (overwritten i (element_to x ∷ [])) o))
-  set_goes o i x small has = rewrite_goes c t k o small true (overwritten i (element_to (known_of k x) ∷ []))
-      (overwritten i (element_to x ∷ [])) (λ ws all. let it = element_to_is k x has in (
-        sym (map-set (element_of k) ws i (element_to x)
-            ∙ ap (slice_set (map (element_of k) ws) i) it.0),
-        all_set (HasElement k) ws i (element_to x) all it.1,
+      (atom (rewrites (overwritten i (element_to y ∷ [])) u))
+  set_goes o u i x y for known = rewrite_goes o u for true (overwritten i (element_to x ∷ []))
+      (overwritten i (element_to y ∷ [])) (λ j more ws all.
+      let it = element_to_for j x y (known_later more x y known) in (
+        ap (slice_set (map (element_of j) ws) i) it.0 ∙ sym (map-set (element_of j) ws i (element_to y)),
+        all_set (HasElement j) ws i (element_to y) all it.1,
       ))
-
-  pub written_goes : (o i : ℕ) (vs : List ℕ) → o < length k.objects
-      → Goes c t (OfObjects false o) same k (written_in_steps (object_of k o) i vs) (written_in_steps o i vs)
-  written_goes o i vs small = writes_go c t k o i vs small

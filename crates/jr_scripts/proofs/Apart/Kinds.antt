@@ -1,35 +1,21 @@
 -- THE PROGRAMS OF CALLS suit what is at hand: tests that let a program go on tell the kind.
-use Rattle.std.proofs.Common.{◌≡◌, ◌∙◌, ℕ, Bool, true, false, not}
-use Rattle.std.proofs.Common.{◌∷◌, Ok, refl, sym, arith}
+use Rattle.std.proofs.Common.{◌≡◌, ◌∷◌, ℕ, Bool, true, false, not, Ok, refl, arith}
 use Rattle.jr_word.specs.declared.fault.Fault.{Fault}
-use Rattle.jr_word.specs.declared.fault.Fault.TheVariants as fault
 use Rattle.jr_word.specs.declared.handle.Handle.{Handle}
 use Rattle.jr_word.specs.declared.kind.Kind.{Kind}
-use Rattle.jr_word.specs.declared.kind.Kind.TheVariants.{Boolean, Byte, Char, Int, Long, Objects, Plain, Short, Text}
+use Rattle.jr_word.specs.declared.kind.Kind.TheVariants.{Objects, Plain}
 use Rattle.jr_model.specs.Checks.{is_array, is_objects, is_read_as, is_text, same_element}
 use Rattle.jr_model.specs.Tests.{Tests, refused_by}
-use Rattle.jr_model.specs.Programs.{Which, at_both, handle, none_known}
-use Rattle.jr_model.specs.Programs.{one as first_place, other as second_place}
-use Rattle.jr_world.specs.Doing.{whatever}
-use Rattle.jr_syntax.specs.declared.command.Command.TheVariants as commands
-use Rattle.jr_syntax.specs.declared.verb.Make.TheVariants as make
-use Rattle.jr_syntax.specs.declared.verb.MakeFrom.TheVariants as make_from
-use Rattle.jr_syntax.specs.declared.verb.On.TheVariants as on
+use Rattle.jr_model.specs.Programs.{Which, at_both, handle, one as first_place, other as second_place}
 use Rattle.jr_syntax.specs.declared.verb.OpenLevel.{OpenLevel}
 use Rattle.jr_syntax.specs.declared.verb.OpenLevel.TheVariants as at
-use Rattle.jr_syntax.specs.declared.verb.WithCount.TheVariants as with_count
-use Rattle.jr_syntax.specs.declared.verb.OnNameAt.TheVariants as on_name_at
-use Rattle.jr_syntax.specs.declared.verb.PutAt.TheVariants as put_at
-use Rattle.jr_scripts.specs.declared.binding.Binding.TheVariants as bound
-use Rattle.jr_scripts.specs.declared.reply.Reply.TheVariants as replies
 use Rattle.jr_scripts.specs.Commands.{get_critical}
 use Rattle.jr_scripts.specs.Names.{null}
-use Rattle.jr_scripts.proofs.Apart.Numbers.{Extends, HasKnown, HasWord, IsFor, Numbers}
-use Rattle.jr_scripts.proofs.Apart.Numbers.{known_of, word_of, word_stays}
+use Rattle.jr_scripts.proofs.Apart.Numbers.{IsFor, Numbers, WordFor}
 use Rattle.jr_scripts.proofs.Apart.Programs.{AtHand, EachSuits}
 
 -- TESTS that let a program go on tell the kind
-pub passed : (b : Bool) (e : Fault) (ts : Tests) → refused_by ((not b, e) ∷ ts) ≡ Ok tt
+passed : (b : Bool) (e : Fault) (ts : Tests) → refused_by ((not b, e) ∷ ts) ≡ Ok tt
     → (b ≡ true) × (refused_by ts ≡ Ok tt)
 passed true e ts is = (refl, is)
 passed false e ts is = absurd cc
@@ -38,32 +24,18 @@ pub past : (b : Bool) (e : Fault) (ts : Tests) → refused_by ((b, e) ∷ ts) �
 past true e ts is = absurd cc
 past false e ts is = is
 
-pub no_objects : (k l : Kind) → same_element k l ≡ true → is_objects l ≡ false
+no_objects : (k l : Kind) → same_element k l ≡ true → is_objects l ≡ false
 no_objects Plain Objects is = absurd cc
-no_objects Boolean Objects is = absurd cc
-no_objects Byte Objects is = absurd cc
-no_objects Char Objects is = absurd cc
-no_objects Short Objects is = absurd cc
-no_objects Int Objects is = absurd cc
-no_objects Long Objects is = absurd cc
-no_objects Text Objects is = absurd cc
-no_objects Objects Objects is = absurd cc
+no_objects _ Objects is = absurd cc
 no_objects k l is = refl
 
-pub text_no_objects : (l : Kind) → is_text l ≡ true → is_objects l ≡ false
+text_no_objects : (l : Kind) → is_text l ≡ true → is_objects l ≡ false
 text_no_objects Objects is = absurd cc
 text_no_objects l is = refl
 
-pub read_no_objects : (k l : Kind) → is_read_as k l ≡ true → is_objects l ≡ false
+read_no_objects : (k l : Kind) → is_read_as k l ≡ true → is_objects l ≡ false
 read_no_objects Plain Objects is = absurd cc
-read_no_objects Boolean Objects is = absurd cc
-read_no_objects Byte Objects is = absurd cc
-read_no_objects Char Objects is = absurd cc
-read_no_objects Short Objects is = absurd cc
-read_no_objects Int Objects is = absurd cc
-read_no_objects Long Objects is = absurd cc
-read_no_objects Text Objects is = absurd cc
-read_no_objects Objects Objects is = absurd cc
+read_no_objects _ Objects is = absurd cc
 read_no_objects k l is = refl
 
 -- an array of one element kind, whatever else is tested
@@ -90,11 +62,7 @@ critical_suits hand at.Text levels = (tt, λ k n is. tt)
 
 -- what is handed stands for what is handed alone
 abbrev pub Handed : Numbers → (Which → ℕ) → (Which → ℕ) → Type 0
-Handed k hands alone = (p : Which) → (hands p ≡ word_of k (alone p)) × HasWord k (alone p)
-
-pub handed_on : (k j : Numbers) → Extends k j → (hands alone : Which → ℕ) → Handed k hands alone → Handed j hands alone
-handed_on k j more hands alone so p =
-    let it = word_stays k j more (alone p) (so p).1 in ((so p).0 ∙ sym it.0, it.1)
+Handed k hands alone = (p : Which) → WordFor k (hands p) (alone p)
 
 pub both_handed : (k : Numbers) (h g f e : Handle) → IsFor k handle h f → IsFor k handle g e
     → Handed k (at_both h.0 g.0) (at_both f.0 e.0)
@@ -104,6 +72,8 @@ both_handed k h g f e one other second_place = other
 pub null_for : (k : Numbers) → IsFor k handle null null
 null_for k = (refl, omega arith)
 
-pub none_for : (k : Numbers) (p : Which) → (none_known p ≡ known_of k (none_known p)) × HasKnown k (none_known p)
-none_for k first_place = (refl, tt)
-none_for k second_place = (refl, tt)
+pub one_handed : (k : Numbers) (h f : Handle) → IsFor k handle h f → Handed k (at_both h.0 0) (at_both f.0 0)
+one_handed k h f it = both_handed k h null f null it (null_for k)
+
+pub none_handed : (k : Numbers) → Handed k (at_both 0 0) (at_both 0 0)
+none_handed k = one_handed k null null (null_for k)

@@ -1,7 +1,6 @@
 -- A PROGRAM AMONG OTHERS LEADS to what it answers alone, whatever its luck and whatever others make.
-use Rattle.std.proofs.Common.{◌≡◌, ◌⊎◌, ◌≤◌, ◌<◌, ◌+◌, ℕ, Bool, true, false, Option, Some, None, Result, Ok, Err}
-use Rattle.std.proofs.Common.{length}
-use Rattle.std.proofs.Common.{take}
+use Rattle.std.proofs.Common.{◌≡◌, ◌⊎◌, ◌≤◌, ◌<◌, ◌+◌, ℕ, Bool, true, Option, Some, None, Result, Ok, Err, length, refl}
+use Rattle.std.proofs.Common.{subst, take}
 use Rattle.jr_word.specs.declared.config.Config.{Config}
 use Rattle.jr_word.specs.declared.fault.Fault.{Fault}
 use Rattle.jr_word.specs.declared.handle.RefKind.TheVariants.{Global, Weak}
@@ -10,8 +9,7 @@ use Rattle.jr_world.specs.Doing.{Doing, Noted, Shared, as_seen, has_no_owner, ru
 use Rattle.jr_world.specs.Doing.Doing.{ended, steps}
 use Rattle.jr_scripts.proofs.OneRow.Follows.{IsSpoilt}
 use Rattle.jr_scripts.proofs.Apart.Mirrors.{Asks, AtLeast, Fits, IsAlone, Mirrors, Spends, Untouched, and_asks}
-use Rattle.jr_scripts.proofs.Apart.Numbers.{Extends, Numbers, extends_itself, extends_through}
-use Rattle.jr_scripts.proofs.Apart.Numbers.{object_of, ref_of}
+use Rattle.jr_scripts.proofs.Apart.Numbers.{Extends, Numbers, Of, extends_itself, extends_through, object_of, ref_of}
 
 -- what was noted at an entry: no more stood than were made then
 abbrev pub WasNoted : Option Noted → Shared → Type 0
@@ -49,6 +47,25 @@ StaysNoted (Some from) since = since ≡ Some from
 abbrev pub Ends : Type 0 → Type 1
 Ends A = Option Noted → Numbers → Asks → Result A Fault → Shared → Type 0
 
+-- an answer for another, by what is so of both
+abbrev pub ResultFor : {A : Type 0} → (A → A → Type 0) → Result A Fault → Result A Fault → Type 0
+ResultFor Q (Ok x) (Ok y) = Q x y
+ResultFor Q (Err e) (Err f) = e ≡ f
+ResultFor Q r q = ⊥
+
+pub result_same : {A : Type 0} {r x : Result A Fault} → r ≡ x → ResultFor (λ x y. x ≡ y) r x
+result_same {A} {r} is = subst (λ x. ResultFor (λ x y. x ≡ y) r x) is (go r)
+  where
+    go : (r : Result A Fault) → ResultFor (λ x y. x ≡ y) r r
+    go (Ok x) = refl
+    go (Err e) = refl
+
+-- IT ANSWERS FOR what is answered alone, and leaves what is left alone, with at least this still to ask for; or it is
+-- spoilt
+abbrev pub Outcome : {A : Type 0} → Option Noted → Of A → Result A Fault × Shared → Asks → Ends A
+Outcome noted Q w q since k p a y =
+    (StaysNoted noted since × ResultFor (Q k) a w.0 × (y ≡ w.1) × AtLeast p q) ⊎ IsSpoilt a
+
 module _ (c : Config) (t : ℕ) where
   -- WHERE A PROGRAM LEADS, from what mirrors this world alone, where so much is asked for
   abbrev pub LeadsTo : {A : Type 0} → Option Noted → Ends A → Doing A → Numbers → Asks → Shared → Type 0
@@ -58,31 +75,19 @@ module _ (c : Config) (t : ℕ) where
       × Leaps c t k q s z (leaves t luck s) j p y × WasNoted since (leaves t luck s)
       × LeadsTo since K (more t luck s) j p y
 
-  -- an answer for another, by what is so of both
-  abbrev pub ResultFor : {A : Type 0} → (A → A → Type 0) → Result A Fault → Result A Fault → Type 0
-  ResultFor Q (Ok x) (Ok y) = Q x y
-  ResultFor Q (Err e) (Err f) = e ≡ f
-  ResultFor Q r q = ⊥
-
-  -- IT ANSWERS FOR what is answered alone, and leaves what is left alone, with at least this still to ask for; or it is
-  -- spoilt
-  abbrev pub Outcome : {A : Type 0} → Option Noted → (Numbers → A → A → Type 0) → Result A Fault → Shared → Asks
-      → Ends A
-  Outcome noted Q r z q since k p a y =
-      (StaysNoted noted since × ResultFor (Q k) a r × (y ≡ z) × AtLeast p q) ⊎ IsSpoilt a
-
   -- A PROGRAM FOLLOWS another that is alone, and asks for so much
-  abbrev pub Follows : {A : Type 0} → (Numbers → A → A → Type 0) → Asks → Numbers → Doing A → Doing A → Type 0
-  Follows Q asked k d alone = (noted : Option Noted) (q : Asks) (z : Shared) → IsAlone k z → LeadsTo noted
-      (Outcome None Q (run_alone 0 true alone z).0 (run_alone 0 true alone z).1 q) d k (and_asks asked q) z
+  pub record Follows {A : Type 0} (Q : Of A) (asked : Asks) (k : Numbers) (d alone : Doing A) : Type 0 where
+    pub so : (noted : Option Noted) (q : Asks) (z : Shared) → IsAlone k z
+        → LeadsTo noted (Outcome None Q (run_alone 0 true alone z) q) d k (and_asks asked q) z
 
   -- ONE AND THEN THE OTHER
   pub leads_then : {A B : Type 0} (noted : Option Noted) (K : Ends A) (L : Ends B) (d : Doing A)
-      (next : Result A Fault → Doing B) (k : Numbers) (q : Asks) (z : Shared) → LeadsTo noted K d k q z
-      → ((since : Option Noted) (j : Numbers) (p : Asks) (r : Result A Fault) (y : Shared) → Extends k j
+      (next : Result A Fault → Doing B) (k : Numbers) (q : Asks) (z : Shared) → IsAlone k z
+      → LeadsTo noted K d k q z
+      → ((since : Option Noted) (j : Numbers) (p : Asks) (r : Result A Fault) (y : Shared) → Extends k j → IsAlone j y
       → K since j p r y → LeadsTo since L (next r) j p y) → LeadsTo noted L (whatever d next) k q z
-  leads_then noted K L (ended r) next k q z leads after = after noted k q r z (extends_itself k) leads
-  leads_then noted K L (steps more leaves) next k q z leads after = λ luck s mirrors fits was.
+  leads_then noted K L (ended r) next k q z alone leads after = after noted k q r z (extends_itself k) alone leads
+  leads_then noted K L (steps more leaves) next k q z alone leads after = λ luck s mirrors fits was.
       let to = leads luck s mirrors fits was in (
         to.0,
         to.1,
@@ -90,6 +95,6 @@ module _ (c : Config) (t : ℕ) where
         to.3,
         to.4,
         to.5,
-        leads_then to.3 K L (more t luck s) next to.0 to.1 to.2 to.6
-            (λ now j p r y more. after now j p r y (extends_through k to.0 j to.4.extends more)),
+        leads_then to.3 K L (more t luck s) next to.0 to.1 to.2 to.4.mirrors.alone to.6
+            (λ now j p r y more. after now j p r y (extends_through to.4.extends more)),
       )

@@ -1,23 +1,22 @@
 -- A THREAD'S LINES are those that it has alone.
-use Rattle.std.proofs.Common.{None, ◌≡◌, ◌≢◌, ◌⊎◌, ◌<◌, ◌≤◌, ◌+◌, ◌-◌, ◌==◌, ◌||◌, ◌++◌, ◌∙◌, ℕ, zero, suc, Bool, true}
-use Rattle.std.proofs.Common.{false, cond, Option, Result, Ok, Err, List, [], ◌∷◌, map, length, slice_index_or, nat_eq}
-use Rattle.std.proofs.Common.{inl, inr, refl, sym, ap, subst, arith}
+use Rattle.std.proofs.Common.{None, ◌≡◌, ◌⊎◌, ◌<◌, ◌≤◌, ◌+◌, ◌-◌, ◌==◌, ◌++◌, ◌∙◌, ℕ, zero, suc, Bool, true, false}
+use Rattle.std.proofs.Common.{cond, Option, Result, Ok, Err, List, [], ◌∷◌, map, slice_index_or, nat_eq, inl, inr, refl}
+use Rattle.std.proofs.Common.{sym, ap, subst, arith}
 use Rattle.std.specs.List.{AllByRecursion, flat_map, sum_by}
 use Rattle.std.proofs.lemmas.List.Sums.{sum_by-cons}
 use Rattle.jr_word.specs.declared.config.Config.{Config}
 use Rattle.jr_word.specs.declared.fault.Fault.{Fault}
 use Rattle.jr_word.specs.declared.fault.Fault.TheVariants as fault
-use Rattle.jr_model.specs.declared.event.Role.{Role}
 use Rattle.jr_model.specs.declared.event.Role.TheVariants.{Knocking, Outside, Within}
-use Rattle.jr_model.specs.declared.summary.Summary.{Summary}
 use Rattle.jr_model.specs.Maps.{update}
 use Rattle.jr_model.specs.State.{is_barring}
 use Rattle.jr_model.proofs.Updates.{eq_other}
-use Rattle.jr_world.specs.World.{change, removed}
+use Rattle.jr_world.specs.World.{change}
 use Rattle.jr_world.specs.Doing.{Doing, Noted, Shared, as_seen, atom, entered_in_steps, freed_in_steps}
-use Rattle.jr_world.specs.Doing.{given_up_in_steps, go_out, in_role, inside, noted, of_all, of_others, run_alone, step}
+use Rattle.jr_world.specs.Doing.{given_up_in_steps, go_out, in_role, inside, noted, of_others, run_alone, step}
 use Rattle.jr_world.specs.Doing.{then_out, unless_refused, whatever}
 use Rattle.jr_world.specs.Doing.Doing.{ended, steps}
+use Rattle.jr_world.proofs.GatePlays.{none_of_others}
 use Rattle.jr_env.specs.Tries.{is_tried_again}
 use Rattle.jr_syntax.specs.declared.command.Command.{Command}
 use Rattle.jr_scripts.specs.declared.reply.Reply.{Reply}
@@ -34,11 +33,11 @@ use Rattle.jr_scripts.proofs.OneRow.Ends.{IsEnding, ends_so}
 use Rattle.jr_scripts.proofs.OneRow.Follows.{IsSpoilt, nobody, run_then}
 use Rattle.jr_scripts.proofs.OneRow.Spoilt.{EachEnds, IsSpoiltEnd, lines_spoilt, spoilt_line}
 use Rattle.jr_scripts.proofs.Apart.Calls.{asked_by, command_follows, end_goes}
-use Rattle.jr_scripts.proofs.Apart.Goes.{same}
+use Rattle.jr_scripts.proofs.Apart.Goes.{not_spoilt}
 use Rattle.jr_scripts.proofs.Apart.Leads.{Ends, Leaps, LeadsTo, Outcome, WasNoted}
 use Rattle.jr_scripts.proofs.Apart.Mirrors.{Asks, AtLeast, Fits, IsAlone, Mirrors, and_asks}
 use Rattle.jr_scripts.proofs.Apart.Names.{PlaceFor, ReplyFor, place_after_for, place_stays, printed_for}
-use Rattle.jr_scripts.proofs.Apart.Numbers.{Extends, Numbers, extends_itself, extends_through}
+use Rattle.jr_scripts.proofs.Apart.Numbers.{Extends, Numbers, extends_itself, extends_through, same}
 
 abbrev pub asked_by_all : List Command → Asks
 asked_by_all xs =
@@ -75,26 +74,13 @@ and_rest p q a least = λ i. record {
     beside m n l most = omega arith
 
 -- THE END IS NEVER REFUSED where nobody keeps the gate closed
-none_of_all : (f : Role → Bool) (rs : List Role) → ((u : ℕ) → f (slice_index_or rs u Outside) ≡ false)
-    → of_all f rs ≡ false
-none_of_all f [] none = refl
-none_of_all f (r ∷ rs) none = ap (λ b. b || of_all f rs) (none 0) ∙ none_of_all f rs (λ u. none (suc u))
-
-none_of_others : (f : Role → Bool) (t : ℕ) (rs : List Role) → ((u : ℕ) → f (slice_index_or rs u Outside) ≡ false)
-    → of_others f t rs ≡ false
-none_of_others f t [] none = refl
-none_of_others f zero (r ∷ rs) none = none_of_all f rs (λ u. none (suc u))
-none_of_others f (suc t) (r ∷ rs) none =
-    ap (λ b. b || of_others f t rs) (none 0) ∙ none_of_others f t rs (λ u. none (suc u))
-
 abbrev IsSaid : {A : Type 0} → Result A Fault → Type 0
 IsSaid (Ok x) = Unit {0}
 IsSaid (Err e) = ⊥
 
-not_spoilt : {A : Type 0} (r : Result A Fault) → IsSaid r → IsSpoilt r → ⊥
-not_spoilt (Ok x) said (inl bad) = absurd cc
-not_spoilt (Ok x) said (inr bad) = absurd cc
-not_spoilt (Err e) said spoilt = said
+unspoilt : {A : Type 0} (r : Result A Fault) → IsSaid r → IsSpoilt r → ⊥
+unspoilt (Ok x) said bad = not_spoilt bad
+unspoilt (Err e) said bad = said
 
 module _ (t : ℕ) where
   -- each end of a program of this thread is an answer
@@ -217,7 +203,7 @@ module _ (c : Config) (t : ℕ) where
         to.4,
         to.5,
         lines_then to.3 K L (more t luck s) next to.0 to.1 to.2 to.4.mirrors.alone to.6
-            (λ now j p r y more. after now j p r y (extends_through k to.0 j to.4.extends more)),
+            (λ now j p r y more. after now j p r y (extends_through to.4.extends more)),
       ))
 
   -- a text that is spoilt however it ends
@@ -237,7 +223,7 @@ module _ (c : Config) (t : ℕ) where
         (ends_thread c turns p.names words p.objects)
         (λ answer. ended (Ok (others 0).text)) k q z alone
         (leads_free t c noted Meant (ends_thread c turns p.names words p.objects) k q z
-        (end_goes c t turns words own.words k p own.place places noted q z alone tt)
+        ((end_goes turns words own.words p own.place places).so k (extends_itself k) noted q z alone tt)
         (end_free t c turns tried p.names words p.objects))
         (λ since j a r y more alone' met. after since j a r y met.0 met.1)
       where
@@ -245,9 +231,8 @@ module _ (c : Config) (t : ℕ) where
         own = others 0
 
         Meant : Ends (Unit {0})
-        Meant = Outcome c t noted same
-            (run_alone 0 true (ends_thread c turns own.place.names own.words own.place.objects) z).0
-            (run_alone 0 true (ends_thread c turns own.place.names own.words own.place.objects) z).1 q
+        Meant = Outcome noted same
+            (run_alone 0 true (ends_thread c turns own.place.names own.words own.place.objects) z) q
 
         after : (since : Option Noted) (j : Numbers) (a : Asks) (r : Result (Unit {0}) Fault) (y : Shared)
             → Meant since j a r y → IsSaid r
@@ -257,7 +242,7 @@ module _ (c : Config) (t : ℕ) where
           ap (λ x. summary_of (as_seen 0 x)) left
               ∙ end_counts c turns own.place.names own.words own.place.objects k z alone,
         )
-        after since j a r y (inr bad) said = absurd (not_spoilt r said bad)
+        after since j a r y (inr bad) said = absurd (unspoilt r said bad)
 
     -- LINES
     lines_from_lead : (k : Numbers) (p : Place) (words : ThreadWords) (others : ℕ → ThreadStand)
@@ -272,7 +257,7 @@ module _ (c : Config) (t : ℕ) where
         (λ a. LinesLead noted Wanted (lines_from c turns p words own.line own.text (x ∷ xs)) k a z)
         (sym (one_first x xs q)) (lines_then noted Meant Wanted (doing_at c turns p words p.objects x) next k
         (and_asks (asked_by x) (and_asks (asked_by_all xs) q)) z alone
-        (command_follows c t turns words own.words k p own.place places x all.0 noted (and_asks (asked_by_all xs) q) z
+        ((command_follows turns words own.words p own.place places x all.0).so noted (and_asks (asked_by_all xs) q) z
         alone) (after (λ j p words others places. lines_from_lead j p words others places xs all.1)))
       where
         own : ThreadStand
@@ -285,7 +270,7 @@ module _ (c : Config) (t : ℕ) where
         Wanted = EndsAsAlone (course_of c turns (map (λ x. (0, x)) (x ∷ xs)) (record { threads = others; shared = z }))
 
         Meant : Ends Reply
-        Meant = Outcome c t None ReplyFor answered.0 answered.1 (and_asks (asked_by_all xs) q)
+        Meant = Outcome None ReplyFor answered (and_asks (asked_by_all xs) q)
 
         next : Result Reply Fault → Doing (List ℕ)
         next r = lines_from c turns (place_after x r p) (words_after p.names x r words) (own.line + 1)
@@ -306,7 +291,7 @@ module _ (c : Config) (t : ℕ) where
         after rest since j a r y more alone' (inl (stays, is, left, least)) =
             subst (λ line. LinesLead since Wanted (lines_from c turns (place_after x r p)
             (words_after p.names x r words) (own.line + 1) (own.text ++ line) xs) j a y) (sym
-            (printed_for c t j own.line x r answered.0 is))
+            (printed_for j own.line x r answered.0 is))
             (subst (λ v. LinesLead since
             (EndsAsAlone (course_of c turns (map (λ x. (0, x)) xs) (record { threads = others'; shared = v })))
             (lines_from c turns (place_after x r p) (words_after p.names x r words) (others' 0).line
@@ -316,7 +301,7 @@ module _ (c : Config) (t : ℕ) where
             (lines_from c turns (place_after x r p) (words_after p.names x r words) (others' 0).line
             (others' 0).text xs) j b y) (and_rest (asked_by_all xs) q a least)
             (rest j (place_after x r p) (words_after p.names x r words) others'
-            (place_after_for c t j x p own.place r answered.0 (place_stays k j more p own.place places) is) since
+            (place_after_for j x p own.place r answered.0 (place_stays k j more p own.place places) is) since
             (rest_of (asked_by_all xs) a) y alone')))
         after rest since j a r y more alone' (inr bad) = spoilt_lead
             (course_of c turns (map (λ x. (0, x)) (x ∷ xs)) (record { threads = others; shared = z })) since (next r)

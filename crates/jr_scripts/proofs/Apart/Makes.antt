@@ -1,9 +1,7 @@
 -- CALLS THAT MAKE references in slots, or objects, follow. Where others are faster they are made again.
 use Rattle.std.proofs.Common.{◌≡◌, inl, inr, ◌<◌, ◌≤◌, ◌+◌, ◌++◌, ◌==◌, ◌&&◌, ℕ, zero, suc, Bool, true, false, cond}
-use Rattle.std.proofs.Common.{not}
-use Rattle.std.proofs.Common.{nat_lt, nat_le, List, [], ◌∷◌, length, map, replicate, drop, take, Option, Some, None}
-use Rattle.std.proofs.Common.{is_some, Result, Ok, Err}
-use Rattle.std.proofs.Common.{refl, sym, ap, subst, ◌∙◌, arith}
+use Rattle.std.proofs.Common.{not, nat_lt, nat_le, List, [], ◌∷◌, length, map, replicate, drop, take, Option, Some}
+use Rattle.std.proofs.Common.{None, is_some, Result, Ok, Err, refl, sym, ap, subst, ◌∙◌, arith}
 use Rattle.std.proofs.lemmas.List.{get_or_push, length-append, length-replicate, take-append-drop}
 use Rattle.std.proofs.lemmas.Bool.Decides.{nat_tests}
 use Rattle.std.specs.List.{AllByRecursion, filter}
@@ -20,38 +18,35 @@ use Rattle.jr_model.specs.Checks.{is_objects}
 use Rattle.jr_model.specs.declared.event.Role.TheVariants.{Within}
 use Rattle.jr_model.specs.CallPrograms.{new_array, new_object_array, new_plain, new_reference, new_string}
 use Rattle.jr_model.specs.Programs.{handle, perhaps}
-use Rattle.jr_world.specs.World.{Ref, World, added, change, element_to, goes_on, held, how_many, new_object}
-use Rattle.jr_world.specs.World.{new_ref, object, object_in, put_last, refused_if, reserve, room_for, standing}
-use Rattle.jr_world.specs.World.{standing_at}
-use Rattle.jr_world.specs.Doing.{as_left, atom, by_step, created_in_steps, created_or_full, is_foreign_to}
-use Rattle.jr_world.specs.Doing.{left_by_step}
-use Rattle.jr_world.specs.Doing.{made_in_steps, made_since, named, over_world, own_or_shared, owner_if, reserved}
-use Rattle.jr_world.specs.Doing.{taken_or_lost, unless_refused, ◌>>=◌, ◌>>◌}
-use Rattle.jr_world.specs.Doing.{Doing, Noted, Shared, as_seen, decided, entered_in_steps, has_no_owner}
-use Rattle.jr_world.specs.Doing.{in_role, in_row, noted, run_alone, whatever}
+use Rattle.jr_world.specs.World.{Ref, World, added, change, element_to, goes_on, held, how_many, new_object, new_ref}
+use Rattle.jr_world.specs.World.{object, object_in, refused_if, reserve, room_for, standing, standing_at}
+use Rattle.jr_world.specs.Doing.{as_left, atom, by_step, created_in_steps, created_or_full, is_foreign_to, left_by_step}
+use Rattle.jr_world.specs.Doing.{made_in_steps, made_since, named, over_world, own_or_shared, reserved, taken_or_lost}
+use Rattle.jr_world.specs.Doing.{unless_refused, ◌>>=◌, ◌>>◌, Doing, Noted, Shared, as_seen, decided, entered_in_steps}
+use Rattle.jr_world.specs.Doing.{has_no_owner, in_role, in_row, noted, run_alone}
 use Rattle.jr_env.specs.Tries.{is_tried_again}
 use Rattle.jr_scripts.specs.Names.{Names}
 use Rattle.jr_scripts.specs.Posting.{ThreadWords}
 use Rattle.jr_scripts.specs.Together.{calls_on, calls_on_none, tried_in_steps}
-use Rattle.jr_scripts.proofs.OneRow.Alike.{Tidy, alike_itself, frames_of}
-use Rattle.jr_scripts.proofs.OneRow.Blind.{added_blind, new_ref_blind, step_alike}
-use Rattle.jr_scripts.proofs.OneRow.Goes.{seen_is}
-use Rattle.jr_scripts.proofs.OneRow.Parts.{object_is}
-use Rattle.jr_scripts.proofs.TogetherRun.Lists.{how_many_both}
-use Rattle.jr_scripts.proofs.Apart.Goes.{Goes, Of, anywhere, same}
-use Rattle.jr_scripts.proofs.Apart.Parts.{known_for, named_goes, room_goes}
+use Rattle.jr_scripts.proofs.OneRow.Alike.{frames_of}
+use Rattle.jr_scripts.proofs.OneRow.Blind.{new_ref_blind}
 use Rattle.jr_scripts.proofs.OneRow.Follows.{IsSpoilt, nobody, run_then}
-use Rattle.jr_scripts.proofs.Apart.Grown.{beside_leaps, left_leaps, named_new, object_leaps, objects_is, put_mirrored}
-use Rattle.jr_scripts.proofs.Apart.Grown.{ref_to, same_mirrored, with_object, with_ref, words_is, words_leap}
+use Rattle.jr_scripts.proofs.OneRow.Goes.{seen_is}
+use Rattle.jr_scripts.proofs.TogetherRun.Lists.{how_many_both}
+use Rattle.jr_scripts.proofs.Apart.Elements.{element_to_for}
+use Rattle.jr_scripts.proofs.Apart.Goes.{Goes, anywhere, not_spoilt, spoilt_so}
+use Rattle.jr_scripts.proofs.Apart.Grown.{added_leaps, and_object, new_word, object_leaps, ref_leaps, ref_to}
+use Rattle.jr_scripts.proofs.Apart.Grown.{same_mirrored, slot_of, still_leaps, with_object, with_ref, words_leap}
 use Rattle.jr_scripts.proofs.Apart.Grown.{words_stay}
-use Rattle.jr_scripts.proofs.Apart.Leads.{Ends, Follows, Leaps, LeadsTo, Outcome, ResultFor, StaysNoted, WasNoted}
+use Rattle.jr_scripts.proofs.Apart.Leads.{Ends, Follows, LeadsTo, Outcome, ResultFor, StaysNoted, WasNoted, leads_then}
 use Rattle.jr_scripts.proofs.Apart.Mirrors.{Asks, AtLeast, Fits, IsAlone, Mirrors, and_asks, elements_within}
 use Rattle.jr_scripts.proofs.Apart.Mirrors.{made_slots}
-use Rattle.jr_scripts.proofs.Apart.Numbers.{Extends, HasElement, HasKnown, IsFor, Numbers, contents_as, element_of}
-use Rattle.jr_scripts.proofs.Apart.Numbers.{known_of, object_of, word_of, word_stays}
-use Rattle.jr_scripts.proofs.Apart.Rooms.{tried_leads, one_slot, one_object, leads_on, To, step_leads, Once}
-use Rattle.jr_scripts.proofs.Apart.Rooms.{entered_run, row_fits}
-use Rattle.jr_scripts.proofs.Apart.Rooms.{entered_leads}
+use Rattle.jr_scripts.proofs.Apart.Numbers.{Extends, HasElement, HasKnown, IsFor, KnownFor, Numbers, Of, contents_as}
+use Rattle.jr_scripts.proofs.Apart.Numbers.{element_of, extends_itself, known_of, object_of, same, word_later}
+use Rattle.jr_scripts.proofs.Apart.Parts.{named_goes, room_goes}
+use Rattle.jr_scripts.proofs.Apart.Programs.{looks_named}
+use Rattle.jr_scripts.proofs.Apart.Rooms.{tried_leads, one_slot, one_object, To, step_leads, Once, entered_run}
+use Rattle.jr_scripts.proofs.Apart.Rooms.{entered_leads, row_fits}
 
 -- not all places are taken
 not_all : (n m : ℕ) → n < m → (n == m) ≡ false
@@ -68,28 +63,27 @@ no_more_than p (x ∷ xs) = go (p x) (no_more_than p xs)
     go true less = omega arith
     go false less = omega arith
 
+abbrev HandleFor : Of Handle
+HandleFor j h g = IsFor j handle h g
+
+abbrev PerhapsFor : Of (Option Handle)
+PerhapsFor j h g = IsFor j (perhaps handle) h g
+
 -- WHERE A CALL LEADS THAT MAKES AN OBJECT
 module _ (c : Config) (t : ℕ) where
-  abbrev handle_for : Numbers → Handle → Handle → Type 0
-  handle_for j h g = IsFor j handle h g
-
   -- its reference
   added_leads : (back : Shared) (e asked : Asks) (since : Option Noted) (j : Numbers) (i : Asks) (y : Shared) (u : ℕ)
       → u < length j.objects → AtLeast i e
-      → LeadsTo c t since (Once c t handle_for (over_world (added u) 0 true y) back e asked)
+      → LeadsTo c t since (Once HandleFor (over_world (added u) 0 true y) back e asked)
       (atom (added (object_of j u))) j i y
   added_leads back e asked since j i y u there least = λ luck s m fits was. (
     with_ref j s,
     i,
     (over_world (added u) 0 true y).1,
     None,
-    left_leaps c t j s y m i i Local u (put_last (frames_of s t) (length s.refs))
-        (put_last (frames_of y 0) (length y.refs)) 0 there
-        (step_alike {gone = λ v. false} t true refl (alike_itself s m.tidy) (added_blind (object_of j u))).1.tidy
-        (step_alike {gone = λ v. false} 0 true refl (alike_itself y m.alone.tidy) (added_blind u)).1.tidy
-        (put_mirrored t j s y m) refl refl (omega arith) (omega arith) (omega arith),
+    added_leaps m u there (omega arith) (omega arith) (omega arith),
     tt,
-    inl (inl (tt, named_new c t j s y m (ref_to Local (object_of j u)) (ref_to Local u), refl, least)),
+    inl (inl (tt, new_word m (ref_to Local (object_of j u)) (ref_to Local u), refl, least)),
   )
 
   -- the object
@@ -102,12 +96,7 @@ module _ (c : Config) (t : ℕ) where
   )) (refused_if b ObjectsFull, w)
 
   abbrev with_new : Kind → List ℕ → ℕ → Shared → Result ℕ Fault × Shared
-  with_new kind ws u x = (
-    Ok (length x.objects),
-    as_left u x (record (as_seen u x) {
-      objects = x.objects ++ Some (record { kind = kind; words = ws }) ∷ [];
-    }),
-  )
+  with_new kind ws u x = (Ok (length x.objects), and_object u x (record { kind = kind; words = ws }))
 
   new_is : (kind : Kind) (ws : List ℕ) (u : ℕ) (luck : Bool) (x : Shared) → length x.objects < c.objects
       → ◌≡◌ {A = Result ℕ Fault × Shared} (over_world (new_object c kind ws) u luck x) (with_new kind ws u x)
@@ -116,7 +105,7 @@ module _ (c : Config) (t : ℕ) where
 
   object_leads : (kind : Kind) (ws vs : List ℕ) (back : Shared) (e asked : Asks) (since : Option Noted) (k : Numbers)
       (i : Asks) (y : Shared) → contents_as k (is_objects kind) vs ≡ ws → elements_within k (is_objects kind) vs
-      → 1 + e.objects ≤ i.objects → e.slots ≤ i.slots → e.words ≤ i.words → LeadsTo c t since (Once c t handle_for
+      → 1 + e.objects ≤ i.objects → e.slots ≤ i.slots → e.words ≤ i.words → LeadsTo c t since (Once HandleFor
       (run_alone 0 true (atom (new_object c kind vs) >>= (λ o. atom (added o))) y) back e asked)
       (atom (new_object c kind ws) >>= (λ o. atom (added o))) k i y
   object_leads kind ws vs back e asked since k i y is has objects slots words = step_leads c t since _
@@ -130,7 +119,9 @@ module _ (c : Config) (t : ℕ) where
           p,
           (with_new kind vs 0 y).1,
           None,
-          leaps s m,
+          object_leaps m (record { kind = kind; words = ws }) (record { kind = kind; words = vs })
+              (ap (λ (l : List ℕ). Some (record { kind = kind; words = l })) is) has (omega arith) (omega arith)
+              (omega arith),
           tt,
           rest s m room_too,
         ),
@@ -139,38 +130,21 @@ module _ (c : Config) (t : ℕ) where
       p : Asks
       p = record i { objects = e.objects }
 
-      leaps : (s : Shared) → Mirrors t k s y
-          → Leaps c t k i s y (with_new kind ws t s).1 (with_object k s) p (with_new kind vs 0 y).1
-      leaps s m = subst (λ (x : Shared). Leaps c t k i s y x (with_object k s) p (with_new kind vs 0 y).1)
-          (sym (objects_is t s (s.objects ++ Some (record { kind = kind; words = ws }) ∷ []) m.tidy))
-          (subst (λ (x : Shared). Leaps c t k i s y
-          (record s { objects = s.objects ++ Some (record { kind = kind; words = ws }) ∷ [] }) (with_object k s) p x)
-          (sym (objects_is 0 y (y.objects ++ Some (record { kind = kind; words = vs }) ∷ []) m.alone.tidy))
-          (object_leaps c t k s y m i p (record { kind = kind; words = ws }) (record { kind = kind; words = vs })
-          (ap (λ (l : List ℕ). Some (record { kind = kind; words = l })) is) has (omega arith) (omega arith)
-          (omega arith)))
-
-      rest : (s : Shared) → Mirrors t k s y → length y.objects < c.objects → LeadsTo c t None (Once c t handle_for
+      rest : (s : Shared) → Mirrors t k s y → length y.objects < c.objects → LeadsTo c t None (Once HandleFor
           (run_alone 0 true (atom (new_object c kind vs) >>= (λ o. atom (added o))) y) back e asked)
           (atom (added (length s.objects))) (with_object k s) p (with_new kind vs 0 y).1
       rest s m room = subst (λ (w : Result Handle Fault × Shared). LeadsTo c t None
-          (Once c t handle_for w back e asked) (atom (added (length s.objects))) (with_object k s) p
+          (Once HandleFor w back e asked) (atom (added (length s.objects))) (with_object k s) p
           (with_new kind vs 0 y).1)
           (sym (ap (λ (x : Result ℕ Fault × Shared). run_alone 0 true (unless_refused (λ o. atom (added o)) x.0) x.1)
           (new_is kind vs 0 true y room)))
-          (subst (λ (o : ℕ). LeadsTo c t None (Once c t handle_for
+          (subst (λ (o : ℕ). LeadsTo c t None (Once HandleFor
           (over_world (added (length y.objects)) 0 true (with_new kind vs 0 y).1) back e asked) (atom (added o))
           (with_object k s) p (with_new kind vs 0 y).1)
           (get_or_push k.objects (length s.objects) 0 (length y.objects) (sym m.alone.as_many_objects))
           (added_leads back e asked None (with_object k s) p (with_new kind vs 0 y).1 (length y.objects)
           (let long = length-append k.objects (length s.objects ∷ []) in
           let many = m.alone.as_many_objects in omega arith) (omega arith, omega arith, omega arith)))
-
-  -- nothing is done
-  still_leaps : (k : Numbers) (q : Asks) (s z : Shared) → Mirrors t k s z → Leaps c t k q s z s k q z
-  still_leaps k q s z m = beside_leaps c t k s z m q q 0 s.used z.used s.roles z.roles m.alone.role (omega arith)
-      (omega arith) (omega arith) (omega arith) (omega arith) refl (λ w other. refl) m.unbarred m.alone.roles
-      m.alone.free
 
   -- its words; or others were faster
   abbrev taken : ℕ → World → Bool → Result (Unit {0}) Fault × World
@@ -188,8 +162,8 @@ module _ (c : Config) (t : ℕ) where
       (k : Numbers) (i : Asks) (y : Shared) → n + e.words ≤ i.words → 1 + e.objects ≤ i.objects → e.slots ≤ i.slots
       → AtLeast i asked → ((now : Option Noted) (p : Asks) (x : Shared) → 1 + e.objects ≤ p.objects
       → e.slots ≤ p.slots → e.words ≤ p.words
-      → LeadsTo c t now (Once c t handle_for (run_alone 0 true other x) y e asked) next k p x)
-      → LeadsTo c t noted (Once c t handle_for (run_alone 0 true (reserved c since n >> other) y) y e asked)
+      → LeadsTo c t now (Once HandleFor (run_alone 0 true other x) y e asked) next k p x)
+      → LeadsTo c t noted (Once HandleFor (run_alone 0 true (reserved c since n >> other) y) y e asked)
       (reserved c from n >> next) k i y
   reserved_leads from since zero next other e asked noted k i y words objects slots least rest =
       rest noted i y objects slots (omega arith)
@@ -201,7 +175,7 @@ module _ (c : Config) (t : ℕ) where
       p = record i { words = e.words }
 
       K : Ends Handle
-      K = Once c t handle_for (run_alone 0 true (reserved c since (suc n) >> other) y) y e asked
+      K = Once HandleFor (run_alone 0 true (reserved c since (suc n) >> other) y) y e asked
 
       lost : Bool → (luck : Bool) (s : Shared) → Result (Unit {0}) Fault × Shared
       lost b luck s = cond b (Err (Raced from.used s.used), s) (over_world (reserve c (suc n)) t luck s)
@@ -212,7 +186,7 @@ module _ (c : Config) (t : ℕ) where
       go luck s m fits true is = (
         (Err (Raced from.used s.used), s),
         ap (λ b. lost b luck s) is,
-        (k, i, y, None, still_leaps k i s y m, tt, inr (refl, refl, least)),
+        (k, i, y, None, still_leaps m, tt, inr (refl, refl, least)),
       )
       go luck s m fits false is =
           let room : s.used + suc n ≤ c.words = let f = fits.words in omega arith in
@@ -224,13 +198,9 @@ module _ (c : Config) (t : ℕ) where
               p,
               with_words (suc n) 0 y,
               None,
-              subst (λ (x : Shared). Leaps c t k i s y x k p (with_words (suc n) 0 y))
-                  (sym (words_is t s (s.used + suc n) m.tidy))
-                  (subst (λ (x : Shared). Leaps c t k i s y (record s { used = s.used + suc n }) k p x)
-                  (sym (words_is 0 y (y.used + suc n) m.alone.tidy))
-                  (words_leap c t k s y m i p (suc n) (omega arith) (omega arith) (omega arith))),
+              words_leap m (suc n) (omega arith) (omega arith) (omega arith),
               tt,
-              subst (λ (w : Result Handle Fault × Shared). LeadsTo c t None (Once c t handle_for w y e asked) next k p
+              subst (λ (w : Result Handle Fault × Shared). LeadsTo c t None (Once HandleFor w y e asked) next k p
                   (with_words (suc n) 0 y))
                   (sym (ap (λ (x : Result (Unit {0}) Fault × Shared).
                   run_alone 0 true (unless_refused (λ u. other) x.0) x.1) (taken_is (suc n) 0 true y room_too)))
@@ -238,46 +208,31 @@ module _ (c : Config) (t : ℕ) where
             ),
           )
 
-  spoilt_so : {A B : Type 0} (e : Fault) → IsSpoilt {A = A} (Err e) → IsSpoilt {A = B} (Err e)
-  spoilt_so {A} {B} e is = go is
-    where
-      again : Result A Fault → Result B Fault
-      again (Ok x) = Err e
-      again (Err f) = Err f
-
-      go : IsSpoilt {A = A} (Err e) → IsSpoilt {A = B} (Err e)
-      go (inl is) = inl (ap again is)
-      go (inr is) = inr (ap again is)
-
-  not_spoilt : {A B : Type 0} (x : A) → IsSpoilt {A = A} (Ok x) → B
-  not_spoilt x (inl is) = absurd cc
-  not_spoilt x (inr is) = absurd cc
-
   -- WHAT IS ONLY LOOKED AT before
   looked_leads : {A B : Type 0} (P : Of A) (Q : Of B) (d alone : Doing A) (next other : A → Doing B) (back : Shared)
       (e asked : Asks) (noted : Option Noted) (k : Numbers) (i : Asks) (y : Shared)
-      → Goes c t (anywhere c t) P k d alone
+      → Goes c t anywhere P k d alone
       → (run_alone 0 true alone y).1 ≡ y → IsAlone k y → AtLeast i e
       → ((now : Option Noted) (j : Numbers) (p : Asks) (u : A) (v : A) → StaysNoted noted now → Extends k j
       → IsAlone j y
-      → AtLeast p i → P j u v → LeadsTo c t now (Once c t Q (run_alone 0 true (other v) y) back e asked) (next u) j p y)
-      → LeadsTo c t noted (Once c t Q (run_alone 0 true (alone >>= other) y) back e asked) (d >>= next) k i y
+      → AtLeast p i → P j u v → LeadsTo c t now (Once Q (run_alone 0 true (other v) y) back e asked) (next u) j p y)
+      → LeadsTo c t noted (Once Q (run_alone 0 true (alone >>= other) y) back e asked) (d >>= next) k i y
   looked_leads {A} {B} P Q d alone next other back e asked noted k i y first kept lone least rest = subst
-      (λ (w : Result B Fault × Shared). LeadsTo c t noted (Once c t Q w back e asked) (d >>= next) k i y)
+      (λ (w : Result B Fault × Shared). LeadsTo c t noted (Once Q w back e asked) (d >>= next) k i y)
       (sym (run_then nobody 0 alone (unless_refused other) y
       ∙ ap (λ (z : Shared). run_alone 0 true (unless_refused other x.0) z) kept))
-      (leads_on c t noted (Outcome c t noted P x.0 x.1 i) K d (unless_refused next) k i y lone
-      (first noted i y lone tt) go)
+      (leads_then c t noted (Outcome noted P x i) K d (unless_refused next) k i y lone
+      (first.so k (extends_itself k) noted i y lone tt) go)
     where
       x : Result A Fault × Shared
       x = run_alone 0 true alone y
 
       K : Ends B
-      K = Once c t Q (run_alone 0 true (unless_refused other x.0) y) back e asked
+      K = Once Q (run_alone 0 true (unless_refused other x.0) y) back e asked
 
       each : (now : Option Noted) (j : Numbers) (p : Asks) (r q : Result A Fault) → StaysNoted noted now → Extends k j
-          → IsAlone j y → ResultFor c t (P j) r q → AtLeast p i
-          → LeadsTo c t now (Once c t Q (run_alone 0 true (unless_refused other q) y) back e asked)
+          → IsAlone j y → ResultFor (P j) r q → AtLeast p i
+          → LeadsTo c t now (Once Q (run_alone 0 true (unless_refused other q) y) back e asked)
           (unless_refused next r) j p y
       each now j p (Ok u) (Ok v) stays more there for enough = rest now j p u v stays more there enough for
       each now j p (Ok u) (Err f) stays more there for enough = absurd for
@@ -287,11 +242,11 @@ module _ (c : Config) (t : ℕ) where
 
       spoils : (now : Option Noted) (j : Numbers) (p : Asks) (r : Result A Fault) (z : Shared) → IsSpoilt r
           → LeadsTo c t now K (unless_refused next r) j p z
-      spoils now j p (Ok u) z bad = not_spoilt u bad
+      spoils now j p (Ok u) z bad = absurd (not_spoilt bad)
       spoils now j p (Err d) z bad = inl (inr (spoilt_so d bad))
 
       go : (now : Option Noted) (j : Numbers) (p : Asks) (r : Result A Fault) (z : Shared) → Extends k j
-          → IsAlone j z → Outcome c t noted P x.0 x.1 i now j p r z → LeadsTo c t now K (unless_refused next r) j p z
+          → IsAlone j z → Outcome noted P x i now j p r z → LeadsTo c t now K (unless_refused next r) j p z
       go now j p r z more there (inl (stays, for, at, enough)) =
           subst (λ (v : Shared). LeadsTo c t now K (unless_refused next r) j p v) (sym (at ∙ kept))
           (each now j p r x.0 stays more (subst (IsAlone j) (at ∙ kept) there) for enough)
@@ -302,10 +257,10 @@ module _ (c : Config) (t : ℕ) where
       (i : Asks) (y : Shared) → IsAlone k y → contents_as k (is_objects kind) vs ≡ ws
       → elements_within k (is_objects kind) vs → length ws ≡ length vs → length ws + e.words ≤ i.words
       → 1 + e.objects ≤ i.objects → e.slots ≤ i.slots → AtLeast i asked
-      → LeadsTo c t noted (Once c t handle_for (run_alone 0 true (made_in_steps c since kind vs) y) y e asked)
+      → LeadsTo c t noted (Once HandleFor (run_alone 0 true (made_in_steps c since kind vs) y) y e asked)
       (made_in_steps c from kind ws) k i y
   made_leads from since kind ws vs e asked noted k i y lone is has long words objects slots least = looked_leads same
-      handle_for (atom (room_for c 1)) (atom (room_for c 1)) _ (λ u. other) y e asked noted k i y (room_goes c t k 1)
+      HandleFor (atom (room_for c 1)) (atom (room_for c 1)) _ (λ u. other) y e asked noted k i y (room_goes 1)
       (seen_is 0 y lone.tidy) lone (omega arith, omega arith, omega arith)
       (λ now j p u v stays more there enough for. rest now j p more enough)
     where
@@ -313,15 +268,15 @@ module _ (c : Config) (t : ℕ) where
       other = reserved c since (length vs) >> (atom (new_object c kind vs) >>= (λ o. atom (added o)))
 
       rest : (now : Option Noted) (j : Numbers) (p : Asks) → Extends k j → AtLeast p i
-          → LeadsTo c t now (Once c t handle_for (run_alone 0 true other y) y e asked)
+          → LeadsTo c t now (Once HandleFor (run_alone 0 true other y) y e asked)
           (reserved c from (length ws) >> (atom (new_object c kind ws) >>= (λ o. atom (added o)))) j p y
-      rest now j p more enough = subst (λ n. LeadsTo c t now (Once c t handle_for (run_alone 0 true
+      rest now j p more enough = subst (λ n. LeadsTo c t now (Once HandleFor (run_alone 0 true
           (reserved c since n >> (atom (new_object c kind vs) >>= (λ o. atom (added o)))) y) y e asked)
           (reserved c from (length ws) >> (atom (new_object c kind ws) >>= (λ o. atom (added o)))) j p y) long
           (reserved_leads from since (length ws) _ _ e asked now j p y (omega arith) (omega arith) (omega arith)
           (omega arith, omega arith, omega arith)
           (λ late a b fewer low less. object_leads kind ws vs y e asked late j a b
-          ((words_stay k j more (is_objects kind) vs has).0 ∙ is) (words_stay k j more (is_objects kind) vs has).1 fewer
+          ((words_stay more (is_objects kind) vs has).0 ∙ is) (words_stay more (is_objects kind) vs has).1 fewer
           low less))
 
 -- WHERE A CALL LEADS THAT MAKES A REFERENCE IN A SLOT
@@ -338,15 +293,12 @@ either_way false d x y is = ap (λ b. cond b y x) is
 at_once : {X : Type 0} (b : Bool) (x y : X) → b ≡ true → cond b x y ≡ x
 at_once b x y is = ap (λ d. cond d x y) is
 
-one_slot_is : (t o : ℕ) (r : RefKind) → (r ≡ Local → ⊥) → how_many has_no_owner (owner_if t (ref_to r o) ∷ []) ≡ 1
-one_slot_is t o Local shared = absurd (shared refl)
-one_slot_is t o Global shared = refl
-one_slot_is t o Weak shared = refl
+one_slot_is : (o : ℕ) (r : RefKind) → (r ≡ Local → ⊥) → slot_of r o ≡ 1
+one_slot_is o Local shared = absurd (shared refl)
+one_slot_is o Global shared = refl
+one_slot_is o Weak shared = refl
 
 module _ (c : Config) (t : ℕ) (r : RefKind) (shared : r ≡ Local → ⊥) where
-  abbrev perhaps_for : Numbers → Option Handle → Option Handle → Type 0
-  perhaps_for j h g = IsFor j (perhaps handle) h g
-
   -- it isn't full
   not_full : (from : Noted) (s : Shared) → WasNoted (Some from) s → made_slots s < c.slots
       → nat_le c.slots (from.standing + made_since from.made s.owners) ≡ false
@@ -359,14 +311,14 @@ module _ (c : Config) (t : ℕ) (r : RefKind) (shared : r ≡ Local → ⊥) whe
 
   created_leads : (from since : Noted) (x y : Option ℕ) (back : Shared) (e asked : Asks) (k : Numbers) (i : Asks)
       (z : Shared) → x ≡ known_of k y → HasKnown k y → 1 + e.slots ≤ i.slots → e.objects ≤ i.objects
-      → e.words ≤ i.words → LeadsTo c t (Some from) (Once c t perhaps_for
+      → e.words ≤ i.words → LeadsTo c t (Some from) (Once PerhapsFor
       (run_alone 0 true (created_in_steps c since r y) z) back e asked) (created_in_steps c from r x) k i z
   created_leads from since x None back e asked k i z is has slots objects words = subst
-      (λ (o : Option ℕ). LeadsTo c t (Some from) (Once c t perhaps_for
+      (λ (o : Option ℕ). LeadsTo c t (Some from) (Once PerhapsFor
       (run_alone 0 true (created_in_steps c since r None) z) back e asked) (created_in_steps c from r o) k i z) (sym is)
       (inl (inl (tt, tt, refl, (omega arith, omega arith, omega arith))))
   created_leads from since x (Some o) back e asked k i z is has slots objects words = subst
-      (λ (u : Option ℕ). LeadsTo c t (Some from) (Once c t perhaps_for
+      (λ (u : Option ℕ). LeadsTo c t (Some from) (Once PerhapsFor
       (run_alone 0 true (created_in_steps c since r (Some o)) z) back e asked) (created_in_steps c from r u) k i z)
       (sym is)
       (step_leads c t (Some from) _ (created_or_full c from r (object_of k o)) (unless_refused (λ h. decided (Ok
@@ -374,7 +326,7 @@ module _ (c : Config) (t : ℕ) (r : RefKind) (shared : r ≡ Local → ⊥) whe
       k i z (λ luck s m fits was.
       let room : made_slots s < c.slots = let f = fits.slots in omega arith in
       let room_too : in_row z < c.slots =
-      let few = m.fewer_slots in let row = row_fits c t z m.alone.tidy in omega arith in (
+      let few = m.fewer_slots in let row = row_fits z m.alone.tidy in omega arith in (
         over_world (new_ref r (object_of k o)) t luck s,
         either_way (luck && nat_lt (in_row s) c.slots)
             (nat_le c.slots (from.standing + made_since from.made s.owners))
@@ -384,16 +336,12 @@ module _ (c : Config) (t : ℕ) (r : RefKind) (shared : r ≡ Local → ⊥) whe
           p,
           (over_world (new_ref r o) 0 true z).1,
           None,
-          left_leaps c t k s z m i p r o (frames_of s t) (frames_of z 0) 1 has
-              (step_alike {gone = λ v. false} t true refl (alike_itself s m.tidy)
-              (new_ref_blind r (object_of k o) shared)).1.tidy
-              (step_alike {gone = λ v. false} 0 true refl (alike_itself z m.alone.tidy)
-              (new_ref_blind r o shared)).1.tidy
-              (same_mirrored c t k s z m) (one_slot_is t (object_of k o) r shared) (one_slot_is 0 o r shared)
-              (omega arith)
-              (omega arith) (omega arith),
+          ref_leaps m r o (frames_of s t) (frames_of z 0) has
+              ((new_ref_blind r (object_of k o) shared).lays (as_seen t s))
+              ((new_ref_blind r o shared).lays (as_seen 0 z)) (same_mirrored m)
+              (let one = one_slot_is o r shared in omega arith) (omega arith) (omega arith),
           tt,
-          subst (λ (w : Result Handle Fault × Shared). Once c t perhaps_for
+          subst (λ (w : Result Handle Fault × Shared). Once PerhapsFor
               (run_alone 0 true (unless_refused (λ h. decided (Ok (Some h))) w.0) w.1) back e asked None
               (with_ref k s) p (Ok (Some (record { 0 = length (s.refs ++ ref_to r (object_of k o) ∷ []) })))
               (over_world (new_ref r o) 0 true z).1)
@@ -402,7 +350,7 @@ module _ (c : Config) (t : ℕ) (r : RefKind) (shared : r ≡ Local → ⊥) whe
               (over_world (new_ref r o) 0 true z)) (less_is (in_row z) c.slots room_too)))
               (inl (inl (
                 tt,
-                named_new c t k s z m (ref_to r (object_of k o)) (ref_to r o),
+                new_word m (ref_to r (object_of k o)) (ref_to r o),
                 refl,
                 (omega arith, omega arith, omega arith),
               ))),
@@ -490,15 +438,6 @@ calm_created c since r (Some o) z = calm_bind (by_step (created_or_full c since 
     go false true = refl
     go false false = tt
 
--- what a name stands for is only looked at
-named_is : (w : ℕ) (z : Shared) → Tidy z → (run_alone 0 true (named w) z).1 ≡ z
-named_is w z tidy = go (is_foreign_to 0 z w)
-  where
-    go : (b : Bool) → (run_alone 0 true (unless_refused (λ (u : Unit {0}). atom (object w))
-        (cond b (Err Foreign) (Ok tt))) z).1 ≡ z
-    go true = refl
-    go false = object_is 0 w true z tidy
-
 -- an element of an object, so many times
 filled_for : (k : Numbers) (n : ℕ) (x : Option ℕ) → HasKnown k x
     → (map (element_of k) (replicate n (element_to x)) ≡ replicate n (element_to (known_of k x)))
@@ -506,82 +445,64 @@ filled_for : (k : Numbers) (n : ℕ) (x : Option ℕ) → HasKnown k x
 filled_for k zero x has = (refl, tt)
 filled_for k (suc n) x has =
     let rest = filled_for k n x has in
-    let one = element_for_one x has in
-    (λ i. one.0 i ∷ rest.0 i, (one.1, rest.1))
-  where
-    element_for_one : (x : Option ℕ) → HasKnown k x
-        → (element_of k (element_to x) ≡ element_to (known_of k x)) × HasElement k (element_to x)
-    element_for_one None has = (refl, omega arith)
-    element_for_one (Some o) has = (refl, omega arith)
+    let one = element_to_for k (known_of k x) x (refl, has) in
+    (λ i. sym one.0 i ∷ rest.0 i, (one.1, rest.1))
 
-module _ (c : Config) (t : ℕ) (turns : ℕ) (k : Numbers) where
+module _ {c : Config} {t : ℕ} (turns : ℕ) {k : Numbers} where
   -- a call of such work, whatever it is handed
-  work_follows : {A : Type 0} (Q : Numbers → A → A → Type 0) (asked : Asks) (work alone : Noted → Doing A)
+  work_follows : {A : Type 0} (Q : Of A) (asked : Asks) (work alone : Noted → Doing A)
       → ((since : Noted) (z : Shared) → Calm (run_alone 0 true (alone since) z).0)
       → ((from since : Noted) (e : Asks) (j : Numbers) (i : Asks) (y : Shared) → Extends k j → IsAlone j y
       → AtLeast i (and_asks asked e) → LeadsTo c t (Some from)
-      (Once c t Q (run_alone 0 true (alone since) y) y e (and_asks asked e)) (work from) j i y)
+      (Once Q (run_alone 0 true (alone since) y) y e (and_asks asked e)) (work from) j i y)
       → Follows c t Q asked k (tried_in_steps turns (entered_in_steps work))
       (tried_in_steps turns (entered_in_steps alone))
-  work_follows {A} Q asked work alone calm leads = λ before e z lone.
-      tried_leads c t Q (entered_in_steps work) alone e (and_asks asked e) k
-      (λ j y there. ap (λ (w : Result A Fault × Shared). is_tried_again w.0) (entered_run c t alone j y there)
-      ∙ calm_settled (run_alone 0 true (alone (noted y)) (in_role Within 0 y)).0 (calm (noted y) (in_role Within 0 y)))
-      (λ since j i y more least there. entered_leads c t Q work alone e (and_asks asked e) since j i y there
-      (λ from within. leads from (noted y) e j i (in_role Within 0 y) more within least))
-      turns before (and_asks asked e) z (omega arith, omega arith, omega arith) lone
+  work_follows {A} Q asked work alone calm leads = record {
+    so = λ before e z lone. tried_leads c t Q (entered_in_steps work) alone e (and_asks asked e) k
+        (λ j y there. ap (λ (w : Result A Fault × Shared). is_tried_again w.0) (entered_run alone j y there)
+        ∙ calm_settled (run_alone 0 true (alone (noted y)) (in_role Within 0 y)).0
+        (calm (noted y) (in_role Within 0 y)))
+        (λ since j i y more least there. entered_leads c t Q work alone e (and_asks asked e) since j i y there
+        (λ from within. leads from (noted y) e j i (in_role Within 0 y) more within least))
+        turns before (and_asks asked e) z (omega arith, omega arith, omega arith) lone;
+  }
 
   made_follows : (kind : Kind) (n : ℕ) (ws vs : List ℕ) → contents_as k (is_objects kind) vs ≡ ws
       → elements_within k (is_objects kind) vs → length ws ≡ n → length vs ≡ n
-      → Follows c t (handle_for c t) (one_object n) k
+      → Follows c t HandleFor (one_object n) k
       (tried_in_steps turns (entered_in_steps (λ from. made_in_steps c from kind ws)))
       (tried_in_steps turns (entered_in_steps (λ from. made_in_steps c from kind vs)))
-  made_follows kind n ws vs is has long long_too = work_follows (handle_for c t) (one_object n)
+  made_follows kind n ws vs is has long long_too = work_follows HandleFor (one_object n)
       (λ from. made_in_steps c from kind ws) (λ since. made_in_steps c since kind vs)
       (λ since z. calm_made c since kind vs z)
-      (λ from since e j i y more there least. made_leads c t from since kind ws vs e (and_asks (one_object n) e)
-      (Some from) j i y there ((words_stay k j more (is_objects kind) vs has).0 ∙ is)
-      (words_stay k j more (is_objects kind) vs has).1 (long
-      ∙ sym long_too) (omega arith) (omega arith) (omega arith) least)
+      (λ from since e j i y more there least. let it = words_stay more (is_objects kind) vs has in
+      made_leads c t from since kind ws vs e (and_asks (one_object n) e) (Some from) j i y there (it.0 ∙ is) it.1
+      (long ∙ sym long_too) (omega arith) (omega arith) (omega arith) least)
 
-module _ (c : Config) (t : ℕ) (turns : ℕ) (names alone : Names) (words other : ThreadWords) (k : Numbers) where
+module _ {c : Config} {t : ℕ} (turns : ℕ) (names alone : Names) (words other : ThreadWords) {k : Numbers} where
   pub reference_follows : (r : RefKind) → (r ≡ Local → ⊥) → (h g : Handle) → IsFor k handle h g
       → Follows c t (λ j. IsFor j (perhaps handle)) one_slot k (calls_on c turns names words h (new_reference r))
       (calls_on c turns alone other g (new_reference r))
-  reference_follows r shared h g for = subst (λ (w : ℕ). Follows c t (λ j. IsFor j (perhaps handle)) one_slot k
-      (tried_in_steps turns (entered_in_steps (λ from. named w >>= (λ x. created_in_steps c from r x))))
-      (calls_on c turns alone other g (new_reference r))) (sym for.0)
-      (work_follows c t turns k (perhaps_for c t r shared) one_slot
-      (λ from. named (word_of k g.0) >>= (λ x. created_in_steps c from r x))
+  reference_follows r shared h g for = work_follows turns PerhapsFor one_slot
+      (λ from. named h.0 >>= (λ x. created_in_steps c from r x))
       (λ since. named g.0 >>= (λ x. created_in_steps c since r x))
       (λ since z. calm_bind (named g.0) (λ x. created_in_steps c since r x) z (calm_named g.0 z)
-      (λ x y. calm_created c since r x y)) leads)
-    where
-      leads : (from since : Noted) (e : Asks) (j : Numbers) (i : Asks) (y : Shared) → Extends k j → IsAlone j y
-          → AtLeast i (and_asks one_slot e) → LeadsTo c t (Some from) (Once c t (perhaps_for c t r shared)
-          (run_alone 0 true (named g.0 >>= (λ x. created_in_steps c since r x)) y) y e (and_asks one_slot e))
-          (named (word_of k g.0) >>= (λ x. created_in_steps c from r x)) j i y
-      leads from since e j i y more lone least =
-          let has = word_stays k j more g.0 for.1 in
-          subst (λ (w : ℕ). LeadsTo c t (Some from) (Once c t (perhaps_for c t r shared)
-          (run_alone 0 true (named g.0 >>= (λ x. created_in_steps c since r x)) y) y e (and_asks one_slot e))
-          (named w >>= (λ x. created_in_steps c from r x)) j i y) has.0
-          (looked_leads c t known_for (perhaps_for c t r shared) (named (word_of j g.0)) (named g.0) _ _ y e
-          (and_asks one_slot e) (Some from) j i y (named_goes c t j g.0 has.1) (named_is g.0 y lone.tidy) lone
-          (omega arith, omega arith, omega arith)
-          (λ now a p u v stays on there enough known. subst (λ (l : Option Noted). LeadsTo c t l
-          (Once c t (perhaps_for c t r shared) (run_alone 0 true (created_in_steps c since r v) y) y e
-          (and_asks one_slot e)) (created_in_steps c from r u) a p y) (sym stays)
-          (created_leads c t r shared from since u v y e (and_asks one_slot e) a p y known.0 known.1 (omega arith)
-          (omega arith) (omega arith))))
+      (λ x y. calm_created c since r x y))
+      (λ from since e j i y more lone least. looked_leads c t KnownFor PerhapsFor (named h.0) (named g.0) _ _ y e
+      (and_asks one_slot e) (Some from) j i y (named_goes h.0 g.0 (word_later more h.0 g.0 for))
+      (looks_named g.0 y lone.tidy) lone (omega arith, omega arith, omega arith)
+      (λ now a p u v stays on there enough known. subst (λ (l : Option Noted). LeadsTo c t l (Once PerhapsFor
+      (run_alone 0 true (created_in_steps c since r v) y) y e (and_asks one_slot e))
+      (created_in_steps c from r u) a p y) (sym stays) (created_leads c t r shared from since u v
+      y e (and_asks one_slot e) a p y known.0 known.1 (omega arith) (omega arith) (omega arith))))
 
   pub plain_follows : Follows c t (λ j. IsFor j handle) (one_object 0) k (calls_on_none c turns names words new_plain)
       (calls_on_none c turns alone other new_plain)
-  plain_follows = made_follows c t turns k Plain 0 [] [] refl tt refl refl
+  plain_follows = made_follows turns Plain 0 [] [] refl tt refl refl
 
   pub array_follows : (l : Kind) (n : ℕ) → Follows c t (λ j. IsFor j handle) (one_object n) k
       (calls_on_none c turns names words (new_array l n)) (calls_on_none c turns alone other (new_array l n))
-  array_follows l n = made_follows c t turns k l n (replicate n 0) (replicate n 0) (zeros (is_objects l)).0
+  array_follows l n = made_follows turns l n (replicate n 0) (replicate n 0) (zeros (is_objects l)).0
       (zeros (is_objects l)).1 (length-replicate n 0) (length-replicate n 0)
     where
       zeros : (b : Bool) → (contents_as k b (replicate n 0) ≡ replicate n 0) × elements_within k b (replicate n 0)
@@ -590,45 +511,33 @@ module _ (c : Config) (t : ℕ) (turns : ℕ) (names alone : Names) (words other
 
   pub string_follows : (units : List ℕ) → Follows c t (λ j. IsFor j handle) (one_object (length units)) k
       (calls_on_none c turns names words (new_string units)) (calls_on_none c turns alone other (new_string units))
-  string_follows units = made_follows c t turns k Text (length units) units units refl tt refl refl
+  string_follows units = made_follows turns Text (length units) units units refl tt refl refl
 
   pub objects_follow : (n : ℕ) (h g : Handle) → IsFor k handle h g → Follows c t (λ j. IsFor j handle) (one_object n) k
       (calls_on c turns names words h (new_object_array n)) (calls_on c turns alone other g (new_object_array n))
-  objects_follow n h g for = subst (λ (w : ℕ). Follows c t (λ j. IsFor j handle) (one_object n) k
-      (tried_in_steps turns (entered_in_steps (λ from. named w >>= (λ x. made from x))))
-      (calls_on c turns alone other g (new_object_array n))) (sym for.0)
-      (work_follows c t turns k (handle_for c t) (one_object n) (λ from. named (word_of k g.0) >>= (λ x. made from x))
-      (λ since. named g.0 >>= (λ x. made since x))
+  objects_follow n h g for = work_follows turns HandleFor (one_object n) (λ from. named h.0 >>= made from)
+      (λ since. named g.0 >>= made since)
       (λ since z. calm_bind (named g.0) (made since) z (calm_named g.0 z)
-      (λ x y. calm_made c since Objects (replicate n (element_to x)) y)) leads)
+      (λ x y. calm_made c since Objects (replicate n (element_to x)) y))
+      (λ from since e j i y more lone least. looked_leads c t KnownFor HandleFor (named h.0) (named g.0) (made from)
+      (made since) y e (and_asks (one_object n) e) (Some from) j i y
+      (named_goes h.0 g.0 (word_later more h.0 g.0 for)) (looks_named g.0 y lone.tidy) lone
+      (omega arith, omega arith, omega arith)
+      (λ now a p u v stays on there enough known. inner from since e a p y now u v there known.0 known.1
+      (omega arith, omega arith, omega arith)))
     where
       made : Noted → Option ℕ → Doing Handle
       made from x = made_in_steps c from Objects (replicate n (element_to x))
 
-      leads : (from since : Noted) (e : Asks) (j : Numbers) (i : Asks) (y : Shared) → Extends k j → IsAlone j y
-          → AtLeast i (and_asks (one_object n) e) → LeadsTo c t (Some from) (Once c t (handle_for c t)
-          (run_alone 0 true (named g.0 >>= (λ x. made since x)) y) y e (and_asks (one_object n) e))
-          (named (word_of k g.0) >>= (λ x. made from x)) j i y
-      leads from since e j i y more lone least =
-          let has = word_stays k j more g.0 for.1 in
-          subst (λ (w : ℕ). LeadsTo c t (Some from) (Once c t (handle_for c t)
-          (run_alone 0 true (named g.0 >>= (λ x. made since x)) y) y e (and_asks (one_object n) e))
-          (named w >>= (λ x. made from x)) j i y) has.0
-          (looked_leads c t known_for (handle_for c t) (named (word_of j g.0)) (named g.0) (made from) (made since) y e
-          (and_asks (one_object n) e) (Some from) j i y (named_goes c t j g.0 has.1) (named_is g.0 y lone.tidy) lone
-          (omega arith, omega arith, omega arith)
-          (λ now a p u v stays on there enough known. inner from since e a p y now u v there known.0 known.1
-          (omega arith, omega arith, omega arith)))
-        where
-          inner : (from since : Noted) (e : Asks) (a : Numbers) (p : Asks) (y : Shared) (now : Option Noted)
-              (u v : Option ℕ) → IsAlone a y → u ≡ known_of a v → HasKnown a v → AtLeast p (and_asks (one_object n) e)
-              → LeadsTo c t now (Once c t (handle_for c t) (run_alone 0 true (made since v) y) y e
-              (and_asks (one_object n) e)) (made from u) a p y
-          inner from since e a p y now u v there is has enough =
-              let filled = filled_for a n v has in
-              let long = length-replicate n (element_to u) in
-              let long_too = length-replicate n (element_to v) in
-              made_leads c t from since Objects (replicate n (element_to u)) (replicate n (element_to v)) e
-              (and_asks (one_object n) e) now a p y there
-              (filled.0 ∙ ap (λ (x : Option ℕ). replicate n (element_to x)) (sym is)) filled.1 (long ∙ sym long_too)
-              (omega arith) (omega arith) (omega arith) enough
+      inner : (from since : Noted) (e : Asks) (a : Numbers) (p : Asks) (y : Shared) (now : Option Noted)
+          (u v : Option ℕ) → IsAlone a y → u ≡ known_of a v → HasKnown a v → AtLeast p (and_asks (one_object n) e)
+          → LeadsTo c t now (Once HandleFor (run_alone 0 true (made since v) y) y e (and_asks (one_object n) e))
+          (made from u) a p y
+      inner from since e a p y now u v there is has enough =
+          let filled = filled_for a n v has in
+          let long = length-replicate n (element_to u) in
+          let long_too = length-replicate n (element_to v) in
+          made_leads c t from since Objects (replicate n (element_to u)) (replicate n (element_to v)) e
+          (and_asks (one_object n) e) now a p y there
+          (filled.0 ∙ ap (λ (x : Option ℕ). replicate n (element_to x)) (sym is)) filled.1 (long ∙ sym long_too)
+          (omega arith) (omega arith) (omega arith) enough

@@ -1,6 +1,6 @@
 -- A WORLD ALONE beside what all share: what a thread alone would have made, and what it has made among others.
-use Rattle.std.proofs.Common.{◌≡◌, ◌<◌, ◌≤◌, ◌+◌, ◌++◌, ℕ, Bool, true, false, Option, Some, None, List, [], ◌∷◌}
-use Rattle.std.proofs.Common.{map, length, slice_index_or, sym, ap, subst, ◌∙◌, arith}
+use Rattle.std.proofs.Common.{◌≡◌, ◌<◌, ◌≤◌, ◌+◌, ◌++◌, ℕ, Bool, true, false, Option, Some, None, List, [], ◌∷◌, map}
+use Rattle.std.proofs.Common.{length, slice_index_or, sym, ap, subst, ◌∙◌, arith}
 use Rattle.std.proofs.lemmas.List.{get_or_append_left}
 use Rattle.std.specs.List.{AllByRecursion}
 use native.Mathlib.Decide.{ℕ_discrete, dec_lt}
@@ -12,8 +12,8 @@ use Rattle.jr_model.specs.Checks.{is_objects}
 use Rattle.jr_world.specs.World.{Ref, how_many, standing_at}
 use Rattle.jr_world.specs.Doing.{Shared, has_no_owner}
 use Rattle.jr_scripts.proofs.OneRow.Alike.{Begin, Tidy, frames_of, owner_of, role_of}
-use Rattle.jr_scripts.proofs.Apart.Numbers.{Extends, HasElement, HasKnown, Numbers, object_as, object_of}
-use Rattle.jr_scripts.proofs.Apart.Numbers.{reads_on, ref_in, ref_of}
+use Rattle.jr_scripts.proofs.Apart.Numbers.{Extends, HasElement, HasKnown, Numbers, object_as, object_of, reads_on}
+use Rattle.jr_scripts.proofs.Apart.Numbers.{ref_in, ref_of}
 
 -- whose a reference is among others, of the thread that is alone
 abbrev pub owner_in : ℕ → Option ℕ → Option ℕ

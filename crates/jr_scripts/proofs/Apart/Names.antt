@@ -8,7 +8,6 @@ use Rattle.std.specs.FinMap.{get, get-empty, get-insert}
 use Rattle.std.specs.Cmp.Lexicographic.{nat_list_cmp_total}
 use Rattle.one_order.proofs.Lists.{all_append}
 use Rattle.jr_word.specs.declared.fault.Fault.{Fault}
-use Rattle.jr_word.specs.declared.config.Config.{Config}
 use Rattle.jr_word.specs.declared.handle.Handle.{Handle}
 use Rattle.jr_model.specs.declared.frames.Mode.{Mode}
 use Rattle.jr_model.specs.declared.frames.Mode.TheVariants.{Abort, Commit, Copy}
@@ -31,7 +30,7 @@ use Rattle.jr_scripts.specs.Places.{Place, levels_after, nowhere, objects_after,
 use Rattle.jr_scripts.specs.Text.{binding_made, buffers_after, left_by, names_set, names_with, printed, reference_made}
 use Rattle.jr_scripts.specs.Text.{refused, says, sets}
 use Rattle.jr_scripts.proofs.Apart.Leads.{ResultFor}
-use Rattle.jr_scripts.proofs.Apart.Numbers.{Extends, IsFor, Numbers, is_for_stays, object_of, reads_on}
+use Rattle.jr_scripts.proofs.Apart.Numbers.{Extends, IsFor, Numbers, is_for_stays, object_later, object_of}
 
 abbrev pub BindingFor : Numbers → Binding → Binding → Type 0
 BindingFor k (bound.Reference h) (bound.Reference g) = IsFor k handle h g
@@ -62,21 +61,21 @@ nowhere_for k = record {
 }
 
 pub reply_stays : (j k : Numbers) → Extends j k → (x y : Reply) → ReplyFor j x y → ReplyFor k x y
-reply_stays j k more (replies.Made x) (replies.Made y) is = is_for_stays j k more (perhaps handle) x y is
-reply_stays j k more (replies.Level o) (replies.Level p) is = is_for_stays j k more object o p is
+reply_stays j k more (replies.Made x) (replies.Made y) is = is_for_stays more (perhaps handle) x y is
+reply_stays j k more (replies.Level o) (replies.Level p) is = is_for_stays more object o p is
 reply_stays j k more x y is = is
 
 binding_stays : (j k : Numbers) → Extends j k → (b d : Binding) → BindingFor j b d → BindingFor k b d
-binding_stays j k more (bound.Reference h) (bound.Reference g) is = is_for_stays j k more handle h g is
+binding_stays j k more (bound.Reference h) (bound.Reference g) is = is_for_stays more handle h g is
 binding_stays j k more b d is = is
 
 objects_stay : (j k : Numbers) → Extends j k → (os : List ℕ) → AllByRecursion (λ o. o < length j.objects) os
     → (map (object_of j) os ≡ map (object_of k) os) × AllByRecursion (λ o. o < length k.objects) os
 objects_stay j k more [] all = (refl, tt)
 objects_stay j k more (o ∷ os) all =
-    let it = reads_on j.objects more.objects k.objects more.objects_are o all.0 in
+    let it = object_later more (object_of j o) o (refl, all.0) in
     let rest = objects_stay j k more os all.1 in
-    (λ i. sym it.0 i ∷ rest.0 i, (it.1, rest.1))
+    (λ i. it.0 i ∷ rest.0 i, (it.1, rest.1))
 
 pub place_stays : (j k : Numbers) → Extends j k → (p alone : Place) → PlaceFor j p alone → PlaceFor k p alone
 place_stays j k more p alone place =
@@ -130,18 +129,18 @@ left_for k Commit r q s d is = is
 left_for k Abort r q s d is = refl
 left_for k Copy r q s d is = refl
 
-buffers_for : (c : Config) (t : ℕ) (k : Numbers) (x : Command) (r q : Result Reply Fault) (names alone : Names)
-    → ResultFor c t (ReplyFor k) r q → NamesFor k names alone
+buffers_for : (k : Numbers) (x : Command) (r q : Result Reply Fault) (names alone : Names)
+    → ResultFor (ReplyFor k) r q → NamesFor k names alone
     → NamesFor k (buffers_after x r names) (buffers_after x q alone)
-buffers_for c t k x (Ok r) (Err e) names alone is so = absurd is
-buffers_for c t k x (Err e) (Ok q) names alone is so = absurd is
-buffers_for c t k (commands.PutAt put_at.Put n i x) (Ok r) (Ok q) names alone is so =
+buffers_for k x (Ok r) (Err e) names alone is so = absurd is
+buffers_for k x (Err e) (Ok q) names alone is so = absurd is
+buffers_for k (commands.PutAt put_at.Put n i x) (Ok r) (Ok q) names alone is so =
     put_for k names alone n i x (binding names n) (binding alone n) so (so n)
-buffers_for c t k (commands.Release release.Elements n v mode) (Ok r) (Ok q) names alone is so =
+buffers_for k (commands.Release release.Elements n v mode) (Ok r) (Ok q) names alone is so =
     named_for k names alone n (left_by mode (Ok r) (binding names n)) (left_by mode (Ok q) (binding alone n)) so
     (left_for k mode r q (binding names n) (binding alone n) (so n))
-buffers_for c t k x (Ok r) (Ok q) names alone is so = so
-buffers_for c t k x (Err e) (Err f) names alone is so = go x
+buffers_for k x (Ok r) (Ok q) names alone is so = so
+buffers_for k x (Err e) (Err f) names alone is so = go x
   where
     go : (x : Command) → NamesFor k (buffers_after x (Err e) names) (buffers_after x (Err f) alone)
     go (commands.PutAt put_at.Put n i x) = so
@@ -173,12 +172,12 @@ made_for k o (replies.Level x) q names alone is so = absurd cc
 made_for k o r q names alone is so = subst
     (λ y. NamesFor k (names_with (binding_made r) o names) (names_with (binding_made y) o alone)) is so
 
-set_for : (c : Config) (t : ℕ) (k : Numbers) (x : Command) (r q : Result Reply Fault) (names alone : Names)
-    → ResultFor c t (ReplyFor k) r q → NamesFor k names alone → NamesFor k (names_set x r names) (names_set x q alone)
-set_for c t k x (Ok r) (Ok q) names alone is so = made_for k (sets x) r q names alone is so
-set_for c t k x (Ok r) (Err e) names alone is so = absurd is
-set_for c t k x (Err e) (Ok q) names alone is so = absurd is
-set_for c t k x (Err e) (Err f) names alone is so = so
+set_for : (k : Numbers) (x : Command) (r q : Result Reply Fault) (names alone : Names)
+    → ResultFor (ReplyFor k) r q → NamesFor k names alone → NamesFor k (names_set x r names) (names_set x q alone)
+set_for k x (Ok r) (Ok q) names alone is so = made_for k (sets x) r q names alone is so
+set_for k x (Ok r) (Err e) names alone is so = absurd is
+set_for k x (Err e) (Ok q) names alone is so = absurd is
+set_for k x (Err e) (Err f) names alone is so = so
 
 -- the levels
 levels_opened : (k : Numbers) (x : Command) (r q : Reply) (levels : List (List ℕ)) → ReplyFor k r q
@@ -190,12 +189,12 @@ levels_opened k (commands.OpenLevel v n a) r q levels is =
 levels_opened k (commands.CloseLevel v mode) r q levels is = refl
 levels_opened k x r q levels is = refl
 
-levels_for : (c : Config) (t : ℕ) (k : Numbers) (x : Command) (r q : Result Reply Fault) (levels : List (List ℕ))
-    → ResultFor c t (ReplyFor k) r q → levels_after x r levels ≡ levels_after x q levels
-levels_for c t k x (Ok r) (Ok q) levels is = levels_opened k x r q levels is
-levels_for c t k x (Ok r) (Err e) levels is = absurd is
-levels_for c t k x (Err e) (Ok q) levels is = absurd is
-levels_for c t k x (Err e) (Err f) levels is = ap (λ g. levels_after x (Err g) levels) is
+levels_for : (k : Numbers) (x : Command) (r q : Result Reply Fault) (levels : List (List ℕ))
+    → ResultFor (ReplyFor k) r q → levels_after x r levels ≡ levels_after x q levels
+levels_for k x (Ok r) (Ok q) levels is = levels_opened k x r q levels is
+levels_for k x (Ok r) (Err e) levels is = absurd is
+levels_for k x (Err e) (Ok q) levels is = absurd is
+levels_for k x (Err e) (Err f) levels is = ap (λ g. levels_after x (Err g) levels) is
 
 -- and their objects
 abbrev ObjectsFor : Numbers → List ℕ → List ℕ → Type 0
@@ -226,12 +225,12 @@ opened_for k (commands.CloseLevel v mode) r q os ps is so =
     (ap all_but_last so.0 ∙ last_for (object_of k) ps, all_last _ ps so.1)
 opened_for k x r q os ps is so = so
 
-objects_for : (c : Config) (t : ℕ) (k : Numbers) (x : Command) (r q : Result Reply Fault) (os ps : List ℕ)
-    → ResultFor c t (ReplyFor k) r q → ObjectsFor k os ps → ObjectsFor k (objects_after x r os) (objects_after x q ps)
-objects_for c t k x (Ok r) (Ok q) os ps is so = opened_for k x r q os ps is so
-objects_for c t k x (Ok r) (Err e) os ps is so = absurd is
-objects_for c t k x (Err e) (Ok q) os ps is so = absurd is
-objects_for c t k x (Err e) (Err f) os ps is so = refused x
+objects_for : (k : Numbers) (x : Command) (r q : Result Reply Fault) (os ps : List ℕ)
+    → ResultFor (ReplyFor k) r q → ObjectsFor k os ps → ObjectsFor k (objects_after x r os) (objects_after x q ps)
+objects_for k x (Ok r) (Ok q) os ps is so = opened_for k x r q os ps is so
+objects_for k x (Ok r) (Err e) os ps is so = absurd is
+objects_for k x (Err e) (Ok q) os ps is so = absurd is
+objects_for k x (Err e) (Err f) os ps is so = refused x
   where
     refused : (x : Command) → ObjectsFor k (objects_after x (Err e) os) (objects_after x (Err f) ps)
     refused (commands.OpenLevel v n a) = so
@@ -257,13 +256,13 @@ as_many_after (commands.CloseLevel v mode) (Ok reply) levels os is = last_as_man
 as_many_after x r levels os is = is
 
 -- AFTER A COMMAND
-pub place_after_for : (c : Config) (t : ℕ) (k : Numbers) (x : Command) (p alone : Place) (r q : Result Reply Fault)
-    → PlaceFor k p alone → ResultFor c t (ReplyFor k) r q → PlaceFor k (place_after x r p) (place_after x q alone)
-place_after_for c t k x p alone r q place is =
-    let it = objects_for c t k x r q p.objects alone.objects is (place.objects, place.have_objects) in record {
-      names = set_for c t k x r q (buffers_after x r p.names) (buffers_after x q alone.names) is
-          (buffers_for c t k x r q p.names alone.names is place.names);
-      levels = levels_for c t k x r q p.levels is ∙ ap (levels_after x q) place.levels;
+pub place_after_for : (k : Numbers) (x : Command) (p alone : Place) (r q : Result Reply Fault)
+    → PlaceFor k p alone → ResultFor (ReplyFor k) r q → PlaceFor k (place_after x r p) (place_after x q alone)
+place_after_for k x p alone r q place is =
+    let it = objects_for k x r q p.objects alone.objects is (place.objects, place.have_objects) in record {
+      names = set_for k x r q (buffers_after x r p.names) (buffers_after x q alone.names) is
+          (buffers_for k x r q p.names alone.names is place.names);
+      levels = levels_for k x r q p.levels is ∙ ap (levels_after x q) place.levels;
       objects = it.0;
       have_objects = it.1;
       as_many = as_many_after x q alone.levels alone.objects place.as_many;
@@ -288,9 +287,9 @@ says_for k x (replies.Level o) (replies.Level p) is = says_level x o p
 says_for k x r q is = ap (says x) is
 
 -- no line tells of a number
-pub printed_for : (c : Config) (t : ℕ) (k : Numbers) (line : ℕ) (x : Command) (r q : Result Reply Fault)
-    → ResultFor c t (ReplyFor k) r q → printed line x r ≡ printed line x q
-printed_for c t k line x (Ok r) (Ok q) is = says_for k x r q is
-printed_for c t k line x (Ok r) (Err e) is = absurd is
-printed_for c t k line x (Err e) (Ok q) is = absurd is
-printed_for c t k line x (Err e) (Err f) is = ap (refused line) is
+pub printed_for : (k : Numbers) (line : ℕ) (x : Command) (r q : Result Reply Fault)
+    → ResultFor (ReplyFor k) r q → printed line x r ≡ printed line x q
+printed_for k line x (Ok r) (Ok q) is = says_for k x r q is
+printed_for k line x (Ok r) (Err e) is = absurd is
+printed_for k line x (Err e) (Ok q) is = absurd is
+printed_for k line x (Err e) (Err f) is = ap (refused line) is

@@ -56,6 +56,25 @@ abbrev pub HasKnown : Numbers → Option ℕ → Type 0
 HasKnown k None = Unit {0}
 HasKnown k (Some o) = o < length k.objects
 
+-- WHAT IS SO of two answers, where numbers stand for others
+abbrev pub Of : Type 0 → Type 1
+Of A = Numbers → A → A → Type 0
+
+abbrev pub same : {A : Type 0} → Of A
+same k x y = x ≡ y
+
+abbrev pub WordFor : Of ℕ
+WordFor k h w = (h ≡ word_of k w) × HasWord k w
+
+abbrev pub ElementFor : Of ℕ
+ElementFor k v w = (v ≡ element_of k w) × HasElement k w
+
+abbrev pub ObjectFor : Of ℕ
+ObjectFor k o u = (o ≡ object_of k u) × (u < length k.objects)
+
+abbrev pub KnownFor : Of (Option ℕ)
+KnownFor k x y = (x ≡ known_of k y) × HasKnown k y
+
 -- MORE WAS MADE
 pub record Extends (j k : Numbers) : Type 0 where
   pub refs : List ℕ
@@ -65,8 +84,8 @@ pub record Extends (j k : Numbers) : Type 0 where
 
 -- AN ANSWER for another
 abbrev pub IsFor : Numbers → (a : AnswerKind) → MeantOf a → MeantOf a → Type 0
-IsFor k handle h g = (h.0 ≡ word_of k g.0) × HasWord k g.0
-IsFor k object o p = (o ≡ object_of k p) × (p < length k.objects)
+IsFor k handle h g = WordFor k h.0 g.0
+IsFor k object o p = ObjectFor k o p
 IsFor k (perhaps a) None None = Unit {0}
 IsFor k (perhaps a) (Some x) (Some y) = IsFor k a x y
 IsFor k (perhaps a) x y = ⊥
@@ -81,47 +100,52 @@ reads_on xs more ys is n small = (
 )
 
 -- what has a number keeps it where more was made
-pub word_stays : (j k : Numbers) → Extends j k → (w : ℕ) → HasWord j w → (word_of k w ≡ word_of j w) × HasWord k w
-word_stays j k more zero has = (refl, omega arith)
-word_stays j k more (suc n) has =
-    let it = reads_on j.refs more.refs k.refs more.refs_are n (omega arith) in
-    let small = it.1 in
-    (ap suc it.0, omega arith)
+module _ {j k : Numbers} (more : Extends j k) where
+  pub number_stays : (n : ℕ) → n < length j.refs → (ref_of k n ≡ ref_of j n) × (n < length k.refs)
+  number_stays n small = reads_on j.refs more.refs k.refs more.refs_are n small
 
-pub element_stays : (j k : Numbers) → Extends j k → (w : ℕ) → HasElement j w
-    → (element_of k w ≡ element_of j w) × HasElement k w
-element_stays j k more zero has = (refl, omega arith)
-element_stays j k more (suc o) has =
-    let it = reads_on j.objects more.objects k.objects more.objects_are o (omega arith) in
-    let small = it.1 in
-    (ap suc it.0, omega arith)
+  pub object_later : (o u : ℕ) → ObjectFor j o u → ObjectFor k o u
+  object_later o u is =
+      let it = reads_on j.objects more.objects k.objects more.objects_are u is.1 in (is.0 ∙ sym it.0, it.1)
 
-pub known_stays : (j k : Numbers) → Extends j k → (x : Option ℕ) → HasKnown j x
-    → (known_of k x ≡ known_of j x) × HasKnown k x
-known_stays j k more None has = (refl, tt)
-known_stays j k more (Some o) has =
-    let it = reads_on j.objects more.objects k.objects more.objects_are o has in
-    (ap Some it.0, it.1)
+  pub word_later : (h w : ℕ) → WordFor j h w → WordFor k h w
+  word_later h zero is = (is.0, omega arith)
+  word_later h (suc n) is = let has = is.1 in let it = number_stays n (omega arith) in let small = it.1 in
+      (is.0 ∙ ap suc (sym it.0), omega arith)
 
-pub is_for_stays : (j k : Numbers) → Extends j k → (a : AnswerKind) (x y : MeantOf a) → IsFor j a x y → IsFor k a x y
-is_for_stays j k more nothing x y is = is
-is_for_stays j k more truth x y is = is
-is_for_stays j k more number x y is = is
-is_for_stays j k more object o p is =
-    let it = reads_on j.objects more.objects k.objects more.objects_are p is.1 in
-    (is.0 ∙ sym it.0, it.1)
-is_for_stays j k more object_kind x y is = is
-is_for_stays j k more handle h g is =
-    let it = word_stays j k more g.0 is.1 in
-    (is.0 ∙ sym it.0, it.1)
-is_for_stays j k more found x y is = is
-is_for_stays j k more counts x y is = is
-is_for_stays j k more (perhaps a) None None is = tt
-is_for_stays j k more (perhaps a) None (Some y) is = absurd is
-is_for_stays j k more (perhaps a) (Some x) None is = absurd is
-is_for_stays j k more (perhaps a) (Some x) (Some y) is = is_for_stays j k more a x y is
-is_for_stays j k more (several a) x y is = is
-is_for_stays j k more (both a b) x y is = is
+  pub element_later : (v w : ℕ) → ElementFor j v w → ElementFor k v w
+  element_later v zero is = (is.0, omega arith)
+  element_later v (suc u) is = let has = is.1 in
+      let it = object_later (object_of j u) u (refl, omega arith) in let small = it.1 in
+      (is.0 ∙ ap suc it.0, omega arith)
+
+  pub known_later : (x y : Option ℕ) → KnownFor j x y → KnownFor k x y
+  known_later x None is = (is.0, tt)
+  known_later x (Some u) is =
+      let it = object_later (object_of j u) u (refl, is.1) in (is.0 ∙ ap Some it.0, it.1)
+
+  pub is_for_stays : (a : AnswerKind) (x y : MeantOf a) → IsFor j a x y → IsFor k a x y
+  is_for_stays object o p is = object_later o p is
+  is_for_stays handle h g is = word_later h.0 g.0 is
+  is_for_stays (perhaps a) None None is = tt
+  is_for_stays (perhaps a) None (Some y) is = absurd is
+  is_for_stays (perhaps a) (Some x) None is = absurd is
+  is_for_stays (perhaps a) (Some x) (Some y) is = is_for_stays a x y is
+  is_for_stays nothing x y is = is
+  is_for_stays truth x y is = is
+  is_for_stays number x y is = is
+  is_for_stays object_kind x y is = is
+  is_for_stays found x y is = is
+  is_for_stays counts x y is = is
+  is_for_stays (several a) x y is = is
+  is_for_stays (both a b) x y is = is
+
+-- what stays so where more was made
+abbrev pub Stays : {A : Type 0} → Of A → Type 0
+Stays {A} Q = (j k : Numbers) → Extends j k → (x y : A) → Q j x y → Q k x y
+
+pub answer_stays : (a : AnswerKind) → Stays (λ j. IsFor j a)
+answer_stays a = λ j k more x y is. is_for_stays more a x y is
 
 pub extends_itself : (k : Numbers) → Extends k k
 extends_itself k = record {
@@ -131,8 +155,8 @@ extends_itself k = record {
   objects_are = sym (append-nil k.objects);
 }
 
-pub extends_through : (i j k : Numbers) → Extends i j → Extends j k → Extends i k
-extends_through i j k a b = record {
+pub extends_through : {i j k : Numbers} → Extends i j → Extends j k → Extends i k
+extends_through {i} a b = record {
   refs = a.refs ++ b.refs;
   objects = a.objects ++ b.objects;
   refs_are = b.refs_are ∙ ap (λ l. l ++ b.refs) a.refs_are ∙ append_assoc i.refs a.refs b.refs;

@@ -1,8 +1,6 @@
 -- ALL THREADS of a machine, each beside its world alone.
-use Rattle.std.proofs.Common.{◌≡◌, ◌≢◌, ◌⊎◌, ◌<◌, ◌≤◌, ◌+◌, ◌==◌, ℕ, zero, suc, Bool, true, false, cond}
-use Rattle.std.proofs.Common.{Option, Some, None, List, length, take, inl, inr, refl, sym, ap, subst, ◌∙◌, arith}
-use Rattle.std.proofs.Common.{nat_eq}
-use Rattle.std.proofs.lemmas.List.{length-append, take-append-le}
+use Rattle.std.proofs.Common.{◌≡◌, ◌≢◌, ◌⊎◌, ◌<◌, ◌≤◌, ◌+◌, ◌==◌, ℕ, zero, suc, Bool, true, false, cond, Option, List}
+use Rattle.std.proofs.Common.{length, inl, inr, refl, sym, ap, subst, ◌∙◌, arith, nat_eq}
 use native.Mathlib.Decide.{ℕ_discrete}
 use mathlib.Core.Logic.{dite}
 use Rattle.jr_word.specs.declared.config.Config.{Config}
@@ -10,13 +8,13 @@ use Rattle.jr_word.specs.declared.handle.RefKind.TheVariants.{Global, Weak}
 use Rattle.jr_model.specs.Maps.{sum_below, update}
 use Rattle.jr_model.proofs.Counts.{sum_at}
 use Rattle.jr_model.proofs.Updates.{at_number, at_number_self, eq_false, eq_other, eq_true}
-use Rattle.jr_world.specs.World.{how_many, refs_of, standing}
-use Rattle.jr_world.specs.Doing.{Doing, Noted, Shared, as_seen, has_no_owner}
+use Rattle.jr_world.specs.World.{refs_of, standing}
+use Rattle.jr_world.specs.Doing.{Doing, Noted, Shared, as_seen}
 use Rattle.jr_world.specs.Doing.Doing.{ended, steps}
 use Rattle.jr_world.specs.Schedules.{Machine, stepped}
 use Rattle.jr_scripts.specs.OneRow.{Course}
-use Rattle.jr_scripts.proofs.OneRow.Alike.{Begin}
 use Rattle.jr_scripts.proofs.OneRow.Spoilt.{EachEnds, IsSpoiltEnd, SpoiltBy}
+use Rattle.jr_scripts.proofs.Apart.Goes.{was_on}
 use Rattle.jr_scripts.proofs.Apart.Leads.{Leaps, WasNoted}
 use Rattle.jr_scripts.proofs.Apart.Lines.{EndsAsAlone, LinesLead}
 use Rattle.jr_scripts.proofs.Apart.Mirrors.{AreApart, Asks, Fits, Mirrors, apart_on, made_slots, mirrors_beside}
@@ -45,17 +43,6 @@ sum_after n of f t x less = subst
     (at_number_self f t x)
     (sum_at n (λ v. of (f v)) (λ v. of (update nat_eq f t x v)) t less
     (λ v other. ap (λ b. of (cond b x (f v))) (eq_other t v other)))
-
--- what was noted stays so where more was made
-noted_on : (noted : Option Noted) (s s' : Shared) → Begin s.owners s'.owners → WasNoted noted s → WasNoted noted s'
-noted_on None s s' begin was = tt
-noted_on (Some from) s s' begin was = (
-  let long : length s'.owners ≡ length s.owners + length begin.0 =
-      ap length (sym begin.1) ∙ length-append s.owners begin.0 in
-      let before = was.0 in omega arith,
-  subst (λ l. from.standing ≤ how_many has_no_owner l)
-      (sym (take-append-le from.made s.owners begin.0 was.0) ∙ ap (take from.made) begin.1) was.1,
-)
 
 apart_back : (j k : Numbers) → AreApart j k → AreApart k j
 apart_back j k apart = record {
@@ -102,7 +89,7 @@ module _ (c : Config) (courses : ℕ → Course) where
         (λ other. mirrors_beside t v (b.numbers v) (b.numbers t) m.shared s (b.alone v) (λ e. other (sym e))
         (b.apart v t below less (λ e. other (sym e))) (b.mirrors v below) leaps.untouched);
     was_noted = λ v below. at_number (λ x. WasNoted x s) b.noted t v since (λ e. was)
-        (λ other. noted_on (b.noted v) m.shared s leaps.untouched.owners (b.was_noted v below));
+        (λ other. was_on (b.noted v) m.shared s leaps.untouched.owners (b.was_noted v below));
     apart = λ u v below small differ. by_thread
         (λ x. AreApart (cond x j (b.numbers u)) (update nat_eq b.numbers t j v)) t u
         (λ e. by_thread (λ x. AreApart j (cond x j (b.numbers v))) t v

@@ -1,23 +1,24 @@
--- WHAT IS ONLY LOOKED AT, AND WHAT IS WRITTEN into an object, goes as alone.
-use Rattle.std.proofs.Common.{◌≡◌, ◌<◌, ◌+◌, ℕ, zero, suc, Bool, Option, Some, None, Result, List, [], ◌∷◌, length}
-use Rattle.std.proofs.Common.{slice_set, refl, sym, ap, subst, ◌∙◌, arith}
+-- WHAT IS WRITTEN into an object goes as alone.
+use Rattle.std.proofs.Common.{◌≡◌, ◌<◌, ◌+◌, ℕ, zero, suc, Bool, Option, Some, None, List, [], ◌∷◌, length, slice_set}
+use Rattle.std.proofs.Common.{refl, sym, ap, subst, ◌∙◌, arith}
 use Rattle.std.proofs.lemmas.List.{get_or-set_other, length-set}
 use Rattle.std.proofs.lemmas.Grind.{get_or-set_at}
 use native.Mathlib.Decide.{ℕ_discrete}
 use mathlib.Core.Logic.{dite}
 use Rattle.jr_word.specs.declared.config.Config.{Config}
-use Rattle.jr_word.specs.declared.fault.Fault.{Fault}
 use Rattle.jr_model.specs.State.{Contents}
 use Rattle.jr_model.specs.Checks.{is_objects}
-use Rattle.jr_world.specs.World.{World, contents, contents_in, found, rewrites, standing, standing_at}
-use Rattle.jr_world.specs.Doing.{Shared, as_left, as_seen, atom, over_world}
-use Rattle.jr_scripts.proofs.OneRow.Alike.{Tidy, begin_itself}
+use Rattle.jr_world.specs.World.{contents, contents_in, rewrites, standing, standing_at}
+use Rattle.jr_world.specs.Doing.{Shared, as_left, as_seen, atom}
+use Rattle.jr_scripts.proofs.OneRow.Alike.{begin_itself}
 use Rattle.jr_scripts.proofs.OneRow.Blind.{set_has}
 use Rattle.jr_scripts.proofs.OneRow.Goes.{seen_is}
-use Rattle.jr_scripts.proofs.Apart.Goes.{Goes, Of, same, step_goes}
-use Rattle.jr_scripts.proofs.Apart.Leads.{Leaps, ResultFor, SameChange}
-use Rattle.jr_scripts.proofs.Apart.Mirrors.{Asks, HasElements, IsAlone, Mirrors, Untouched, elements_within}
-use Rattle.jr_scripts.proofs.Apart.Numbers.{Numbers, contents_as, extends_itself, object_as, object_of}
+use Rattle.jr_scripts.proofs.Apart.Goes.{Goes, act_goes}
+use Rattle.jr_scripts.proofs.Apart.Grown.{leaps_to}
+use Rattle.jr_scripts.proofs.Apart.Leads.{Leaps}
+use Rattle.jr_scripts.proofs.Apart.Mirrors.{Asks, HasElements, Mirrors, elements_within}
+use Rattle.jr_scripts.proofs.Apart.Numbers.{Extends, Numbers, ObjectFor, contents_as, extends_itself, object_as}
+use Rattle.jr_scripts.proofs.Apart.Numbers.{object_later, object_of, same}
 
 -- contents among others
 abbrev pub whole_as : Numbers → Contents → Contents
@@ -49,110 +50,65 @@ standing_set (Some x ∷ xs) zero a small = omega arith
 standing_set (None ∷ xs) (suc n) a small = standing_set xs n a (omega arith)
 standing_set (Some x ∷ xs) (suc n) a small = let rest = standing_set xs n a (omega arith) in omega arith
 
-tidy_with : (s : Shared) (objects : List (Option Contents)) → Tidy s → Tidy (record s { objects = objects })
-tidy_with s objects tidy = record { owned = tidy.owned; local = tidy.local; framed = tidy.framed }
+-- the object's elements are objects, or they are not
+abbrev pub OfObjects : Bool → ℕ → Shared → Type 0
+OfObjects b o z = is_objects (contents (as_seen 0 z) o).kind ≡ b
 
-module _ (c : Config) (t : ℕ) (k : Numbers) where
-  -- NOTHING CHANGES
-  pub leaps_itself : (q : Asks) (s z : Shared) → Mirrors t k s z → Leaps c t k q s z s k q z
-  leaps_itself q s z mirrors = record {
-    extends = extends_itself k;
-    mirrors = mirrors;
-    untouched = record {
-      more_refs = omega arith;
-      refs = λ n less other. refl;
-      more_objects = omega arith;
-      objects = λ n less other. refl;
-      owners = begin_itself s.owners;
-      as_many_frames = refl;
-      frames = λ v other. refl;
-      as_many_roles = refl;
-      roles = λ v other. refl;
-      unbarred = mirrors.unbarred t;
-      tidy = mirrors.tidy;
-      more_slots = omega arith;
-      more_words = omega arith;
-    };
-    spends = record { slots = omega arith; objects = omega arith; words = omega arith };
-    new_refs = λ n old new. absurd (omega arith);
-    counts = record { globals = refl; weaks = refl; live = refl; used = refl };
-    new_objects = λ o old new. absurd (omega arith);
-  }
+-- what is written of its elements among others is what is written alone
+abbrev pub SameWords : Numbers → Bool → (List ℕ → List ℕ) → (List ℕ → List ℕ) → Type 0
+SameWords k b f g = (ws : List ℕ) → elements_within k b ws
+    → (f (contents_as k b ws) ≡ contents_as k b (g ws)) × elements_within k b (g ws)
 
-  pub look_goes : {A : Type 0} (At : Shared → Type 0) (Q : Of A) (f g : World → Result A Fault)
-      → ((s z : Shared) → Mirrors t k s z → At z → ResultFor c t (Q k) (f (as_seen t s)) (g (as_seen 0 z)))
-      → Goes c t At Q k (atom (found f)) (atom (found g))
-  look_goes At Q f g same = step_goes c t At Q k (over_world (found f)) (over_world (found g))
-      (λ luck q s z mirrors fits at. (
-        k,
-        subst (λ x. Leaps c t k q s z x k q (as_left 0 z (as_seen 0 z))) (sym (seen_is t s mirrors.tidy))
-            (subst (λ y. Leaps c t k q s z s k q y) (sym (seen_is 0 z mirrors.alone.tidy))
-            (leaps_itself q s z mirrors)),
-        same s z mirrors at,
-      ))
+abbrev wrote : Shared → ℕ → Contents → Shared
+wrote s n x = record s { objects = slice_set s.objects n (Some x) }
 
-  -- AN OBJECT IS WRITTEN
-  module _ (o : ℕ) (small : o < length k.objects) where
-    abbrev wrote : Shared → ℕ → Contents → Shared
-    wrote s n x = record s { objects = slice_set s.objects n (Some x) }
+abbrev written : (List ℕ → List ℕ) → Contents → Contents
+written h x = record { kind = x.kind; words = h x.words }
 
-    module _ (s z : Shared) (mirrors : Mirrors t k s z) (y : Contents)
-        (has : HasElements k (Some y)) where
-      small_too : o < length z.objects
-      small_too = let long = mirrors.alone.as_many_objects in omega arith
-
-      small_among : object_of k o < length s.objects
-      small_among = mirrors.objects_there o small
-
-      alone_on : IsAlone k (wrote z o y)
-      alone_on = record {
-        role = mirrors.alone.role;
-        roles = mirrors.alone.roles;
-        free = mirrors.alone.free;
-        frames = mirrors.alone.frames;
-        one_thread = mirrors.alone.one_thread;
-        as_many_refs = mirrors.alone.as_many_refs;
-        as_many_objects = length-set z.objects o (Some y) ∙ mirrors.alone.as_many_objects;
-        tidy = tidy_with z (slice_set z.objects o (Some y)) mirrors.alone.tidy;
-        own = mirrors.alone.own;
-        have_objects = mirrors.alone.have_objects;
-        have_elements = λ m. set_has (HasElements k) z.objects o m (Some y) None has (mirrors.alone.have_elements m);
-      }
-
-      abbrev x : Contents
-      x = whole_as k y
-
-      mirrors_on : Mirrors t k (wrote s (object_of k o) x) (wrote z o y)
-      mirrors_on = record {
-        alone = alone_on;
-        tidy = tidy_with s (slice_set s.objects (object_of k o) (Some x)) mirrors.tidy;
-        refs = mirrors.refs;
-        owners = mirrors.owners;
-        objects = λ m less. dite (ℕ_discrete m o)
-            (λ e. get_or-set_at s.objects (object_of k o) (object_of k m) (Some x) None (ap (object_of k) e) small_among
-            ∙ sym (ap (object_as k) (get_or-set_at z.objects o m (Some y) None e small_too)))
-            (λ other. get_or-set_other s.objects (object_of k o) (object_of k m) (Some x) None
-            (λ e. other (mirrors.objects_differ m o less small e)) ∙ (mirrors.objects m less
-            ∙ sym (ap (object_as k) (get_or-set_other z.objects o m (Some y) None other))));
-        frames = mirrors.frames;
-        refs_there = mirrors.refs_there;
-        objects_there = λ m less. let long = length-set s.objects (object_of k o) (Some x) in
-            let there = mirrors.objects_there m less in omega arith;
-        refs_differ = mirrors.refs_differ;
-        objects_differ = mirrors.objects_differ;
-        fewer_slots = mirrors.fewer_slots;
-        fewer_objects = let long = length-set s.objects (object_of k o) (Some x) in
-            let long_too = length-set z.objects o (Some y) in let few = mirrors.fewer_objects in omega arith;
-        fewer_words = mirrors.fewer_words;
-        sits = mirrors.sits;
-        unbarred = mirrors.unbarred;
-      }
-
-      untouched_on : Untouched t k s (wrote s (object_of k o) x)
-      untouched_on = record {
+module _ {c : Config} {t : ℕ} {k : Numbers} {s z : Shared} (m : Mirrors t k s z) (o : ℕ) (small : o < length k.objects)
+  where
+    wrote_leaps : {q : Asks} (y : Contents) → HasElements k (Some y)
+        → Leaps c t k q s z (wrote s (object_of k o) (whole_as k y)) k q (wrote z o y)
+    wrote_leaps y has = record {
+      extends = extends_itself k;
+      mirrors = record {
+        alone = record {
+          role = m.alone.role;
+          roles = m.alone.roles;
+          free = m.alone.free;
+          frames = m.alone.frames;
+          one_thread = m.alone.one_thread;
+          as_many_refs = m.alone.as_many_refs;
+          as_many_objects = long_too ∙ m.alone.as_many_objects;
+          tidy = record { owned = m.alone.tidy.owned; local = m.alone.tidy.local; framed = m.alone.tidy.framed };
+          own = m.alone.own;
+          have_objects = m.alone.have_objects;
+          have_elements = λ n. set_has (HasElements k) z.objects o n (Some y) None has (m.alone.have_elements n);
+        };
+        tidy = record { owned = m.tidy.owned; local = m.tidy.local; framed = m.tidy.framed };
+        refs = m.refs;
+        owners = m.owners;
+        objects = λ n less. dite (ℕ_discrete n o)
+            (λ e. get_or-set_at s.objects (object_of k o) (object_of k n) (Some x) None (ap (object_of k) e) small_among
+            ∙ sym (ap (object_as k) (get_or-set_at z.objects o n (Some y) None e small_too)))
+            (λ other. get_or-set_other s.objects (object_of k o) (object_of k n) (Some x) None
+            (λ e. other (m.objects_differ n o less small e)) ∙ (m.objects n less
+            ∙ sym (ap (object_as k) (get_or-set_other z.objects o n (Some y) None other))));
+        frames = m.frames;
+        refs_there = m.refs_there;
+        objects_there = λ n less. let there = m.objects_there n less in omega (arith, long);
+        refs_differ = m.refs_differ;
+        objects_differ = m.objects_differ;
+        fewer_slots = m.fewer_slots;
+        fewer_objects = let few = m.fewer_objects in omega (arith, long, long_too);
+        fewer_words = m.fewer_words;
+        sits = m.sits;
+        unbarred = m.unbarred;
+      };
+      untouched = record {
         more_refs = omega arith;
         refs = λ n less other. refl;
-        more_objects = let long = length-set s.objects (object_of k o) (Some x) in omega arith;
+        more_objects = omega (arith, long);
         objects = λ n less other. get_or-set_other s.objects (object_of k o) n (Some x) None
             (λ e. other o small (sym e));
         owners = begin_itself s.owners;
@@ -160,78 +116,74 @@ module _ (c : Config) (t : ℕ) (k : Numbers) where
         frames = λ v other. refl;
         as_many_roles = refl;
         roles = λ v other. refl;
-        unbarred = mirrors.unbarred t;
-        tidy = mirrors_on.tidy;
+        unbarred = m.unbarred t;
+        tidy = record { owned = m.tidy.owned; local = m.tidy.local; framed = m.tidy.framed };
         more_slots = omega arith;
         more_words = omega arith;
-      }
-
-      changes : SameChange s (wrote s (object_of k o) x) z (wrote z o y)
-      changes = record {
+      };
+      spends = record { slots = omega arith; objects = omega (arith, long); words = omega arith };
+      new_refs = λ n old new. absurd (omega arith);
+      counts = record {
         globals = refl;
         weaks = refl;
         live =
             let here = standing_set s.objects (object_of k o) x small_among in
             let alone = standing_set z.objects o y small_too in
             let both : there (standing_at s.objects (object_of k o)) ≡ there (standing_at z.objects o) =
-            ap there (mirrors.objects o small) ∙ there_as k (standing_at z.objects o) in
+            ap there (m.objects o small) ∙ there_as k (standing_at z.objects o) in
             omega arith;
         used = refl;
-      }
+      };
+      new_objects = λ n old new. absurd (omega arith);
+    }
+      where
+        x : Contents
+        x = whole_as k y
 
-      leaps_on : (q : Asks) → Leaps c t k q s z (wrote s (object_of k o) x) k q (wrote z o y)
-      leaps_on q = record {
-        extends = extends_itself k;
-        mirrors = mirrors_on;
-        untouched = untouched_on;
-        spends = record {
-          slots = omega arith;
-          objects = let long = length-set s.objects (object_of k o) (Some x) in omega arith;
-          words = omega arith;
-        };
-        new_refs = λ n old new. absurd (omega arith);
-        counts = changes;
-        new_objects = λ n old new. absurd (omega arith);
-      }
+        small_too : o < length z.objects
+        small_too = let long = m.alone.as_many_objects in omega arith
 
-    abbrev written : (List ℕ → List ℕ) → Contents → Contents
-    written h x = record { kind = x.kind; words = h x.words }
+        small_among : object_of k o < length s.objects
+        small_among = m.objects_there o small
 
-    -- what is written of its elements among others is what is written alone
-    abbrev SameWords : Bool → (List ℕ → List ℕ) → (List ℕ → List ℕ) → List ℕ → Type 0
-    SameWords b f g ws = (f (contents_as k b ws) ≡ contents_as k b (g ws)) × elements_within k b (g ws)
+        long : length (slice_set s.objects (object_of k o) (Some x)) ≡ length s.objects
+        long = length-set s.objects (object_of k o) (Some x)
 
-    module _ (b : Bool) (f g : List ℕ → List ℕ)
-        (law : (ws : List ℕ) → elements_within k b ws → SameWords b f g ws) where
-      module _ (q : Asks) (s z : Shared) (mirrors : Mirrors t k s z)
-          (at : is_objects (contents (as_seen 0 z) o).kind ≡ b) where
-        abbrev old : Contents
+        long_too : length (slice_set z.objects o (Some y)) ≡ length z.objects
+        long_too = length-set z.objects o (Some y)
+
+    written_leaps : {q : Asks} (b : Bool) (f g : List ℕ → List ℕ) → SameWords k b f g → OfObjects b o z
+        → Leaps c t k q s z (as_left t s (rewrites f (object_of k o) (as_seen t s)).1) k q
+        (as_left 0 z (rewrites g o (as_seen 0 z)).1)
+    written_leaps b f g law at = leaps_to
+        (ap (λ (l : Shared). wrote (record l { objects = s.objects }) (object_of k o) here) (seen_is t s m.tidy)
+        ∙ ap (wrote s (object_of k o)) new)
+        (ap (λ (l : Shared). wrote (record l { objects = z.objects }) o (written g old)) (seen_is 0 z m.alone.tidy))
+        (wrote_leaps (written g old) both.1)
+      where
+        old : Contents
         old = contents_in (standing_at z.objects o)
 
-        both : SameWords (is_objects old.kind) f g old.words
-        both = subst (λ d. elements_within k d old.words → SameWords d f g old.words) (sym at) (law old.words)
-            (elements_in k (standing_at z.objects o) (mirrors.alone.have_elements o))
+        here : Contents
+        here = written f (contents_in (standing_at s.objects (object_of k o)))
 
-        new : written f (contents_in (standing_at s.objects (object_of k o))) ≡ whole_as k (written g old)
-        new = ap (λ x. written f (contents_in x)) (mirrors.objects o small)
+        both : (f (contents_as k (is_objects old.kind) old.words) ≡ contents_as k (is_objects old.kind) (g old.words))
+            × elements_within k (is_objects old.kind) (g old.words)
+        both = subst (λ d. elements_within k d old.words → (f (contents_as k d old.words)
+            ≡ contents_as k d (g old.words)) × elements_within k d (g old.words)) (sym at) (law old.words)
+            (elements_in k (standing_at z.objects o) (m.alone.have_elements o))
+
+        new : here ≡ whole_as k (written g old)
+        new = ap (λ x. written f (contents_in x)) (m.objects o small)
             ∙ (ap (written f) (contents_are k (standing_at z.objects o))
             ∙ (λ i. record { kind = old.kind; words = both.0 i }))
 
-        leaps : Leaps c t k q s z (as_left t s (rewrites f (object_of k o) (as_seen t s)).1) k q
-            (as_left 0 z (rewrites g o (as_seen 0 z)).1)
-        leaps =
-            let x = written f (contents_in (standing_at s.objects (object_of k o))) in
-            let y = written g old in
-            subst (λ a. Leaps c t k q s z a k q (as_left 0 z (rewrites g o (as_seen 0 z)).1))
-            (sym (seen_is t (wrote s (object_of k o) x)
-            (tidy_with s (slice_set s.objects (object_of k o) (Some x)) mirrors.tidy)))
-            (subst (λ a. Leaps c t k q s z (wrote s (object_of k o) x) k q a)
-            (sym (seen_is 0 (wrote z o y) (tidy_with z (slice_set z.objects o (Some y)) mirrors.alone.tidy)))
-            (subst (λ a. Leaps c t k q s z (wrote s (object_of k o) a) k q (wrote z o y)) (sym new)
-            (leaps_on s z mirrors y both.1 q)))
-
-      pub rewrite_goes : Goes c t (λ z. is_objects (contents (as_seen 0 z) o).kind ≡ b) same k
-          (atom (rewrites f (object_of k o))) (atom (rewrites g o))
-      rewrite_goes = step_goes c t (λ z. is_objects (contents (as_seen 0 z) o).kind ≡ b) same k
-          (over_world (rewrites f (object_of k o))) (over_world (rewrites g o))
-          (λ luck q s z mirrors fits at. (k, leaps q s z mirrors at, refl))
+pub rewrite_goes : {c : Config} {t : ℕ} {k : Numbers} (o u : ℕ) → ObjectFor k o u → (b : Bool) (f g : List ℕ → List ℕ)
+    → ((j : Numbers) → Extends k j → SameWords j b f g)
+    → Goes c t (OfObjects b u) same k (atom (rewrites f o)) (atom (rewrites g u))
+rewrite_goes {c} {t} o u for b f g law = act_goes (rewrites f o) (rewrites g u) (λ j q s z more m at.
+    let it = object_later more o u for in (
+      subst (λ p. Leaps c t j q s z (as_left t s (rewrites f p (as_seen t s)).1) j q
+          (as_left 0 z (rewrites g u (as_seen 0 z)).1)) (sym it.0) (written_leaps m u it.1 b f g (law j more) at),
+      refl,
+    ))

@@ -22,8 +22,8 @@ use Rattle.jr_scripts.specs.Posting.{ThreadWords}
 use Rattle.jr_scripts.specs.Text.{ending, text_of_parts}
 use Rattle.jr_scripts.specs.Together.{doing_at, ends_thread, first_machine, summary_of, thread_of}
 use Rattle.jr_scripts.specs.OneRow.{Course, IsRowOf, PrintOneText, CommandRow, ThreadStand, part_commands, course_of}
-use Rattle.jr_scripts.specs.OneRow.{first_course}
-use Rattle.jr_scripts.specs.OneRow.{first_stand, is_ordered, no_news, stand_after, text_of_row, texts_from}
+use Rattle.jr_scripts.specs.OneRow.{first_course, first_stand, is_ordered, no_news, stand_after, text_of_row}
+use Rattle.jr_scripts.specs.OneRow.{texts_from}
 use Rattle.jr_rule.proofs.Readings.{none_some}
 use Rattle.jr_scripts.proofs.OneRow.Alike.{Alike, Tidy, alike_itself, as_many_count}
 use Rattle.jr_scripts.proofs.OneRow.Ends.{IsEnding}
@@ -102,46 +102,57 @@ first_stands turns s row one is ordered = record {
         bad : ◌≡◌ {A = Option ℕ} None (Some w) → ⊥
         bad none = absurd cc
 
--- A RUN stands beside its row, or a text is spoilt. Who is none of the threads takes no step
-abbrev pub AreIdle : ℕ → Machine (List ℕ) → Type 0
+-- WHO IS NONE OF THE THREADS takes no step
+abbrev AreIdle : ℕ → Machine (List ℕ) → Type 0
 AreIdle threads m = (t : ℕ) → threads ≤ t → m.programs t ≡ ended (Ok [])
 
-pub idle_on : (threads t : ℕ) (luck : Bool) (m : Machine (List ℕ)) (d : Doing (List ℕ)) → t < threads
+idle_on : (threads t : ℕ) (luck : Bool) (m : Machine (List ℕ)) (d : Doing (List ℕ)) → t < threads
     → AreIdle threads m
     → AreIdle threads (stepped m t luck d)
 idle_on threads t luck m (ended r) less idle = idle
 idle_on threads t luck m (steps more leaves) less idle = λ v most.
     ap (λ b. cond b (more t luck m.shared) (m.programs v)) (eq_other t v (λ e. omega arith)) ∙ idle v most
 
-run_stands : (c : Config) (turns : ℕ) (end : Course) (schedule : List (ℕ × Bool)) (m : Machine (List ℕ))
-    → AreIdle c.threads m → IsStanding c turns end m
-    → IsStanding c turns end (run schedule m) ⊎ SpoiltBy c.threads (run schedule m)
-run_stands c turns end [] m idle S = inl S
-run_stands c turns end (x ∷ xs) m idle S =
-    go (λ n idle S. run_stands c turns end xs n idle S) (nat_lt x.0 c.threads) refl
+pub first_idle : (turns : ℕ) (s : Script) → length s.threads ≡ s.config.threads
+    → AreIdle s.config.threads (first_machine turns s)
+first_idle turns s one t most = none_at 2 s.threads t (omega arith)
   where
-    after : Machine (List ℕ)
-    after = stepped m x.0 x.1 (m.programs x.0)
+    none_at : (line : ℕ) (ps : List ThreadPart) (t : ℕ) → length ps ≤ t
+        → thread_of s.config turns line ps t ≡ ended (Ok [])
+    none_at line [] t most = refl
+    none_at line (p ∷ ps) zero most = absurd (omega arith)
+    none_at line (p ∷ ps) (suc t) most = none_at (line + 1 + length p.commands) ps t (omega arith)
 
-    Leads : Machine (List ℕ) → Type 0
-    Leads n = IsStanding c turns end (run xs n) ⊎ SpoiltBy c.threads (run xs n)
+-- A RUN: what each turn leaves so stays so, or a text is spoilt
+module _ (threads : ℕ) (P : Machine (List ℕ) → Type 0) (turn : (m : Machine (List ℕ)) → P m → (t : ℕ) → t < threads
+    → (luck : Bool) → P (stepped m t luck (m.programs t)) ⊎ SpoiltBy threads (stepped m t luck (m.programs t))) where
+  pub run_holds : (schedule : List (ℕ × Bool)) (m : Machine (List ℕ)) → AreIdle threads m → P m
+      → P (run schedule m) ⊎ SpoiltBy threads (run schedule m)
+  run_holds [] m idle so = inl so
+  run_holds (x ∷ xs) m idle so = go (λ n idle so. run_holds xs n idle so) (nat_lt x.0 threads) refl
+    where
+      after : Machine (List ℕ)
+      after = stepped m x.0 x.1 (m.programs x.0)
 
-    below : (n threads : ℕ) → nat_lt n threads ≡ true → n < threads
-    below n threads is = grind (arith, nat_tests)
+      Leads : Machine (List ℕ) → Type 0
+      Leads n = P (run xs n) ⊎ SpoiltBy threads (run xs n)
 
-    not_below : (n threads : ℕ) → nat_lt n threads ≡ false → threads ≤ n
-    not_below n threads is = grind (arith, nat_tests)
+      below : (n threads : ℕ) → nat_lt n threads ≡ true → n < threads
+      below n threads is = grind (arith, nat_tests)
 
-    go : ((n : Machine (List ℕ)) → AreIdle c.threads n → IsStanding c turns end n → Leads n) → (b : Bool)
-        → nat_lt x.0 c.threads ≡ b → Leads after
-    go rest true is = turned (turn_stands c turns end m S x.0 (below x.0 c.threads is) x.1)
-      where
-        turned : IsStanding c turns end after ⊎ SpoiltBy c.threads after → Leads after
-        turned (inl stands) =
-            rest after (idle_on c.threads x.0 x.1 m (m.programs x.0) (below x.0 c.threads is) idle) stands
-        turned (inr spoilt) = inr (spoilt_run c.threads xs after spoilt)
-    go rest false is =
-        subst Leads (sym (ap (stepped m x.0 x.1) (idle x.0 (not_below x.0 c.threads is)))) (rest m idle S)
+      not_below : (n threads : ℕ) → nat_lt n threads ≡ false → threads ≤ n
+      not_below n threads is = grind (arith, nat_tests)
+
+      go : ((n : Machine (List ℕ)) → AreIdle threads n → P n → Leads n) → (b : Bool) → nat_lt x.0 threads ≡ b
+          → Leads after
+      go rest true is = turned (turn m so x.0 (below x.0 threads is) x.1)
+        where
+          turned : P after ⊎ SpoiltBy threads after → Leads after
+          turned (inl stays) =
+              rest after (idle_on threads x.0 x.1 m (m.programs x.0) (below x.0 threads is) idle) stays
+          turned (inr spoilt) = inr (spoilt_run threads xs after spoilt)
+      go rest false is =
+          subst Leads (sym (ap (stepped m x.0 x.1) (idle x.0 (not_below x.0 threads is)))) (rest m idle so)
 
 -- WHAT IS NOT AT ITS END has steps before it
 module _ (c : Config) where
@@ -196,23 +207,15 @@ texts_are (p ∷ ps) (l ∷ ls) first stands one each = λ i. head i ∷ texts_a
     head = each 0 (omega arith) ∙ at (first + 0) first (omega arith)
 
 pub print_one_text : PrintOneText
-print_one_text turns s row text tried one is ordered means undisturbed = means.text_is ∙ go (run_stands s.config turns
-    end means.schedule (first_machine turns s) idle (first_stands turns s row one is ordered))
+print_one_text turns s row text tried one is ordered means undisturbed = means.text_is ∙ go (run_holds
+    s.config.threads (IsStanding s.config turns end) (turn_stands s.config turns end) means.schedule
+    (first_machine turns s) (first_idle turns s one) (first_stands turns s row one is ordered))
   where
     end : Course
     end = course_of s.config turns row (first_course s)
 
     after : Machine (List ℕ)
     after = run means.schedule (first_machine turns s)
-
-    none_at : (line : ℕ) (ps : List ThreadPart) (t : ℕ) → length ps ≤ t
-        → thread_of s.config turns line ps t ≡ ended (Ok [])
-    none_at line [] t most = refl
-    none_at line (p ∷ ps) zero most = absurd (omega arith)
-    none_at line (p ∷ ps) (suc t) most = none_at (line + 1 + length p.commands) ps t (omega arith)
-
-    idle : AreIdle s.config.threads (first_machine turns s)
-    idle t most = none_at 2 s.threads t (omega arith)
 
     go : IsStanding s.config turns end after ⊎ SpoiltBy s.config.threads after
         → text_of_parts s.threads means.lines ++ ending (summary_of (as_seen 0 after.shared)) ≡ text_of_row turns s row

@@ -165,9 +165,6 @@ module _ (b : Births) (s : State) (a : AreBorn b s) where
   element_kept : (i j : ℕ) → IsKept i → IsIn j (named w i) → IsKept j
   element_kept i j kept = go (standing_at w.objects i) refl
     where
-      contents_same : (p : ℕ) (x z : Contents) → s.objects p ≡ Some x → s.objects p ≡ Some z → x ≡ z
-      contents_same p x z e f = some_same x z (sym e ∙ f)
-
       go : (x : Option Contents) → standing_at w.objects i ≡ x → IsIn j (elements_of x) → IsKept j
       go None e there = absurd there
       go (Some y) e there = λ q z at.
