@@ -30,7 +30,7 @@ use Rattle.jr_scripts.specs.Posting.{ThreadWords}
 use Rattle.jr_scripts.specs.Together.{calls_on, calls_on_none, tried_in_steps}
 use Rattle.jr_scripts.proofs.OneRow.Alike.{frames_of}
 use Rattle.jr_scripts.proofs.OneRow.Blind.{new_ref_blind}
-use Rattle.jr_scripts.proofs.OneRow.Follows.{IsSpoilt, nobody, run_then}
+use Rattle.jr_scripts.proofs.OneRow.Follows.{nobody, run_then}
 use Rattle.jr_scripts.proofs.OneRow.Goes.{seen_is}
 use Rattle.jr_scripts.proofs.TogetherRun.Lists.{how_many_both}
 use Rattle.jr_scripts.proofs.Apart.Elements.{element_to_for}
@@ -69,24 +69,8 @@ HandleFor j h g = IsFor j handle h g
 abbrev PerhapsFor : Of (Option Handle)
 PerhapsFor j h g = IsFor j (perhaps handle) h g
 
--- WHERE A CALL LEADS THAT MAKES AN OBJECT
-module _ (c : Config) (t : ℕ) where
-  -- its reference
-  added_leads : (back : Shared) (e asked : Asks) (since : Option Noted) (j : Numbers) (i : Asks) (y : Shared) (u : ℕ)
-      → u < length j.objects → AtLeast i e
-      → LeadsTo c t since (Once HandleFor (over_world (added u) 0 true y) back e asked)
-      (atom (added (object_of j u))) j i y
-  added_leads back e asked since j i y u there least = λ luck s m fits was. (
-    with_ref j s,
-    i,
-    (over_world (added u) 0 true y).1,
-    None,
-    added_leaps m u there (omega arith) (omega arith) (omega arith),
-    tt,
-    inl (inl (tt, new_word m (ref_to Local (object_of j u)) (ref_to Local u), refl, least)),
-  )
-
-  -- the object
+-- what is left of new objects and words
+module _ (c : Config) where
   abbrev made_new : Kind → List ℕ → World → Bool → Result ℕ Fault × World
   made_new kind ws w b = goes_on (λ (u : Unit {0}) (v : World). (
     Ok (length v.objects),
@@ -103,21 +87,91 @@ module _ (c : Config) (t : ℕ) where
   new_is kind ws u luck x less = ap (λ b. left_by_step u x (made_new kind ws (as_seen u x) b))
       (not_all (standing x.objects) c.objects (let few = no_more_than is_some x.objects in omega arith))
 
-  object_leads : (kind : Kind) (ws vs : List ℕ) (back : Shared) (e asked : Asks) (since : Option Noted) (k : Numbers)
-      (i : Asks) (y : Shared) → contents_as k (is_objects kind) vs ≡ ws → elements_within k (is_objects kind) vs
-      → 1 + e.objects ≤ i.objects → e.slots ≤ i.slots → e.words ≤ i.words → LeadsTo c t since (Once HandleFor
-      (run_alone 0 true (atom (new_object c kind vs) >>= (λ o. atom (added o))) y) back e asked)
-      (atom (new_object c kind ws) >>= (λ o. atom (added o))) k i y
-  object_leads kind ws vs back e asked since k i y is has objects slots words = step_leads c t since _
+  abbrev taken : ℕ → World → Bool → Result (Unit {0}) Fault × World
+  taken n w b = goes_on (λ (u : Unit {0}). change (λ v. record v { used = w.used + n }))
+      (refused_if b (SpaceFull w.used), w)
+
+  abbrev with_words : ℕ → ℕ → Shared → Shared
+  with_words n u x = as_left u x (record (as_seen u x) { used = x.used + n })
+
+  taken_is : (n u : ℕ) (luck : Bool) (x : Shared) → x.used + n ≤ c.words
+      → ◌≡◌ {A = Result (Unit {0}) Fault × Shared} (over_world (reserve c n) u luck x) (Ok tt, with_words n u x)
+  taken_is n u luck x fit = ap (λ b. left_by_step u x (taken n (as_seen u x) b)) (not_beyond (x.used + n) c.words fit)
+
+-- WHERE A CALL LEADS from there, with so much to ask for, and what is to be left of that behind it
+module _ (c : Config) (t : ℕ) (back : Shared) (e asked : Asks) where
+  abbrev Leads : {A : Type 0} → Of A → Option Noted → Result A Fault × Shared → Doing A → Numbers → Asks → Shared
+      → Type 0
+  Leads Q noted w d k i y = LeadsTo c t noted (Once Q w back e asked) d k i y
+
+  -- what is only looked at before
+  looked_leads : {A B : Type 0} (P : Of A) (Q : Of B) (d alone : Doing A) (next other : A → Doing B)
+      (noted : Option Noted) (k : Numbers) (i : Asks) → Goes c t anywhere P k d alone
+      → (run_alone 0 true alone back).1 ≡ back → IsAlone k back → AtLeast i e
+      → ((now : Option Noted) (j : Numbers) (p : Asks) (u v : A) → StaysNoted noted now → Extends k j
+      → IsAlone j back → AtLeast p i → P j u v → Leads Q now (run_alone 0 true (other v) back) (next u) j p back)
+      → Leads Q noted (run_alone 0 true (alone >>= other) back) (d >>= next) k i back
+  looked_leads {A} {B} P Q d alone next other noted k i first kept lone least rest = subst
+      (λ (w : Result B Fault × Shared). Leads Q noted w (d >>= next) k i back)
+      (sym (run_then nobody 0 alone (unless_refused other) back
+      ∙ ap (λ (z : Shared). run_alone 0 true (unless_refused other x.0) z) kept))
+      (leads_then c t noted (Outcome noted P x i) K d (unless_refused next) k i back lone
+      (first.so k (extends_itself k) noted i back lone tt) go)
+    where
+      x : Result A Fault × Shared
+      x = run_alone 0 true alone back
+
+      K : Ends B
+      K = Once Q (run_alone 0 true (unless_refused other x.0) back) back e asked
+
+      each : (now : Option Noted) (j : Numbers) (p : Asks) (r q : Result A Fault) → StaysNoted noted now → Extends k j
+          → IsAlone j back → ResultFor (P j) r q → AtLeast p i
+          → Leads Q now (run_alone 0 true (unless_refused other q) back) (unless_refused next r) j p back
+      each now j p (Ok u) (Ok v) stays more there for enough = rest now j p u v stays more there enough for
+      each now j p (Ok u) (Err f) stays more there for enough = absurd for
+      each now j p (Err d) (Ok v) stays more there for enough = absurd for
+      each now j p (Err d) (Err f) stays more there for enough =
+          inl (inl (tt, for, refl, (omega arith, omega arith, omega arith)))
+
+      go : (now : Option Noted) (j : Numbers) (p : Asks) (r : Result A Fault) (z : Shared) → Extends k j
+          → IsAlone j z → Outcome noted P x i now j p r z → LeadsTo c t now K (unless_refused next r) j p z
+      go now j p r z more there (inl (stays, for, at, enough)) =
+          subst (λ (v : Shared). LeadsTo c t now K (unless_refused next r) j p v) (sym (at ∙ kept))
+          (each now j p r x.0 stays more (subst (IsAlone j) (at ∙ kept) there) for enough)
+      go now j p (Ok u) z more there (inr bad) = absurd (not_spoilt bad)
+      go now j p (Err d) z more there (inr bad) = inl (inr (spoilt_so d bad))
+
+  -- A CALL THAT MAKES AN OBJECT: its reference
+  added_leads : (since : Option Noted) (j : Numbers) (i : Asks) (y : Shared) (u : ℕ) → u < length j.objects
+      → AtLeast i e → Leads HandleFor since (over_world (added u) 0 true y) (atom (added (object_of j u))) j i y
+  added_leads since j i y u there least = λ luck s m fits was. (
+    with_ref j s,
+    i,
+    (over_world (added u) 0 true y).1,
+    None,
+    added_leaps m u there (omega arith) (omega arith) (omega arith),
+    tt,
+    inl (inl (tt, new_word m (ref_to Local (object_of j u)) (ref_to Local u), refl, least)),
+  )
+
+  -- the object
+  abbrev object_made : Kind → List ℕ → Doing Handle
+  object_made kind ws = atom (new_object c kind ws) >>= (λ o. atom (added o))
+
+  object_leads : (kind : Kind) (ws vs : List ℕ) (since : Option Noted) (k : Numbers) (i : Asks) (y : Shared)
+      → contents_as k (is_objects kind) vs ≡ ws → elements_within k (is_objects kind) vs
+      → 1 + e.objects ≤ i.objects → e.slots ≤ i.slots → e.words ≤ i.words
+      → Leads HandleFor since (run_alone 0 true (object_made kind vs) y) (object_made kind ws) k i y
+  object_leads kind ws vs since k i y is has objects slots words = step_leads c t since _
       (over_world (new_object c kind ws)) (unless_refused (λ o. atom (added o))) k i y (λ luck s m fits was.
       let room : length s.objects < c.objects = let f = fits.objects in omega arith in
       let room_too : length y.objects < c.objects = let few = m.fewer_objects in omega arith in (
-        with_new kind ws t s,
-        new_is kind ws t luck s room,
+        with_new c kind ws t s,
+        new_is c kind ws t luck s room,
         (
           with_object k s,
           p,
-          (with_new kind vs 0 y).1,
+          (with_new c kind vs 0 y).1,
           None,
           object_leaps m (record { kind = kind; words = ws }) (record { kind = kind; words = vs })
               (ap (λ (l : List ℕ). Some (record { kind = kind; words = l })) is) has (omega arith) (omega arith)
@@ -130,154 +184,85 @@ module _ (c : Config) (t : ℕ) where
       p : Asks
       p = record i { objects = e.objects }
 
-      rest : (s : Shared) → Mirrors t k s y → length y.objects < c.objects → LeadsTo c t None (Once HandleFor
-          (run_alone 0 true (atom (new_object c kind vs) >>= (λ o. atom (added o))) y) back e asked)
-          (atom (added (length s.objects))) (with_object k s) p (with_new kind vs 0 y).1
-      rest s m room = subst (λ (w : Result Handle Fault × Shared). LeadsTo c t None
-          (Once HandleFor w back e asked) (atom (added (length s.objects))) (with_object k s) p
-          (with_new kind vs 0 y).1)
+      rest : (s : Shared) → Mirrors t k s y → length y.objects < c.objects
+          → Leads HandleFor None (run_alone 0 true (object_made kind vs) y) (atom (added (length s.objects)))
+          (with_object k s) p (with_new c kind vs 0 y).1
+      rest s m room = subst (λ (w : Result Handle Fault × Shared). Leads HandleFor None w
+          (atom (added (length s.objects))) (with_object k s) p (with_new c kind vs 0 y).1)
           (sym (ap (λ (x : Result ℕ Fault × Shared). run_alone 0 true (unless_refused (λ o. atom (added o)) x.0) x.1)
-          (new_is kind vs 0 true y room)))
-          (subst (λ (o : ℕ). LeadsTo c t None (Once HandleFor
-          (over_world (added (length y.objects)) 0 true (with_new kind vs 0 y).1) back e asked) (atom (added o))
-          (with_object k s) p (with_new kind vs 0 y).1)
+          (new_is c kind vs 0 true y room)))
+          (subst (λ (o : ℕ). Leads HandleFor None
+          (over_world (added (length y.objects)) 0 true (with_new c kind vs 0 y).1) (atom (added o))
+          (with_object k s) p (with_new c kind vs 0 y).1)
           (get_or_push k.objects (length s.objects) 0 (length y.objects) (sym m.alone.as_many_objects))
-          (added_leads back e asked None (with_object k s) p (with_new kind vs 0 y).1 (length y.objects)
+          (added_leads None (with_object k s) p (with_new c kind vs 0 y).1 (length y.objects)
           (let long = length-append k.objects (length s.objects ∷ []) in
           let many = m.alone.as_many_objects in omega arith) (omega arith, omega arith, omega arith)))
 
   -- its words; or others were faster
-  abbrev taken : ℕ → World → Bool → Result (Unit {0}) Fault × World
-  taken n w b = goes_on (λ (u : Unit {0}). change (λ v. record v { used = w.used + n }))
-      (refused_if b (SpaceFull w.used), w)
-
-  abbrev with_words : ℕ → ℕ → Shared → Shared
-  with_words n u x = as_left u x (record (as_seen u x) { used = x.used + n })
-
-  taken_is : (n u : ℕ) (luck : Bool) (x : Shared) → x.used + n ≤ c.words
-      → ◌≡◌ {A = Result (Unit {0}) Fault × Shared} (over_world (reserve c n) u luck x) (Ok tt, with_words n u x)
-  taken_is n u luck x fit = ap (λ b. left_by_step u x (taken n (as_seen u x) b)) (not_beyond (x.used + n) c.words fit)
-
-  reserved_leads : (from since : Noted) (n : ℕ) (next other : Doing Handle) (e asked : Asks) (noted : Option Noted)
-      (k : Numbers) (i : Asks) (y : Shared) → n + e.words ≤ i.words → 1 + e.objects ≤ i.objects → e.slots ≤ i.slots
-      → AtLeast i asked → ((now : Option Noted) (p : Asks) (x : Shared) → 1 + e.objects ≤ p.objects
-      → e.slots ≤ p.slots → e.words ≤ p.words
-      → LeadsTo c t now (Once HandleFor (run_alone 0 true other x) y e asked) next k p x)
-      → LeadsTo c t noted (Once HandleFor (run_alone 0 true (reserved c since n >> other) y) y e asked)
-      (reserved c from n >> next) k i y
-  reserved_leads from since zero next other e asked noted k i y words objects slots least rest =
-      rest noted i y objects slots (omega arith)
-  reserved_leads from since (suc n) next other e asked noted k i y words objects slots least rest = step_leads c t
-      noted _ (taken_or_lost c from (suc n)) (unless_refused (λ u. next)) k i y
+  reserved_leads : (from since : Noted) (n : ℕ) (next other : Doing Handle) (noted : Option Noted) (k : Numbers)
+      (i : Asks) → n + e.words ≤ i.words → 1 + e.objects ≤ i.objects → e.slots ≤ i.slots → AtLeast i asked
+      → ((now : Option Noted) (p : Asks) (x : Shared) → 1 + e.objects ≤ p.objects → e.slots ≤ p.slots
+      → e.words ≤ p.words → Leads HandleFor now (run_alone 0 true other x) next k p x)
+      → Leads HandleFor noted (run_alone 0 true (reserved c since n >> other) back) (reserved c from n >> next) k i back
+  reserved_leads from since zero next other noted k i words objects slots least rest =
+      rest noted i back objects slots (omega arith)
+  reserved_leads from since (suc n) next other noted k i words objects slots least rest = step_leads c t
+      noted _ (taken_or_lost c from (suc n)) (unless_refused (λ u. next)) k i back
       (λ luck s m fits was. go luck s m fits (not luck && nat_lt from.used s.used) refl)
     where
       p : Asks
       p = record i { words = e.words }
 
       K : Ends Handle
-      K = Once HandleFor (run_alone 0 true (reserved c since (suc n) >> other) y) y e asked
+      K = Once HandleFor (run_alone 0 true (reserved c since (suc n) >> other) back) back e asked
 
       lost : Bool → (luck : Bool) (s : Shared) → Result (Unit {0}) Fault × Shared
       lost b luck s = cond b (Err (Raced from.used s.used), s) (over_world (reserve c (suc n)) t luck s)
 
-      go : (luck : Bool) (s : Shared) → Mirrors t k s y → Fits c i s → (b : Bool)
+      go : (luck : Bool) (s : Shared) → Mirrors t k s back → Fits c i s → (b : Bool)
           → (not luck && nat_lt from.used s.used) ≡ b → (x : Result (Unit {0}) Fault × Shared)
-          × (taken_or_lost c from (suc n) t luck s ≡ x) × To c t K (unless_refused (λ u. next)) k i s y x
+          × (taken_or_lost c from (suc n) t luck s ≡ x) × To c t K (unless_refused (λ u. next)) k i s back x
       go luck s m fits true is = (
         (Err (Raced from.used s.used), s),
         ap (λ b. lost b luck s) is,
-        (k, i, y, None, still_leaps m, tt, inr (refl, refl, least)),
+        (k, i, back, None, still_leaps m, tt, inr (refl, refl, least)),
       )
       go luck s m fits false is =
           let room : s.used + suc n ≤ c.words = let f = fits.words in omega arith in
-          let room_too : y.used + suc n ≤ c.words = let few = m.fewer_words in omega arith in (
-            (Ok tt, with_words (suc n) t s),
-            ap (λ b. lost b luck s) is ∙ taken_is (suc n) t luck s room,
+          let room_too : back.used + suc n ≤ c.words = let few = m.fewer_words in omega arith in (
+            (Ok tt, with_words c (suc n) t s),
+            ap (λ b. lost b luck s) is ∙ taken_is c (suc n) t luck s room,
             (
               k,
               p,
-              with_words (suc n) 0 y,
+              with_words c (suc n) 0 back,
               None,
               words_leap m (suc n) (omega arith) (omega arith) (omega arith),
               tt,
-              subst (λ (w : Result Handle Fault × Shared). LeadsTo c t None (Once HandleFor w y e asked) next k p
-                  (with_words (suc n) 0 y))
+              subst (λ (w : Result Handle Fault × Shared). Leads HandleFor None w next k p
+                  (with_words c (suc n) 0 back))
                   (sym (ap (λ (x : Result (Unit {0}) Fault × Shared).
-                  run_alone 0 true (unless_refused (λ u. other) x.0) x.1) (taken_is (suc n) 0 true y room_too)))
-                  (rest None p (with_words (suc n) 0 y) objects slots (omega arith)),
+                  run_alone 0 true (unless_refused (λ u. other) x.0) x.1) (taken_is c (suc n) 0 true back room_too)))
+                  (rest None p (with_words c (suc n) 0 back) objects slots (omega arith)),
             ),
           )
 
-  -- WHAT IS ONLY LOOKED AT before
-  looked_leads : {A B : Type 0} (P : Of A) (Q : Of B) (d alone : Doing A) (next other : A → Doing B) (back : Shared)
-      (e asked : Asks) (noted : Option Noted) (k : Numbers) (i : Asks) (y : Shared)
-      → Goes c t anywhere P k d alone
-      → (run_alone 0 true alone y).1 ≡ y → IsAlone k y → AtLeast i e
-      → ((now : Option Noted) (j : Numbers) (p : Asks) (u : A) (v : A) → StaysNoted noted now → Extends k j
-      → IsAlone j y
-      → AtLeast p i → P j u v → LeadsTo c t now (Once Q (run_alone 0 true (other v) y) back e asked) (next u) j p y)
-      → LeadsTo c t noted (Once Q (run_alone 0 true (alone >>= other) y) back e asked) (d >>= next) k i y
-  looked_leads {A} {B} P Q d alone next other back e asked noted k i y first kept lone least rest = subst
-      (λ (w : Result B Fault × Shared). LeadsTo c t noted (Once Q w back e asked) (d >>= next) k i y)
-      (sym (run_then nobody 0 alone (unless_refused other) y
-      ∙ ap (λ (z : Shared). run_alone 0 true (unless_refused other x.0) z) kept))
-      (leads_then c t noted (Outcome noted P x i) K d (unless_refused next) k i y lone
-      (first.so k (extends_itself k) noted i y lone tt) go)
-    where
-      x : Result A Fault × Shared
-      x = run_alone 0 true alone y
-
-      K : Ends B
-      K = Once Q (run_alone 0 true (unless_refused other x.0) y) back e asked
-
-      each : (now : Option Noted) (j : Numbers) (p : Asks) (r q : Result A Fault) → StaysNoted noted now → Extends k j
-          → IsAlone j y → ResultFor (P j) r q → AtLeast p i
-          → LeadsTo c t now (Once Q (run_alone 0 true (unless_refused other q) y) back e asked)
-          (unless_refused next r) j p y
-      each now j p (Ok u) (Ok v) stays more there for enough = rest now j p u v stays more there enough for
-      each now j p (Ok u) (Err f) stays more there for enough = absurd for
-      each now j p (Err d) (Ok v) stays more there for enough = absurd for
-      each now j p (Err d) (Err f) stays more there for enough =
-          inl (inl (tt, for, refl, (omega arith, omega arith, omega arith)))
-
-      spoils : (now : Option Noted) (j : Numbers) (p : Asks) (r : Result A Fault) (z : Shared) → IsSpoilt r
-          → LeadsTo c t now K (unless_refused next r) j p z
-      spoils now j p (Ok u) z bad = absurd (not_spoilt bad)
-      spoils now j p (Err d) z bad = inl (inr (spoilt_so d bad))
-
-      go : (now : Option Noted) (j : Numbers) (p : Asks) (r : Result A Fault) (z : Shared) → Extends k j
-          → IsAlone j z → Outcome noted P x i now j p r z → LeadsTo c t now K (unless_refused next r) j p z
-      go now j p r z more there (inl (stays, for, at, enough)) =
-          subst (λ (v : Shared). LeadsTo c t now K (unless_refused next r) j p v) (sym (at ∙ kept))
-          (each now j p r x.0 stays more (subst (IsAlone j) (at ∙ kept) there) for enough)
-      go now j p r z more there (inr spoilt) = spoils now j p r z spoilt
-
-  -- ALL OF IT
-  made_leads : (from since : Noted) (kind : Kind) (ws vs : List ℕ) (e asked : Asks) (noted : Option Noted) (k : Numbers)
-      (i : Asks) (y : Shared) → IsAlone k y → contents_as k (is_objects kind) vs ≡ ws
-      → elements_within k (is_objects kind) vs → length ws ≡ length vs → length ws + e.words ≤ i.words
-      → 1 + e.objects ≤ i.objects → e.slots ≤ i.slots → AtLeast i asked
-      → LeadsTo c t noted (Once HandleFor (run_alone 0 true (made_in_steps c since kind vs) y) y e asked)
-      (made_in_steps c from kind ws) k i y
-  made_leads from since kind ws vs e asked noted k i y lone is has long words objects slots least = looked_leads same
-      HandleFor (atom (room_for c 1)) (atom (room_for c 1)) _ (λ u. other) y e asked noted k i y (room_goes 1)
-      (seen_is 0 y lone.tidy) lone (omega arith, omega arith, omega arith)
-      (λ now j p u v stays more there enough for. rest now j p more enough)
-    where
-      other : Doing Handle
-      other = reserved c since (length vs) >> (atom (new_object c kind vs) >>= (λ o. atom (added o)))
-
-      rest : (now : Option Noted) (j : Numbers) (p : Asks) → Extends k j → AtLeast p i
-          → LeadsTo c t now (Once HandleFor (run_alone 0 true other y) y e asked)
-          (reserved c from (length ws) >> (atom (new_object c kind ws) >>= (λ o. atom (added o)))) j p y
-      rest now j p more enough = subst (λ n. LeadsTo c t now (Once HandleFor (run_alone 0 true
-          (reserved c since n >> (atom (new_object c kind vs) >>= (λ o. atom (added o)))) y) y e asked)
-          (reserved c from (length ws) >> (atom (new_object c kind ws) >>= (λ o. atom (added o)))) j p y) long
-          (reserved_leads from since (length ws) _ _ e asked now j p y (omega arith) (omega arith) (omega arith)
-          (omega arith, omega arith, omega arith)
-          (λ late a b fewer low less. object_leads kind ws vs y e asked late j a b
-          ((words_stay more (is_objects kind) vs has).0 ∙ is) (words_stay more (is_objects kind) vs has).1 fewer
-          low less))
+  -- all of it
+  made_leads : (from since : Noted) (kind : Kind) (ws vs : List ℕ) (noted : Option Noted) (k : Numbers) (i : Asks)
+      → IsAlone k back → contents_as k (is_objects kind) vs ≡ ws → elements_within k (is_objects kind) vs
+      → length ws ≡ length vs → length ws + e.words ≤ i.words → 1 + e.objects ≤ i.objects → e.slots ≤ i.slots
+      → AtLeast i asked → Leads HandleFor noted (run_alone 0 true (made_in_steps c since kind vs) back)
+      (made_in_steps c from kind ws) k i back
+  made_leads from since kind ws vs noted k i lone is has long words objects slots least = looked_leads same HandleFor
+      (atom (room_for c 1)) (atom (room_for c 1)) _ (λ u. reserved c since (length vs) >> object_made kind vs) noted k i
+      (room_goes 1) (seen_is 0 back lone.tidy) lone (omega arith, omega arith, omega arith)
+      (λ now j p u v stays more there enough for. let it = words_stay more (is_objects kind) vs has in
+      subst (λ n. Leads HandleFor now (run_alone 0 true (reserved c since n >> object_made kind vs) back)
+      (reserved c from (length ws) >> object_made kind ws) j p back) long
+      (reserved_leads from since (length ws) _ _ now j p (omega arith) (omega arith) (omega arith)
+      (omega arith, omega arith, omega arith)
+      (λ late a b fewer low less. object_leads kind ws vs late j a b (it.0 ∙ is) it.1 fewer low less)))
 
 -- WHERE A CALL LEADS THAT MAKES A REFERENCE IN A SLOT
 less_is : (n m : ℕ) → n < m → nat_lt n m ≡ true
@@ -402,11 +387,11 @@ calm_made c since kind vs z = calm_bind (atom (room_for c 1)) _ z
     words zero y = tt
     words (suc n) y = each (nat_lt c.words (y.used + suc n))
       where
-        each : (b : Bool) → Calm (taken c 0 (suc n) (as_seen 0 y) b).0
+        each : (b : Bool) → Calm (taken c (suc n) (as_seen 0 y) b).0
         each true = refl
         each false = tt
 
-    go : (x : Shared) (b : Bool) → Calm (made_new c 0 kind vs (as_seen 0 x) b).0
+    go : (x : Shared) (b : Bool) → Calm (made_new c kind vs (as_seen 0 x) b).0
     go x true = refl
     go x false = tt
 
@@ -476,7 +461,7 @@ module _ {c : Config} {t : ℕ} (turns : ℕ) {k : Numbers} where
       (λ from. made_in_steps c from kind ws) (λ since. made_in_steps c since kind vs)
       (λ since z. calm_made c since kind vs z)
       (λ from since e j i y more there least. let it = words_stay more (is_objects kind) vs has in
-      made_leads c t from since kind ws vs e (and_asks (one_object n) e) (Some from) j i y there (it.0 ∙ is) it.1
+      made_leads c t y e (and_asks (one_object n) e) from since kind ws vs (Some from) j i there (it.0 ∙ is) it.1
       (long ∙ sym long_too) (omega arith) (omega arith) (omega arith) least)
 
 module _ {c : Config} {t : ℕ} (turns : ℕ) (names alone : Names) (words other : ThreadWords) {k : Numbers} where
@@ -488,8 +473,8 @@ module _ {c : Config} {t : ℕ} (turns : ℕ) (names alone : Names) (words other
       (λ since. named g.0 >>= (λ x. created_in_steps c since r x))
       (λ since z. calm_bind (named g.0) (λ x. created_in_steps c since r x) z (calm_named g.0 z)
       (λ x y. calm_created c since r x y))
-      (λ from since e j i y more lone least. looked_leads c t KnownFor PerhapsFor (named h.0) (named g.0) _ _ y e
-      (and_asks one_slot e) (Some from) j i y (named_goes h.0 g.0 (word_later more h.0 g.0 for))
+      (λ from since e j i y more lone least. looked_leads c t y e (and_asks one_slot e) KnownFor PerhapsFor
+      (named h.0) (named g.0) _ _ (Some from) j i (named_goes h.0 g.0 (word_later more h.0 g.0 for))
       (looks_named g.0 y lone.tidy) lone (omega arith, omega arith, omega arith)
       (λ now a p u v stays on there enough known. subst (λ (l : Option Noted). LeadsTo c t l (Once PerhapsFor
       (run_alone 0 true (created_in_steps c since r v) y) y e (and_asks one_slot e))
@@ -519,8 +504,8 @@ module _ {c : Config} {t : ℕ} (turns : ℕ) (names alone : Names) (words other
       (λ since. named g.0 >>= made since)
       (λ since z. calm_bind (named g.0) (made since) z (calm_named g.0 z)
       (λ x y. calm_made c since Objects (replicate n (element_to x)) y))
-      (λ from since e j i y more lone least. looked_leads c t KnownFor HandleFor (named h.0) (named g.0) (made from)
-      (made since) y e (and_asks (one_object n) e) (Some from) j i y
+      (λ from since e j i y more lone least. looked_leads c t y e (and_asks (one_object n) e) KnownFor HandleFor
+      (named h.0) (named g.0) (made from) (made since) (Some from) j i
       (named_goes h.0 g.0 (word_later more h.0 g.0 for)) (looks_named g.0 y lone.tidy) lone
       (omega arith, omega arith, omega arith)
       (λ now a p u v stays on there enough known. inner from since e a p y now u v there known.0 known.1
@@ -537,7 +522,7 @@ module _ {c : Config} {t : ℕ} (turns : ℕ) (names alone : Names) (words other
           let filled = filled_for a n v has in
           let long = length-replicate n (element_to u) in
           let long_too = length-replicate n (element_to v) in
-          made_leads c t from since Objects (replicate n (element_to u)) (replicate n (element_to v)) e
-          (and_asks (one_object n) e) now a p y there
+          made_leads c t y e (and_asks (one_object n) e) from since Objects (replicate n (element_to u))
+          (replicate n (element_to v)) now a p there
           (filled.0 ∙ ap (λ (x : Option ℕ). replicate n (element_to x)) (sym is)) filled.1 (long ∙ sym long_too)
           (omega arith) (omega arith) (omega arith) enough
