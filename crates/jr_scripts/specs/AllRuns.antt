@@ -62,8 +62,8 @@ abbrev pub closing_acts : ℕ → List Act
 closing_acts zero = Meet ∷ []
 closing_acts (suc t) = []
 
--- A THREAD'S PART in the one history: up to a moment it explains the thread's lines, up to a later one
--- the thread's local references were freed, and from there on it has no more of the thread's events
+-- A THREAD'S PART in the one history: up to a moment it explains the thread's lines. Up to a later one the thread's
+-- local references were freed, and from there on it has no more of the thread's events
 pub record IsPartOf (board : List ℕ → Option (ℕ × History)) (rank : List ℕ → ℕ) (turns last : ℕ) (c : Config)
     (whole : History) (t first : ℕ) (part : ThreadPart) (lines : List ℕ) : Type 0 where
   pub told : ThreadState
@@ -97,12 +97,11 @@ pub record CanBeRun (s : Script) : Type 0 where
   pub once : all_apart (posts_of s.threads) ≡ true
   pub numbered : 2 + lines_of_parts s.threads < 2 ^ 64
 
--- A RUN OF ALL: the script can be run, and there is one legal history, which keeps the laws, with the events
--- of the threads' calls and of their ends and no others, but for the look as the room closes, that explains
--- each thread's part of the text; there is one board, with words only under names that a line posts, each
--- with what its poster had seen, of which each post of whichever thread has the word and just what the
--- thread had seen, and each wait has the word, and all that the poster had seen is seen behind it; each name
--- has a rank, and no post hangs on one of no lower rank; and the last lines tell of the last state
+-- A RUN OF ALL: the script can be run, and one legal history, which keeps the laws, explains each thread's part of the
+-- text. It has the events of the threads' calls and of their ends, and no others, but for the look as the room closes.
+-- There is one board, with words only under names that a line posts, each with what its poster had seen. A post has the
+-- word there, and just what its thread had seen; behind a wait, which has it too, all that is seen. Each name has a
+-- rank, and no post hangs on one of no lower rank. The last lines tell of the last state
 pub record IsRunOfAll (turns last : ℕ) (s : Script) (text : List ℕ) : Type 0 where
   pub whole : History
   pub legal : IsLegal s.config last whole

@@ -38,8 +38,7 @@ pub record IsRowOf (s : Script) (row : CommandRow) : Type 0 where
   pub commands : (t : ℕ) → t < s.config.threads → done_by row t ≡ part_commands s.threads t
 
 -- WHAT A COMMAND IS TO OTHER THREADS: it posts a name, or waits for it; it takes no step; it collects; or it takes
--- steps
--- of another kind
+-- steps of another kind
 pub data Manner : Type 0 where
   posts : List ℕ → Manner
   waits : List ℕ → Manner

@@ -1,58 +1,43 @@
 -- COLLECTIONS of a thread alone: luck counts for nothing, since there are no others.
-use Rattle.std.proofs.Common.{◌≡◌, ◌==◌, ◌||◌, false, cond, not, nat_lt, None, Ok, Err, List, [], ◌∷◌}
-use Rattle.std.proofs.Common.{length, slice_set, refl, ap, arith}
-use Rattle.jr_word.specs.declared.fault.Fault.TheVariants as fault
+use Rattle.std.proofs.Common.{◌≡◌, ℕ, zero, suc, not, nat_lt, Result, List, [], ◌∷◌, length, slice_set, refl}
+use Rattle.std.proofs.Common.{sym, ap, subst, ◌∙◌, arith}
+use Rattle.jr_word.specs.declared.fault.Fault.{Fault}
 use Rattle.jr_model.specs.declared.event.Role.{Role}
-use Rattle.jr_model.specs.declared.event.Role.TheVariants.{Outside, Announcing, Collecting}
+use Rattle.jr_model.specs.declared.event.Role.TheVariants.{Outside}
 use Rattle.jr_model.specs.State.{is_outside}
 use Rattle.jr_world.specs.World.{how_many}
-use Rattle.jr_world.specs.Doing.{Shared, by_step, in_role, whatever}
-use Rattle.jr_scripts.specs.Posting.{ThreadWords}
-use Rattle.jr_scripts.specs.Together.{announced_in_steps, announces, collected_in_steps, finds_gate_still, is_busy}
-use Rattle.jr_scripts.specs.Together.{is_kept_closed, others_in, shuts, sweep_or_out}
-use Rattle.jr_scripts.specs.Together.{sweeps_out}
-use Rattle.jr_scripts.proofs.AloneCase.Grows.{sweep_grows}
-use Rattle.jr_scripts.proofs.AloneCase.Lone.{Goes, IsLone, Stands, either, ended_goes, goes_bind, goes_then}
-use Rattle.jr_scripts.proofs.AloneCase.Lone.{goes_whatever, grown, role_lone, step_goes}
-use Rattle.jr_scripts.proofs.AloneCase.Programs.{out_goes}
+use Rattle.jr_world.specs.Doing.{Shared}
+use Rattle.jr_weak.specs.declared.collecting.Collected.{Collected}
+use Rattle.jr_scripts.specs.Together.{announced_in_steps, collected_in_steps, others_in, tried_in_steps}
+use Rattle.jr_scripts.proofs.OneRow.Alike.{Tidy}
+use Rattle.jr_scripts.proofs.OneRow.Collections.{Exactly, IsExact, IsOutBeside, collected_exact, ran_once, run_once}
+use Rattle.jr_scripts.proofs.OneRow.Collections.{told_exact, told_of_it, tried_leads}
+use Rattle.jr_scripts.proofs.OneRow.Follows.{LeadsTo, nobody}
 
-module _ {words : ThreadWords} where
-  -- there are no others
-  none_other : (s : Shared) → IsLone words None s → others_in 0 s ≡ 0
-  none_other s lone = go s.roles lone.one
-    where
-      go : (roles : List Role) → length roles ≡ 1
-          → how_many (λ r. not (is_outside r)) (slice_set roles 0 Outside) ≡ 0
-      go [] one = absurd (omega arith)
-      go (r ∷ []) one = refl
-      go (r ∷ q ∷ roles) one = absurd (omega arith)
+none_other : (z : Shared) → length z.roles ≡ 1 → others_in 0 z ≡ 0
+none_other z one = go z.roles one
+  where
+    go : (roles : List Role) → length roles ≡ 1
+        → how_many (λ r. not (is_outside r)) (slice_set roles 0 Outside) ≡ 0
+    go [] one = absurd (omega arith)
+    go (r ∷ []) one = refl
+    go (r ∷ q ∷ roles) one = absurd (omega arith)
 
-  sweep_goes : Goes false words None None (by_step sweeps_out)
-  sweep_goes = step_goes sweeps_out (λ s lone. refl)
-      (λ s lone. grown sweep_grows (in_role Outside 0 s) (role_lone Outside s lone))
+tried_exact : (z : Shared) → Tidy z → length z.roles ≡ 1 → (n : ℕ)
+    → IsExact 0 (tried_in_steps n announced_in_steps) z
+tried_exact z tidy one zero = (refl, refl)
+tried_exact z tidy one (suc n) = subst (λ (x : Result Collected Fault × Shared). LeadsTo nobody 0 (Exactly x.0 x.1)
+    (tried_in_steps (suc n) announced_in_steps) z) (sym (ran_once 0 z n))
+    (tried_leads 0 (Exactly (run_once 0 z).0 (run_once 0 z).1) z tidy beside (refl, refl) n
+    (λ more. let bad = sym (ap (nat_lt 1) one) ∙ more in absurd cc))
+  where
+    beside : IsOutBeside 0 z
+    beside some = let bad = sym (ap (nat_lt 0) (none_other z one)) ∙ some in absurd cc
 
-  -- THE GATE IS SHUT
-  shut_goes : Goes false words None None (by_step shuts)
-  shut_goes = step_goes shuts (λ s lone. refl)
-      (λ s lone. either (Stands words None) (others_in 0 s == 0) _ _ (role_lone Collecting s lone) lone)
+module _ (z : Shared) (tidy : Tidy z) (one : length z.roles ≡ 1) where
+  pub gc_exact : IsExact 0 (told_of_it 0 collected_in_steps) z
+  gc_exact = told_exact 0 collected_in_steps z (collected_exact 0 z tidy)
 
-  pub collected_goes : Goes false words None None collected_in_steps
-  collected_goes = goes_bind shut_goes (λ u. sweep_goes)
-
-  -- .. behind an announcement, or it is taken back
-  try_goes : Goes false words None None (whatever (by_step shuts) sweep_or_out)
-  try_goes = goes_then sweep_or_out shut_goes (λ u. sweep_goes)
-      (λ e. goes_whatever out_goes (λ out. ended_goes (Err e)))
-
-  still_goes : Goes false words None None (by_step finds_gate_still)
-  still_goes = step_goes finds_gate_still
-      (λ s lone. ap (λ n. (cond (nat_lt 1 n) (Err (fault.Moved 0 0)) (Ok tt), s)) lone.one) (λ s lone. lone)
-
-  announce_goes : Goes false words None None (by_step announces)
-  announce_goes = step_goes announces
-      (λ s lone. ap (λ n. cond (is_kept_closed 0 s || nat_lt 0 n) (is_busy 0 s, s) (Ok tt, in_role Announcing 0 s))
-      (none_other s lone))
-      (λ s lone. either (Stands words None) (is_kept_closed 0 s || false) _ _ lone (role_lone Announcing s lone))
-
-  pub announced_goes : Goes false words None None announced_in_steps
-  announced_goes = goes_bind still_goes (λ u. goes_bind announce_goes (λ v. try_goes))
+  pub gcann_exact : (turns : ℕ) → IsExact 0 (told_of_it 0 (tried_in_steps turns announced_in_steps)) z
+  gcann_exact turns =
+      told_exact 0 (tried_in_steps turns announced_in_steps) z (tried_exact z tidy one turns)

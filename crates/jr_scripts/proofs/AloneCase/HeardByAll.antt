@@ -1,5 +1,5 @@
--- A thread that hears nothing of others, told as one of several: the board has each word that a line posted, with what
--- the thread had seen there, and the rank of a name is how many lines stand before the one that posts it.
+-- A THREAD THAT HEARS NOTHING OF OTHERS, told as one of several. The board has each word that a line posted, with what
+-- the thread had seen there. The rank of a name is how many lines stand before the one that posts it.
 use Rattle.std.proofs.Common.{◌≡◌, ◌≤◌, ◌<◌, ◌++◌, ◌∙◌, ◌&&◌, ◌||◌, not, ℕ, zero, suc, Bool, true, false, cond, is_some}
 use Rattle.std.proofs.Common.{List, [], ◌∷◌, length, Option, Some, None, refl, sym, ap, subst, append_assoc, arith}
 use Rattle.std.specs.List.{AllByRecursion, flat_map, list_any}

@@ -1,7 +1,7 @@
 -- WHAT STANDS beside what would stand in the row: the same but for the board, and for what threads at their ends give
 -- up.
 use Rattle.std.proofs.Common.{◌≡◌, ◌++◌, ℕ, suc, Bool, true, false, cond, Option, Some, None, List, [], ◌∷◌, length}
-use Rattle.std.proofs.Common.{slice_index_or, refl, sym, ap, ◌∙◌, append-nil, append_assoc, arith}
+use Rattle.std.proofs.Common.{slice_index_or, refl, sym, ap, subst, ◌∙◌, append-nil, append_assoc, arith}
 use Rattle.std.proofs.lemmas.List.{ext_get_or}
 use Rattle.std.specs.List.{AllByRecursion, filter}
 use native.Mathlib.Decide.{ℕ_discrete}
@@ -71,6 +71,7 @@ begin_through xs ys zs (first, is) (more, so) =
 pub record Kept (t : ℕ) (s s' : Shared) : Type 0 where
   pub board : s'.board ≡ s.board
   pub owners : Begin s.owners s'.owners
+  pub as_many_roles : length s'.roles ≡ length s.roles
   pub roles : (u : ℕ) → (u ≡ t → ⊥) → role_of s' u ≡ role_of s u
   pub frames : (u : ℕ) → (u ≡ t → ⊥) → frames_of s' u ≡ frames_of s u
 
@@ -92,41 +93,6 @@ alike_itself s tidy = record {
   unbarred = λ t bad. absurd cc;
   tidy = tidy;
   tidy_too = tidy;
-}
-
--- .. and then through what is alike
-pub alike_through : (gone : ℕ → Bool) (s z y : Shared) → Alike gone s z → Alike (λ t. false) z y → Alike gone s y
-alike_through gone s z y a b = record {
-  objects = a.objects ∙ b.objects;
-  used = a.used ∙ b.used;
-  owners = a.owners ∙ b.owners;
-  as_many_refs = a.as_many_refs ∙ b.as_many_refs;
-  refs = λ n other. a.refs n (ap (λ l. is_of gone (slice_index_or l n None)) b.owners ∙ other)
-      ∙ b.refs n (is_of_nobody (owner_of y n));
-  as_many_frames = a.as_many_frames ∙ b.as_many_frames;
-  frames = λ t other. a.frames t other ∙ b.frames t refl;
-  as_many_roles = a.as_many_roles ∙ b.as_many_roles;
-  roles = λ t other. a.roles t other ∙ b.roles t refl;
-  unbarred = λ t is.
-      ((a.unbarred t is).0, ap is_barring (sym (b.roles t refl)) ∙ (a.unbarred t is).1);
-  tidy = a.tidy;
-  tidy_too = b.tidy_too;
-}
-
-pub alike_back : (s z : Shared) → Alike (λ t. false) s z → Alike (λ t. false) z s
-alike_back s z a = record {
-  objects = sym a.objects;
-  used = sym a.used;
-  owners = sym a.owners;
-  as_many_refs = sym a.as_many_refs;
-  refs = λ n other. sym (a.refs n (is_of_nobody (owner_of z n)));
-  as_many_frames = sym a.as_many_frames;
-  frames = λ t other. sym (a.frames t refl);
-  as_many_roles = sym a.as_many_roles;
-  roles = λ t other. sym (a.roles t refl);
-  unbarred = λ t bad. absurd cc;
-  tidy = a.tidy_too;
-  tidy_too = a.tidy;
 }
 
 -- but for the board they are the same, where nobody is at its end
@@ -161,6 +127,15 @@ alike_board gone s z b d a = record {
   tidy = tidy_board s b a.tidy;
   tidy_too = tidy_board z d a.tidy_too;
 }
+
+-- .. and then through what is alike
+pub alike_through : (gone : ℕ → Bool) (s z y : Shared) → Alike gone s z → Alike (λ t. false) z y → Alike gone s y
+alike_through gone s z y a b = alike_board gone s (record y { board = z.board }) s.board y.board
+    (subst (Alike gone s) (alike_all z y b) a)
+
+pub alike_back : (s z : Shared) → Alike (λ t. false) s z → Alike (λ t. false) z s
+alike_back s z a = subst (Alike (λ t. false) z) (sym (alike_all s z a))
+    (alike_board (λ t. false) z z z.board s.board (alike_itself z a.tidy_too))
 
 -- one more is at its end
 pub one_more_gone : (gone more : ℕ → Bool) (t : ℕ) (s z : Shared) → Alike gone s z
@@ -240,13 +215,19 @@ as_many_count gone s z a i = record {
 }
 
 pub kept_itself : (t : ℕ) (s : Shared) → Kept t s s
-kept_itself t s =
-    record { board = refl; owners = begin_itself s.owners; roles = λ u apart. refl; frames = λ u apart. refl }
+kept_itself t s = record {
+  board = refl;
+  owners = begin_itself s.owners;
+  as_many_roles = refl;
+  roles = λ u apart. refl;
+  frames = λ u apart. refl;
+}
 
 pub kept_through : (t : ℕ) (s s' s'' : Shared) → Kept t s s' → Kept t s' s'' → Kept t s s''
 kept_through t s s' s'' a b = record {
   board = b.board ∙ a.board;
   owners = begin_through s.owners s'.owners s''.owners a.owners b.owners;
+  as_many_roles = b.as_many_roles ∙ a.as_many_roles;
   roles = λ u apart. b.roles u apart ∙ a.roles u apart;
   frames = λ u apart. b.frames u apart ∙ a.frames u apart;
 }

@@ -276,6 +276,15 @@ rewrites_blind f o = change_blind (λ w. record w { objects = anew w.objects })
       words = f (contents_in (standing_at xs o)).words;
     }))
 
+all_filter : {X : Type 0} (P : X → Type 0) (k : X → Bool) (xs : List X) → AllByRecursion P xs
+    → AllByRecursion P (filter k xs)
+all_filter P k [] all = tt
+all_filter P k (x ∷ xs) all = all_choice P (k x) x _ all.0 (all_filter P k xs all.1)
+
+pub each_filter : {X : Type 0} (P : X → Type 0) (k : X → Bool) (xss : List (List X))
+    → AllByRecursion (AllByRecursion P) xss → AllByRecursion (AllByRecursion P) (map (filter k) xss)
+each_filter P k xss all = all_map (filter k) (AllByRecursion P) xss (all_weaker (λ xs. all_filter P k xs) xss all)
+
 pub removed_blind : (n : ℕ) → Blind (change (removed n))
 removed_blind n = change_blind (removed n) (λ hidden w v views. record {
   objects = views.objects;
@@ -291,13 +300,8 @@ removed_blind n = change_blind (removed n) (λ hidden w v views. record {
 }) (λ w. record {
   grows = let long = length-set w.refs n None in omega arith;
   kinds = λ m lt is. set_has IsLocal w.refs n m None None tt is;
-  framed = λ Q all new. all_map (filter (λ m. not (m == n))) (AllByRecursion Q) w.frames
-      (all_weaker (λ f. all_filter Q f) w.frames all);
+  framed = λ Q all new. each_filter Q (λ m. not (m == n)) w.frames all;
 })
-  where
-    all_filter : (Q : ℕ → Type 0) (f : List ℕ) → AllByRecursion Q f → AllByRecursion Q (filter (λ m. not (m == n)) f)
-    all_filter Q [] all = tt
-    all_filter Q (m ∷ ms) all = all_choice Q (not (m == n)) m _ all.0 (all_filter Q ms all.1)
 
 -- WHOSE A REFERENCE IS that came by a step
 pub has_owner : (owners : List (Option ℕ)) (n t : ℕ) → slice_index_or owners n None ≡ Some t → n < length owners
@@ -375,13 +379,18 @@ module _ (u : ℕ) (s : Shared) (w : World) where
       others : (t : ℕ) → (t ≡ u → ⊥) → AllOf t (frames_of (as_left u s w) t)
       others t other = subst (AllOf t) (sym (get_or-set_other s.frames u t w.frames [] other)) (old t)
 
-  kept_left : Kept u s (as_left u s w)
+  pub kept_left : Kept u s (as_left u s w)
   kept_left = record {
     board = refl;
     owners = (map (owner_if u) (drop (length s.owners) w.refs), refl);
+    as_many_roles = refl;
     roles = λ t other. refl;
     frames = λ t other. get_or-set_other s.frames u t w.frames [] other;
   }
+
+-- what a step of this thread does beside another
+abbrev pub Beside : {A : Type 0} → ℕ → (ℕ → Bool) → Shared → Result A Fault × Shared → Result A Fault × Shared → Type 0
+Beside u gone s x y = (x.0 ≡ y.0) × Alike gone x.1 y.1 × Kept u s x.1
 
 -- A STEP over a world that all share
 module _ {gone : ℕ → Bool} {s z : Shared} (u : ℕ) (luck : Bool) (mine : gone u ≡ false) (alike : Alike gone s z) where
@@ -447,12 +456,13 @@ module _ {gone : ℕ → Bool} {s z : Shared} (u : ℕ) (luck : Bool) (mine : go
       new = ap (λ os. drop (length os) w.refs) alike.owners
           ∙ same_from None (length z.owners) w.refs v.refs same.as_many (λ n le. same.refs n (beyond n le))
 
+  abbrev IsBeside : {A : Type 0} → Meaning A → Type 0
+  IsBeside m = Beside u gone s (over_world m u luck s) (over_world m u luck z)
+
   -- an answer that is the same, and what it leaves
   step_by : {A : Type 0} (m : Meaning A)
       → ((m (as_seen u s)).0 ≡ (m (as_seen u z)).0) × Views hidden (m (as_seen u s)).1 (m (as_seen u z)).1
-      → ((w : World) → Lays w (m w).1)
-      → ((over_world m u luck s).0 ≡ (over_world m u luck z).0)
-      × Alike gone (over_world m u luck s).1 (over_world m u luck z).1 × Kept u s (over_world m u luck s).1
+      → ((w : World) → Lays w (m w).1) → IsBeside m
   step_by m same lays = (
     same.0,
     left_alike (m (as_seen u s)).1 (m (as_seen u z)).1 same.1 (lays (as_seen u s))
@@ -460,9 +470,7 @@ module _ {gone : ℕ → Bool} {s z : Shared} (u : ℕ) (luck : Bool) (mine : go
     kept_left u s (m (as_seen u s)).1,
   )
 
-  pub step_alike : {A : Type 0} {m : Meaning A} → Blind m
-      → ((over_world m u luck s).0 ≡ (over_world m u luck z).0)
-      × Alike gone (over_world m u luck s).1 (over_world m u luck z).1 × Kept u s (over_world m u luck s).1
+  pub step_alike : {A : Type 0} {m : Meaning A} → Blind m → IsBeside m
   step_alike {A} {m} blind = step_by m (blind.so hidden (as_seen u s) (as_seen u z) views) blind.lays
 
   -- whose a reference is, is told alike
@@ -482,26 +490,17 @@ module _ {gone : ℕ → Bool} {s z : Shared} (u : ℕ) (luck : Bool) (mine : go
           same false is own = absurd cc
 
   -- what is done with a reference that is no other's
-  pub object_alike : (n : ℕ) → is_foreign_to u z n ≡ false
-      → ((over_world (object n) u luck s).0 ≡ (over_world (object n) u luck z).0)
-      × Alike gone (over_world (object n) u luck s).1 (over_world (object n) u luck z).1
-      × Kept u s (over_world (object n) u luck s).1
+  pub object_alike : (n : ℕ) → is_foreign_to u z n ≡ false → IsBeside (object n)
   object_alike zero own = step_alike (look_blind (λ w. Ok None) (λ hidden w v views. refl))
   object_alike (suc n) own =
       step_by (object (suc n)) (ap object_in (alike.refs n (own_seen n own)), views) (λ w. lays_same w w.objects w.used)
 
-  pub type_alike : (n : ℕ) → is_foreign_to u z n ≡ false
-      → ((over_world (type_meant n) u luck s).0 ≡ (over_world (type_meant n) u luck z).0)
-      × Alike gone (over_world (type_meant n) u luck s).1 (over_world (type_meant n) u luck z).1
-      × Kept u s (over_world (type_meant n) u luck s).1
+  pub type_alike : (n : ℕ) → is_foreign_to u z n ≡ false → IsBeside (type_meant n)
   type_alike zero own = step_alike (look_blind (λ w. Ok 0) (λ hidden w v views. refl))
   type_alike (suc n) own = step_by (type_meant (suc n))
       (ap (λ r. Ok (type_in r)) (alike.refs n (own_seen n own)), views) (λ w. lays_same w w.objects w.used)
 
-  pub delete_alike : (n : ℕ) → is_foreign_to u z n ≡ false
-      → ((over_world (delete n) u luck s).0 ≡ (over_world (delete n) u luck z).0)
-      × Alike gone (over_world (delete n) u luck s).1 (over_world (delete n) u luck z).1
-      × Kept u s (over_world (delete n) u luck s).1
+  pub delete_alike : (n : ℕ) → is_foreign_to u z n ≡ false → IsBeside (delete n)
   delete_alike zero own = step_alike (look_blind (λ w. Ok tt) (λ hidden w v views. refl))
   delete_alike (suc n) own = step_by (delete (suc n))
       (then_same (λ o. change (removed n)) (λ o. removed_blind n) hidden (as_seen u s) (as_seen u z) views

@@ -1,8 +1,8 @@
 -- COLLECTIONS FOLLOW, where no thread is at its end.
 use Rattle.std.proofs.Common.{◌≡◌, ◌⊎◌, ◌==◌, ◌&&◌, ◌||◌, ◌++◌, inl, inr, ℕ, zero, suc, Bool, true, false, cond, not}
 use Rattle.std.proofs.Common.{nat_lt, Option, Some, None, Result, Ok, Err, List, [], ◌∷◌, map, length, drop, slice_set}
-use Rattle.std.proofs.Common.{slice_index_or, refl, sym, ap, subst, ◌∙◌, arith}
-use Rattle.std.proofs.lemmas.List.{append-nil, drop_all, get_or-set_other, length-map, set-get_or, set-set}
+use Rattle.std.proofs.Common.{refl, sym, ap, subst, ◌∙◌, arith}
+use Rattle.std.proofs.lemmas.List.{append-nil, drop_all, length-map, set-get_or, set-set}
 use Rattle.std.proofs.lemmas.Bool.Decides.{nat_tests}
 use Rattle.std.proofs.Math.ListN.{get_or-map}
 use Rattle.jr_word.specs.declared.config.Config.{Config}
@@ -23,19 +23,21 @@ use Rattle.jr_syntax.specs.declared.command.Command.TheVariants as commands
 use Rattle.jr_syntax.specs.declared.verb.Make.TheVariants as make
 use Rattle.jr_syntax.specs.declared.verb.OnNameAt.TheVariants as on_name_at
 use Rattle.jr_syntax.specs.declared.verb.PutAt.TheVariants as put_at
+use Rattle.jr_scripts.specs.declared.reply.Reply.{Reply}
 use Rattle.jr_scripts.specs.Commands.{told}
 use Rattle.jr_scripts.specs.Places.{Place}
 use Rattle.jr_scripts.specs.Posting.{ThreadWords}
 use Rattle.jr_scripts.specs.Sweeps.{is_found_reached, kept_ref}
 use Rattle.jr_scripts.specs.Together.{announced_in_steps, announces, collected_in_steps, doing_at, finds_gate_still}
-use Rattle.jr_scripts.specs.Together.{is_busy, is_kept_closed, others_in, shuts, sweep_or_out, sweeps_out}
+use Rattle.jr_scripts.specs.Together.{is_busy, is_kept_closed, others_in, shuts, sweep_or_out, sweeps_all, sweeps_out}
 use Rattle.jr_scripts.specs.Together.{tried_in_steps}
 use Rattle.jr_scripts.specs.OneRow.{manner_of}
 use Rattle.jr_scripts.specs.OneRow.Manner.{collects}
 use Rattle.jr_scripts.proofs.OneRow.Alike.{Alike, IsLocal, Kept, Tidy, alike_all, alike_board, alike_itself}
-use Rattle.jr_scripts.proofs.OneRow.Alike.{kept_itself, role_of}
-use Rattle.jr_scripts.proofs.OneRow.Follows.{Follows, IsSpoilt, LeadsTo, Outcome, SameStep, follows_then, leads_less}
-use Rattle.jr_scripts.proofs.OneRow.Follows.{leads_then, nobody, run_then}
+use Rattle.jr_scripts.proofs.OneRow.Alike.{kept_itself, kept_through, role_of}
+use Rattle.jr_scripts.proofs.OneRow.Blind.{kept_left}
+use Rattle.jr_scripts.proofs.OneRow.Follows.{Follows, LeadsTo, Outcome, SameStep, leads_less, leads_then, nobody}
+use Rattle.jr_scripts.proofs.OneRow.Follows.{run_then}
 use Rattle.jr_scripts.proofs.OneRow.Programs.{in_role_kept, role_tidy}
 
 -- another role, and the same again
@@ -97,7 +99,7 @@ cond_so : {A : Type 0} (P : Shared → Type 0) (test : Bool) (p q : Result A Fau
 cond_so P true p q s z first second = first
 cond_so P false p q s z first second = second
 
-abbrev Exactly : {A : Type 0} → Result A Fault → Shared → Result A Fault → Shared → Type 0
+abbrev pub Exactly : {A : Type 0} → Result A Fault → Shared → Result A Fault → Shared → Type 0
 Exactly r y q x = (q ≡ r) × (x ≡ y)
 
 -- the gate is shut behind an announcement, or that is taken back
@@ -150,12 +152,8 @@ module _ (u : ℕ) where
   sweep_unread = record {
     board = λ luck s b. refl;
     tidy = λ luck s tidy. sweep_tidy u luck s tidy;
-    kept = λ luck s. record {
-      board = refl;
-      owners = (_, refl);
-      roles = λ v other. get_or-set_other s.roles u v Outside Outside other;
-      frames = λ v other. get_or-set_other s.frames u v (slice_index_or s.frames u []) [] other;
-    };
+    kept = λ luck s. kept_through u s (in_role Outside u s) (sweeps_out u luck s).1 (in_role_kept Outside u s)
+        (kept_left u (in_role Outside u s) (sweeps_all (as_seen u (in_role Outside u s))).1);
   }
 
   -- from what is the same but for the board, such a step does the same
@@ -180,7 +178,7 @@ module _ (u : ℕ) where
           ∙ unread.board luck z s.board
 
   -- LUCK COUNTS FOR NOTHING
-  abbrev IsExact : {A : Type 0} → Doing A → Shared → Type 0
+  abbrev pub IsExact : {A : Type 0} → Doing A → Shared → Type 0
   IsExact d z = LeadsTo nobody u (Exactly (run_alone u true d z).0 (run_alone u true d z).1) d z
 
   sweep_exact : (z : Shared) → Tidy z → IsExact (by_step sweeps_out) z
@@ -189,7 +187,7 @@ module _ (u : ℕ) where
   abbrev shut_by : Bool → Shared → Result (Unit {0}) Fault × Shared
   shut_by b s = cond b (Ok tt, in_role Collecting u s) (is_busy u s, s)
 
-  collected_exact : (z : Shared) → Tidy z → IsExact collected_in_steps z
+  pub collected_exact : (z : Shared) → Tidy z → IsExact collected_in_steps z
   collected_exact z tidy = inl (
     λ luck. same shut_unread (unless_refused (λ _. by_step sweeps_out)) luck z tidy,
     go (others_in u z == 0),
@@ -207,8 +205,12 @@ module _ (u : ℕ) where
       go true = sweep_exact (in_role Collecting u z) (role_tidy Collecting u z tidy)
       go false = inl (λ luck. same out_unread (λ _. ended (is_busy u z)) luck z tidy, (refl, refl))
 
+  -- outside, where others are in
+  abbrev pub IsOutBeside : Shared → Type 0
+  IsOutBeside z = nat_lt 0 (others_in u z) ≡ true → role_of z u ≡ Outside
+
   -- without luck it is told at once what would be told behind the announcement
-  announce_exact : (z : Shared) → Tidy z → role_of z u ≡ Outside → IsExact announces_after z
+  announce_exact : (z : Shared) → Tidy z → IsOutBeside z → IsExact announces_after z
   announce_exact z tidy out = inr (λ luck. (
     same announce_unread (unless_refused (λ _. shuts_after)) luck z tidy,
     go luck (is_kept_closed u z),
@@ -237,7 +239,7 @@ module _ (u : ℕ) where
       busy some = subst (λ b. ◌≡◌ {A = Result Collected Fault × Shared} (is_busy u z, z)
           (run_alone u true (sweep_or_out (shut_by b announced).0) (shut_by b announced).1))
           (sym (ap (λ n. n == 0) others ∙ not_none (others_in u z) some))
-          (λ i. (Err (fault.Busy (sym others i)), sym (set_back Announcing u z out) i))
+          (λ i. (Err (fault.Busy (sym others i)), sym (set_back Announcing u z (out some)) i))
 
       late : (b : Bool) → nat_lt 0 (others_in u z) ≡ b → LeadsTo nobody u
           (Exactly (run_alone u true shuts_after announced).0 (run_alone u true shuts_after announced).1)
@@ -260,9 +262,9 @@ module _ (u : ℕ) where
   -- ONE TRY: without luck others may have come or gone, and then it is tried again from the same
   abbrev OneTry : Shared → Result Collected Fault → Shared → Type 0
   OneTry z r y = Exactly (run_alone u true announced_in_steps z).0 (run_alone u true announced_in_steps z).1 r y
-      ⊎ Exactly (Err (fault.Moved 0 0)) z r y
+      ⊎ ((nat_lt 1 (length z.roles) ≡ true) × Exactly (Err (fault.Moved 0 0)) z r y)
 
-  try_leads : (z : Shared) → Tidy z → role_of z u ≡ Outside → LeadsTo nobody u (OneTry z) announced_in_steps z
+  try_leads : (z : Shared) → Tidy z → IsOutBeside z → LeadsTo nobody u (OneTry z) announced_in_steps z
   try_leads z tidy out = inr (λ luck. (
     same still_unread (unless_refused (λ _. announces_after)) luck z tidy,
     go luck,
@@ -273,16 +275,16 @@ module _ (u : ℕ) where
           (Exactly (run_alone u true announces_after z).0 (run_alone u true announces_after z).1) (OneTry z)
           (λ r y is. inl is) announces_after z (announce_exact z tidy out)
 
-      late : (b : Bool) → LeadsTo nobody u (OneTry z)
+      late : (b : Bool) → nat_lt 1 (length z.roles) ≡ b → LeadsTo nobody u (OneTry z)
           (unless_refused (λ _. announces_after)
           (cond {A = Result (Unit {0}) Fault} b (Err (fault.Moved 0 0)) (Ok tt))) z
-      late true = inr (refl, refl)
-      late false = on
+      late true more = inr (more, (refl, refl))
+      late false none = on
 
       go : (luck : Bool) → LeadsTo nobody u (OneTry z)
           (unless_refused (λ _. announces_after) (finds_gate_still u luck z).0) z
       go true = on
-      go false = late (nat_lt 1 (length z.roles))
+      go false = late (nat_lt 1 (length z.roles)) refl
 
   -- with luck it is tried once
   tried_once : (z : Shared) → is_tried_again (run_alone u true announced_in_steps z).0 ≡ false
@@ -301,60 +303,85 @@ module _ (u : ℕ) where
       go true = refl
       go false = shut (in_role Announcing u z) (others_in u (in_role Announcing u z) == 0)
 
-  abbrev OnceDone : Shared → Result Collected Fault → Shared → Type 0
-  OnceDone z = Outcome nobody u (run_alone u true announced_in_steps z).0 (run_alone u true announced_in_steps z).1
+  abbrev pub run_once : Shared → Result Collected Fault × Shared
+  run_once z = run_alone u true announced_in_steps z
 
-  tried_leads : (z : Shared) → Tidy z → role_of z u ≡ Outside → (n : ℕ)
-      → LeadsTo nobody u (OnceDone z) (tried_in_steps n announced_in_steps) z
-  tried_leads z tidy out zero = inr (inr refl)
-  tried_leads z tidy out (suc n) = leads_then nobody u (OneTry z) (OnceDone z) announced_in_steps (again n) z
-      (try_leads z tidy out) (go (tried_leads z tidy out n))
+  -- what holds of that holds of all tries, where it holds when they are up
+  pub tried_leads : (K : Result Collected Fault → Shared → Type 0) (z : Shared) → Tidy z → IsOutBeside z
+      → K (run_once z).0 (run_once z).1 → (n : ℕ) → (nat_lt 1 (length z.roles) ≡ true
+      → LeadsTo nobody u K (tried_in_steps n announced_in_steps) z)
+      → LeadsTo nobody u K (tried_in_steps (suc n) announced_in_steps) z
+  tried_leads K z tidy out so n more =
+      leads_then nobody u (OneTry z) K announced_in_steps (again n) z (try_leads z tidy out) go
     where
-      stops : LeadsTo nobody u (OnceDone z) (again n (run_alone u true announced_in_steps z).0)
-          (run_alone u true announced_in_steps z).1
-      stops = subst (λ b. LeadsTo nobody u (OnceDone z)
-          (cond b (tried_in_steps n announced_in_steps) (ended (run_alone u true announced_in_steps z).0))
-          (run_alone u true announced_in_steps z).1) (sym (tried_once z)) (inl (refl, refl))
+      stops : LeadsTo nobody u K (again n (run_once z).0) (run_once z).1
+      stops = subst (λ b. LeadsTo nobody u K (cond b (tried_in_steps n announced_in_steps) (ended (run_once z).0))
+          (run_once z).1) (sym (tried_once z)) so
 
-      go : LeadsTo nobody u (OnceDone z) (tried_in_steps n announced_in_steps) z → (r : Result Collected Fault)
-          (y : Shared) → OneTry z r y → LeadsTo nobody u (OnceDone z) (again n r) y
-      go more r y (inl is) =
-          subst (λ (x : Result Collected Fault × Shared). LeadsTo nobody u (OnceDone z) (again n x.0) x.1)
+      go : (r : Result Collected Fault) (y : Shared) → OneTry z r y → LeadsTo nobody u K (again n r) y
+      go r y (inl is) =
+          subst (λ (x : Result Collected Fault × Shared). LeadsTo nobody u K (again n x.0) x.1)
           (λ i. (sym is.0 i, sym is.1 i)) stops
-      go more r y (inr is) =
-          subst (λ (x : Result Collected Fault × Shared). LeadsTo nobody u (OnceDone z) (again n x.0) x.1)
-          (λ i. (sym is.0 i, sym is.1 i)) more
+      go r y (inr is) =
+          subst (λ (x : Result Collected Fault × Shared). LeadsTo nobody u K (again n x.0) x.1)
+          (λ i. (sym is.1.0 i, sym is.1.1 i)) (more is.0)
 
-  tried_follows : (z : Shared) → Tidy z → role_of z u ≡ Outside → (n : ℕ)
+  abbrev OnceDone : Shared → Result Collected Fault → Shared → Type 0
+  OnceDone z = Outcome nobody u (run_once z).0 (run_once z).1
+
+  all_lead : (z : Shared) → Tidy z → IsOutBeside z → (n : ℕ)
+      → LeadsTo nobody u (OnceDone z) (tried_in_steps n announced_in_steps) z
+  all_lead z tidy out zero = inr (inr refl)
+  all_lead z tidy out (suc n) = tried_leads (OnceDone z) z tidy out (inl (refl, refl)) n (λ more. all_lead z tidy out n)
+
+  pub ran_once : (z : Shared) (n : ℕ) → ◌≡◌ {A = Result Collected Fault × Shared}
+      (run_alone u true (tried_in_steps (suc n) announced_in_steps) z) (run_once z)
+  ran_once z n = run_then nobody u announced_in_steps (again n) z ∙ ap (λ b. run_alone u true
+      (cond b (tried_in_steps n announced_in_steps) (ended (run_once z).0)) (run_once z).1) (tried_once z)
+
+  tried_follows : (z : Shared) → Tidy z → IsOutBeside z → (n : ℕ)
       → Follows nobody u (tried_in_steps n announced_in_steps) z
   tried_follows z tidy out zero = inl (refl, refl)
   tried_follows z tidy out (suc n) = subst (λ (x : Result Collected Fault × Shared). LeadsTo nobody u
-      (Outcome nobody u x.0 x.1) (tried_in_steps (suc n) announced_in_steps) z) (sym ran)
-      (tried_leads z tidy out (suc n))
+      (Outcome nobody u x.0 x.1) (tried_in_steps (suc n) announced_in_steps) z) (sym (ran_once z n))
+      (all_lead z tidy out (suc n))
+
+  -- WHAT IS TOLD of a collection
+  abbrev pub told_of_it : Doing Collected → Doing Reply
+  told_of_it d = whatever d (λ counts. ended (told counts))
+
+  told_is : (d : Doing Collected) (z : Shared) (r : Result Collected Fault) (y : Shared)
+      → Exactly (run_alone u true d z).0 (run_alone u true d z).1 r y
+      → Exactly (run_alone u true (told_of_it d) z).0 (run_alone u true (told_of_it d) z).1 (told r) y
+  told_is d z r y is = (ap told is.0 ∙ sym (ap (λ x. x.0) ran), is.1 ∙ sym (ap (λ x. x.1) ran))
     where
-      one : Result Collected Fault × Shared
-      one = run_alone u true announced_in_steps z
+      ran : ◌≡◌ {A = Result Reply Fault × Shared} (run_alone u true (told_of_it d) z)
+          (told (run_alone u true d z).0, (run_alone u true d z).1)
+      ran = run_then nobody u d (λ counts. ended (told counts)) z
 
-      ran : ◌≡◌ {A = Result Collected Fault × Shared} (run_alone u true (tried_in_steps (suc n) announced_in_steps) z)
-          (run_alone u true announced_in_steps z)
-      ran = run_then nobody u announced_in_steps (again n) z ∙ ap (λ b. run_alone u true
-          (cond b (tried_in_steps n announced_in_steps) (ended one.0)) one.1) (tried_once z)
+  pub told_exact : (d : Doing Collected) (z : Shared) → IsExact d z → IsExact (told_of_it d) z
+  told_exact d z exact = leads_then nobody u (Exactly (run_alone u true d z).0 (run_alone u true d z).1)
+      (Exactly (run_alone u true (told_of_it d) z).0 (run_alone u true (told_of_it d) z).1) d _ z exact (told_is d z)
 
-  collected_follows : (z : Shared) → Tidy z → Follows nobody u collected_in_steps z
-  collected_follows z tidy = leads_less nobody u
-      (Exactly (run_alone u true collected_in_steps z).0 (run_alone u true collected_in_steps z).1)
-      (Outcome nobody u (run_alone u true collected_in_steps z).0 (run_alone u true collected_in_steps z).1)
-      (λ r y is. inl is) collected_in_steps z (collected_exact z tidy)
-
-  -- .. and what is told of it
-  told_follows : (d : Doing Collected) (z : Shared) → Follows nobody u d z
-      → Follows nobody u (whatever d (λ counts. ended (told counts))) z
-  told_follows d z follows =
-      follows_then nobody u d (λ counts. ended (told counts)) z follows spoilt (inl (refl, refl))
+  told_follows : (d : Doing Collected) (z : Shared) → Follows nobody u d z → Follows nobody u (told_of_it d) z
+  told_follows d z follows = leads_then nobody u (Outcome nobody u (run_alone u true d z).0 (run_alone u true d z).1)
+      (Outcome nobody u (run_alone u true (told_of_it d) z).0 (run_alone u true (told_of_it d) z).1) d _ z follows go
     where
-      spoilt : (r : Result Collected Fault) (y : Shared) → IsSpoilt r → IsSpoilt (told r)
-      spoilt r y (inl is) = inl (ap told is)
-      spoilt r y (inr is) = inr (ap told is)
+      go : (r : Result Collected Fault) (y : Shared)
+          → Outcome nobody u (run_alone u true d z).0 (run_alone u true d z).1 r y → Outcome nobody u
+          (run_alone u true (told_of_it d) z).0 (run_alone u true (told_of_it d) z).1 (told r) y
+      go r y (inl is) = inl (told_is d z r y is)
+      go r y (inr (inl is)) = inr (inl (ap told is))
+      go r y (inr (inr is)) = inr (inr (ap told is))
+
+  gc_follows : (z : Shared) → Tidy z → Follows nobody u (told_of_it collected_in_steps) z
+  gc_follows z tidy = leads_less nobody u
+      (Exactly (run_alone u true gc z).0 (run_alone u true gc z).1)
+      (Outcome nobody u (run_alone u true gc z).0 (run_alone u true gc z).1) (λ r y is. inl is) gc z
+      (told_exact collected_in_steps z (collected_exact z tidy))
+    where
+      gc : Doing Reply
+      gc = told_of_it collected_in_steps
 
 pub collects_follow : (c : Config) (turns : ℕ) (p : Place) (words : ThreadWords) (x : Command)
     → manner_of x ≡ collects → (u : ℕ) (z : Shared) → Tidy z → (p.objects ≡ [] → role_of z u ≡ Outside)
@@ -363,9 +390,9 @@ collects_follow c turns p words x is u z tidy out = go p.objects out x is
   where
     go : (os : List ℕ) → (os ≡ [] → role_of z u ≡ Outside) → (y : Command) → manner_of y ≡ collects
         → Follows nobody u (doing_at c turns p words os y) z
-    go [] out (commands.OfRoom v) is = told_follows u collected_in_steps z (collected_follows u z tidy)
+    go [] out (commands.OfRoom v) is = gc_follows u z tidy
     go [] out (commands.WithTries v tries) is =
-        told_follows u (tried_in_steps turns announced_in_steps) z (tried_follows u z tidy (out refl) turns)
+        told_follows u (tried_in_steps turns announced_in_steps) z (tried_follows u z tidy (λ some. out refl) turns)
     go (o ∷ os) out (commands.OfRoom v) is = inl (refl, refl)
     go (o ∷ os) out (commands.WithTries v tries) is = inl (refl, refl)
     go os out (commands.OnName v n) is = absurd cc

@@ -21,6 +21,8 @@ use Rattle.jr_scripts.specs.Names.{Names}
 use Rattle.jr_scripts.specs.Posting.{ThreadWords}
 use Rattle.jr_scripts.specs.Together.{ends_thread, tried_in_steps}
 use Rattle.jr_scripts.proofs.OneRow.Alike.{Alike, Begin, IsLocal, Kept, begin_through, frames_of, is_of, owner_of}
+use Rattle.jr_scripts.proofs.OneRow.Blind.{each_filter, kept_left}
+use Rattle.jr_scripts.proofs.OneRow.Programs.{in_role_kept, role_tidy}
 
 -- THREAD t IS AT ITS END, or behind it, with this text: where these owners are the first, its steps leave what is alike
 abbrev pub IsEnding : ℕ → List ℕ → List (Option ℕ) → Doing (List ℕ) → Type 0
@@ -39,20 +41,6 @@ at_set P d (y ∷ ys) zero x here all zero = here
 at_set P d (y ∷ ys) zero x here all (suc j) = all (suc j)
 at_set P d (y ∷ ys) (suc i) x here all zero = all zero
 at_set P d (y ∷ ys) (suc i) x here all (suc j) = at_set (λ k. P (suc k)) d ys i x here (λ k. all (suc k)) j
-
-all_filter : {X : Type 0} (P : X → Type 0) (k : X → Bool) (xs : List X) → AllByRecursion P xs
-    → AllByRecursion P (filter k xs)
-all_filter P k [] all = tt
-all_filter {X} P k (x ∷ xs) all = go (k x) (all_filter P k xs all.1)
-  where
-    go : (b : Bool) → AllByRecursion P (filter k xs) → AllByRecursion P (cond b (x ∷ filter k xs) (filter k xs))
-    go true rest = (all.0, rest)
-    go false rest = rest
-
-each_filter : {X : Type 0} (P : X → Type 0) (k : X → Bool) (xss : List (List X)) → AllByRecursion (AllByRecursion P) xss
-    → AllByRecursion (AllByRecursion P) (map (filter k) xss)
-each_filter P k [] all = tt
-each_filter P k (xs ∷ xss) all = (all_filter P k xs all.0, each_filter P k xss all.1)
 
 pub all_flat : {X : Type 0} (P : X → Type 0) (xss : List (List X)) → AllByRecursion (AllByRecursion P) xss
     → AllByRecursion P (flat_map (λ f. f) xss)
@@ -104,15 +92,10 @@ module _ (t : ℕ) (gone : ℕ → Bool) (s z : Shared) (is : gone t ≡ true) (
             (λ v at. (alike.unbarred v at).0) u there,
         (alike.unbarred u there).1,
       );
-      tidy = record { owned = alike.tidy.owned; local = alike.tidy.local; framed = alike.tidy.framed };
+      tidy = role_tidy r t s alike.tidy;
       tidy_too = alike.tidy_too;
     },
-    record {
-      board = refl;
-      owners = ([], append-nil s.owners);
-      roles = λ u other. get_or-set_other s.roles t u r Outside other;
-      frames = λ u other. refl;
-    },
+    in_role_kept r t s,
   )
 
   -- other frames of its own, and other references
@@ -121,9 +104,9 @@ module _ (t : ℕ) (gone : ℕ → Bool) (s z : Shared) (is : gone t ≡ true) (
       → ((n u : ℕ) → owner_of s n ≡ Some u → IsLocal (standing_at refs n))
       → AllByRecursion (AllByRecursion (IsOwned t s.owners)) frames
       → Leaves (as_left t s (record (as_seen t s) { refs = refs; frames = frames }))
-  world_leaves refs frames long same local framed =
-      subst Leaves (λ i. record s { refs = refs; owners = sym owners i; frames = slice_set s.frames t frames }) (
-        record {
+  world_leaves refs frames long same local framed = (
+    subst (λ x. Alike gone x z)
+        (λ i. record s { refs = refs; owners = sym owners i; frames = slice_set s.frames t frames }) (record {
           objects = alike.objects;
           used = alike.used;
           owners = alike.owners;
@@ -141,14 +124,9 @@ module _ (t : ℕ) (gone : ℕ → Bool) (s z : Shared) (is : gone t ≡ true) (
                 alike.tidy.framed;
           };
           tidy_too = alike.tidy_too;
-        },
-        record {
-          board = refl;
-          owners = ([], append-nil s.owners);
-          roles = λ u other. refl;
-          frames = λ u other. get_or-set_other s.frames t u frames [] other;
-        },
-      )
+        }),
+    kept_left t s (record (as_seen t s) { refs = refs; frames = frames }),
+  )
     where
       owners : s.owners ++ map (owner_if t) (drop (length s.owners) refs) ≡ s.owners
       owners = ap (λ l. s.owners ++ map (owner_if t) l)

@@ -49,16 +49,11 @@ first_follows c turns u w good x acting = go (manner_of x) refl acting
     go acts is acting = acts_follow c turns (w.threads u).place (w.threads u).words x is u w.shared good.tidy
     go collects is acting = collects_follow c turns (w.threads u).place (w.threads u).words x is u w.shared good.tidy
         (good.rests u).1
-    go (posts n) is none = absurd cc
-    go (waits n) is none = absurd cc
-    go apart is none = absurd cc
+    go _ is none = absurd cc
 
 none_beside : (k : Manner) (u : ℕ) → beside k u (λ t. false)
 none_beside collects u = λ t. refl
-none_beside acts u = refl
-none_beside (posts n) u = refl
-none_beside (waits n) u = refl
-none_beside apart u = refl
+none_beside _ u = refl
 
 -- .. and leads from what is alike, where nobody is at its end, to what is alike
 pub first_led : (c : Config) (turns : ℕ) (u : ℕ) (w : Course) → Good w → (x : Command)

@@ -23,16 +23,14 @@ use Rattle.jr_model.specs.Programs.Ending.{reads, reads_from, copies, writes, wr
 use Rattle.jr_world.specs.World.{contents, element_for, element_to, not_null, named_by, overwritten}
 use Rattle.jr_world.specs.Doing.{Doing, Noted, Shared, by_step, ending_steps, entered_in_steps, go_in, go_out}
 use Rattle.jr_world.specs.Doing.{has_no_owner, in_role, inside, noted, of_all, of_others, opened_in_steps, out_after}
-use Rattle.jr_world.specs.Doing.{out_if_refused, program_steps, run_alone, step, then_out}
+use Rattle.jr_world.specs.Doing.{out_if_refused, program_steps, step, then_out}
 use Rattle.jr_world.specs.Doing.Doing.{ended}
-use Rattle.jr_scripts.proofs.AloneCase.Lone.{NothingCame}
-use Rattle.jr_scripts.proofs.AloneCase.Programs.{Holds, where_noted}
 use Rattle.jr_scripts.proofs.OneRow.Alike.{Alike, begin_itself, Kept, Tidy, role_of}
 use Rattle.jr_scripts.proofs.OneRow.Blind.{look_blind, new_local_blind, noted_alike, push_blind, rewrites_blind}
 use Rattle.jr_scripts.proofs.OneRow.Blind.{same_set}
-use Rattle.jr_scripts.proofs.OneRow.Follows.{Follows, KeepsSpoilt, SameStep, but}
-use Rattle.jr_scripts.proofs.OneRow.Goes.{Goes, Stands, atom_goes, ended_goes, goes_bind, goes_less, goes_then}
-use Rattle.jr_scripts.proofs.OneRow.Goes.{look_goes}
+use Rattle.jr_scripts.proofs.OneRow.Follows.{LeadsOnce, SameStep, but}
+use Rattle.jr_scripts.proofs.OneRow.Goes.{Goes, NothingCame, Stands, atom_goes, ended_goes, goes_bind, goes_less}
+use Rattle.jr_scripts.proofs.OneRow.Goes.{goes_then, look_goes, once_goes}
 use Rattle.jr_scripts.proofs.OneRow.Parts.{both_goes, copied_goes, created_goes, deleted_goes, element_goes, freed_goes}
 use Rattle.jr_scripts.proofs.OneRow.Parts.{made_goes, named_goes, popped_goes, read_goes, room_goes, typed_goes}
 use Rattle.jr_scripts.proofs.OneRow.Parts.{written_goes}
@@ -72,6 +70,7 @@ pub in_role_kept : (r : Role) (u : ℕ) (s : Shared) → Kept u s (in_role r u s
 in_role_kept r u s = record {
   board = refl;
   owners = begin_itself s.owners;
+  as_many_roles = length-set s.roles u r;
   roles = λ t other. get_or-set_other s.roles u t r Outside other;
   frames = λ t other. refl;
 }
@@ -144,31 +143,45 @@ module _ (u : ℕ) where
     used = refl;
   }
 
--- WHAT A PROGRAM MAY END WITH: what others might leave no room for only where it is noted what stands
-abbrev pub Suits : {n : ℕ} {a : AnswerKind} → Bool → Ending n a → Type 0
-Suits notes (creates k p) = Holds notes × (k ≡ Local → ⊥)
-Suits notes (makes k ws) = Holds notes
-Suits notes (fills k n p) = Holds notes
-Suits notes _ = Unit {0}
+-- WHAT A PROGRAM MAY END WITH: a copy only where luck may count once. What others might leave no room for only where
+-- it is noted what stands
+abbrev pub Holds : Bool → Type 0
+Holds true = Unit {0}
+Holds false = ⊥
 
-abbrev pub EachSuits : {n : ℕ} {a : AnswerKind} → Bool → Program n a → Type 0
-EachSuits notes (ends e) = Suits notes e
-EachSuits notes (names p next) = EachSuits notes next
-EachSuits notes (names_both next) = EachSuits notes next
-EachSuits notes (wants p next) = EachSuits notes next
-EachSuits notes (looks next) = (kind : Kind) (long : ℕ) → EachSuits notes (next kind long)
-EachSuits notes (tests ts silent next) = EachSuits notes next
-EachSuits notes (finds i next) = EachSuits notes next
+abbrev pub Suits : {n : ℕ} {a : AnswerKind} → Bool → Bool → Ending n a → Type 0
+Suits once notes (creates k p) = Holds notes × (k ≡ Local → ⊥)
+Suits once notes (makes k ws) = Holds notes
+Suits once notes (fills k n p) = Holds notes
+Suits once notes (copies n) = Holds once
+Suits once notes _ = Unit {0}
+
+abbrev pub EachSuits : {n : ℕ} {a : AnswerKind} → Bool → Bool → Program n a → Type 0
+EachSuits once notes (ends e) = Suits once notes e
+EachSuits once notes (names p next) = EachSuits once notes next
+EachSuits once notes (names_both next) = EachSuits once notes next
+EachSuits once notes (wants p next) = EachSuits once notes next
+EachSuits once notes (looks next) = (kind : Kind) (long : ℕ) → EachSuits once notes (next kind long)
+EachSuits once notes (tests ts silent next) = EachSuits once notes next
+EachSuits once notes (finds i next) = EachSuits once notes next
+
+abbrev pub where_noted : Bool → Noted → Option Noted
+where_noted notes from = cond notes (Some from) None
 
 module _ {u : ℕ} where
-  by_notes : {A : Type 0} {from : Noted} {d : Doing A} (notes : Bool) → Holds notes
-      → Goes u (Some from) None d → Goes u (where_noted notes from) None d
-  by_notes true holds goes = goes
+  by_notes : {A : Type 0} {once : Bool} {from : Noted} {d : Doing A} (notes : Bool) → Holds notes
+      → Goes false u (Some from) None d → Goes once u (where_noted notes from) None d
+  by_notes true holds goes = goes_less goes
   by_notes false none goes = absurd none
 
-  module _ (notes : Bool) (c : Config) (from : Noted) (handed : Which → ℕ) where
-    ending_goes : {n : ℕ} {a : AnswerKind} (e : Ending n a) (known : Which → Option ℕ) (o : ℕ) → Suits notes e
-        → Goes u (where_noted notes from) None (ending_steps c from handed e known o)
+  by_copy : {A : Type 0} {before : Option Noted} {d : Doing A} (once : Bool) → Holds once
+      → Goes true u before None d → Goes once u before None d
+  by_copy true holds goes = goes
+  by_copy false none goes = absurd none
+
+  module _ (once notes : Bool) (c : Config) (from : Noted) (handed : Which → ℕ) where
+    ending_goes : {n : ℕ} {a : AnswerKind} (e : Ending n a) (known : Which → Option ℕ) (o : ℕ) → Suits once notes e
+        → Goes once u (where_noted notes from) None (ending_steps c from handed e known o)
     ending_goes (gives_kind k) known o so = goes_less (look_goes _ (look_blind (λ w. Ok k) (λ h w v views. refl)))
     ending_goes (gives_number n) known o so = goes_less (look_goes _ (look_blind (λ w. Ok n) (λ h w v views. refl)))
     ending_goes gives_object known o so = goes_less (look_goes _ (look_blind (λ w. Ok o) (λ h w v views. refl)))
@@ -188,14 +201,14 @@ module _ {u : ℕ} where
         by_notes notes so (made_goes c from k (replicate n (element_for known p)))
     ending_goes (reads i) known o so = goes_less (element_goes o i)
     ending_goes (reads_from i n) known o so = goes_less (read_goes o i n)
-    ending_goes (copies n) known o so = copied_goes o n
+    ending_goes (copies n) known o so = by_copy once so (copied_goes o n)
     ending_goes (writes i v) known o so = goes_less (atom_goes (rewrites_blind (overwritten i (v ∷ [])) o))
     ending_goes (writes_to i p) known o so =
         goes_less (atom_goes (rewrites_blind (overwritten i (element_to (known p) ∷ [])) o))
     ending_goes (writes_from i vs) known o so = goes_less (written_goes o i vs)
 
     pub program_goes : {n : ℕ} {a : AnswerKind} (p : Program n a) (known : Which → Option ℕ) (o : ℕ)
-        → EachSuits notes p → Goes u (where_noted notes from) None (program_steps c from handed p known o)
+        → EachSuits once notes p → Goes once u (where_noted notes from) None (program_steps c from handed p known o)
     program_goes (ends e) known o so = ending_goes e known o so
     program_goes (names p next) known o so =
         goes_bind (named_goes (handed p)) (λ x. program_goes next (set_known known p x) o so)
@@ -213,51 +226,42 @@ module _ {u : ℕ} where
         goes_bind (element_goes o i) (λ v. program_goes next (set_known known one (named_by v)) o so)
 
   -- THE GATE
-  out_with : {A : Type 0} (r : Result A Fault) → Goes u None None (step go_out (λ x. ended r))
-  out_with r = record { so = λ z tidy none. (inl (out_same u r z, inl (refl, refl)), out_stands u r z tidy) }
+  out_with : {A : Type 0} {once : Bool} (r : Result A Fault) → Goes once u None None (step go_out (λ x. ended r))
+  out_with r = record { so = λ z tidy none. inl (out_same u r z, out_stands u r z tidy) }
 
-  pub out_goes : Goes u None None (by_step go_out)
+  pub out_goes : Goes false u None None (by_step go_out)
   out_goes = out_with (Ok tt)
 
   -- its exit, and that of a stay that goes on where it isn't refused
-  then_out_goes : {A : Type 0} {before : Option Noted} {d : Doing A} → Goes u before None d
-      → Goes u before None (then_out d)
-  then_out_goes goes = goes_then (λ r. step go_out (λ x. ended r)) (λ r z spoilt. inl (out_same u r z, spoilt)) goes
-      (λ x. out_with (Ok x)) (λ e. out_with (Err e))
+  then_out_goes : {A : Type 0} {once : Bool} {before : Option Noted} {d : Doing A} → Goes once u before None d
+      → Goes once u before None (then_out d)
+  then_out_goes goes = once_goes goes (λ r. out_with r)
+      (λ luck r last z tidy. inl (out_same u r z, (out_stands u r z tidy, last)))
 
-  out_if_refused_goes : {A : Type 0} {before : Option Noted} {d : Doing A} → Goes u before None d
-      → Goes u before None (out_if_refused d)
-  out_if_refused_goes {A} goes =
-      goes_then out_after keeps goes (λ x. ended_goes (Ok x)) (λ e. out_with (Err e))
-    where
-      keeps : KeepsSpoilt (but u) u {A = A} out_after
-      keeps (Ok x) z spoilt = spoilt
-      keeps (Err e) z spoilt = inl (out_same u (Err e) z, spoilt)
+  out_if_refused_goes : {A : Type 0} {before : Option Noted} {d : Doing A} → Goes false u before None d
+      → Goes false u before None (out_if_refused d)
+  out_if_refused_goes goes = goes_then out_after goes (λ x. ended_goes (Ok x)) (λ e. out_with (Err e))
 
   -- A CALL: behind its entry, or out again where it is barred
-  entry_goes : {A : Type 0} {work : Noted → Doing A} → ((from : Noted) → Goes u (Some from) None (work from))
-      → Goes u None None (step go_in (inside work))
-  entry_goes {A} {work} goes = record {
-    so = λ z tidy none. let more = rest z tidy (of_others is_barring u z.roles) in (
-      inl (
-        λ luck gone s mine alike. let same = enters_alike u gone s z mine alike in
-            (ap (λ r. inside work r) same.0, same.1, same.2),
-        more.0,
-      ),
-      more.1,
+  entry_goes : {A : Type 0} {once : Bool} {work : Noted → Doing A}
+      → ((from : Noted) → Goes once u (Some from) None (work from)) → Goes once u None None (step go_in (inside work))
+  entry_goes {A} {once} {work} goes = record {
+    so = λ z tidy none. inl (
+      λ luck gone s mine alike. let same = enters_alike u gone s z mine alike in
+          (ap (λ r. inside work r) same.0, same.1, same.2),
+      rest z tidy (of_others is_barring u z.roles),
     );
   }
     where
-      rest : (z : Shared) → Tidy z → (b : Bool) → Follows (but u) u (inside work (entered u b z).0) (entered u b z).1
-          × Stands None (run_alone u true (inside work (entered u b z).0) (entered u b z).1).0
-          (run_alone u true (inside work (entered u b z).0) (entered u b z).1).1
+      rest : (z : Shared) → Tidy z → (b : Bool)
+          → LeadsOnce (but u) u once (Stands None) (inside work (entered u b z).0) (entered u b z).1
       rest z tidy true = (out_with (Err fault.Barred)).so (in_role Knocking u z) (role_tidy Knocking u z tidy) tt
       rest z tidy false = (goes (noted z)).so (in_role Within u z) (role_tidy Within u z tidy) (nothing_yet u z tidy)
 
-  pub entered_goes : {A : Type 0} {work : Noted → Doing A} → ((from : Noted) → Goes u (Some from) None (work from))
-      → Goes u None None (entered_in_steps work)
+  pub entered_goes : {A : Type 0} {once : Bool} {work : Noted → Doing A}
+      → ((from : Noted) → Goes once u (Some from) None (work from)) → Goes once u None None (entered_in_steps work)
   entered_goes goes = entry_goes (λ from. then_out_goes (goes from))
 
-  pub opened_goes : {A : Type 0} {work : Noted → Doing A} → ((from : Noted) → Goes u (Some from) None (work from))
-      → Goes u None None (opened_in_steps work)
+  pub opened_goes : {A : Type 0} {work : Noted → Doing A}
+      → ((from : Noted) → Goes false u (Some from) None (work from)) → Goes false u None None (opened_in_steps work)
   opened_goes goes = entry_goes (λ from. out_if_refused_goes (goes from))

@@ -1,7 +1,7 @@
 -- COMMANDS BY THEIR MANNERS, and where each leaves its thread at the gate.
 use Rattle.std.proofs.Common.{◌≡◌, ◌⊎◌, ◌==◌, ◌&&◌, ◌||◌, inl, ℕ, zero, suc, Bool, false, true, cond, nat_lt, List, []}
 use Rattle.std.proofs.Common.{◌∷◌, length, slice_set, slice_index, slice_index_or, Option, Some, None, Result, Ok, Err}
-use Rattle.std.proofs.Common.{refl, sym, ap, subst}
+use Rattle.std.proofs.Common.{refl, sym, ap, subst, ◌∙◌}
 use Rattle.jr_word.specs.declared.config.Config.{Config}
 use Rattle.jr_word.specs.declared.fault.Fault.{Fault}
 use Rattle.jr_word.specs.declared.fault.Fault.TheVariants as fault
@@ -30,7 +30,7 @@ use Rattle.jr_syntax.specs.declared.command.Command.{Command}
 use Rattle.jr_syntax.specs.declared.command.Command.TheVariants as commands
 use Rattle.jr_syntax.specs.declared.verb.CloseLevel.{CloseLevel}
 use Rattle.jr_syntax.specs.declared.verb.Make.TheVariants as make
-use Rattle.jr_syntax.specs.declared.verb.OnName.{OnName}
+use Rattle.jr_syntax.specs.declared.verb.OnName.TheVariants as on_name
 use Rattle.jr_syntax.specs.declared.verb.OnNameAt.TheVariants as on_name_at
 use Rattle.jr_syntax.specs.declared.verb.OpenLevel.{OpenLevel}
 use Rattle.jr_syntax.specs.declared.verb.OpenLevel.TheVariants as at
@@ -54,28 +54,23 @@ use Rattle.jr_scripts.proofs.OneRow.Alike.{role_of}
 use Rattle.jr_scripts.proofs.OneRow.Calls.{OfCalls, outside_so}
 use Rattle.jr_scripts.proofs.OneRow.Follows.{nobody, run_then}
 
--- which name is posted, or waited for
-abbrev name_of : Manner → List ℕ
-name_of (posts n) = n
-name_of (waits n) = n
-name_of _ = []
+-- who posts or waits makes the command of its name
+abbrev of_manner : Manner → Command → Command
+of_manner (posts n) x = commands.OnName on_name.Post n
+of_manner (waits n) x = commands.Make make.Wait n
+of_manner _ x = x
 
-is_posting : (x : Command) (n : List ℕ) → manner_of x ≡ posts n → (v : OnName) × (x ≡ commands.OnName v n)
-is_posting (commands.OnName v m) n is = (v, ap (λ k. commands.OnName v k) (ap name_of is))
-is_posting (commands.Make make.Plain m) n is = absurd cc
-is_posting (commands.Make make.Wait m) n is = absurd cc
-is_posting (commands.OnNameAt on_name_at.Get m i) n is = absurd cc
-is_posting (commands.PutAt put_at.Put m i y) n is = absurd cc
-is_posting (commands.Release v m r Abort) n is = absurd cc
-is_posting _ n is = absurd cc
+manner_is : (x : Command) → x ≡ of_manner (manner_of x) x
+manner_is (commands.OnName on_name.Post n) = refl
+manner_is (commands.Make make.Plain n) = refl
+manner_is (commands.Make make.Wait n) = refl
+manner_is (commands.OnNameAt on_name_at.Get n i) = refl
+manner_is (commands.PutAt put_at.Put n i v) = refl
+manner_is (commands.Release v n r Abort) = refl
+manner_is _ = refl
 
-is_waiting : (x : Command) (n : List ℕ) → manner_of x ≡ waits n → x ≡ commands.Make make.Wait n
-is_waiting (commands.Make make.Wait m) n is = ap (λ k. commands.Make make.Wait k) (ap name_of is)
-is_waiting (commands.Make make.Plain m) n is = absurd cc
-is_waiting (commands.OnNameAt on_name_at.Get m i) n is = absurd cc
-is_waiting (commands.PutAt put_at.Put m i y) n is = absurd cc
-is_waiting (commands.Release v m r Abort) n is = absurd cc
-is_waiting _ n is = absurd cc
+by_manner : (x : Command) (m : Manner) → manner_of x ≡ m → x ≡ of_manner m x
+by_manner x m is = manner_is x ∙ ap (λ m. of_manner m x) is
 
 -- what has ended, and goes on to what has
 unless_ended : {A : Type 0} (next : A → Doing Reply) → ((x : A) → (q : Result Reply Fault) × (next x ≡ ended q))
@@ -90,20 +85,21 @@ abort_ended (suc n) = (Ok replies.Done, refl)
 module _ (c : Config) (turns : ℕ) (p : Place) (words : ThreadWords) (x : Command) where
   pub posts_is : (n : List ℕ) → manner_of x ≡ posts n
       → doing_at c turns p words p.objects x ≡ by_step (posts_word n (word_posted p.names n))
-  posts_is n is = let found = is_posting x n is in
-      subst (λ y. doing_at c turns p words p.objects y ≡ by_step (posts_word n (word_posted p.names n))) (sym found.1)
-      (go found.0 p.objects)
+  posts_is n is =
+      subst (λ y. doing_at c turns p words p.objects y ≡ by_step (posts_word n (word_posted p.names n)))
+      (sym (by_manner x (posts n) is)) (go p.objects)
     where
-      go : (v : OnName) (os : List ℕ)
-          → doing_at c turns p words os (commands.OnName v n) ≡ by_step (posts_word n (word_posted p.names n))
-      go v [] = refl
-      go v (o ∷ os) = refl
+      go : (os : List ℕ)
+          → doing_at c turns p words os (commands.OnName on_name.Post n)
+          ≡ by_step (posts_word n (word_posted p.names n))
+      go [] = refl
+      go (o ∷ os) = refl
 
   pub waits_is : (n : List ℕ) → manner_of x ≡ waits n
       → doing_at c turns p words p.objects x ≡ waits_for (word_under words n) n
   waits_is n is =
-      subst (λ y. doing_at c turns p words p.objects y ≡ waits_for (word_under words n) n) (sym (is_waiting x n is))
-      (go p.objects)
+      subst (λ y. doing_at c turns p words p.objects y ≡ waits_for (word_under words n) n)
+      (sym (by_manner x (waits n) is)) (go p.objects)
     where
       go : (os : List ℕ)
           → doing_at c turns p words os (commands.Make make.Wait n) ≡ waits_for (word_under words n) n
@@ -148,14 +144,13 @@ module _ (c : Config) (turns : ℕ) (p : Place) (words : ThreadWords) (x : Comma
 
   pub posts_words : (n : List ℕ) → manner_of x ≡ posts n → (r : Result Reply Fault)
       → words_after p.names x r words ≡ words_with words n (word_posted p.names n)
-  posts_words n is r = let found = is_posting x n is in
-      ap (λ y. words_after p.names y r words) found.1
+  posts_words n is r = ap (λ y. words_after p.names y r words) (by_manner x (posts n) is)
 
   -- the words after a wait are those before, or one more under its name
   pub waits_words : (n : List ℕ) → manner_of x ≡ waits n → (r : Result Reply Fault) → (m : List ℕ) (w : ℕ)
       → word_under (words_after p.names x r words) m ≡ Some w → (word_under words m ≡ Some w) ⊎ (m ≡ n)
   waits_words n is r m w under =
-      go r (subst (λ y. word_under (words_after p.names y r words) m ≡ Some w) (is_waiting x n is) under)
+      go r (subst (λ y. word_under (words_after p.names y r words) m ≡ Some w) (by_manner x (waits n) is) under)
     where
       go : (q : Result Reply Fault)
           → word_under (words_after p.names (commands.Make make.Wait n) q words) m ≡ Some w
@@ -390,10 +385,11 @@ module _ (u : ℕ) (c : Config) (turns : ℕ) (known : Names) (words : ThreadWor
       → ((r : Result Reply Fault) → objects_after x r (o ∷ os) ≡ [] → ⊥) → Keeps u IsOpen d → Leaves u (o ∷ os) x d
   stays_in x o os more keeps = record { so = λ s rests. (keeps.so s rests.0, λ none. absurd (more _ none)) }
 
-  calls_out : OfCalls c turns (λ A d. Keeps {A = A} u IsOut d)
+  calls_out : OfCalls c turns (λ once A d. Keeps {A = A} u IsOut d)
   calls_out = record {
     answers = keeps_ended;
     binds = keeps_bind;
+    replies = λ form first. keeps_bind first (λ x. keeps_ended (Ok (form x)));
     tries = brings_tried turns (λ e role is. is) (λ e role is. is);
     enters = λ handed p suits. entered_out (λ from. program_steps c from handed p none_known 0);
     pushes = λ n. keeps_atom (push c n);
@@ -427,7 +423,7 @@ module _ (u : ℕ) (c : Config) (turns : ℕ) (known : Names) (words : ThreadWor
   outside_leaves (commands.OfRoom v) = stays_out (commands.OfRoom v) (told_out collected_out)
   outside_leaves (commands.WithTries v tries) = stays_out (commands.WithTries v tries)
       (told_out (brings_tried turns (λ e role is. is) (λ e role is. is) announced_out))
-  outside_leaves x = stays_out x (outside_so c turns known words (λ A d. Keeps {A = A} u IsOut d) calls_out x refl)
+  outside_leaves x = stays_out x (outside_so c turns known words (λ once A d. Keeps {A = A} u IsOut d) calls_out x refl)
 
   -- IN A REGION
   at_level : (levels : List (List ℕ)) (objects : List ℕ) (n : List ℕ) {next : ℕ → Doing Reply}

@@ -104,66 +104,43 @@ MayPass (posts n) m = IsOfOther n m
 MayPass _ m = Unit {0}
 
 same_heard : (m : Manner) (p : ThreadStand) (s z : Shared) → SameBoard s.board z.board → HearsSame m p s z
-same_heard (posts n) p s z same = tt
 same_heard (waits n) p s z same = ap (or_else (word_under p.words n)) (same n)
-same_heard apart p s z same = tt
-same_heard collects p s z same = tt
-same_heard acts p s z same = tt
+same_heard _ p s z same = tt
 
 -- who is ready hears the same, whatever is posted meanwhile
 ready_hears : (m : Manner) (t : ℕ) (w : Course) (s : Shared) (more : List (List ℕ × ℕ)) → IsReady w t m
     → s.board ≡ w.shared.board ++ more → HearsSame m (w.threads t) s w.shared
-ready_hears (posts n) t w s more ready is = tt
 ready_hears (waits n) t w s more ready is =
     ap (or_else own) (ap (λ b. word_under b n) is ∙ under_both w.shared.board more n)
     ∙ or_still own (word_under w.shared.board n) (word_under more n) ready
   where
     own : Option ℕ
     own = word_under (w.threads t).words n
-ready_hears apart t w s more ready is = tt
-ready_hears collects t w s more ready is = tt
-ready_hears acts t w s more ready is = tt
+ready_hears _ t w s more ready is = tt
 
 still_ready : (m : Manner) (t : ℕ) (w v : Course) (more : List (List ℕ × ℕ)) → IsReady w t m
     → v.threads t ≡ w.threads t → v.shared.board ≡ w.shared.board ++ more → IsReady v t m
-still_ready (posts n) t w v more ready same is = tt
 still_ready (waits n) t w v more (inl own) same is = inl (subst (λ p. IsSome (word_under p.words n)) (sym same) own)
 still_ready (waits n) t w v more (inr there) same is =
     inr (subst IsSome (sym (ap (λ b. word_under b n) is ∙ under_both w.shared.board more n))
     (some_still (word_under w.shared.board n) (word_under more n) there))
-still_ready apart t w v more ready same is = tt
-still_ready collects t w v more ready same is = tt
-still_ready acts t w v more ready same is = tt
+still_ready _ t w v more ready same is = tt
 
 -- nor does it count for others what is posted of other names
 none_heard : (m k : Manner) (q : ThreadStand) → MayPass m k → (n : List ℕ) → k ≡ waits n
     → word_under (posted_by m q) n ≡ None
 none_heard (posts l) k q may n is = of_other l n (word_posted q.place.names l) (subst (IsOfOther l) is may)
-none_heard (waits l) k q may n is = refl
-none_heard apart k q may n is = refl
-none_heard collects k q may n is = refl
-none_heard acts k q may n is = refl
+none_heard _ k q may n is = refl
 
 passed_hears : (m k : Manner) (p q : ThreadStand) (s z : Shared) → MayPass m k → z.board ≡ s.board ++ posted_by m q
     → HearsSame k p z s
-passed_hears m (posts n) p q s z may is = tt
 passed_hears m (waits n) p q s z may is = ap (or_else (word_under p.words n))
     (ap (λ b. word_under b n) is ∙ (under_both s.board (posted_by m q) n
     ∙ (ap (or_else (word_under s.board n)) (none_heard m (waits n) q may n refl) ∙ or_none (word_under s.board n))))
-passed_hears m apart p q s z may is = tt
-passed_hears m collects p q s z may is = tt
-passed_hears m acts p q s z may is = tt
+passed_hears m _ p q s z may is = tt
 
 one_posts : (m k : Manner) (p q : ThreadStand) → MayPass m k → (n : List ℕ)
     → (word_under (posted_by k p) n ≡ None) ⊎ (word_under (posted_by m q) n ≡ None)
-one_posts m (waits l) p q may n = inl refl
-one_posts m apart p q may n = inl refl
-one_posts m collects p q may n = inl refl
-one_posts m acts p q may n = inl refl
-one_posts (waits i) (posts l) p q may n = inr refl
-one_posts apart (posts l) p q may n = inr refl
-one_posts collects (posts l) p q may n = inr refl
-one_posts acts (posts l) p q may n = inr refl
 one_posts (posts i) (posts l) p q may n = go (bytes_eq n l) refl
   where
     go : (b : Bool) → bytes_eq n l ≡ b
@@ -171,6 +148,8 @@ one_posts (posts i) (posts l) p q may n = go (bytes_eq n l) refl
     go false is = inl refl
     go true is = inr (of_other i n (word_posted q.place.names i)
         (subst (λ o. o ≡ i → ⊥) (sym ((bytes_eq-Decides n l).0 is)) may))
+one_posts _ (posts l) p q may n = inr refl
+one_posts _ _ p q may n = inl refl
 
 turned_boards : (m k : Manner) (p q : ThreadStand) → MayPass m k → (b : List (List ℕ × ℕ))
     → SameBoard ((b ++ posted_by k p) ++ posted_by m q) ((b ++ posted_by m q) ++ posted_by k p)
@@ -195,9 +174,7 @@ record Leaves (t : ℕ) (m : Manner) (p : ThreadStand) (s s' : Shared) : Type 0 
 none_posted : (m : Manner) (p : ThreadStand) → is_acting m ≡ true → posted_by m p ≡ []
 none_posted acts p acting = refl
 none_posted collects p acting = refl
-none_posted (posts n) p acting = absurd cc
-none_posted (waits n) p acting = absurd cc
-none_posted apart p acting = absurd cc
+none_posted _ p acting = absurd cc
 
 at_other : (stands : ℕ → ThreadStand) (t u : ℕ) (p : ThreadStand) → (t ≡ u → ⊥) → update nat_eq stands t p u ≡ stands u
 at_other stands t u p other =
@@ -226,8 +203,7 @@ module _ (c : Config) (turns : ℕ) where
   quiet_leaves t x p s apart is quiet =
       ap (λ d. (run_alone t true d s).1) (apart_is c turns p.place p.words x is).1
       ∙ ap (λ b. record s { board = b }) (sym (append-nil s.board))
-  quiet_leaves t x p s collects is quiet = absurd cc
-  quiet_leaves t x p s acts is quiet = absurd cc
+  quiet_leaves t x p s _ is quiet = absurd cc
 
   quiet_says : (t : ℕ) (x : Command) (p : ThreadStand) (s z : Shared) (m : Manner) → manner_of x ≡ m
       → is_acting m ≡ false
@@ -251,8 +227,7 @@ module _ (c : Config) (turns : ℕ) where
     where
       told : (y : Shared) → (does t x p y).0 ≡ (apart_is c turns p.place p.words x is).0
       told y = ap (λ d. (run_alone t true d y).0) (apart_is c turns p.place p.words x is).1
-  quiet_says t x p s z collects is quiet same = absurd cc
-  quiet_says t x p s z acts is quiet same = absurd cc
+  quiet_says t x p s z _ is quiet same = absurd cc
 
   with_board : (s : Shared) (b : List (List ℕ × ℕ)) → Tidy s → Alike (λ t. false) (record s { board = b }) s
   with_board s b tidy = alike_board (λ t. false) s s b s.board (alike_itself s tidy)
@@ -277,9 +252,7 @@ module _ (c : Config) (turns : ℕ) where
       led nobody t (Outcome nobody t (does t x p z).0 (does t x p z).1)
       (doing_at c turns p.place p.words p.place.objects x) z
       (collects_follow c turns p.place p.words x is t z tidy rests.1) (λ t. false) (λ t. refl) s alike
-  acting_same t x p s z (posts n) is acting tidy rests alike = absurd cc
-  acting_same t x p s z (waits n) is acting tidy rests alike = absurd cc
-  acting_same t x p s z apart is acting tidy rests alike = absurd cc
+  acting_same t x p s z _ is acting tidy rests alike = absurd cc
 
   leaves : (t : ℕ) (x : Command) (p : ThreadStand) (s : Shared) (m : Manner) → manner_of x ≡ m → Tidy s
       → Rests p.place.objects (role_of s t) → Leaves t m p s (does t x p s).1
@@ -530,7 +503,4 @@ module _ (c : Config) (turns : ℕ) where
 
       may : (m : Manner) → manner_of x ≡ m → MayPass m (manner_of y.1)
       may (posts n) is = (posts_new threads k t x (y ∷ ys) post ordered first n is).1.0
-      may (waits n) is = tt
-      may apart is = tt
-      may collects is = tt
-      may acts is = tt
+      may _ is = tt

@@ -41,16 +41,12 @@ use Rattle.jr_scripts.proofs.OneRow.Swaps.{IsReady}
 pub acting_may : (k : News) (a : Manner) → is_acting a ≡ true → MayBeFirst k a
 acting_may k acts is = tt
 acting_may k collects is = tt
-acting_may k (posts n) none = absurd cc
-acting_may k (waits n) none = absurd cc
-acting_may k apart none = absurd cc
+acting_may k _ none = absurd cc
 
 acting_ready : (w : Course) (t : ℕ) (a : Manner) → is_acting a ≡ true → IsReady w t a
 acting_ready w t acts is = tt
 acting_ready w t collects is = tt
-acting_ready w t (posts n) none = absurd cc
-acting_ready w t (waits n) none = absurd cc
-acting_ready w t apart none = absurd cc
+acting_ready w t _ none = absurd cc
 
 module _ (c : Config) (turns : ℕ) (end : Course) (m : Machine (List ℕ)) (t : ℕ) (less : t < c.threads) (luck : Bool)
   where
@@ -472,9 +468,7 @@ module _ (c : Config) (turns : ℕ) (end : Course) (m : Machine (List ℕ)) (t :
                 go : (k : Manner) → manner_of x ≡ k → is_acting k ≡ true → beside k t S.gone
                 go acts so acting = here
                 go collects so acting = λ v. nobody_gone so v (S.gone v) refl
-                go (posts n) so none = absurd cc
-                go (waits n) so none = absurd cc
-                go apart so none = absurd cc
+                go _ so none = absurd cc
 
             midst : Alike S.gone m.shared S.course.shared → Midst c turns S.gone S.todo S.course m t
             midst was = record {

@@ -1,5 +1,5 @@
--- AN ANNOUNCED COLLECTION IS PLAYED by the steps of its page: the look and the announcement, the tries that are
--- refused, and then the collection or the way back.
+-- AN ANNOUNCED COLLECTION IS PLAYED by the steps of its page: the look and the announcement, refused tries, and then
+-- the collection or the way back.
 use Rattle.std.proofs.Common.{◌≡◌, ◌≤◌, ◌<◌, ◌||◌, ℕ, Bool, true, false, cond, nat_lt, ⊎_elim}
 use Rattle.std.proofs.Common.{Result, Ok, Err, List, [], ◌∷◌, ◌++◌, map, length}
 use Rattle.std.proofs.Common.{refl, sym, ap, subst, ◌∙◌, arith, append_assoc, append-nil, lt-ltb}

@@ -125,8 +125,8 @@ module _ (whole : History) (old new : PassView) (cleared : List Handle) (dropped
       ∙ (sym next.1 ∙ append_assoc before (by u (Gate Shut) ∷ []) next.0))))
       (own_before ∙ sym own)) collects.whole
 
--- A COLLECTION LEFT NOTHING OUT where its shut is played: that is the moment of the whole history up to which the
--- thread has done as much
+-- A COLLECTION LEFT NOTHING OUT where its shut is played: up to that moment of the whole history the thread has done as
+-- much
 pub shut_whole : (whole : History) (t : ℕ) (old new : PassView) (cleared : List Handle) (dropped : List ℕ) (used : ℕ)
     → Collects old new cleared dropped used → old.thread ≡ t → IsPrefix new.seen whole → (before : History)
     → IsPrefix (before ++ by t (Gate Shut) ∷ []) whole → mine before t ≡ mine old.seen t

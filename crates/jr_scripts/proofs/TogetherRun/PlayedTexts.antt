@@ -24,8 +24,8 @@ abbrev pub world_born : Births → World
 world_born b =
     record { objects = map (λ e. e.1) b.objects; refs = map (λ e. e.1) b.refs; frames = []; used = b.used }
 
--- A TEXT IS PLAYED: there are one history, one board, and a story for each thread by which its program is played, and
--- answers its lines. The last lines tell of what was born
+-- A TEXT IS PLAYED: there are one history, one board, and a story for each thread. By it the thread's program is
+-- played, and answers its lines. The last lines tell of what was born
 pub record IsPlayed (turns : ℕ) (s : Script) (text : List ℕ) : Type 0 where
   pub whole : History
   pub board : BoardOf Act
