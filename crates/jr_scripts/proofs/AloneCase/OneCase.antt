@@ -26,7 +26,7 @@ use Rattle.jr_scripts.specs.Names.{Names, word_posted}
 use Rattle.jr_scripts.specs.Places.{Place, nowhere}
 use Rattle.jr_scripts.specs.Posting.{ThreadWords, reply_to_wait, words_after}
 use Rattle.jr_scripts.specs.Text.{ending, heading, text_of_parts}
-use Rattle.jr_scripts.proofs.OneRow.Alike.{Kept, Tidy, frames_of, kept_itself, owner_of}
+use Rattle.jr_scripts.proofs.OneRow.Alike.{Kept, Tidy, frames_of, kept_itself, owner_of, tidy_board}
 use Rattle.jr_scripts.proofs.OneRow.Calls.{calls_go_on, end_goes, is_by_calls, is_copy}
 use Rattle.jr_scripts.proofs.OneRow.Collections.{Exactly, IsExact}
 use Rattle.jr_scripts.proofs.OneRow.Follows.{RunsSo, but, nobody, once_runs}
@@ -134,7 +134,7 @@ module _ (c : Config) (turns : ℕ) where
       between = record s { board = s.board ++ (n, word_posted p.names n) ∷ [] };
       lone = record {
         one = lone.one;
-        tidy = record { owned = lone.tidy.owned; local = lone.tidy.local; framed = lone.tidy.framed };
+        tidy = tidy_board s _ lone.tidy;
         own = own_posted words s.board n (word_posted p.names n) lone.own;
       };
       luck = true;

@@ -107,7 +107,7 @@ alike_all s z a i = record {
   board = s.board;
 }
 
-tidy_board : (s : Shared) (b : List (List ℕ × ℕ)) → Tidy s → Tidy (record s { board = b })
+pub tidy_board : (s : Shared) (b : List (List ℕ × ℕ)) → Tidy s → Tidy (record s { board = b })
 tidy_board s b tidy = record { owned = tidy.owned; local = tidy.local; framed = tidy.framed }
 
 -- the board counts for nothing
