@@ -16,12 +16,12 @@ use Rattle.jr_rule.specs.declared.row.Row.{Row}
 use Rattle.jr_rule.specs.Passes.{AreOpened, ClosesAll, holder_of, known_of}
 use Rattle.jr_rule.specs.Sites.{IsPassOf}
 use Rattle.jr_threads.specs.Parts.{DidWithPass, RanTogether}
-use Rattle.jr_threads.specs.Sites.{IsBack}
+use Rattle.jr_threads.specs.Sites.{IsBack, IsSiteRoom}
 use Rattle.jr_threads.proofs.OneHistory.{have_run}
 use Rattle.jr_threads.proofs.Passes.{is_back, opened_so}
 use Rattle.first_room.specs.Calls.{Findings, Shared, Visited, story}
 use Rattle.first_room.specs.Hour.{IsTrueReport}
-use Rattle.first_room.specs.Sites.{HasCome, IsRoomOf}
+use Rattle.first_room.specs.Sites.{HasCome}
 use Rattle.first_room.proofs.ReadIsWritten.{read_is_written}
 
 -- the two passes of the room, the first first: no other is left once both are removed
@@ -50,10 +50,9 @@ both_passes r ps qs rs p q o first rest second none =
 
 -- a pass that came back to the room
 pub came_back : (site : Option TableId) (sizes : Config) (room : Room LAST) (t : ℕ) (p q : Pass) (x : Findings)
-    → IsRoomOf site sizes room → p.thread ≡ t → HasCome site sizes t p q x → IsBack room.row p q
-came_back site sizes room t p q x is own h = is_back room p q
-    (subst (λ (z : Option TableId × Config × ℕ). IsPassOf z.0 z.1 LAST z.2 q)
-    (λ i. (sym is.room_is i, sym is.sizes_are i, (sym own ∙ sym p.held.thread_is) i)) h.back) h.outside
+    → IsSiteRoom site sizes room → p.thread ≡ t → HasCome site sizes t p q x → IsBack room.row p q
+came_back site sizes room t p q x is own h = is_back room p q is
+    (subst (λ (z : ℕ). IsPassOf site sizes LAST z q) (sym own ∙ sym p.held.thread_is) h.back) h.outside
 
 -- the second pass is all that is closed with the first
 pub only_other : (P : Pass → Type 0) (others : List Pass) (q : Pass) → others ≡ q ∷ [] → P q → All P others

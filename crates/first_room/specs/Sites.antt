@@ -1,5 +1,5 @@
 -- For the crate's own functions: which room a thread's pass is of, by a type that stands for the room, and what it did.
-use Rattle.std.specs.Prelude.{◌≡◌, ℕ, Option, Some}
+use Rattle.std.specs.Prelude.{◌≡◌, ℕ, Option}
 use Rattle.atomic_table.specs.Seated.{TableId}
 use Rattle.first_room.specs.declared.TheConstants.{LAST, SIZES}
 use Rattle.jr_word.specs.declared.config.Config.{Config}
@@ -10,11 +10,6 @@ use Rattle.jr_rule.specs.Passes.{IsOpened, holder_of}
 use Rattle.jr_rule.specs.Sites.{IsPassOf, IsSiteOf}
 use Rattle.jr_threads.specs.Parts.{DidWithPass}
 use Rattle.first_room.specs.Calls.{Findings, story}
-
--- the room is the site's, with its sizes
-pub record IsRoomOf (site : Option TableId) (sizes : Config) (room : Room LAST) : Type 0 where
-  pub room_is : Some room.row.table.shared.table_id ≡ site
-  pub sizes_are : room.row.config ≡ sizes
 
 -- THE PASS IS THE THREAD'S in the site's room, as it was opened
 pub record IsPassOfThread (site : Option TableId) (sizes : Config) (room : Room LAST) (t : ℕ) (p : Pass) : Type 0 where

@@ -12,7 +12,8 @@ ghost use Rattle.jr_env.specs.Envs.{Does, IsOutside};
 ghost use Rattle.first_room.specs.Calls.{Shared, Visited, clearing, collecting_twice};
 ghost use Rattle.first_room.specs.Calls.{making_own, preparing, reading_within};
 ghost use Rattle.first_room.specs.Hour.{IsTrueReport, IsWritten, report_lines, report_text};
-ghost use Rattle.first_room.specs.Sites.{HasCome, IsPassOfThread, IsRoomOf};
+ghost use Rattle.jr_threads.specs.Sites.{IsSiteRoom};
+ghost use Rattle.first_room.specs.Sites.{HasCome, IsPassOfThread};
 
 mod handing;
 
@@ -84,7 +85,7 @@ fn run_in<Q: Site + Send + Sync, T: Threads>(
     mut passes: Vec<Pass>,
 ) -> Result<(i32, u32, bool, u8, Summary), Fault>
     requires passes { AreOpened SIZES LAST room.row passes.items }
-    requires site { IsRoomOf Q.room Q.sizes room }
+    requires site { IsSiteRoom Q.room Q.sizes room }
     ensures { IfOk result (λ r. IsTrueReport (record { read = r.0; inside = r.1; cleared = r.2; kind = r.3; left = r.4 })) }
 {
     let (first, second) = (passes.remove(0), passes.remove(0));

@@ -1,9 +1,12 @@
-//! Native code that tells what each of its threads does, so that `run_native` says it of all of them.
+//! Native code that tells what each of its threads does, so that `run_native` says it of all of them; and the queue between its threads.
 ghost use Rattle.std.specs.Prelude.{true, IfOk};
 ghost use Rattle.jr_env.specs.Deeds.{new_plain};
 ghost use Rattle.jr_threads.specs.Parts.{replied, RanTogether};
 
-use jr::{Config, Env, Fault, Handle, NativeCode, NativeInterface, Ran, Steps, run_native};
+use jr::{
+    Config, Env, Fault, Handle, NativeCode, NativeInterface, NoMessage, QueueEnd, Ran, Site,
+    StepsIn, run_native,
+};
 use std::alloc::Global;
 use std::test::Fail;
 use std::thread::Threads;
@@ -25,13 +28,20 @@ impl NativeCode for Makes {
     ghost use Rattle.jr_env.specs.Deeds.{new_plain};
     ghost use Rattle.jr_threads.specs.Parts.{replied};
 
+    type Message = ();
+
     type Answer = Result<Handle, Fault>;
 
     ghost tells = { λ answer. true };
 
     ghost deed = { λ native thread. replied new_plain };
 
-    fn run<S: Steps + Drop>(&self, _: u8, env: &mut Env<S>) -> Result<Handle, Fault> {
+    fn run<Q: Site, S: StepsIn<Q> + Drop>(
+        &self,
+        _: u8,
+        env: &mut Env<S>,
+        _: &mut QueueEnd<'_, (), Q>,
+    ) -> Result<Handle, Fault> {
         env.new_plain()
     }
 }
@@ -55,6 +65,76 @@ fn each_thread_made_an_object(rt: HostRuntime) -> Result<(), Fail> {
     assert!(rt; ran.summary.live == 3);
     for answer in ran.answers {
         assert!(rt; answer.is_ok());
+    }
+    Ok(())
+}
+
+/// A thread fills the queue, and empties it to its end.
+struct Fills;
+
+/// What the queue answered to it.
+#[derive(Clone, Copy, Debug, PartialEq, Eq)]
+struct Queued {
+    empty: Option<NoMessage>,
+    too_many: u8,
+    taken: [u8; 2],
+    too_late: u8,
+    over: Option<NoMessage>,
+}
+
+impl NativeCode for Fills {
+    type Message = u8;
+
+    type Answer = Option<Queued>;
+
+    const PLACES: usize = 2;
+
+    fn run<Q: Site, S: StepsIn<Q> + Drop>(
+        &self,
+        _: u8,
+        env: &mut Env<S>,
+        queue: &mut QueueEnd<'_, u8, Q>,
+    ) -> Option<Queued> {
+        let empty = queue.take().err();
+        queue.put(1, env.note()).ok()?;
+        queue.put(2, env.note()).ok()?;
+        let (too_many, _) = queue.put(3, env.note()).err()?;
+        let (first, _) = queue.take().ok()?;
+        let (second, _) = queue.take().ok()?;
+        queue.puts_no_more();
+        let (too_late, _) = queue.put(4, env.note()).err()?;
+        Some(Queued {
+            empty,
+            too_many,
+            taken: [first, second],
+            too_late,
+            over: queue.take().err(),
+        })
+    }
+}
+
+/// A queue of two places takes no third message, hands them out in their order, and is over once nobody puts.
+#[test]
+fn a_queue_is_full_and_comes_to_its_end(rt: HostRuntime) -> Result<(), Fail> {
+    let ran = run_native(
+        &rt,
+        rt.alloc(),
+        Config {
+            threads: 1,
+            ..SIZES
+        },
+        &Fills,
+    )?;
+    let queued = Queued {
+        empty: Some(NoMessage::Yet),
+        too_many: 3,
+        taken: [1, 2],
+        too_late: 4,
+        over: Some(NoMessage::More),
+    };
+    assert!(rt; ran.answers.len() == 1);
+    for answer in ran.answers {
+        assert!(rt; answer == Some(queued));
     }
     Ok(())
 }

@@ -1,13 +1,16 @@
-//! Notes between threads that own their room: each thread takes over the array that its neighbour sent by a queue, with a note of it. No clause is written here, and no file of proofs.
+//! Notes between threads that own their room: each thread takes over the array that its neighbour sent by a queue, with a note of it. It tells what it answers, and whoever joins it knows that by contract. No file of proofs is written here.
+ghost use Rattle.std.specs.Prelude.{◌≡◌, IfOk, IfSome};
+ghost use Rattle.jr_steps.specs.declared.known.Known.{Known};
+ghost use Rattle.jr_rule.specs.Passes.{known_of, Closes};
 
 use crate::owners::{AT_THE_END, THREE, closed_by_one, shares, takes_over};
 use jr::{
-    Env, Fault, Handle, NoteOf, NoteQueue, OwnedCode, OwnedStepsOf, Patience, Site, StepsIn,
-    Summary, close_owned, of_any_site, spawn_owned,
+    Env, Fault, Handle, NoMessage, NoteOf, OwnedCode, OwnedStepsOf, Patience, QueueEnd, RunsCode,
+    Site, StepsIn, Summary, close_owned, of_any_site, spawn_owned,
 };
-use std::sync::Wait;
 use std::test::Fail;
 use std::thread;
+use std::thread::{PromisedHandle, Threads};
 
 /// In how many turns a thread looks for what its neighbour sent.
 const TURNS: u32 = 10_000_000;
@@ -21,33 +24,34 @@ struct Sent {
 
 /// Each thread sends an array, and takes over the one that its neighbour sent.
 #[derive(Drop)]
-struct TakesOver<R> {
-    rt: R,
-}
+struct TakesOver;
 
-/// What came of a thread: the length of the array that it took over, and the summary where it closed the room.
+/// What came of a thread: its number, the length of the array that it took over, and the summary where it closed the room.
 #[derive(Drop)]
 struct Ended {
+    thread: u8,
     length: u32,
     closed: Option<Summary>,
 }
 
-/// What the thread of this number sent, with its note, once it is there.
-fn taken<R: Wait, Q: Site>(
-    rt: &R,
-    queue: &NoteQueue<Sent, Q>,
-    from: u8,
-) -> Option<(Sent, NoteOf<Q>)> {
+/// Puts a message with its note, as soon as there is room.
+fn puts<Q: Site>(queue: &QueueEnd<'_, Sent, Q>, sent: Sent, note: NoteOf<Q>) -> Result<(), Fault> {
+    queue
+        .retry_put(sent, note, Patience::LONG)
+        .map_err(|_| Fault::Turns)
+}
+
+/// What the thread of this number sent, with its note, once it is there. What others sent is put back.
+fn taken<Q: Site>(queue: &QueueEnd<'_, Sent, Q>, from: u8) -> Result<(Sent, NoteOf<Q>), Fault> {
     for _ in 0..TURNS {
-        let mut sent = queue.lock(rt);
-        let there = sent.iter().position(|it| it.0.from == from);
-        if let Some(at) = there {
-            return Some(sent.swap_remove(at));
+        match queue.take() {
+            Ok((sent, note)) if sent.from == from => return Ok((sent, note)),
+            Ok((sent, note)) => puts(queue, sent, note)?,
+            Err(NoMessage::Yet) => thread::yield_now(),
+            Err(NoMessage::More) => return Err(Fault::Turns),
         }
-        drop(sent);
-        thread::yield_now();
     }
-    None
+    Err(Fault::Turns)
 }
 
 /// Learns a note of its own, which is pinned, and which no other thread has.
@@ -61,57 +65,69 @@ fn learns_pinned<Q: Site, S: StepsIn<Q>>(env: &mut Env<S>) -> Result<(), Fault> 
 }
 
 /// Sends an array, and takes over the one that the neighbour sent: its length. It learns the note that came with it, and a pinned one.
-fn hands_on<R: Wait, Q: Site, S: StepsIn<Q>>(
-    rt: &R,
+fn hands_on<Q: Site, S: StepsIn<Q>>(
     thread: u8,
     env: &mut Env<S>,
-    queue: &NoteQueue<Sent, Q>,
+    queue: &QueueEnd<'_, Sent, Q>,
 ) -> Result<u32, Fault> {
     let shared = shares(env, Patience::of(3))?;
     let sent = Sent {
         from: thread,
         shared,
     };
-    let Ok(()) = queue.lock(rt).push((sent, env.note())) else {
-        return Err(Fault::Memory);
-    };
+    puts(queue, sent, env.note())?;
     let neighbour = if thread == 0 { 2 } else { thread - 1 };
-    let Some((sent, note)) = taken(rt, queue, neighbour) else {
-        return Err(Fault::Memory);
-    };
+    let (sent, note) = taken(queue, neighbour)?;
     env.learn(note);
     learns_pinned(env)?;
     takes_over(env, sent.shared)
 }
 
-impl<R: Wait + Drop> OwnedCode for TakesOver<R> {
+impl OwnedCode for TakesOver {
+    ghost use Rattle.std.specs.Prelude.{◌≡◌, IfOk, IfSome};
+    ghost use Rattle.jr_steps.specs.declared.known.Known.{Known};
+    ghost use Rattle.jr_rule.specs.Passes.{Closes};
+
     type Message = Sent;
 
     type Answer = Result<Ended, Fault>;
+
+    ghost tells = { λ code room thread answer. IfOk answer (λ a. (a.thread ≡ thread) × IfSome a.closed (λ s. (k : Known) × Closes k s)) };
 
     fn run<Q: Site>(
         &self,
         thread: u8,
         mut env: Env<OwnedStepsOf<Q>>,
-        queue: &NoteQueue<Sent, Q>,
+        queue: &mut QueueEnd<'_, Sent, Q>,
     ) -> Result<Ended, Fault> {
-        let length = hands_on(&self.rt, thread, &mut env, queue);
+        let length = hands_on(thread, &mut env, queue);
         let closed = close_owned(of_any_site(env.into_pass())).map_err(|left| left.fault)?;
         Ok(Ended {
+            thread,
             length: length?,
             closed,
         })
     }
 }
 
+/// What came of the thread, once it has ended: it is the thread of that number, and a summary is of a legal history.
+fn joined<R: Threads>(
+    rt: &R,
+    thread: PromisedHandle<Result<Ended, Fault>, RunsCode<TakesOver>>,
+) -> Result<Ended, Fault>
+    ensures { IfOk result (λ a. (a.thread ≡ (known_of thread.promise.pass.value).thread) × IfSome a.closed (λ s. (k : Known) × Closes k s)) }
+{
+    thread.join(rt)
+}
+
 /// Three threads that were spawned hand references on with notes, and the last one closes the room.
 #[test]
 fn three_owners_hand_notes_on(rt: HostRuntime) -> Result<(), Fail> {
-    let threads = spawn_owned(&rt, rt.alloc(), THREE, TakesOver { rt })?;
+    let threads = spawn_owned(&rt, rt.alloc(), THREE, TakesOver).map_err(|refused| refused.1)?;
     assert!(rt; threads.len() == 3);
     let mut closed = None;
     for thread in threads {
-        let ended = thread.join(&rt)?;
+        let ended = joined(&rt, thread)?;
         closed = closed_by_one(&rt, closed, ended.length, ended.closed);
     }
     assert!(rt; closed == Some(AT_THE_END));

@@ -1,14 +1,18 @@
 //! A pool of envs: more native threads come and go than the room has threads.
+ghost use Rattle.jr.specs.Conditions.{IsRoomOfSite};
 
 use crate::owners::shares;
 use jr::{
-    Attached, Config, Env, EnvPool, Explains, Fault, Handle, NativeInterface, OwnedEnv, Patience,
-    Steps, Summary, close_owned,
+    Attached, Config, Env, EnvPool, Explains, Fault, Handle, NativeInterface, NoteOf, OwnedStepsOf,
+    Patience, PoolRoom, Site, Steps, StepsIn, Summary, close_owned, of_any_site,
 };
 use jr_fixtures::is_refused;
-use std::sync::Arc;
+use std::alloc::Global;
+use std::marker::Brand;
+use std::sync::{Arc, Mutex};
 use std::test::Fail;
 use std::thread;
+use std::thread::Threads;
 
 /// A room in which two threads may be attached at a time.
 const TWO: Config = Config {
@@ -41,14 +45,35 @@ const BEHIND_ALL: Summary = Summary {
     used: 0,
 };
 
-/// Makes an array and a global reference to it, and leaves the local one: the number of the thread.
-fn works<S: Steps>(env: &mut Env<S>) -> Result<u8, Fault> {
-    shares(env, Patience::LONG)?;
+/// What a thread leaves for the next one: a global reference, with a note.
+type Parcel<Q> = Mutex<Option<(Handle, NoteOf<Q>)>>;
+
+/// Learns what an earlier thread left, and looks at its array: E2 where its reference is none.
+fn looks<Q: Site, S: StepsIn<Q>>(env: &mut Env<S>, left: &Parcel<Q>) -> Result<(), Fault> {
+    let Some(mut left) = left.try_lock() else {
+        return Ok(());
+    };
+    let Some((array, note)) = left.take() else {
+        return Ok(());
+    };
+    env.learn(note);
+    env.get_array_length(array)?;
+    Ok(())
+}
+
+/// Makes an array and a global reference to it, and leaves the local one: the number of the thread. It looks at what an earlier thread left, and leaves its own for the next.
+fn works<Q: Site, S: StepsIn<Q>>(env: &mut Env<S>, left: &Parcel<Q>) -> Result<u8, Fault> {
+    looks(env, left)?;
+    let shared = shares(env, Patience::LONG)?;
+    let note = env.note();
+    if let Some(mut left) = left.try_lock() {
+        *left = Some((shared, note));
+    }
     Ok(env.thread())
 }
 
 /// Hands an env back: E13 where it is refused, and then it is gone.
-fn detach(attached: Attached<'_>) -> Result<(), Fault> {
+fn detach<Q: Site>(attached: Attached<'_, Q>) -> Result<(), Fault> {
     match attached.detach(Patience::LONG) {
         Ok(()) => Ok(()),
         Err((attached, fault)) => {
@@ -59,43 +84,58 @@ fn detach(attached: Attached<'_>) -> Result<(), Fault> {
 }
 
 /// A thread that comes, works, and goes: the number of the env's thread. E20 where it finds no env.
-fn comes_and_goes(pool: &EnvPool) -> Result<u8, Fault> {
+fn comes_and_goes<Q: Site>(pool: &EnvPool<Q>, left: &Parcel<Q>) -> Result<u8, Fault> {
     for _ in 0..TURNS {
         let Some(mut attached) = pool.attach() else {
             thread::yield_now();
             continue;
         };
-        let answer = works(&mut *attached.env);
+        let answer = works(&mut *attached.env, left);
         detach(attached)?;
         return answer;
     }
     Err(Fault::Turns)
 }
 
-/// More threads come and go than there are envs, and each leaves no local reference.
-#[test]
-fn threads_come_and_go(rt: HostRuntime) -> Result<(), Fail> {
-    let alloc = rt.alloc();
-    let pool = Arc::new(alloc, EnvPool::open(alloc, TWO)?)?;
+/// More threads come to the pool of the site's room than it has envs. What stands behind them all, where no thread's number is too big.
+fn serves<R: Threads, Q: Site + Send + Sync + 'static>(
+    rt: &R,
+    alloc: Global,
+    room: PoolRoom,
+) -> Result<Option<Summary>, Fail>
+    requires { IsRoomOfSite Q.room room }
+{
+    let pool = Arc::new(alloc, EnvPool::<Q>::of(alloc, room)?)?;
+    let left = Arc::new(alloc, Mutex::new(None))?;
     let mut threads = Vec::with_capacity(alloc, COMERS)?;
     for _ in 0..COMERS {
-        let pool = Arc::try_clone(&pool)?;
-        threads.push(thread::spawn(&rt, move || comes_and_goes(&*pool))?)?;
+        let (pool, left) = (Arc::try_clone(&pool)?, Arc::try_clone(&left)?);
+        threads.push(thread::spawn(rt, move || { comes_and_goes::<Q>(&*pool, &*left) })?)?;
     }
     for thread in threads {
-        let number = thread.join(&rt)?;
-        assert!(rt; number < 2);
+        let number = thread.join(rt)?;
+        if number >= 2 {
+            return Err("a thread of another number")?;
+        }
     }
     let Some(pool) = Arc::into_inner(pool) else {
         return Err("a thread has the pool still")?;
     };
     let closed = pool.close().map_err(|left| left.fault)?;
+    Ok(closed)
+}
+
+/// More threads come and go than there are envs, and each leaves no local reference.
+#[test]
+fn threads_come_and_go(rt: HostRuntime) -> Result<(), Fail> {
+    let room = PoolRoom::open(rt.alloc(), TWO)?;
+    let closed = serves::<HostRuntime, Brand>(&rt, rt.alloc(), room)?;
     assert!(rt; closed == Some(AT_THE_END));
     Ok(())
 }
 
 /// The env of a pool in which one is free: E21 where none is.
-fn attached(pool: &EnvPool) -> Result<Attached<'_>, Fault> {
+fn attached<Q: Site>(pool: &EnvPool<Q>) -> Result<Attached<'_, Q>, Fault> {
     pool.attach().ok_or(Fault::NotFresh)
 }
 
@@ -106,7 +146,7 @@ fn makes_in_a_frame<S: Steps>(env: &mut Env<S>) -> Result<Handle, Fault> {
 }
 
 /// Makes a local reference in a frame of its own, and goes: a handle that was let go.
-fn leaves_a_local(pool: &EnvPool) -> Result<Handle, Fault> {
+fn leaves_a_local<Q: Site>(pool: &EnvPool<Q>) -> Result<Handle, Fault> {
     let mut attached = attached(pool)?;
     let local = makes_in_a_frame(&mut *attached.env);
     detach(attached)?;
@@ -143,7 +183,7 @@ fn stays_gone<S: Steps>(env: &mut Env<S>, word: Handle) -> Result<bool, Fault> {
 }
 
 /// Whether a handle of an earlier thread is no reference of the next one, also once that has made another at its place, and that has no frame to pop.
-fn finds_nothing(pool: &EnvPool, local: Handle) -> Result<bool, Fault> {
+fn finds_nothing<Q: Site>(pool: &EnvPool<Q>, local: Handle) -> Result<bool, Fault> {
     let mut attached = attached(pool)?;
     let found = stays_gone(&mut *attached.env, local);
     detach(attached)?;
@@ -151,7 +191,7 @@ fn finds_nothing(pool: &EnvPool, local: Handle) -> Result<bool, Fault> {
 }
 
 /// Takes an env out of the pool while the other is held. E20 where a third is handed out.
-fn takes_one(pool: &EnvPool) -> Result<OwnedEnv, Fault> {
+fn takes_one<Q: Site>(pool: &EnvPool<Q>) -> Result<Env<OwnedStepsOf<Q>>, Fault> {
     let first = attached(pool)?;
     let second = pool.attach();
     let third = pool.attach();
@@ -168,16 +208,30 @@ fn takes_one(pool: &EnvPool) -> Result<OwnedEnv, Fault> {
     if is_full { Ok(env) } else { Err(Fault::Turns) }
 }
 
+/// What the close of a pool says whose other env was taken out of it, and what that env's owner says behind it. E20 where the next thread finds what an earlier one left.
+fn serves_one_at_a_time<Q: Site>(
+    alloc: Global,
+    room: PoolRoom,
+) -> Result<(Option<Summary>, Option<Summary>), Fault>
+    requires { IsRoomOfSite Q.room room }
+{
+    let pool = EnvPool::<Q>::of(alloc, room)?;
+    let local = leaves_a_local(&pool)?;
+    if !finds_nothing(&pool, local)? {
+        return Err(Fault::Turns);
+    }
+    let env = takes_one(&pool)?;
+    let others = pool.close().map_err(|left| left.fault)?;
+    let closed = close_owned(of_any_site(env.into_pass())).map_err(|left| left.fault)?;
+    Ok((others, closed))
+}
+
 /// An env serves one thread at a time, and the next finds nothing of it. One that was taken out owns the room behind the close.
 #[test]
 fn an_env_serves_one_thread_at_a_time(rt: HostRuntime) -> Result<(), Fail> {
-    let pool = EnvPool::open(rt.alloc(), TWO)?;
-    let local = leaves_a_local(&pool)?;
-    assert!(rt; finds_nothing(&pool, local)?);
-    let env = takes_one(&pool)?;
-    let others = pool.close().map_err(|left| left.fault)?;
+    let room = PoolRoom::open(rt.alloc(), TWO)?;
+    let (others, closed) = serves_one_at_a_time::<Brand>(rt.alloc(), room)?;
     assert!(rt; others.is_none());
-    let closed = close_owned(env.into_pass()).map_err(|left| left.fault)?;
     assert!(rt; closed == Some(BEHIND_ALL));
     Ok(())
 }

@@ -1,5 +1,6 @@
 -- The owners of a room that was opened, one for each pass and as it, and the envs over their steps.
-use Rattle.std.proofs.Common.{◌≡◌, ◌++◌, ◌∷◌, [], ℕ, zero, suc, List, arith, length, map, subst, sym, ap, ◌∙◌, refl}
+use Rattle.std.proofs.Common.{◌≡◌, ◌++◌, ◌∷◌, [], ℕ, zero, suc, List, append_assoc, arith, length, map, subst}
+use Rattle.std.proofs.Common.{◌<◌, ◌≤◌, sym, ap, ◌∙◌, refl}
 use Rattle.std.specs.Arc.{arc_value}
 use Rattle.std.specs.List.{All, AllZip}
 use Rattle.std.proofs.lemmas.List.Elements.{All-append, All-cons, All-nil, All-head, All-tail}
@@ -18,6 +19,7 @@ use Rattle.jr_steps.specs.declared.steps.Steps.{Ghosts as StepsGhosts}
 use Rattle.jr_env.specs.declared.env.Env.{Env}
 use Rattle.jr_rule.specs.declared.owned_cells.OwnedCells.{OwnedCells}
 use Rattle.jr_owned.specs.Owners.{owner_of, AreOfRoom, IsEnvOver, IsOwnerOpened, AreOwnersOpened}
+use Rattle.jr_owned.specs.Started.{AreStarted}
 
 module _ {P : Type 0} {G : Ghosts (OwnedCells 4294967295) P} where
   -- one more owner
@@ -92,7 +94,7 @@ pub env_more : {S : Type 0} {G : StepsGhosts S} (ss : List S) (es ts : List (Env
 env_more ss es ts s e is was more =
     subst (AllZip IsEnvOver (ss ++ s ∷ [])) (sym is) (zip_more IsEnvOver ss es s e was more)
 
-pub numbers_long : (n : ℕ) → length (numbers_below n) ≡ n
+numbers_long : (n : ℕ) → length (numbers_below n) ≡ n
 numbers_long zero = refl
 numbers_long (suc n) = let e = length-append (numbers_below n) (n ∷ []) in let f = numbers_long n in omega arith
 
@@ -100,3 +102,22 @@ numbers_long (suc n) = let e = length-append (numbers_below n) (n ∷ []) in let
 pub passes_long : (c : Config) (last : ℕ) (r : Row) (ps : List Pass) → AreOpened c last r ps → length ps ≡ c.threads
 passes_long c last r ps o =
     sym (length-map ps (λ (p : Pass). p.thread)) ∙ (ap (λ (ns : List ℕ). length ns) o.threads ∙ numbers_long c.threads)
+
+-- threads of these passes were started
+pub are_started : (c : Config) (r : Row) (ps qs : List Pass) → AreOpened c 4294967295 r ps → qs ≡ ps → AreStarted c qs
+are_started c r ps qs o same = record { row = r; opened = subst (AreOpened c 4294967295 r) (sym same) o }
+
+-- of a list that is shown in order one more is shown
+pub one_more : {A X : Type 0} (f : A → X) (xs ys : List A) (y : A) (x : X) (rest left all : List X) → ys ≡ xs ++ y ∷ []
+    → f y ≡ x → rest ≡ x ∷ left → map f xs ++ rest ≡ all → map f ys ++ left ≡ all
+one_more f xs ys y x rest left all is shows more was =
+    ap (λ zs. map f zs ++ left) is
+    ∙ (ap (λ zs. zs ++ left) (map-append f xs (y ∷ []) ∙ (λ i. map f xs ++ shows i ∷ []))
+    ∙ (append_assoc (map f xs) (x ∷ []) left ∙ (ap (λ zs. map f xs ++ zs) (sym more) ∙ was)))
+
+-- of a list that is not shown whole fewer are shown than it has
+pub fewer : {A X : Type 0} (f : A → X) (xs : List A) (x : X) (rest left all : List X) (n : ℕ) → rest ≡ x ∷ left
+    → map f xs ++ rest ≡ all → length all ≤ n → length xs < n
+fewer f xs x rest left all n more was most =
+    let both = ap (λ zs. length zs) was in let parts = length-append (map f xs) rest in
+    let shown = length-map xs f in let some = ap (λ zs. length zs) more in omega arith

@@ -1,2 +1,4 @@
 pub mod Owners
+pub mod PoolRooms
 pub mod Pools
+pub mod Started

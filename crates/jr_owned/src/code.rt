@@ -1,31 +1,35 @@
-//! Threads that were spawned, each with an env of its own in the room that they own together, and a queue of notes between them.
-ghost use Rattle.std.specs.Prelude.{◌≡◌, ◌⊎◌, ◌↔◌, All, Some, length, true, false, Err, IfOk, IfErr};
+//! Threads that were spawned, each with an env of its own in the room that they own together, and an end of one queue of notes.
+ghost use Rattle.std.specs.Prelude.{◌≡◌, ◌⊎◌, ◌↔◌, ◌++◌, All, List, Some, length, map, true, false, IfOk, IfErr, MatchResult};
+ghost use Rattle.jr_rule.specs.declared.pass.Pass.{Pass as PassOf};
 ghost use Rattle.std.specs.Arc.{arc_value};
 ghost use Rattle.jr_word.specs.declared.fault.Fault.TheVariants.{Memory, Size};
 ghost use Rattle.jr_word.specs.Config.{in_limits};
 ghost use Rattle.jr_model.specs.declared.event.Role.TheVariants.{Outside};
-ghost use Rattle.jr_rule.specs.Passes.{IsOpened};
+ghost use Rattle.jr_rule.specs.Passes.{known_of, IsOpened};
+ghost use Rattle.jr_owned.specs.Started.{AreFirstStarted, AreStarted};
 
 use crate::LAST;
 use crate::envs::env_over;
 use crate::owned::owned_steps;
 use crate::site::{OwnedStepsOf, of_site};
 use jr_env::Env;
-use jr_rule::{NoteOf, Pass, Room, Site};
+use jr_rule::{Pass, Room, Site};
 use jr_steps::Steps;
+use jr_threads::{NoteQueue, QueueEnd};
 use jr_word::{Config, Fault};
 use std::alloc::{AllocError, Global};
 use std::marker::Brand;
-use std::sync::{Arc, Mutex};
+use std::snapshot::Snapshot;
+use std::sync::Arc;
 use std::thread;
-use std::thread::{JoinHandle, Threads};
-
-/// What the threads of a room hand on to one another: each message with a note of what its thread had seen then.
-pub type NoteQueue<M, Q> = Mutex<Vec<(M, NoteOf<Q>)>>;
+use std::thread::{Promise, PromisedHandle, Threads};
 
 /// What each of the threads runs that own a room together, over its env.
+///
+/// It may tell what it answers: `tells` is what holds of the room, the thread's number and its answer. By default it tells nothing. Whoever joins a thread of `spawn_owned` knows it of the answer.
 pub trait OwnedCode: Drop {
-    ghost use Rattle.std.specs.Prelude.{◌≡◌};
+    ghost use Rattle.std.specs.Prelude.{◌≡◌, ℕ, Option};
+    ghost use Rattle.atomic_table.specs.Seated.{TableId};
     ghost use Rattle.jr_model.specs.Frames.{fresh_frames};
     ghost use Rattle.jr_env.specs.Envs.{IsOutside};
     ghost use Rattle.jr_rule.specs.Over.{facts_over};
@@ -36,17 +40,39 @@ pub trait OwnedCode: Drop {
     /// What a thread answers at its end.
     type Answer: Drop;
 
-    /// Runs in the thread of this number, from 0 upward, with its env, which stands outside and has no local reference, and with the queue, which all threads of the room share. The type `Q` stands for their room. So a note of the queue is one of this room, and `learn` has no condition.
+    /// How many messages may lie between the threads at a time, at least 1.
+    const PLACES: usize = 64;
+
+    ghost tells: { Self → Option TableId → ℕ → Self.Answer → Type 0 } = { λ code room thread answer. Unit {0} };
+
+    /// Runs in the thread of this number, from 0 upward, with its env and its end of the queue. The env stands outside and has no local reference. All threads of the room share the queue, and the type `Q` stands for their room. So a note of the queue is one of this room, and `learn` has no condition.
     fn run<Q: Site>(
         &self,
         thread: u8,
         env: Env<OwnedStepsOf<Q>>,
-        queue: &NoteQueue<Self::Message, Q>,
+        queue: &mut QueueEnd<'_, Self::Message, Q>,
     ) -> Self::Answer
         requires outside { IsOutside env }
         requires number { (facts_over env.held.steps).stands.thread ≡ thread }
-        requires frames { env.held.frames.frames ≡ fresh_frames (facts_over env.held.steps).stands.config.locals };
+        requires frames { env.held.frames.frames ≡ fresh_frames (facts_over env.held.steps).stands.config.locals }
+        ensures told { tells self.now Q.room thread result };
 }
+
+/// What a thread that was started promises: its answer is what the code tells, of the room and the thread of this pass.
+#[derive(Drop)]
+pub struct RunsCode<C: OwnedCode> {
+    /// The code, as it was handed in.
+    pub code: Snapshot<C>,
+    /// The thread's pass, as it was opened.
+    pub pass: Snapshot<Pass>,
+}
+
+impl<C: OwnedCode> Promise<C::Answer> for RunsCode<C> {
+    ghost kept_by = { λ p answer. C.tells p.code.value (Some p.pass.value.seat.table_id) (known_of p.pass.value).thread answer };
+}
+
+/// Threads that run the code, in the order of their numbers, each to be joined.
+pub type OwnedThreads<C> = Vec<PromisedHandle<<C as OwnedCode>::Answer, RunsCode<C>>>;
 
 /// What one thread is started with: its pass as it was opened, in the site's room.
 #[derive(Drop)]
@@ -61,7 +87,9 @@ struct Job<Q: Site, C: OwnedCode> {
 
 impl<Q: Site, C: OwnedCode> Job<Q, C> {
     /// Runs the code, in the thread that calls.
-    fn run(self) -> C::Answer {
+    fn run(self) -> C::Answer
+        ensures { C.tells (arc_value self.code) (Some self.pass.seat.table_id) (known_of self.pass).thread result }
+    {
         let Job {
             room,
             pass,
@@ -70,116 +98,120 @@ impl<Q: Site, C: OwnedCode> Job<Q, C> {
         } = self;
         let steps = of_site::<Q>(owned_steps(room, pass));
         let thread = steps.thread();
-        code.run(thread, env_over(steps), &*queue)
+        let mut end = queue.end();
+        code.run(thread, env_over(steps), &mut end)
     }
 }
 
-/// The job of a thread.
-fn job_of<Q: Site, C: OwnedCode>(
-    room: Arc<Room<LAST>>,
-    pass: Pass,
-    code: Arc<C>,
-    queue: Arc<NoteQueue<C::Message, Q>>,
-) -> Job<Q, C>
-    requires opened { IsOpened (arc_value room).row pass }
-    requires site { Some (arc_value room).row.table.shared.table_id ≡ Q.room }
-{
-    Job {
-        room,
-        pass,
-        code,
-        queue,
-    }
-}
-
-/// The job of each pass, in the same order.
-fn jobs<Q: Site, C: OwnedCode>(
+/// A queue for so many threads.
+fn queue_for<Q: Site, C: OwnedCode>(
     alloc: Global,
-    room: Room<LAST>,
-    passes: Vec<Pass>,
-    code: C,
-) -> Result<Vec<Job<Q, C>>, AllocError>
-    requires opened { All (λ p. IsOpened room.row p) passes.items }
-    requires site { Some room.row.table.shared.table_id ≡ Q.room }
-    ensures { IfOk result (λ r. length r.items ≡ length passes.items) }
-{
-    let room = Arc::new(alloc, room)?;
-    let code = Arc::new(alloc, code)?;
-    let queue = Arc::new(alloc, Mutex::new(Vec::new(alloc)))?;
-    let mut jobs = Vec::with_capacity(alloc, passes.len())?;
-    for pass in passes {
-        let (code, queue) = (Arc::try_clone(&code)?, Arc::try_clone(&queue)?);
-        jobs.push(job_of(Arc::try_clone(&room)?, pass, code, queue))?;
-    }
-    Ok(jobs)
+    threads: usize,
+) -> Result<Arc<NoteQueue<C::Message, Q>>, AllocError> {
+    let queue = NoteQueue::new(alloc, C::PLACES, threads as u64)?;
+    Ok(Arc::new(alloc, queue)?)
 }
 
-/// Starts a thread for each job, in the same order.
+/// Starts the thread of a pass of the site's room.
 fn start<R: Threads, Q: Site + Send + Sync + 'static, C: OwnedCode + Send + Sync + 'static>(
     rt: &R,
-    alloc: Global,
-    jobs: Vec<Job<Q, C>>,
-) -> Result<Vec<JoinHandle<C::Answer>>, Fault>
+    room: &Arc<Room<LAST>>,
+    pass: Pass,
+    code: &Arc<C>,
+    queue: &Arc<NoteQueue<C::Message, Q>>,
+) -> Result<PromisedHandle<C::Answer, RunsCode<C>>, AllocError>
 where
     C::Message: Send + 'static,
     C::Answer: Send + 'static,
-    ensures memory { IfErr result (λ e. e ≡ Memory) }
-    ensures count { IfOk result (λ r. length r.items ≡ length jobs.items) }
+    requires opened { IsOpened (arc_value room.now).row pass }
+    requires site { Some (arc_value room.now).row.table.shared.table_id ≡ Q.room }
+    ensures pass { IfOk result (λ h. h.promise.pass.value ≡ pass) }
+    ensures code { IfOk result (λ h. h.promise.code.value ≡ arc_value code.now) }
 {
-    let Ok(mut threads) = Vec::with_capacity(alloc, jobs.len()) else {
-        return Err(Fault::Memory);
+    let promise = RunsCode {
+        code: Snapshot::of(&**code),
+        pass: Snapshot::of(&pass),
     };
-    for job in jobs {
-        let Ok(thread) = thread::spawn(rt, move || job.run()) else {
-            return Err(Fault::Memory);
-        };
-        let Ok(()) = threads.push(thread) else {
-            return Err(Fault::Memory);
-        };
-    }
-    Ok(threads)
+    let job = Job {
+        room: Arc::try_clone(room)?,
+        pass,
+        code: Arc::try_clone(code)?,
+        queue: Arc::try_clone(queue)?,
+    };
+    Ok(thread::spawn_with(rt, promise, move || job.run())?)
 }
 
-/// Starts the threads of a room that was opened, which is the site's.
-fn spawn_at<R: Threads, Q: Site + Send + Sync + 'static, C: OwnedCode + Send + Sync + 'static>(
+/// Lets go the ends of threads that were not started, so that the queue is over without them.
+fn let_go_ends<M: Drop, Q: Site>(queue: &NoteQueue<M, Q>, started: usize, threads: usize) {
+    for _ in started..threads {
+        drop(queue.end());
+    }
+}
+
+/// Starts a thread for each pass of the site's room, in the same order. Where one can't be started, those before it are handed back. All memory but the threads' own is taken first.
+fn start_each<R: Threads, Q: Site + Send + Sync + 'static, C: OwnedCode + Send + Sync + 'static>(
     rt: &R,
     alloc: Global,
     room: Room<LAST>,
     passes: Vec<Pass>,
     code: C,
-) -> Result<Vec<JoinHandle<C::Answer>>, Fault>
+) -> Result<OwnedThreads<C>, OwnedThreads<C>>
 where
     C::Message: Send + 'static,
     C::Answer: Send + 'static,
     requires opened { All (λ p. IsOpened room.row p) passes.items }
     requires site { Some room.row.table.shared.table_id ≡ Q.room }
-    ensures memory { IfErr result (λ e. e ≡ Memory) }
-    ensures count { IfOk result (λ r. length r.items ≡ length passes.items) }
+    ensures passes { MatchResult result (λ r. map (λ h. h.promise.pass.value) r.items ≡ passes.items) (λ r. (rest : List PassOf) × (map (λ h. h.promise.pass.value) r.items ++ rest ≡ passes.items)) }
+    ensures codes { MatchResult result (λ r. All (λ h. h.promise.code.value ≡ code) r.items) (λ r. All (λ h. h.promise.code.value ≡ code) r.items) }
 {
-    let Ok(jobs) = jobs::<Q, C>(alloc, room, passes, code) else {
-        return Err(Fault::Memory);
+    let count = passes.len();
+    let mut threads = Vec::new(alloc);
+    let (Ok(()), Ok(room), Ok(code), Ok(queue)) = (
+        threads.reserve(count),
+        Arc::new(alloc, room),
+        Arc::new(alloc, code),
+        queue_for::<Q, C>(alloc, count),
+    ) else {
+        return Err(threads);
     };
-    start(rt, alloc, jobs)
+    for pass in passes {
+        let Ok(thread) = start::<R, Q, C>(rt, &room, pass, &code, &queue) else {
+            let_go_ends(&*queue, threads.len(), count);
+            return Err(threads);
+        };
+        threads.push_reserved(thread);
+    }
+    Ok(threads)
 }
 
 /// Opens a room of these sizes, which its threads own together, and starts a thread for each of its envs, in the order of their numbers.
 ///
 /// # Errors
 ///
-/// E17 exactly where the sizes are beyond their limits; E16 where memory was refused, or a thread could not be started. Threads that were started before go on in that case, and nobody joins them.
+/// E17 exactly where the sizes are beyond their limits; E16 where memory was refused, or a thread could not be started.
+///
+/// The threads that were started are handed back, those of the first numbers. They go on, and whoever joins one waits for its end.
 pub fn spawn_owned<R: Threads, C: OwnedCode + Send + Sync + 'static>(
     rt: &R,
     alloc: Global,
     config: Config,
     code: C,
-) -> Result<Vec<JoinHandle<C::Answer>>, Fault>
+) -> Result<OwnedThreads<C>, (OwnedThreads<C>, Fault)>
 where
     C::Message: Send + 'static,
     C::Answer: Send + 'static,
-    ensures size { (result ≡ Err Size) ↔ (in_limits config ≡ false) }
-    ensures memory { IfErr result (λ e. (e ≡ Size) ⊎ (e ≡ Memory)) }
+    ensures size { MatchResult result (λ r. in_limits config ≡ true) (λ e. (e.1 ≡ Size) ↔ (in_limits config ≡ false)) }
+    ensures memory { IfErr result (λ e. (e.1 ≡ Size) ⊎ (e.1 ≡ Memory)) }
     ensures count { IfOk result (λ r. length r.items ≡ config.threads) }
+    ensures started { MatchResult result (λ r. AreStarted config (map (λ h. h.promise.pass.value) r.items)) (λ e. AreFirstStarted config (map (λ h. h.promise.pass.value) e.0.items)) }
+    ensures codes { MatchResult result (λ r. All (λ h. h.promise.code.value ≡ code) r.items) (λ e. All (λ h. h.promise.code.value ≡ code) e.0.items) }
 {
-    let (room, passes) = Room::<LAST>::open(alloc, config)?;
-    spawn_at::<R, Brand, C>(rt, alloc, room, passes, code)
+    let (room, passes) = match Room::<LAST>::open(alloc, config) {
+        Ok(opened) => opened,
+        Err(fault) => return Err((Vec::new(alloc), fault)),
+    };
+    match start_each::<R, Brand, C>(rt, alloc, room, passes, code) {
+        Ok(threads) => Ok(threads),
+        Err(threads) => Err((threads, Fault::Memory)),
+    }
 }

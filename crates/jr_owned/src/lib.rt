@@ -5,14 +5,16 @@ mod code;
 mod envs;
 mod owned;
 mod pool;
+mod pool_room;
 mod site;
 
-pub use code::{NoteQueue, OwnedCode, spawn_owned};
+pub use code::{OwnedCode, OwnedThreads, RunsCode, spawn_owned};
 pub use envs::{OwnedEnv, open_envs};
 pub use owned::{
     OwnedCells, OwnedSteps, close_owned, end_owner, last_owner, open_owned, owned_steps,
 };
-pub use pool::{Attached, EnvPool};
+pub use pool::{Attached, AttachedOver, EnvPool, PoolOver};
+pub use pool_room::PoolRoom;
 pub use site::{OwnedStepsOf, of_any_site, of_site};
 
 /// The last serial of the rooms.

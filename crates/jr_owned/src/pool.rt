@@ -1,117 +1,126 @@
-//! A pool of envs, for native threads that come and go: each is attached with an env that no other thread holds, and hands it back.
-ghost use Rattle.std.specs.Prelude.{◌≡◌, ◌⊎◌, ◌↔◌, All, length, false, Err, IfSome, IfOk, IfErr};
-ghost use Rattle.jr_word.specs.declared.fault.Fault.TheVariants.{Memory, Size};
-ghost use Rattle.jr_word.specs.Config.{in_limits};
+//! A pool of envs, for native threads that come and go: each is attached with an env that no other thread holds, and hands it back. A type stands for the pool's room.
+ghost use Rattle.std.specs.Prelude.{◌≡◌, All, Some, length, Err, IfSome, IfOk, IfErr};
 ghost use Rattle.std.specs.Arc.{arc_value};
-ghost use Rattle.jr_rule.specs.Passes.{Closes};
-ghost use Rattle.jr_rule.specs.Rule.{stepping_pass};
-ghost use Rattle.jr_owned.specs.Owners.{owner_of, IsLeftByOwner};
-ghost use Rattle.jr_owned.specs.Pools.{IsIdle};
+ghost use Rattle.jr_word.specs.declared.fault.Fault.TheVariants.{Memory};
+ghost use Rattle.jr_rule.specs.Passes.{IsOpened};
+ghost use Rattle.jr_owned.specs.Pools.{ClosesAt, IsIdle, IsLeftAt};
+ghost use Rattle.jr_owned.specs.PoolRooms.{IsRoomOfSite};
 
 use crate::LAST;
-use crate::envs::{OwnedEnv, open_envs};
-use crate::owned::close_owned;
-use jr_env::Patience;
+use crate::envs::env_over;
+use crate::owned::{close_owned, owned_steps};
+use crate::pool_room::PoolRoom;
+use crate::site::{OwnedStepsOf, of_any_site, of_site};
 use jr_env::calls::FreeLocals;
+use jr_env::{Env, Patience};
 use jr_model::Summary;
-use jr_rule::Left;
-use jr_word::{Config, Fault};
+use jr_rule::{Left, Pass, Room, Site};
+use jr_steps::Steps;
+use jr_word::Fault;
 use std::alloc::{AllocError, Global};
-use std::sync::{Mutex, MutexGuard};
+use std::sync::{Arc, Mutex, MutexGuard};
 
 /// An env that no thread holds.
 #[derive(Drop)]
-struct Idle {
-    env: Box<OwnedEnv>,
+struct Idle<S: Steps + Drop> {
+    env: Box<Env<S>>,
     ghost idle: { IsIdle env.value },
 }
 
-/// The envs of a room, one for each thread that may be attached at a time. Threads share it, as by an `Arc`.
+/// Envs, one for each thread that may be attached at a time. Threads share them, as by an `Arc`.
 #[derive(Drop)]
-pub struct EnvPool {
-    places: Vec<Mutex<Option<Idle>>>,
+pub struct PoolOver<S: Steps + Drop> {
+    places: Vec<Mutex<Option<Idle<S>>>>,
 }
 
 /// The env of an attached thread, and its place in the pool, which nobody else has meanwhile. It has to be detached, or taken out of the pool, or the program does not compile.
-pub struct Attached<'p> {
+pub struct AttachedOver<'p, S: Steps + Drop> {
     /// The thread's env.
-    pub env: Box<OwnedEnv>,
-    place: MutexGuard<'p, Option<Idle>>,
+    pub env: Box<Env<S>>,
+    place: MutexGuard<'p, Option<Idle<S>>>,
 }
 
+/// The envs of the site's room.
+pub type EnvPool<Q> = PoolOver<OwnedStepsOf<Q>>;
+
+/// An attached thread's env, which is one of the site's room.
+pub type Attached<'p, Q> = AttachedOver<'p, OwnedStepsOf<Q>>;
+
 /// An env that no thread holds.
-fn parked(env: Box<OwnedEnv>) -> Idle
+fn parked<S: Steps + Drop>(env: Box<Env<S>>) -> Idle<S>
     requires { IsIdle env.value }
 {
     Idle { env }
 }
 
-/// A place with an env that no thread holds.
-fn place_of(alloc: Global, env: OwnedEnv) -> Result<Mutex<Option<Idle>>, AllocError>
-    requires { IsIdle env }
+/// The env of a pass in the site's room, as it was opened.
+fn env_of<Q: Site>(room: Arc<Room<LAST>>, pass: Pass) -> Env<OwnedStepsOf<Q>>
+    requires opened { IsOpened (arc_value room).row pass }
+    requires site { Some (arc_value room).row.table.shared.table_id ≡ Q.room }
+    ensures { IsIdle result }
 {
-    let Ok(env) = Box::new(alloc, env) else {
+    let steps = of_site::<Q>(owned_steps(room, pass));
+    env_over(steps)
+}
+
+/// A place with the env of a pass.
+fn place_of<Q: Site>(
+    alloc: Global,
+    room: Arc<Room<LAST>>,
+    pass: Pass,
+) -> Result<Mutex<Option<Idle<OwnedStepsOf<Q>>>>, AllocError>
+    requires opened { IsOpened (arc_value room).row pass }
+    requires site { Some (arc_value room).row.table.shared.table_id ≡ Q.room }
+{
+    let Ok(env) = Box::new(alloc, env_of::<Q>(room, pass)) else {
         return Err(AllocError);
     };
     Ok(Mutex::new(Some(parked(env))))
 }
 
-/// Ends an env that no thread holds, and closes the room where nobody else owns it, as `close_owned`.
-fn end(idle: Idle) -> Result<Option<Summary>, Left<LAST>>
-    ensures closed { IfOk result (λ o. IfSome o (λ s. (it : Idle) × Closes (stepping_pass it.env.value.held.steps.cells.cells.seat.me) s)) }
-    ensures left { IfErr result (λ l. (it : Idle) × IsLeftByOwner (arc_value it.env.value.held.steps.cells.room) (owner_of it.env.value.held.steps) l) }
+/// A place for each pass, in the same order.
+fn places_of<Q: Site>(
+    alloc: Global,
+    room: Room<LAST>,
+    passes: Vec<Pass>,
+) -> Result<Vec<Mutex<Option<Idle<OwnedStepsOf<Q>>>>>, AllocError>
+    requires opened { All (λ p. IsOpened room.row p) passes.items }
+    requires site { Some room.row.table.shared.table_id ≡ Q.room }
+    ensures { IfOk result (λ r. length r.items ≡ length passes.items) }
+{
+    let room = Arc::new(alloc, room)?;
+    let mut places = Vec::with_capacity(alloc, passes.len())?;
+    for pass in passes {
+        let shared = Arc::try_clone(&room)?;
+        let place = place_of::<Q>(alloc, shared, pass)?;
+        places.push(place)?;
+    }
+    Ok(places)
+}
+
+/// Ends an env that no thread holds, and closes the site's room where nobody else owns it, as `close_owned`.
+fn end<Q: Site>(idle: Idle<OwnedStepsOf<Q>>) -> Result<Option<Summary>, Left<LAST>>
+    ensures closed { IfOk result (λ o. IfSome o (ClosesAt Q.room)) }
+    ensures left { IfErr result (IsLeftAt Q.room) }
 {
     let env = Box::into_inner(idle.env);
-    close_owned(env.into_pass())
+    let steps = of_any_site(env.into_pass());
+    close_owned(steps)
 }
 
-/// The envs in a place each.
-fn pooled(alloc: Global, envs: Vec<OwnedEnv>) -> Result<EnvPool, Fault>
-    requires { All IsIdle envs.items }
-    ensures memory { IfErr result (λ e. e ≡ Memory) }
-    ensures count { IfOk result (λ p. length p.places.items ≡ length envs.items) }
-{
-    let Ok(mut places) = Vec::with_capacity(alloc, envs.len()) else {
-        return Err(Fault::Memory);
-    };
-    for env in envs {
-        let Ok(place) = place_of(alloc, env) else {
-            return Err(Fault::Memory);
-        };
-        let Ok(()) = places.push(place) else {
-            return Err(Fault::Memory);
-        };
-    }
-    Ok(EnvPool { places })
-}
-
-impl EnvPool {
-    /// Opens a room of these sizes, and has an env for each of its threads.
-    ///
-    /// # Errors
-    ///
-    /// E17 exactly where the sizes are beyond their limits; E16 where memory was refused.
-    pub fn open(alloc: Global, config: Config) -> Result<EnvPool, Fault>
-        ensures size { (result ≡ Err Size) ↔ (in_limits config ≡ false) }
-        ensures memory { IfErr result (λ e. (e ≡ Size) ⊎ (e ≡ Memory)) }
-        ensures count { IfOk result (λ p. length p.places.items ≡ config.threads) }
-    {
-        let envs = open_envs(alloc, config)?;
-        pooled(alloc, envs)
-    }
-
-    /// An env that no other thread holds, until it is detached. Its thread stands outside, and has no local reference, in one base frame. `None` where other threads held each env, when it was looked for. (JNI Specification, chapter 5, "AttachCurrentThread")
+impl<S: Steps + Drop> PoolOver<S> {
+    /// An env that no other thread holds, until it is detached. Its thread stands outside, and has no local reference, in one base frame. `None` where each env was attached, or taken out of the pool, when it was looked for. (JNI Specification, chapter 5, "AttachCurrentThread")
     ///
     /// # Operations
     ///
     /// None.
-    pub fn attach(&self) -> Option<Attached<'_>>
+    pub fn attach(&self) -> Option<AttachedOver<'_, S>>
         ensures { IfSome result (λ a. IsIdle a.env.value) }
     {
         for at in 0..self.places.len() {
             if let Some(mut place) = self.places[at].try_lock() {
                 if let Some(idle) = place.take() {
-                    return Some(Attached {
+                    return Some(AttachedOver {
                         env: idle.env,
                         place,
                     });
@@ -120,8 +129,27 @@ impl EnvPool {
         }
         None
     }
+}
 
-    /// Ends all envs, and closes the room. It tells what stands there, after a legal history that keeps the laws. By its type no thread is attached any more. `None` where an env was taken out of the pool, whose holder owns the room still: then all others are gone.
+impl<Q: Site> PoolOver<OwnedStepsOf<Q>> {
+    /// The pool of a room that was opened, which is the site's: it has an env for each of the room's threads.
+    ///
+    /// # Errors
+    ///
+    /// E16 where memory was refused. The room is gone then.
+    pub fn of(alloc: Global, room: PoolRoom) -> Result<EnvPool<Q>, Fault>
+        requires { IsRoomOfSite Q.room room }
+        ensures memory { IfErr result (λ e. e ≡ Memory) }
+        ensures count { IfOk result (λ p. length p.places.items ≡ room.room.row.config.threads) }
+    {
+        let PoolRoom { room, passes } = room;
+        let Ok(places) = places_of::<Q>(alloc, room, passes) else {
+            return Err(Fault::Memory);
+        };
+        Ok(PoolOver { places })
+    }
+
+    /// Ends all envs, and closes the site's room. It tells what stands there, after a legal history that keeps the laws. By its type no thread is attached any more. `None` where an env was taken out of the pool, whose holder owns the room still: then all others are gone.
     ///
     /// # Errors
     ///
@@ -133,8 +161,8 @@ impl EnvPool {
     ///
     /// Those of `close_owned`.
     pub fn close(self) -> Result<Option<Summary>, Left<LAST>>
-        ensures closed { IfOk result (λ o. IfSome o (λ s. (it : Idle) × Closes (stepping_pass it.env.value.held.steps.cells.cells.seat.me) s)) }
-        ensures left { IfErr result (λ l. (it : Idle) × IsLeftByOwner (arc_value it.env.value.held.steps.cells.room) (owner_of it.env.value.held.steps) l) }
+        ensures closed { IfOk result (λ o. IfSome o (ClosesAt Q.room)) }
+        ensures left { IfErr result (IsLeftAt Q.room) }
     {
         for place in self.places {
             if let Some(idle) = place.into_inner() {
@@ -148,7 +176,7 @@ impl EnvPool {
     }
 }
 
-impl<'p> Attached<'p> {
+impl<'p, S: Steps + Drop> AttachedOver<'p, S> {
     ghost use Rattle.jr_env.specs.Envs.{Does};
     ghost use Rattle.jr_env.specs.Deeds.{free_locals};
     ghost use Rattle.jr_env.specs.Tries.{made_again};
@@ -165,23 +193,23 @@ impl<'p> Attached<'p> {
     /// # Operations
     ///
     /// Those of `free_locals` at each try.
-    pub fn detach(self, patience: Patience) -> Result<(), (Attached<'p>, Fault)>
+    pub fn detach(self, patience: Patience) -> Result<(), (AttachedOver<'p, S>, Fault)>
         ensures freed { IfOk result (λ _. FreesLocals self.entry.env.value patience) }
         ensures held { IfErr result (λ e. Does self.entry.env.value e.0.env.value (made_again patience.waits_for_room patience.more free_locals) (Err e.1)) }
     {
-        let Attached { mut env, mut place } = self;
+        let AttachedOver { mut env, mut place } = self;
         if let Err(fault) = env.retry(FreeLocals, patience) {
-            return Err((Attached { env, place }, fault));
+            return Err((AttachedOver { env, place }, fault));
         }
         *place = Some(parked(env));
         Ok(())
     }
 
     /// Takes the env out of the pool for good. Its place stays empty, and the room has an owner more that is to close it.
-    pub fn into_env(self) -> OwnedEnv
+    pub fn into_env(self) -> Env<S>
         ensures { result ≡ self.entry.env.value }
     {
-        let Attached { env, place: _ } = self;
+        let AttachedOver { env, place: _ } = self;
         Box::into_inner(env)
     }
 }

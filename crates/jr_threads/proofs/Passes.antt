@@ -1,12 +1,13 @@
 -- The passes of a site's room: they are the room's own, and as many as it has threads.
 use Rattle.std.proofs.Common.{◌≡◌, ◌⊎◌, inl, inr, ⊎_elim, ◌≤◌, ◌++◌, ◌∷◌, [], ◌↔◌, ℕ, zero, suc}
-use Rattle.std.proofs.Common.{Some, slice_index_or, Result, Ok, Err, Bool, true, false, List}
+use Rattle.std.proofs.Common.{Option, slice_index_or, Result, Ok, Err, Bool, true, false, List}
 use Rattle.std.proofs.Common.{length, length-append, map, subst, ◌<◌, sym, ap, ◌∙◌, refl, arith}
 use Rattle.std.proofs.lemmas.List.{length-map}
 use Rattle.std.proofs.lemmas.List.Elements.{All-from_recursion, All-head, All-tail}
 use Rattle.std.specs.List.{All, AllByRecursion, AllZip, remove}
 use mathlib.Core.Logic.{dite}
 use native.Mathlib.Decide.{ℕ_discrete}
+use Rattle.atomic_table.specs.Seated.{TableId}
 use Rattle.jr_model.specs.declared.event.Role.TheVariants.{Outside}
 use Rattle.jr_steps.specs.declared.known.Known.{Known}
 use Rattle.jr_threads.specs.declared.native.Ended.{Ended}
@@ -21,14 +22,18 @@ use Rattle.jr_rule.specs.declared.row.Row.{Row}
 use Rattle.jr_rule.specs.Passes.{known_of, numbers_below, AreOpened, HasEachPass, HasPass, IsAt}
 use Rattle.jr_rule.specs.Sites.{IsPassOf}
 use Rattle.jr_env.specs.Deeds.{Deed}
-use Rattle.jr_threads.specs.Sites.{passes_in, ThreadsRan, IsBack}
+use Rattle.jr_threads.specs.Sites.{passes_in, ThreadsRan, IsBack, IsSiteRoom}
 
--- a pass that came back from its site is one of the room's own, and outside
-pub is_back : (room : Room 4294967295) (p q : Pass)
-    → IsPassOf (Some room.row.table.shared.table_id) room.row.config 4294967295 (known_of p).thread q → q.role ≡ Outside
+-- a pass that came back from the room's site is one of the room's own, and outside
+pub is_back : {site : Option TableId} {sizes : Config} (room : Room 4294967295) (p q : Pass)
+    → IsSiteRoom site sizes room → IsPassOf site sizes 4294967295 (known_of p).thread q → q.role ≡ Outside
     → IsBack room.row p q
-is_back room p q h out = record {
-  at = record { row = (let e = h.room_is in cc); config = h.sizes_are; last = h.last_is ∙ sym room.last };
+is_back room p q at h out = record {
+  at = record {
+    row = (let e = h.room_is ∙ sym at.table_is in cc);
+    config = h.sizes_are ∙ sym at.sizes_are;
+    last = h.last_is ∙ sym room.last;
+  };
   thread = h.own;
   outside = out;
 }

@@ -1,6 +1,7 @@
 -- The passes that threads gave back, and the close behind them.
 use Rattle.std.specs.Prelude.{◌≡◌, ◌≤◌, ℕ, Bool, true, Option, Some, None, List, [], ◌∷◌, map, length, vec_capacity}
 use Rattle.std.specs.List.{AllZip}
+use Rattle.atomic_table.specs.Seated.{TableId}
 use Rattle.jr_word.specs.declared.config.Config.{Config}
 use Rattle.jr_model.specs.declared.summary.Summary.{Summary}
 use Rattle.jr_model.specs.declared.event.Role.TheVariants.{Outside}
@@ -9,10 +10,16 @@ use Rattle.jr_rule.specs.declared.pass.Pass.{Pass}
 use Rattle.jr_threads.specs.declared.native.Ended.{Ended}
 use Rattle.jr_threads.specs.declared.native.Place.{Place}
 use Rattle.jr_threads.specs.declared.closing.Places.{Places}
+use Rattle.jr_rule.specs.declared.room.Room.{Room}
 use Rattle.jr_rule.specs.declared.row.Row.{Row}
 use Rattle.jr_rule.specs.Passes.{known_of, holder_of, ClosesAll, HasEachPass, IsAt, IsOpened}
 use Rattle.jr_env.specs.Deeds.{Deed}
 use Rattle.jr_threads.specs.Parts.{DidWithPass}
+
+-- THE TYPE STANDS FOR THE ROOM, by its table and its sizes
+pub record IsSiteRoom {LAST : ℕ} (site : Option TableId) (sizes : Config) (room : Room LAST) : Type 0 where
+  pub table_is : Some room.row.table.shared.table_id ≡ site
+  pub sizes_are : room.row.config ≡ sizes
 
 -- A PASS CAME BACK: it is one of the row's own, of the same thread, and stands outside
 pub record IsBack (r : Row) (p q : Pass) : Type 0 where

@@ -3,7 +3,9 @@
 
 mod closing;
 mod native;
+mod queue;
 mod running;
 
 pub use native::NativeCode;
+pub use queue::{NoMessage, NoteQueue, QueueEnd};
 pub use running::{Ran, run_native};

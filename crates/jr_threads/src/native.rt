@@ -4,11 +4,11 @@ ghost use Rattle.jr_model.specs.declared.event.Role.TheVariants.{Outside};
 ghost use Rattle.jr_rule.specs.Passes.{holder_of, IsOpened};
 ghost use Rattle.jr_rule.specs.Sites.{IsPassOf, IsSiteOf};
 ghost use Rattle.jr_threads.specs.Parts.{DidOver, DidWithPass};
-ghost use Rattle.jr_threads.specs.Sites.{ThreadRan};
+ghost use Rattle.jr_threads.specs.Sites.{ThreadRan, IsSiteRoom};
 
+use crate::queue::QueueEnd;
 use jr_env::Env;
-use jr_rule::{Pass, Room, Site, SiteSteps, ThreadNumber};
-use jr_steps::Steps;
+use jr_rule::{Pass, Room, Site, SiteSteps, StepsIn, ThreadNumber};
 use jr_word::LAST_SERIAL;
 use std::marker::Brand;
 
@@ -24,15 +24,28 @@ pub trait NativeCode {
     ghost use Rattle.jr_env.specs.Deeds.{Deed};
     ghost use Rattle.jr_env.specs.Envs.{Does, IsOutside};
 
+    /// What a thread hands on to another, beside a note of what it had seen: `()` where none does.
+    type Message: Send + Drop;
+
     /// What a thread answers at its end.
     type Answer: Send + Drop;
+
+    /// How many messages may lie between the threads at a time, at least 1.
+    const PLACES: usize = 64;
 
     ghost tells: { Self.Answer → Bool } = { λ answer. false };
 
     ghost deed: { Self → ℕ → Deed Self.Answer } = { λ native thread old answer new. Unit {0} };
 
     /// Runs in the thread of this number, from 0 upward, with its env, which is that thread's, stands outside and has no local reference. What it leaves in the env's frames stays.
-    fn run<S: Steps + Drop>(&self, thread: u8, env: &mut Env<S>) -> Self::Answer
+    ///
+    /// `Q` stands for the room of all threads. So a note that comes by the queue, whose end the thread has, is one of this room.
+    fn run<Q: Site, S: StepsIn<Q> + Drop>(
+        &self,
+        thread: u8,
+        env: &mut Env<S>,
+        queue: &mut QueueEnd<'_, Self::Message, Q>,
+    ) -> Self::Answer
         requires number { (S.facts env.old.held.steps).stands.thread ≡ thread }
         requires outside { IsOutside env.old }
         requires frames { env.old.held.frames.frames ≡ fresh_frames (S.facts env.old.held.steps).stands.config.locals }
@@ -54,7 +67,11 @@ pub(crate) struct Place<A: Drop> {
 }
 
 /// Runs the native code over an env of these steps, which are fresh and whose thread stands outside, and hands them back.
-fn run_over<S: Steps + Drop, N: NativeCode>(native: &N, steps: S) -> (N::Answer, S)
+fn run_over<Q: Site, S: StepsIn<Q> + Drop, N: NativeCode>(
+    native: &N,
+    steps: S,
+    mut queue: QueueEnd<'_, N::Message, Q>,
+) -> (N::Answer, S)
     requires outside { (S.facts steps).stands.role ≡ Outside }
     requires fresh { (S.facts steps).stands.fresh ≡ true }
     ensures outside { (S.facts result.1).stands.role ≡ Outside }
@@ -64,7 +81,7 @@ fn run_over<S: Steps + Drop, N: NativeCode>(native: &N, steps: S) -> (N::Answer,
     let Ok(mut env) = Env::new(steps) else {
         unreachable!();
     };
-    let answer = native.run(thread, &mut env);
+    let answer = native.run(thread, &mut env, &mut queue);
     (answer, env.into_pass())
 }
 
@@ -73,6 +90,7 @@ fn run_at<Q: Site, T: ThreadNumber, N: NativeCode>(
     room: &Room<LAST>,
     native: &N,
     pass: Pass,
+    queue: QueueEnd<'_, N::Message, Q>,
 ) -> Ended<N::Answer>
     requires pass { IsOpened room.now.row pass }
     requires site { IsSiteOf Q.room Q.sizes T.number room.now pass }
@@ -80,19 +98,21 @@ fn run_at<Q: Site, T: ThreadNumber, N: NativeCode>(
     ensures came { N.tells result.answer ≡ true → DidWithPass (N.deed native.now pass.thread) pass (holder_of result.pass) result.answer }
 {
     let steps = SiteSteps::<LAST, Q, T>::new(room, pass);
-    let (answer, steps) = run_over(native, steps);
+    let (answer, steps) = run_over(native, steps, queue);
     let pass = steps.into_pass();
     Ended { answer, pass }
 }
 
 /// Runs the native code in one thread.
-pub(crate) fn run_thread<N: NativeCode>(
+pub(crate) fn run_thread<Q: Site, N: NativeCode>(
     room: &Room<LAST>,
     native: &N,
     pass: Pass,
+    queue: QueueEnd<'_, N::Message, Q>,
 ) -> Ended<N::Answer>
-    requires { IsOpened room.now.row pass }
+    requires pass { IsOpened room.now.row pass }
+    requires site { IsSiteRoom Q.room Q.sizes room.now }
     ensures { ThreadRan N.tells (N.deed native.now) room.now.row pass result }
 {
-    run_at::<Brand, Brand, N>(room, native, pass)
+    run_at::<Q, Brand, N>(room, native, pass, queue)
 }

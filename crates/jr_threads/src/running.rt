@@ -4,14 +4,16 @@ ghost use Rattle.jr_word.specs.declared.fault.Fault.TheVariants.{Memory, Size};
 ghost use Rattle.jr_word.specs.Config.{in_limits};
 ghost use Rattle.jr_rule.specs.Passes.{AreOpened, IsOpened};
 ghost use Rattle.jr_threads.specs.Parts.{RanTogether};
-ghost use Rattle.jr_threads.specs.Sites.{PlaceRan, PlacesRan, IsClosedBehind, IsWaiting};
+ghost use Rattle.jr_threads.specs.Sites.{PlaceRan, PlacesRan, IsClosedBehind, IsSiteRoom, IsWaiting};
 
 use crate::closing::{Places, close};
 use crate::native::{LAST, NativeCode, Place, run_thread};
+use crate::queue::NoteQueue;
 use jr_model::Summary;
-use jr_rule::{Pass, Room};
+use jr_rule::{Pass, Room, Site};
 use jr_word::{Config, Fault};
 use std::alloc::Global;
+use std::marker::Brand;
 use std::thread;
 use std::thread::Threads;
 
@@ -25,36 +27,44 @@ pub struct Ran<A: Drop> {
 }
 
 /// Runs the native code in the thread whose place this is.
-fn run_at_place<N: NativeCode>(room: &Room<LAST>, native: &N, place: &mut Place<N::Answer>)
-    requires { IsWaiting room.now.row place.old }
+fn run_at_place<Q: Site, N: NativeCode>(
+    room: &Room<LAST>,
+    native: &N,
+    queue: &NoteQueue<N::Message, Q>,
+    place: &mut Place<N::Answer>,
+)
+    requires waits { IsWaiting room.now.row place.old }
+    requires site { IsSiteRoom Q.room Q.sizes room.now }
     ensures { PlaceRan N.tells (N.deed native.now) room.now.row place.old place.new }
 {
     let Some(pass) = place.waiting.take() else {
         unreachable!();
     };
-    place.ended = Some(run_thread::<N>(room, native, pass));
+    place.ended = Some(run_thread::<Q, N>(room, native, pass, queue.end()));
 }
 
 /// Runs the native code in each thread of the room.
-fn run_threads<R: Threads + Sync, N: NativeCode + Sync>(
+fn run_threads<R: Threads + Sync, Q: Site + Send + Sync + 'static, N: NativeCode + Sync>(
     rt: &R,
     room: &Room<LAST>,
     native: &N,
+    queue: &NoteQueue<N::Message, Q>,
     places: &mut [Place<N::Answer>],
 )
-    requires { All (λ p. IsWaiting room.now.row p) places.old }
+    requires wait { All (λ p. IsWaiting room.now.row p) places.old }
+    requires site { IsSiteRoom Q.room Q.sizes room.now }
     ensures { PlacesRan N.tells (N.deed native.now) room.now.row places.old places.new }
 {
     let count = places.len().max(1);
     let there = |_: usize, place: &mut Place<N::Answer>|
-        requires { IsWaiting room.now.row place.now }
+        requires { IsWaiting room.now.row place.now × IsSiteRoom Q.room Q.sizes room.now }
         ensures { PlaceRan N.tells (N.deed native.entry.now) room.entry.now.row place.entry.now place.exit.now }
-    { run_at_place::<N>(room, native, place) };
+    { run_at_place::<Q, N>(room, native, queue, place) };
     thread::for_each_mut(rt, places, count, &there);
 }
 
-/// Runs the native code in each thread of a room that was opened, and closes it.
-fn run_in<R: Threads + Sync, N: NativeCode + Sync>(
+/// Runs the native code in each thread of a room that was opened, which is the site's, and closes it.
+fn run_in<R: Threads + Sync, Q: Site + Send + Sync + 'static, N: NativeCode + Sync>(
     rt: &R,
     alloc: Global,
     room: Room<LAST>,
@@ -63,6 +73,7 @@ fn run_in<R: Threads + Sync, N: NativeCode + Sync>(
 ) -> Result<Ran<N::Answer>, Fault>
     requires opened { AreOpened room.row.config room.row.last room.row passes.items }
     requires some { 1 ≤ length passes.items }
+    requires site { IsSiteRoom Q.room Q.sizes room }
     ensures memory { IfErr result (λ e. e ≡ Memory) }
     ensures run { IfOk result (λ r. RanTogether N.tells (N.deed native.now) room.row.config room.row.last r.answers.items r.summary) }
     ensures summary { IfOk result (λ r. IsClosedBehind room.row.config room.row.last r.summary) }
@@ -70,7 +81,11 @@ fn run_in<R: Threads + Sync, N: NativeCode + Sync>(
     let Ok(mut places) = Places::new(alloc, passes) else {
         return Err(Fault::Memory);
     };
-    run_threads(rt, &room, native, &mut places.threads);
+    let count = places.threads.len() as u64;
+    let Ok(queue) = NoteQueue::<N::Message, Q>::new(alloc, N::PLACES, count) else {
+        return Err(Fault::Memory);
+    };
+    run_threads(rt, &room, native, &queue, &mut places.threads);
     let (answers, mut left) = places.parted();
     let first = left.remove(0);
     Ok(Ran {
@@ -86,6 +101,8 @@ fn run_in<R: Threads + Sync, N: NativeCode + Sync>(
 /// E17 exactly where the sizes are beyond their limits; E16 where memory was refused.
 ///
 /// No native code has run then: all memory is taken before a thread starts. Where the system can't make a thread, that is no refusal: its native code runs in another's, behind or before that one's own.
+///
+/// What lies in the queue at the close is let go, and a global reference in it stays in its slot.
 pub fn run_native<R: Threads + Sync, N: NativeCode + Sync>(
     rt: &R,
     alloc: Global,
@@ -98,5 +115,5 @@ pub fn run_native<R: Threads + Sync, N: NativeCode + Sync>(
     ensures summary { IfOk result (λ r. IsClosedBehind config 4294967295 r.summary) }
 {
     let (room, passes) = Room::<LAST>::open(alloc, config)?;
-    run_in(rt, alloc, room, passes, native)
+    run_in::<R, Brand, N>(rt, alloc, room, passes, native)
 }

@@ -21,7 +21,7 @@ pub(crate) fn run<S: Steps>(
 ) -> Result<u32, Fault> {
     let mut marker = env.marker(alloc)?;
     for _ in 0..ROUNDS {
-        let is_last = table.have_left(2);
+        let is_last = table.have_left(3);
         env.collect_in_turn(&mut marker, SHUTS, PATIENCE)?;
         if is_last {
             return cleared(env, table);

@@ -1,46 +1,64 @@
 //! The loader makes the symbols: each is an array of its name and its numbers.
 
 use crate::symbol_table::SymbolTable;
-use crate::{PATIENCE, SYMBOLS};
+use crate::{PATIENCE, SYMBOLS, Symbol};
 use jr::calls::{
     FreeLocals, GetStringLength, NewArray, NewGlobalRef, NewObjectArray, NewString, SetArrayRegion,
     SetObjectArrayElement,
 };
-use jr::{Env, Fault, Handle, Steps, with_local_frame};
+use jr::{Env, Fault, Handle, QueueEnd, Site, Steps, StepsIn, with_local_frame};
 
 /// Loads all symbols, hands each on by a global reference, and answers how many units their names have.
-pub(crate) fn run<S: Steps>(env: &mut Env<S>, table: &SymbolTable) -> Result<u32, Fault> {
-    let units = load_all(env, table);
+pub(crate) fn run<Q: Site, S: StepsIn<Q>>(
+    env: &mut Env<S>,
+    table: &SymbolTable,
+    queue: &QueueEnd<'_, Symbol, Q>,
+) -> Result<u32, Fault> {
+    let units = load_all(env, queue);
     let freed = env.retry(FreeLocals, PATIENCE);
     table.leave();
     freed?;
     units
 }
 
-/// Loads all symbols, each in a frame of its own.
-fn load_all<S: Steps>(env: &mut Env<S>, table: &SymbolTable) -> Result<u32, Fault> {
+/// Loads all symbols, each in a frame of its own, and hands each on.
+fn load_all<Q: Site, S: StepsIn<Q>>(
+    env: &mut Env<S>,
+    queue: &QueueEnd<'_, Symbol, Q>,
+) -> Result<u32, Fault> {
     let mut units = 0u32;
-    for symbol in 0..SYMBOLS {
-        let loaded = with_local_frame(env, 8, PATIENCE, |env| load(env, table, symbol)).map_err(
+    for number in 0..SYMBOLS {
+        let loaded = with_local_frame(env, 8, PATIENCE, |env| load(env, number)).map_err(
             |unscoped| unscoped.fault(),
         )?;
-        units = units.wrapping_add(loaded?);
+        let (shared, length) = loaded?;
+        hand_on(env, queue, Symbol { number, shared })?;
+        units = units.wrapping_add(length);
     }
     Ok(units)
 }
 
-/// Loads a symbol, and answers how many units its name has.
-fn load<S: Steps>(env: &mut Env<S>, table: &SymbolTable, symbol: u32) -> Result<u32, Fault> {
-    let name = env.retry(NewString(&name_of(symbol)), PATIENCE)?;
+/// Hands a symbol on, with a note of what was seen.
+fn hand_on<Q: Site, S: StepsIn<Q>>(
+    env: &mut Env<S>,
+    queue: &QueueEnd<'_, Symbol, Q>,
+    symbol: Symbol,
+) -> Result<(), Fault> {
+    let handed = queue.retry_put(symbol, env.note(), PATIENCE);
+    handed.map_err(|_| Fault::Turns)
+}
+
+/// Loads a symbol, and answers a global reference to it, and how many units its name has.
+fn load<S: Steps>(env: &mut Env<S>, number: u32) -> Result<(Handle, u32), Fault> {
+    let name = env.retry(NewString(&name_of(number)), PATIENCE)?;
     let numbers = env.retry(NewArray::<i32>::of(4), PATIENCE)?;
-    let first = i32::try_from(symbol).unwrap_or(0);
+    let first = i32::try_from(number).unwrap_or(0);
     env.retry(SetArrayRegion(numbers, 0, &[first, 1, 2, 3]), PATIENCE)?;
     let entry = env.retry(NewObjectArray(2, name), PATIENCE)?;
     env.retry(SetObjectArrayElement(entry, 1, numbers), PATIENCE)?;
     let length = env.retry(GetStringLength(name), PATIENCE)?;
     let shared = env.retry(NewGlobalRef(entry), PATIENCE)?;
-    table.post(symbol, Handle::or_null(shared));
-    Ok(length)
+    Ok((Handle::or_null(shared), length))
 }
 
 /// The name of a symbol: `s` and two digits.

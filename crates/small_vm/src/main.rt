@@ -1,4 +1,4 @@
-//! A small machine of three native threads over one room: a loader, a worker and a collector, each with an env of its own.
+//! A small machine of four native threads over one room: a loader, two workers and a collector, each with an env of its own.
 #![tactic(auto)]
 
 mod collector;
@@ -6,7 +6,9 @@ mod loader;
 mod symbol_table;
 mod worker;
 
-use jr::{Config, Env, Fault, NativeCode, Patience, Steps, Summary, run_native};
+use jr::{
+    Config, Env, Fault, Handle, NativeCode, Patience, QueueEnd, Site, StepsIn, Summary, run_native,
+};
 use std::alloc::{AllocError, Global};
 use std::io;
 use symbol_table::SymbolTable;
@@ -24,7 +26,7 @@ const PATIENCE: Patience = Patience {
 
 /// The sizes of the room.
 const SIZES: Config = Config {
-    threads: 3,
+    threads: 4,
     slots: 128,
     objects: 128,
     words: 512,
@@ -38,24 +40,43 @@ struct Machine {
     table: SymbolTable,
 }
 
+/// A symbol that is handed on, with a global reference to it.
+#[derive(Clone, Copy, Drop)]
+struct Symbol {
+    number: u32,
+    shared: Handle,
+}
+
 /// What a thread did.
 #[derive(Clone, Copy, Drop)]
 enum Done {
     /// The loader gave the symbols names of so many units.
     Loaded(u32),
-    /// The worker found this.
+    /// A worker found this.
     Worked(Totals),
     /// The collector left so many weak references of the cache cleared.
     Collected(u32),
 }
 
 impl NativeCode for Machine {
+    type Message = Symbol;
+
     type Answer = Result<Done, Fault>;
 
-    fn run<S: Steps + Drop>(&self, thread: u8, env: &mut Env<S>) -> Result<Done, Fault> {
+    const PLACES: usize = 8;
+
+    fn run<Q: Site, S: StepsIn<Q> + Drop>(
+        &self,
+        thread: u8,
+        env: &mut Env<S>,
+        queue: &mut QueueEnd<'_, Symbol, Q>,
+    ) -> Result<Done, Fault> {
+        if thread > 0 {
+            queue.puts_no_more();
+        }
         match thread {
-            0 => Ok(Done::Loaded(loader::run(env, &self.table)?)),
-            1 => Ok(Done::Worked(worker::run(self.alloc, env, &self.table)?)),
+            0 => Ok(Done::Loaded(loader::run(env, &self.table, queue)?)),
+            1 | 2 => Ok(Done::Worked(worker::run(self.alloc, env, &self.table, queue)?)),
             _ => Ok(Done::Collected(collector::run(self.alloc, env, &self.table)?)),
         }
     }
@@ -80,31 +101,32 @@ fn main(rt: HostRuntime) -> Result<(), Trouble> {
     let table = SymbolTable::new(alloc, SYMBOLS)?;
     let machine = Machine { alloc, table };
     let ran = run_native(&rt, alloc, SIZES, &machine)?;
+    let mut found = Totals::NONE;
     for answer in ran.answers {
-        print_done(&rt, answer?)?;
+        match answer? {
+            Done::Loaded(units) => {
+                println!(rt; "the loader named {SYMBOLS} symbols, by {units} units")?
+            }
+            Done::Worked(one) => found = found.with(one),
+            Done::Collected(cleared) => {
+                print_count(
+                    &rt,
+                    "weak references of the cache that are cleared",
+                    cleared,
+                )?
+            }
+        }
     }
+    print_totals(&rt, found)?;
     print_left(&rt, ran.summary)?;
     Ok(())
 }
 
-/// Prints what a thread did.
-fn print_done<R: Print>(rt: &R, done: Done) -> io::Result<()> {
-    match done {
-        Done::Loaded(units) => {
-            println!(rt; "the loader named {SYMBOLS} symbols, by {units} units")
-        }
-        Done::Worked(found) => print_totals(rt, found),
-        Done::Collected(cleared) => {
-            print_count(rt, "weak references of the cache that are cleared", cleared)
-        }
-    }
-}
-
-/// Prints what the worker read.
+/// Prints what the workers read.
 fn print_totals<R: Print>(rt: &R, found: Totals) -> io::Result<()> {
     let (entries, units, numbers) = (found.entries, found.units, found.numbers);
-    println!(rt; "the worker read {entries} entries, {units} units and {numbers} numbers")?;
-    print_count(rt, "the hash of the list of names", found.hash)?;
+    println!(rt; "the workers read {entries} entries, {units} units and {numbers} numbers")?;
+    print_count(rt, "the sum of the names' hashes", found.hash)?;
     let (first, last) = (found.first, found.last);
     println!(rt; "the sum of the first two numbers of each is {first}, and of the last two {last}")
 }

@@ -1,15 +1,17 @@
-//! The worker reads each symbol, keeps a weak reference to its numbers, and lets go of it.
+//! A worker reads the symbols that it takes, keeps a weak reference to the numbers of each, and lets go of it.
 
 use crate::symbol_table::SymbolTable;
-use crate::{PATIENCE, SYMBOLS};
+use crate::{PATIENCE, SYMBOLS, Symbol};
 use jr::calls::{
     DeleteGlobalRef, FreeLocals, GetArrayLength, GetObjectArrayElement, GetStringChars,
     NewWeakGlobalRef,
 };
-use jr::{Env, Fault, Handle, NativeCall, Steps, with_local_frame};
+use jr::{
+    Env, Fault, Handle, NativeCall, NoMessage, QueueEnd, Site, Steps, StepsIn, with_local_frame,
+};
 use std::alloc::Global;
 
-/// What the worker read.
+/// What workers read.
 #[derive(Clone, Copy)]
 pub(crate) struct Totals {
     /// How many entries the symbols have.
@@ -18,7 +20,7 @@ pub(crate) struct Totals {
     pub(crate) units: usize,
     /// How many numbers they have.
     pub(crate) numbers: u32,
-    /// The hash of the list of the names, as Java has it.
+    /// The sum of the hashes of the names.
     pub(crate) hash: u32,
     /// The sum of the first two numbers of each.
     pub(crate) first: i64,
@@ -28,58 +30,74 @@ pub(crate) struct Totals {
 
 impl Totals {
     /// Nothing yet.
-    const NONE: Totals = Totals {
+    pub(crate) const NONE: Totals = Totals {
         entries: 0,
         units: 0,
         numbers: 0,
-        hash: 1,
+        hash: 0,
         first: 0,
         last: 0,
     };
 
-    /// These, and what a symbol behind them has.
-    fn with(self, one: Totals) -> Totals {
+    /// These and some more.
+    pub(crate) fn with(self, one: Totals) -> Totals {
         Totals {
             entries: self.entries.wrapping_add(one.entries),
             units: self.units.wrapping_add(one.units),
             numbers: self.numbers.wrapping_add(one.numbers),
-            hash: self.hash.wrapping_mul(31).wrapping_add(one.hash),
+            hash: self.hash.wrapping_add(one.hash),
             first: self.first.wrapping_add(one.first),
             last: self.last.wrapping_add(one.last),
         }
     }
 }
 
-/// Works through all symbols.
-pub(crate) fn run<S: Steps>(
+/// Works through symbols until no more come.
+pub(crate) fn run<Q: Site, S: StepsIn<Q>>(
     alloc: Global,
     env: &mut Env<S>,
     table: &SymbolTable,
+    queue: &QueueEnd<'_, Symbol, Q>,
 ) -> Result<Totals, Fault> {
-    let found = work_all(alloc, env, table);
+    let found = work_all(alloc, env, table, queue);
     let freed = env.retry(FreeLocals, PATIENCE);
     table.leave();
     freed?;
     found
 }
 
-/// Works through all symbols, each in a frame of its own.
-fn work_all<S: Steps>(
+/// Works through the symbols that come, until no more do.
+fn work_all<Q: Site, S: StepsIn<Q>>(
     alloc: Global,
     env: &mut Env<S>,
     table: &SymbolTable,
+    queue: &QueueEnd<'_, Symbol, Q>,
 ) -> Result<Totals, Fault> {
     let mut found = Totals::NONE;
-    for symbol in 0..SYMBOLS {
-        let shared = table.wait(symbol)?;
-        let worked = with_local_frame(env, 8, PATIENCE, |env| {
-            work(alloc, env, table, symbol, shared)
-        })
-        .map_err(|unscoped| unscoped.fault())?;
-        found = found.with(worked?);
-        env.retry(DeleteGlobalRef(shared), PATIENCE)?;
+    for _ in 0..SYMBOLS {
+        let (symbol, note) = match queue.retry_take(PATIENCE) {
+            Ok(taken) => taken,
+            Err(NoMessage::More) => break,
+            Err(NoMessage::Yet) => return Err(Fault::Turns),
+        };
+        env.learn(note);
+        found = found.with(work_in_frame(alloc, env, table, symbol)?);
     }
     Ok(found)
+}
+
+/// Works at a symbol in a frame of its own, and lets go of it.
+fn work_in_frame<S: Steps>(
+    alloc: Global,
+    env: &mut Env<S>,
+    table: &SymbolTable,
+    symbol: Symbol,
+) -> Result<Totals, Fault> {
+    let worked = with_local_frame(env, 8, PATIENCE, |env| work(alloc, env, table, symbol)).map_err(
+        |unscoped| unscoped.fault(),
+    )?;
+    env.retry(DeleteGlobalRef(symbol.shared), PATIENCE)?;
+    worked
 }
 
 /// Works at a symbol: copies its name out, and adds its numbers up.
@@ -87,9 +105,9 @@ fn work<S: Steps>(
     alloc: Global,
     env: &mut Env<S>,
     table: &SymbolTable,
-    symbol: u32,
-    shared: Handle,
+    symbol: Symbol,
 ) -> Result<Totals, Fault> {
+    let Symbol { number, shared } = symbol;
     let string = made(env, GetObjectArrayElement(shared, 0))?;
     let numbers = made(env, GetObjectArrayElement(shared, 1))?;
     let units = env.retry(GetStringChars { alloc, string }, PATIENCE)?;
@@ -101,7 +119,7 @@ fn work<S: Steps>(
         first: added(env, numbers, [0, 1])?,
         last: added(env, numbers, [2, 3])?,
     };
-    table.keep(symbol, made(env, NewWeakGlobalRef(numbers))?);
+    table.keep(number, made(env, NewWeakGlobalRef(numbers))?);
     Ok(found)
 }
 

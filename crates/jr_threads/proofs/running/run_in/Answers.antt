@@ -9,18 +9,10 @@ use Rattle.jr_threads.proofs.Passes.{AreBack, backs_of, each_has, each_out, firs
 use Rattle.jr_threads.proofs.Places.{all_over, all_ran, all_wait}
 use Rattle.jr_threads.proofs.running.run_in.Goals as goal
 
-pub run_threads-requires : goal.run_threads-requires
-run_threads-requires g c = (
-  search rules,
-  (
-    search rules,
-    (
-      search rules,
-      subst (λ l. All (λ p. IsWaiting c.args.room.row p) l) (sym (c.deref_mut.ensures.value ∙ c.in-Ok.ensures.threads))
-          (all_wait c.args.room.row c.args.passes.items c.requires.opened.each),
-    ),
-  ),
-)
+pub run_threads-requires-clause-wait : goal.run_threads-requires-clause-wait
+run_threads-requires-clause-wait g c κs lives =
+    subst (λ l. All (λ p. IsWaiting c.args.room.row p) l) (sym (c.deref_mut.ensures.value ∙ c.in-Ok.ensures.threads))
+    (all_wait c.args.room.row c.args.passes.items c.requires.opened.each)
 
 pub parted-answers-requires-clause-over : goal.parted-answers-requires-clause-over
 parted-answers-requires-clause-over g c =

@@ -1,12 +1,15 @@
 use Rattle.std.proofs.Common.{◌≡◌, rules, subst, sym, length}
+use denote.Param.Send.{sendable}
 use Rattle.jr_threads.specs.declared.native.Place.{Place}
 use Rattle.jr_threads.specs.Sites.{PlaceRan, IsWaiting}
 use Rattle.jr_threads.proofs.Places.{all_ended}
 use Rattle.jr_threads.proofs.running.run_threads.Goals as goal
 
 pub for_each_mut-requires-clause-accepts : goal.for_each_mut-requires-clause-accepts
-for_each_mut-requires-clause-accepts g c κs lives i p below is =
-    (subst (IsWaiting c.args.room.now.row) (sym is) (c.requires i p.now below), search rules)
+for_each_mut-requires-clause-accepts g c κs lives i p below is = (
+  (subst (IsWaiting c.args.room.now.row) (sym is) (c.requires.wait i p.now below), c.requires.site),
+  search sendable,
+)
 
 pub returns : goal.returns
 returns g c =
