@@ -10,7 +10,7 @@ use crate::envs::env_of;
 use crate::in_a_stay::has_levels;
 use crate::levels::stands_anew;
 use crate::objects::have_kinds;
-use crate::regions::{a_long_part, has_regions, have_no_regions};
+use crate::parts::{a_long_part, has_parts, have_no_parts};
 use crate::texts::spell_texts;
 use crate::undisturbed::is_undisturbed;
 use jr_env::Env;
@@ -27,9 +27,9 @@ use std::test::Fail;
 pub(crate) enum Case {
     StandsAnew,
     HasLevels,
-    HasRegions,
+    HasParts,
     LongPart,
-    HaveNoRegions,
+    HaveNoParts,
     HaveKinds,
     IsUndisturbed,
     AreOfOneType,
@@ -53,9 +53,9 @@ fn shows<S: Steps>(
     match case {
         Case::StandsAnew => stands_anew(rt, env),
         Case::HasLevels => has_levels(rt, env),
-        Case::HasRegions => has_regions(rt, env),
+        Case::HasParts => has_parts(rt, env),
         Case::LongPart => a_long_part(rt, env),
-        Case::HaveNoRegions => have_no_regions(rt, env),
+        Case::HaveNoParts => have_no_parts(rt, env),
         Case::HaveKinds => have_kinds(rt, env),
         Case::IsUndisturbed => is_undisturbed(rt, env),
         Case::AreOfOneType => are_of_one_type(rt, env),

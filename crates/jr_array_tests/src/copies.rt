@@ -2,7 +2,7 @@
 
 use crate::cases::{Case, alone, in_a_room};
 use crate::envs::{TWO, has_elements, refuses};
-use crate::regions::no_arrays_of_chars;
+use crate::parts::no_arrays_of_chars;
 use jr_elements::{Elements, discard_left, elements_of};
 use jr_env::{Env, NativeInterface};
 use jr_model::Mode;

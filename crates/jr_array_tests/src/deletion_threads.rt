@@ -1,6 +1,6 @@
 //! Two threads that delete the same references: round by round, each time at once.
 
-use crate::side_by_side::{Job, both_do};
+use crate::side_by_side::{SideWork, both_do};
 use jr_env::{Env, NativeInterface};
 use jr_steps::Steps;
 use jr_word::{Config, Fault, Handle};
@@ -108,6 +108,6 @@ pub(crate) fn delete_beside<S: Steps>(env: &mut Env<S>, side: Side) -> Result<u3
 /// Of two threads that delete a reference at once just one does, a thousand times.
 #[test]
 fn a_reference_is_deleted_by_one_of_two(rt: HostRuntime) -> Result<(), Fail> {
-    let (one, other) = (Job::Delete(Side::One), Job::Delete(Side::Other));
+    let (one, other) = (SideWork::Delete(Side::One), SideWork::Delete(Side::Other));
     both_do(&rt, rt.alloc(), CONTESTED, one, other)
 }

@@ -30,11 +30,11 @@ mod objects;
 #[cfg(test)]
 mod overtaken;
 #[cfg(test)]
+mod parts;
+#[cfg(test)]
 mod plans;
 #[cfg(test)]
 mod region_threads;
-#[cfg(test)]
-mod regions;
 #[cfg(test)]
 mod side_by_side;
 #[cfg(test)]

@@ -118,7 +118,7 @@ fn collect_often<S: Steps>(steps: &mut S, collections: u32, tries: u32) -> u32 {
 
 /// What a thread does.
 #[derive(Clone, Copy)]
-pub(crate) enum Job {
+pub(crate) enum SideWork {
     /// Makes arrays of one element.
     Make,
     /// Opens regions over an array of two elements, and writes there.
@@ -129,16 +129,16 @@ pub(crate) enum Job {
     Delete(Side),
 }
 
-impl Job {
+impl SideWork {
     /// Makes, before any thread is started, what it is done with.
     fn prepare<S: Steps>(self, rt: &impl Abort, env: &mut Env<S>) -> Result<(), Fail> {
         match self {
-            Job::Write => {
+            SideWork::Write => {
                 let array = env.new_array::<i64>(2)?;
                 assert!(rt; array == FIRST);
                 Ok(())
             }
-            Job::Delete(Side::One) => make_contested(rt, env),
+            SideWork::Delete(Side::One) => make_contested(rt, env),
             _ => Ok(()),
         }
     }
@@ -146,24 +146,24 @@ impl Job {
     /// Does it. How often it was done.
     fn work<S: Steps + Drop>(self, mut env: Env<S>) -> Result<u32, Fault> {
         match self {
-            Job::Make => make_often(&mut env),
-            Job::Write => write_often(&mut env, REGIONS, TRIES),
-            Job::Collect => {
+            SideWork::Make => make_often(&mut env),
+            SideWork::Write => write_often(&mut env, REGIONS, TRIES),
+            SideWork::Collect => {
                 let mut steps = env.into_pass();
                 Ok(collect_often(&mut steps, COLLECTIONS, TRIES))
             }
-            Job::Delete(side) => delete_beside(&mut env, side),
+            SideWork::Delete(side) => delete_beside(&mut env, side),
         }
     }
 
     /// How many arrays it has made, how many elements they have, and how many global references stand, where it was done as often as it is to.
     fn made(self, done: u32) -> Result<(u32, u32, u32), Fail> {
         match self {
-            Job::Make => Ok((done, done, 0)),
-            Job::Write if done == REGIONS => Ok((1, 2, 0)),
-            Job::Collect if done == COLLECTIONS => Ok((0, 0, 0)),
-            Job::Delete(Side::One) => Ok((1, 4, 1)),
-            Job::Delete(Side::Other) => Ok((0, 0, 0)),
+            SideWork::Make => Ok((done, done, 0)),
+            SideWork::Write if done == REGIONS => Ok((1, 2, 0)),
+            SideWork::Collect if done == COLLECTIONS => Ok((0, 0, 0)),
+            SideWork::Delete(Side::One) => Ok((1, 4, 1)),
+            SideWork::Delete(Side::Other) => Ok((0, 0, 0)),
             _ => Err("a thread has done less than it is to")?,
         }
     }
@@ -172,7 +172,7 @@ impl Job {
 /// Does a job in a thread of its own, where one can be started.
 fn start<'s, E, S: Steps + Drop + Send + 's>(
     scope: &Scope<'s, E>,
-    job: Job,
+    job: SideWork,
     env: Env<S>,
 ) -> Option<JoinHandle<Result<u32, Fault>>> {
     scope.spawn(move || job.work(env)).ok()
@@ -189,8 +189,8 @@ fn ended<R: Threads>(rt: &R, thread: Option<JoinHandle<Result<u32, Fault>>>) -> 
 /// What two threads made that did their jobs side by side, each as often as it is to.
 fn made_by<R: Threads + Wait + Abort, S: Steps + Drop + Send>(
     rt: &R,
-    one: Job,
-    two: Job,
+    one: SideWork,
+    two: SideWork,
     first: Result<Env<S>, NoPass>,
     second: Result<Env<S>, NoPass>,
 ) -> Result<Summary, Fail> {
@@ -218,8 +218,8 @@ pub(crate) fn both_do<R: Threads + Wait + Abort>(
     rt: &R,
     alloc: Global,
     config: Config,
-    one: Job,
-    two: Job,
+    one: SideWork,
+    two: SideWork,
 ) -> Result<(), Fail> {
     let (room, mut passes) = Room::<LAST>::open(alloc, config)?;
     let second = next_env(&room, &mut passes);
@@ -232,10 +232,10 @@ pub(crate) fn both_do<R: Threads + Wait + Abort>(
 // E12 comes hundreds of times where each thread has a processor, and perhaps never where they share one; the test passes then too. A call that it refused has changed nothing.
 #[test]
 fn another_thread_is_faster(rt: HostRuntime) -> Result<(), Fail> {
-    both_do(&rt, rt.alloc(), RACED, Job::Make, Job::Make)
+    both_do(&rt, rt.alloc(), RACED, SideWork::Make, SideWork::Make)
 }
 
 #[test]
 fn regions_and_collections_of_two_threads_end(rt: HostRuntime) -> Result<(), Fail> {
-    both_do(&rt, rt.alloc(), THREE, Job::Write, Job::Collect)
+    both_do(&rt, rt.alloc(), THREE, SideWork::Write, SideWork::Collect)
 }

@@ -7,7 +7,7 @@ use crate::collections::{COLLECTING, Collections, WAYS};
 use crate::measure::time_of;
 use crate::notes::NOTES;
 use crate::owned::OWNED;
-use crate::round::{Job, Work, done_at, round};
+use crate::round::{RoundKind, Work, done_at, round};
 use std::alloc::Global;
 use std::io;
 use std::rt::Clock;
@@ -29,7 +29,7 @@ fn work_of(threads: u32) -> Work {
 }
 
 /// How often the calls of a round answered as they should.
-fn right<R: Threads + Clock + Sync>(rt: &R, alloc: Global, job: Job) -> usize {
+fn right<R: Threads + Clock + Sync>(rt: &R, alloc: Global, job: RoundKind) -> usize {
     let Some(done) = round(rt, alloc, job) else {
         return 0;
     };
@@ -57,16 +57,16 @@ fn print_right<R: Print>(
 pub(crate) fn print<R: Threads + Clock + Print + Sync>(rt: &R, alloc: Global) -> io::Result<()> {
     println!(rt; "each call, {CALLS} times by each thread: how often it answered as it should")?;
     for case in CASES {
-        let one = right(rt, alloc, Job::Calls(case, work_of(1)));
-        let two = right(rt, alloc, Job::Calls(case, work_of(2)));
+        let one = right(rt, alloc, RoundKind::Calls(case, work_of(1)));
+        let two = right(rt, alloc, RoundKind::Calls(case, work_of(2)));
         print_right(rt, "", case.name(), one, two)?;
-        let one = right(rt, alloc, Job::Owned(case, work_of(1)));
-        let two = right(rt, alloc, Job::Owned(case, work_of(2)));
+        let one = right(rt, alloc, RoundKind::Owned(case, work_of(1)));
+        let two = right(rt, alloc, RoundKind::Owned(case, work_of(2)));
         print_right(rt, OWNED, case.name(), one, two)?;
     }
     print_checked(rt, alloc)?;
-    let one = right(rt, alloc, Job::Notes(work_of(1)));
-    let two = right(rt, alloc, Job::Notes(work_of(2)));
+    let one = right(rt, alloc, RoundKind::Notes(work_of(1)));
+    let two = right(rt, alloc, RoundKind::Notes(work_of(2)));
     print_right(rt, "", NOTES, one, two)?;
     print_collections(rt, alloc)?;
     print_beside(rt, alloc)
@@ -77,8 +77,8 @@ fn print_checked<R: Threads + Clock + Print + Sync>(rt: &R, alloc: Global) -> io
     for call in WATCHED {
         for caller in [Caller::CheckedEnv, Caller::CheckedStay] {
             let case = CheckedCase { call, caller };
-            let one = right(rt, alloc, Job::Calls(Case::Checked(case), work_of(1)));
-            let two = right(rt, alloc, Job::Calls(Case::Checked(case), work_of(2)));
+            let one = right(rt, alloc, RoundKind::Calls(Case::Checked(case), work_of(1)));
+            let two = right(rt, alloc, RoundKind::Calls(Case::Checked(case), work_of(2)));
             print_right(rt, case.before_name(), case.name(), one, two)?;
         }
     }
@@ -93,7 +93,7 @@ fn print_collections<R: Threads + Clock + Print + Sync>(rt: &R, alloc: Global) -
             every,
         };
         for (way, name) in WAYS {
-            let is_right = time_of(rt, alloc, Job::Collects(work, way)).is_some();
+            let is_right = time_of(rt, alloc, RoundKind::Collects(work, way)).is_some();
             println!(rt;
                 "{name}, with {reached} of {CALLS} arrays reached, answered as it should: {is_right}"
             )?;

@@ -1,6 +1,6 @@
 //! The calls at arrays.
 
-use crate::calls::{Call, Inline, LONG, Length, make_each};
+use crate::calls::{Inline, LONG, Length, TimedCall, make_each};
 use crate::case::Env;
 use jr_env::NativeInterface;
 use jr_steps::Steps;
@@ -65,7 +65,7 @@ impl ArrayCase {
 #[derive(Clone, Copy)]
 struct New;
 
-impl<S: Steps> Call<S, Env<S>> for New {
+impl<S: Steps> TimedCall<S, Env<S>> for New {
     fn is_right(&self, env: &mut Env<S>, _first: Handle, _at: Handle) -> bool {
         is_made(env)
     }
@@ -75,7 +75,7 @@ impl<S: Steps> Call<S, Env<S>> for New {
 #[derive(Clone, Copy)]
 struct GetElement;
 
-impl<S: Steps> Call<S, Env<S>> for GetElement {
+impl<S: Steps> TimedCall<S, Env<S>> for GetElement {
     fn is_right(&self, env: &mut Env<S>, _first: Handle, at: Handle) -> bool {
         matches!(env.get_object_array_element(at, 0), Ok(Some(_)))
     }
@@ -85,7 +85,7 @@ impl<S: Steps> Call<S, Env<S>> for GetElement {
 #[derive(Clone, Copy)]
 struct SetElement;
 
-impl<S: Steps> Call<S, Env<S>> for SetElement {
+impl<S: Steps> TimedCall<S, Env<S>> for SetElement {
     fn is_right(&self, env: &mut Env<S>, _first: Handle, at: Handle) -> bool {
         env.set_object_array_element(at, 0, at).is_ok()
     }

@@ -4,7 +4,7 @@ use crate::arrays::ArrayCase;
 use crate::case::{Case, Env};
 use crate::collections::{COLLECTING, Way};
 use crate::measure::times_of;
-use crate::round::{Done, Job, Signs, all_came, done_at, round};
+use crate::round::{Done, RoundKind, Signs, all_came, done_at, round};
 use jr_steps::Steps;
 use jr_weak::Marker;
 use jr_word::{Config, Fault, Handle};
@@ -196,7 +196,7 @@ pub(crate) fn tries_of(done: &[Option<Done>]) -> Option<(u128, bool)> {
 
 /// Whether each try of a round was a collection, or was refused as it may be.
 pub(crate) fn is_right<R: Threads + Clock + Sync>(rt: &R, alloc: Global, task: Task) -> bool {
-    match round(rt, alloc, Job::Beside(task)) {
+    match round(rt, alloc, RoundKind::Beside(task)) {
         Some(done) => tries_of(&done).is_some(),
         None => false,
     }
@@ -211,7 +211,7 @@ pub(crate) fn print<R: Threads + Clock + Print + Sync>(
 ) -> io::Result<()> {
     for (beside, call) in BESIDE {
         for (way, name) in COLLECTING {
-            let job = Job::Beside(Task { tries, way, beside });
+            let job = RoundKind::Beside(Task { tries, way, beside });
             let rounds = times_of(rt, alloc, job, rounds)?;
             print_median(rt, name, call, rounds.as_slice())?;
         }

@@ -12,7 +12,7 @@ const CAPACITY: u32 = 16;
 pub(crate) const LONG: u32 = 4_096;
 
 /// A call, or some that belong together, by an env or another who makes them over the same steps.
-pub(crate) trait Call<S: Steps, N> {
+pub(crate) trait TimedCall<S: Steps, N> {
     /// Makes it, with the first handle and another one: whether it answered as it should.
     fn is_right(&self, made: &mut N, first: Handle, at: Handle) -> bool;
 }
@@ -32,7 +32,7 @@ pub(crate) trait AnyCall {
 #[derive(Clone, Copy)]
 pub(crate) struct Inline<C>(pub(crate) C);
 
-impl<S: Steps, N: NativeInterface<S>, C: AnyCall> Call<S, N> for Inline<C> {
+impl<S: Steps, N: NativeInterface<S>, C: AnyCall> TimedCall<S, N> for Inline<C> {
     #[inline(always)]
     fn is_right(&self, made: &mut N, first: Handle, at: Handle) -> bool {
         self.0.is_right_by(made, first, at)
@@ -43,7 +43,7 @@ impl<S: Steps, N: NativeInterface<S>, C: AnyCall> Call<S, N> for Inline<C> {
 #[derive(Clone, Copy)]
 pub(crate) struct Apart<C>(pub(crate) C);
 
-impl<S: Steps, N: NativeInterface<S>, C: AnyCall> Call<S, N> for Apart<C> {
+impl<S: Steps, N: NativeInterface<S>, C: AnyCall> TimedCall<S, N> for Apart<C> {
     #[inline(never)]
     fn is_right(&self, made: &mut N, first: Handle, at: Handle) -> bool {
         self.0.is_right_by(made, first, at)
@@ -52,7 +52,7 @@ impl<S: Steps, N: NativeInterface<S>, C: AnyCall> Call<S, N> for Apart<C> {
 
 /// Makes a call with one handle and each of some: how often it answered as it should.
 #[inline(always)]
-pub(crate) fn make_some<S: Steps, N, C: Call<S, N> + Copy>(
+pub(crate) fn make_some<S: Steps, N, C: TimedCall<S, N> + Copy>(
     made: &mut N,
     first: Handle,
     handed: &[Handle],
@@ -68,7 +68,7 @@ pub(crate) fn make_some<S: Steps, N, C: Call<S, N> + Copy>(
 }
 
 /// Makes a call with the first handle and each of them: how often it answered as it should.
-pub(crate) fn make_each<S: Steps, N, C: Call<S, N> + Copy>(
+pub(crate) fn make_each<S: Steps, N, C: TimedCall<S, N> + Copy>(
     made: &mut N,
     handed: &[Handle],
     call: C,
@@ -211,7 +211,7 @@ impl AnyCall for Length {
 #[derive(Clone, Copy)]
 pub(crate) struct NewPlain;
 
-impl<S: Steps> Call<S, Env<S>> for NewPlain {
+impl<S: Steps> TimedCall<S, Env<S>> for NewPlain {
     fn is_right(&self, env: &mut Env<S>, _first: Handle, _at: Handle) -> bool {
         env.new_plain().is_ok()
     }
@@ -221,7 +221,7 @@ impl<S: Steps> Call<S, Env<S>> for NewPlain {
 #[derive(Clone, Copy)]
 pub(crate) struct NewWeak;
 
-impl<S: Steps> Call<S, Env<S>> for NewWeak {
+impl<S: Steps> TimedCall<S, Env<S>> for NewWeak {
     fn is_right(&self, env: &mut Env<S>, _first: Handle, at: Handle) -> bool {
         matches!(env.new_weak_global_ref(at), Ok(Some(_)))
     }
@@ -231,7 +231,7 @@ impl<S: Steps> Call<S, Env<S>> for NewWeak {
 #[derive(Clone, Copy)]
 pub(crate) struct DeleteWeak;
 
-impl<S: Steps> Call<S, Env<S>> for DeleteWeak {
+impl<S: Steps> TimedCall<S, Env<S>> for DeleteWeak {
     fn is_right(&self, env: &mut Env<S>, _first: Handle, at: Handle) -> bool {
         env.delete_weak_global_ref(at).is_ok()
     }
@@ -241,7 +241,7 @@ impl<S: Steps> Call<S, Env<S>> for DeleteWeak {
 #[derive(Clone, Copy)]
 struct Empty;
 
-impl<S: Steps> Call<S, Env<S>> for Empty {
+impl<S: Steps> TimedCall<S, Env<S>> for Empty {
     fn is_right(&self, env: &mut Env<S>, _first: Handle, at: Handle) -> bool {
         env.ensure_local_capacity(CAPACITY).is_ok()
             && env.push_local_frame(CAPACITY).is_ok()
@@ -253,7 +253,7 @@ impl<S: Steps> Call<S, Env<S>> for Empty {
 #[derive(Clone, Copy)]
 struct OfFour;
 
-impl<S: Steps> Call<S, Env<S>> for OfFour {
+impl<S: Steps> TimedCall<S, Env<S>> for OfFour {
     fn is_right(&self, env: &mut Env<S>, _first: Handle, at: Handle) -> bool {
         frame_of_four(env, at).is_some()
     }
@@ -263,7 +263,7 @@ impl<S: Steps> Call<S, Env<S>> for OfFour {
 #[derive(Clone, Copy)]
 struct FreeOne;
 
-impl<S: Steps> Call<S, Env<S>> for FreeOne {
+impl<S: Steps> TimedCall<S, Env<S>> for FreeOne {
     fn is_right(&self, env: &mut Env<S>, _first: Handle, at: Handle) -> bool {
         matches!(env.new_local_ref(at), Ok(Some(_))) && env.free_locals().is_ok()
     }

@@ -4,7 +4,7 @@ ghost use Rattle.jr_env.specs.Collections.{FitsRoom};
 
 use crate::case::Env;
 use crate::measure::print_job;
-use crate::round::{Done, Job, Signs};
+use crate::round::{Done, RoundKind, Signs};
 use jr_census::Census;
 use jr_env::NativeInterface;
 use jr_steps::Steps;
@@ -147,7 +147,7 @@ pub(crate) fn print<R: Threads + Clock + Print + Sync>(
     rounds: u32,
 ) -> io::Result<()> {
     for (way, name) in WAYS {
-        print_job(rt, alloc, "", name, Job::Collects(work, way), rounds)?;
+        print_job(rt, alloc, "", name, RoundKind::Collects(work, way), rounds)?;
     }
     Ok(())
 }

@@ -1,6 +1,6 @@
 //! The calls that copy elements out and back.
 
-use crate::calls::{Call, make_each};
+use crate::calls::{TimedCall, make_each};
 use crate::case::Env;
 use jr_elements::discard_left;
 use jr_env::NativeInterface;
@@ -68,7 +68,7 @@ impl CopyCase {
 #[derive(Clone, Copy)]
 struct Back(Global);
 
-impl<S: Steps> Call<S, Env<S>> for Back {
+impl<S: Steps> TimedCall<S, Env<S>> for Back {
     fn is_right(&self, env: &mut Env<S>, _first: Handle, at: Handle) -> bool {
         copy_back(env, self.0, at).is_some()
     }
@@ -78,7 +78,7 @@ impl<S: Steps> Call<S, Env<S>> for Back {
 #[derive(Clone, Copy)]
 struct Committed(Global);
 
-impl<S: Steps> Call<S, Env<S>> for Committed {
+impl<S: Steps> TimedCall<S, Env<S>> for Committed {
     fn is_right(&self, env: &mut Env<S>, _first: Handle, at: Handle) -> bool {
         commit(env, self.0, at).is_some()
     }
@@ -88,7 +88,7 @@ impl<S: Steps> Call<S, Env<S>> for Committed {
 #[derive(Clone, Copy)]
 struct Text(Global);
 
-impl<S: Steps> Call<S, Env<S>> for Text {
+impl<S: Steps> TimedCall<S, Env<S>> for Text {
     fn is_right(&self, env: &mut Env<S>, _first: Handle, at: Handle) -> bool {
         env.get_string_chars(self.0, at).is_ok()
     }

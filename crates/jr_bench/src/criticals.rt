@@ -1,6 +1,6 @@
 //! The calls of critical regions.
 
-use crate::calls::{Call, make_each};
+use crate::calls::{TimedCall, make_each};
 use crate::case::Env;
 use jr_env::{NativeInterface, Region};
 use jr_model::Mode;
@@ -53,7 +53,7 @@ impl CriticalCase {
 #[derive(Clone, Copy)]
 struct Open;
 
-impl<S: Steps> Call<S, Env<S>> for Open {
+impl<S: Steps> TimedCall<S, Env<S>> for Open {
     fn is_right(&self, env: &mut Env<S>, _first: Handle, at: Handle) -> bool {
         is_opened(env, at)
     }

@@ -3,7 +3,7 @@
 use crate::beside::tries_of;
 use crate::case::{CALLERS, Case, WATCHED};
 use crate::checked::CheckedCase;
-use crate::round::{Done, Job, Work, done_at, round};
+use crate::round::{Done, RoundKind, Work, done_at, round};
 use std::alloc::Global;
 use std::io;
 use std::rt::Clock;
@@ -36,14 +36,17 @@ fn time_of_call(calls: u32, done: &[Option<Done>]) -> Option<u128> {
 }
 
 /// What a round came to: of calls and collections how long one took, in tenths of nanoseconds, and of tries what these came to. None where it doesn't count.
-pub(crate) fn time_of<R: Threads + Clock + Sync>(rt: &R, alloc: Global, job: Job) -> Option<u128> {
+pub(crate) fn time_of<R: Threads + Clock + Sync>(
+    rt: &R,
+    alloc: Global,
+    job: RoundKind,
+) -> Option<u128> {
     let done = round(rt, alloc, job)?;
     match job {
-        Job::Calls(_, work) | Job::Owned(_, work) | Job::Notes(work) => time_of_call(
-            work.calls, &done,
-        ),
-        Job::Collects(..) => Some(done_at(&done, 0)?.ran.saturating_mul(10)),
-        Job::Beside(_) => match tries_of(&done)? {
+        RoundKind::Calls(_, work) | RoundKind::Owned(_, work) | RoundKind::Notes(work) =>
+            time_of_call(work.calls, &done),
+        RoundKind::Collects(..) => Some(done_at(&done, 0)?.ran.saturating_mul(10)),
+        RoundKind::Beside(_) => match tries_of(&done)? {
             (tries, true) => Some(tries),
             (_, false) => None,
         },
@@ -54,7 +57,7 @@ pub(crate) fn time_of<R: Threads + Clock + Sync>(rt: &R, alloc: Global, job: Job
 pub(crate) fn times_of<R: Threads + Clock + Sync>(
     rt: &R,
     alloc: Global,
-    job: Job,
+    job: RoundKind,
     rounds: u32,
 ) -> io::Result<Vec<u128>> {
     let mut times = Vec::new(alloc);
@@ -73,7 +76,7 @@ pub(crate) fn print_job<R: Threads + Clock + Print + Sync>(
     alloc: Global,
     before: &str,
     name: &str,
-    job: Job,
+    job: RoundKind,
     rounds: u32,
 ) -> io::Result<()> {
     let times = times_of(rt, alloc, job, rounds)?;
@@ -89,7 +92,14 @@ pub(crate) fn print<R: Threads + Clock + Print + Sync>(
     rounds: u32,
 ) -> io::Result<()> {
     for case in cases {
-        print_job(rt, alloc, "", case.name(), Job::Calls(*case, work), rounds)?;
+        print_job(
+            rt,
+            alloc,
+            "",
+            case.name(),
+            RoundKind::Calls(*case, work),
+            rounds,
+        )?;
     }
     Ok(())
 }
@@ -104,7 +114,7 @@ pub(crate) fn print_checked<R: Threads + Clock + Print + Sync>(
     for call in WATCHED {
         for caller in CALLERS {
             let case = CheckedCase { call, caller };
-            let job = Job::Calls(Case::Checked(case), work);
+            let job = RoundKind::Calls(Case::Checked(case), work);
             print_job(rt, alloc, case.before_name(), case.name(), job, rounds)?;
         }
     }

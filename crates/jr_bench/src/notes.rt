@@ -1,7 +1,7 @@
 //! How long it takes to note what a thread has seen, and to learn it.
 
 use crate::measure::print_job;
-use crate::round::{Done, Job, Signs, Work, all_came};
+use crate::round::{Done, RoundKind, Signs, Work, all_came};
 use jr_env::Env;
 use jr_rule::{Site, StepsIn};
 use std::alloc::Global;
@@ -39,5 +39,5 @@ pub(crate) fn print<R: Threads + Clock + Print + Sync>(
     work: Work,
     rounds: u32,
 ) -> io::Result<()> {
-    print_job(rt, alloc, "", NOTES, Job::Notes(work), rounds)
+    print_job(rt, alloc, "", NOTES, RoundKind::Notes(work), rounds)
 }

@@ -2,7 +2,7 @@
 
 use crate::case::{CASES, Case};
 use crate::measure::print_job;
-use crate::round::{Done, Job, Signs, Work, call_all};
+use crate::round::{Done, RoundKind, Signs, Work, call_all};
 use jr_owned::{OwnedEnv, open_envs};
 use jr_word::Config;
 use std::alloc::Global;
@@ -47,7 +47,7 @@ pub(crate) fn print<R: Threads + Clock + Print + Sync>(
     rounds: u32,
 ) -> io::Result<()> {
     for case in CASES {
-        let (room, owned) = (Job::Calls(case, work), Job::Owned(case, work));
+        let (room, owned) = (RoundKind::Calls(case, work), RoundKind::Owned(case, work));
         print_job(rt, alloc, "", case.name(), room, rounds)?;
         print_job(rt, alloc, OWNED, case.name(), owned, rounds)?;
     }

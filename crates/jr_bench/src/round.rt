@@ -43,7 +43,7 @@ pub(crate) struct Work {
 
 /// What the threads of a round do.
 #[derive(Clone, Copy)]
-pub(crate) enum Job {
+pub(crate) enum RoundKind {
     /// Each makes the same call.
     Calls(Case, Work),
     /// Each makes the same call, in a room that they own.
@@ -169,19 +169,20 @@ pub(crate) fn call_all<R: Clock, S: Steps>(
     Some(done)
 }
 
-impl Job {
+impl RoundKind {
     /// The sizes of its room.
     fn config(self) -> Config {
         match self {
-            Job::Calls(_, work) | Job::Owned(_, work) | Job::Notes(work) => Config {
-                threads: work.threads,
-                slots: Config::MOST_SLOTS,
-                objects: Config::MOST_OBJECTS,
-                words: WORDS,
-                locals: Config::MOST_LOCALS,
-            },
-            Job::Beside(task) => task.tries.config(),
-            Job::Collects(work, _) => work.config(),
+            RoundKind::Calls(_, work) | RoundKind::Owned(_, work) | RoundKind::Notes(work) =>
+                Config {
+                    threads: work.threads,
+                    slots: Config::MOST_SLOTS,
+                    objects: Config::MOST_OBJECTS,
+                    words: WORDS,
+                    locals: Config::MOST_LOCALS,
+                },
+            RoundKind::Beside(task) => task.tries.config(),
+            RoundKind::Collects(work, _) => work.config(),
         }
     }
 
@@ -194,12 +195,12 @@ impl Job {
         signs: &Signs,
     ) -> Option<Done> {
         match self {
-            Job::Calls(case, work) | Job::Owned(case, work) => call_all(
+            RoundKind::Calls(case, work) | RoundKind::Owned(case, work) => call_all(
                 rt, alloc, env, case, work, signs,
             ),
-            Job::Notes(work) => note_all::<Q, R, S>(rt, env, work, signs),
-            Job::Beside(task) => task.act(rt, alloc, env, signs),
-            Job::Collects(work, way) => work.time_in(rt, alloc, env, way, signs),
+            RoundKind::Notes(work) => note_all::<Q, R, S>(rt, env, work, signs),
+            RoundKind::Beside(task) => task.act(rt, alloc, env, signs),
+            RoundKind::Collects(work, way) => work.time_in(rt, alloc, env, way, signs),
         }
     }
 }
@@ -210,7 +211,7 @@ fn work_at<Q: Site, T: ThreadNumber, R: Clock>(
     alloc: Global,
     room: &Room<LAST_SERIAL>,
     pass: Pass,
-    job: Job,
+    job: RoundKind,
     signs: &Signs,
 ) -> Option<Done>
     requires pass { IsOpened room.now.row pass }
@@ -229,7 +230,7 @@ fn work_one<R: Clock>(
     alloc: Global,
     room: &Room<LAST_SERIAL>,
     pass: Pass,
-    job: Job,
+    job: RoundKind,
     signs: &Signs,
 ) -> Option<Done>
     requires { IsOpened room.now.row pass }
@@ -241,14 +242,14 @@ fn work_one<R: Clock>(
 pub(crate) fn round<R: Threads + Clock + Sync>(
     rt: &R,
     alloc: Global,
-    job: Job,
+    job: RoundKind,
 ) -> Option<Vec<Option<Done>>> {
     let signs = Signs {
         began: Instant::now(rt).ok()?,
         came: AtomicU64::new(0),
         ended: AtomicBool::new(false),
     };
-    if let Job::Owned(case, work) = job {
+    if let RoundKind::Owned(case, work) = job {
         return owned::round(rt, alloc, job.config(), case, work, &signs);
     }
     let (room, passes) = Room::<LAST_SERIAL>::open(alloc, job.config()).ok()?;

@@ -13,7 +13,7 @@ use Rattle.jr_steps.specs.Knowing.{Facts, Holds, Standing}
 use Rattle.jr_env.specs.Deeds.{CarriedOut, DoesDeed}
 use Rattle.jr_scripts.specs.declared.reply.Reply.{Reply}
 use Rattle.jr_model.specs.declared.event.Role.TheVariants.{Outside}
-use Rattle.jr_scripts.specs.declared.region.Region.{Region}
+use Rattle.jr_scripts.specs.declared.region.NamedLevels.{NamedLevels}
 use Rattle.jr_scripts.specs.Names.{Names, no_names}
 use Rattle.jr_scripts.specs.Places.{Place, levels_after, objects_after, place_after}
 use Rattle.jr_scripts.specs.RegionCommands.{giving_up_all}
@@ -29,7 +29,7 @@ use Rattle.jr_env.proofs.Carrying.{role_kept, role_then}
 module _ {S : Type 0} (facts : S → Facts) where
   -- so far these commands were done, the output grew, and what was known explains by how much
   pub record Going (old now : S) (before after : Frames) (talk : Speech) (turns first : ℕ) (done : List Command)
-      (out out' : List ℕ) (names : Names) (words : ThreadWords) (region : Option Region) : Type 0 where
+      (out out' : List ℕ) (names : Names) (words : ThreadWords) (region : Option NamedLevels) : Type 0 where
     pub text : List ℕ
     pub grew : out' ≡ out ++ text
     pub stands_is : IsAsBefore (record ((facts old).stands) { role = role_with region }) (facts now).stands
@@ -47,7 +47,8 @@ outside_again is b =
     record { room = b.room; config = b.config; last = b.last; thread = b.thread; role = b.role ∙ sym is }
 
 -- where the thread stands after a command
-place_next : (c : Command) (answer : Result Reply Fault) (names between names' : Names) (region left : Option Region)
+place_next : (c : Command) (answer : Result Reply Fault) (names between names' : Names)
+    (region left : Option NamedLevels)
     → between ≡ buffers_after c answer names → names' ≡ names_set c answer between
     → level_names left ≡ levels_after c answer (level_names region)
     → objects_in left ≡ objects_after c answer (objects_in region)
@@ -94,7 +95,7 @@ module _ {S : Type 0} {facts : S → Facts} where
 
   -- all commands were done, and a region that stood was given up
   pub finished : {old now last : S} {f g h : Frames} {talk : Speech} {turns first : ℕ} {commands : List Command}
-      {out out' : List ℕ} {names : Names} {words : ThreadWords} {region : Option Region} (i : ℕ)
+      {out out' : List ℕ} {names : Names} {words : ThreadWords} {region : Option NamedLevels} (i : ℕ)
       → (facts old).stands.role ≡ Outside → length commands ≤ i
       → Going facts old now f g talk turns first (take i commands) out out' names words region
       → CarriedOut facts now last g h Outside (KnowsWith region g) (Holds h) (giving_up_all (objects_in region)) (Ok tt)
@@ -127,7 +128,7 @@ module _ {S : Type 0} {facts : S → Facts} where
 
   -- what was done with these words was done with those
   with_words : {mid new : S} {g h : Frames} (talk : Speech) (turns : ℕ) (c : Command) (names : Names)
-      (had words : ThreadWords) (region left : Option Region) {answer : Result Reply Fault} → had ≡ words
+      (had words : ThreadWords) (region left : Option NamedLevels) {answer : Result Reply Fault} → had ≡ words
       → CarriedOut facts mid new g h (role_with left) (KnowsWith region g) (KnowsWith left h)
       (deed_spoken talk turns (place_with names region) had c) answer
       → CarriedOut facts mid new g h (role_with left) (KnowsWith region g) (KnowsWith left h)
@@ -138,7 +139,8 @@ module _ {S : Type 0} {facts : S → Facts} where
 
   module _ {old mid new : S} {f g h : Frames} {earlier talk : Speech} (carries : Carries earlier talk) (turns first : ℕ)
       (commands : List Command) (i : ℕ) (c : Command) (names between names' : Names) (had words words' : ThreadWords)
-      (same : had ≡ words) (region left : Option Region) {answer : Result Reply Fault} {out out' out'' : List ℕ} where
+      (same : had ≡ words) (region left : Option NamedLevels)
+      {answer : Result Reply Fault} {out out' out'' : List ℕ} where
     pub went_on : (r : Result (Unit {0}) AllocError) → i < length commands → get_or commands i c ≡ c
         → Going facts old mid f g earlier turns first (take i commands) out out' names words region
         → CarriedOut facts mid new g h (role_with left) (KnowsWith region g) (KnowsWith left h)

@@ -31,7 +31,7 @@ use Rattle.jr_syntax.specs.declared.verb.Make.TheVariants as make
 use Rattle.jr_syntax.specs.declared.verb.OnName.{OnName}
 use Rattle.jr_syntax.specs.declared.verb.OnName.TheVariants as on_name
 use Rattle.jr_world.specs.Board.{word_under}
-use Rattle.jr_scripts.specs.declared.region.Region.{Region}
+use Rattle.jr_scripts.specs.declared.region.NamedLevels.{NamedLevels}
 use Rattle.jr_scripts.specs.declared.reply.Reply.{Reply}
 use Rattle.jr_scripts.specs.declared.reply.Reply.TheVariants as replies
 use Rattle.jr_scripts.specs.Layouts.{Layout}
@@ -319,7 +319,7 @@ module _ {S : Type 0} (facts : S → Facts) where
   levels_said v f _ answer k k' x within m = absurd x
 
   -- what is known where the thread stands is known there still
-  knows_said : (region : Option Region) (f : Frames) (c : Command) (answer : Result Reply Fault) (k k' : Known)
+  knows_said : (region : Option NamedLevels) (f : Frames) (c : Command) (answer : Result Reply Fault) (k k' : Known)
       → SaysSo c answer k k' → role_of (view k) ≡ role_with region → KnowsWith region f k → KnowsWith region f k'
   knows_said None f c answer k k' x role m = holds_said f c answer k k' x m
   knows_said (Some r) f c answer k k' x role m = levels_said r.levels f c answer k k' x role m
@@ -387,14 +387,14 @@ module _ {S : Type 0} (facts : S → Facts) where
   own_looked {t = t} account n found l own = own_still l (holds_looked t.frames found) own
 
 module _ {S : Type 0} {G : Ghosts S} where
-  stands_role : (region : Option Region) (env : Env S G) → StandsWith region env
+  stands_role : (region : Option NamedLevels) (env : Env S G) → StandsWith region env
       → (G.facts env.held.steps).stands.role ≡ role_with region
   stands_role None env stands = stands
   stands_role (Some r) env stands = stands.stand.ready.role_is
 
 module _ {S : Type 0} {G : Ghosts S} (fits : AreOf G.facts) where
   -- what such a command does, with what it says
-  pub did_speak : (talk : Speech) (turns : ℕ) (names : Names) (words : ThreadWords) (region : Option Region)
+  pub did_speak : (talk : Speech) (turns : ℕ) (names : Names) (words : ThreadWords) (region : Option NamedLevels)
       (old new : Env S G) (c : Command) (answer : Result Reply Fault) → StandsWith region old
       → new.held.frames ≡ old.held.frames → HasSpoken G.facts old.held.steps new.held.steps talk names words c answer
       → CarriedOut G.facts old.held.steps new.held.steps old.held.frames.frames new.held.frames.frames
@@ -423,7 +423,8 @@ module _ {S : Type 0} {G : Ghosts S} (fits : AreOf G.facts) where
       })
 
   -- where the thread stood it stands
-  pub stands_still : (talk : Speech) (names : Names) (words : ThreadWords) (region : Option Region) (old new : Env S G)
+  pub stands_still : (talk : Speech) (names : Names) (words : ThreadWords)
+      (region : Option NamedLevels) (old new : Env S G)
       (c : Command) (answer : Result Reply Fault) → StandsWith region old → new.held.frames ≡ old.held.frames
       → HasSpoken G.facts old.held.steps new.held.steps talk names words c answer → StandsWith region new
   stands_still talk names words None old new c answer stands frames w =

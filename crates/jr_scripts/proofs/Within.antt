@@ -57,7 +57,7 @@ use Rattle.jr_scripts.specs.RegionCommands.{level_reading, reading_as, level_wri
 use Rattle.jr_word.specs.declared.fault.Fault.TheVariants.{InCritical}
 use Rattle.jr_syntax.specs.declared.verb.Make.TheVariants as make
 use Rattle.jr_syntax.specs.declared.verb.OnName.{OnName}
-use Rattle.jr_scripts.specs.declared.region.Region.{Region}
+use Rattle.jr_scripts.specs.declared.region.NamedLevels.{NamedLevels}
 use Rattle.jr_scripts.specs.Layouts.{Layout}
 use Rattle.jr_scripts.specs.Places.{is_speaking, levels_after, objects_after}
 use Rattle.jr_scripts.specs.Posting.{Account, HasPosted, HasSpoken, HasWaited, Keeps, WasInVain, ThreadWords}
@@ -288,7 +288,7 @@ is_of_region _ = false
 module _ {S B : Type 0} {G : Ghosts S} {layout : B → Layout} {tells : B → Account}
     {looked : B → List ℕ → Option ℕ → B → Type 0} {follows : B → ThreadWords → Type 0} {turns : ℕ}
     {words : ThreadWords} where
-  module _ {old new : Env S G} {names names' : Names} {region' : Option Region} {board : B}
+  module _ {old new : Env S G} {names names' : Names} {region' : Option NamedLevels} {board : B}
       {answer : Result Reply Fault} (c d : Command) (is : c ≡ d) where
     -- a command by which threads hand each other nothing, where no region stood
     pub outside : is_speaking d ≡ false → follows board words
@@ -309,7 +309,7 @@ module _ {S B : Type 0} {G : Ghosts S} {layout : B → Layout} {tells : B → Ac
         })
 
     -- the same in a region
-    pub inside : (r : Region) → StandsIn r old → is_speaking d ≡ false → follows board words
+    pub inside : (r : NamedLevels) → StandsIn r old → is_speaking d ≡ false → follows board words
         → DidWith old new (Some r) region' (deed_within (place_with names (Some r)) d) answer → StandsWith region' new
         → level_names region' ≡ levels_after d answer (level_names (Some r))
         → objects_in region' ≡ objects_after d answer (objects_in (Some r)) → names' ≡ buffers_after d answer names
@@ -328,8 +328,8 @@ module _ {S B : Type 0} {G : Ghosts S} {layout : B → Layout} {tells : B → Ac
         })
 
   -- what was done is told with the region and the answer that it left
-  pub as_told : {old new : Env S G} {names names' : Names} {board board' : B} {region region' : Option Region}
-      {answer : Result Reply Fault} (c : Command) (o : Option Region) (a : Result Reply Fault) → o ≡ region'
+  pub as_told : {old new : Env S G} {names names' : Names} {board board' : B} {region region' : Option NamedLevels}
+      {answer : Result Reply Fault} (c : Command) (o : Option NamedLevels) (a : Result Reply Fault) → o ≡ region'
       → a ≡ answer
       → DidCommand layout tells looked follows turns c words old new names names' region region' board board' answer
       → DidCommand layout tells looked follows turns c words old new names names' region o board board' a
@@ -339,7 +339,7 @@ module _ {S B : Type 0} {G : Ghosts S} {layout : B → Layout} {tells : B → Ac
       x) (sym says) d)
 
   -- a command that is none of a region
-  pub refused_inside : {old : Env S G} {names : Names} {board : B} (c : Command) (r : Region)
+  pub refused_inside : {old : Env S G} {names : Names} {board : B} (c : Command) (r : NamedLevels)
       → StandsIn r old → follows board words → is_of_region c ≡ false → DidCommand layout tells looked follows turns c
       words old old names names (Some r) (Some r) board board (Err InCritical)
   refused_inside (commands.OpenLevel v n r) region stood has other = absurd cc
@@ -354,7 +354,8 @@ module _ {S B : Type 0} {G : Ghosts S} {layout : B → Layout} {tells : B → Ac
 
   -- a command that makes calls, and opens no region
   pub called : {old new : Env S G} {names names' : Names} {board : B} {answer : Result Reply Fault} (c d : Command)
-      (region : Option Region) → c ≡ d → region ≡ None → IsOutside old → is_speaking d ≡ false → follows board words
+      (region : Option NamedLevels) → c ≡ d → region ≡ None → IsOutside old
+      → is_speaking d ≡ false → follows board words
       → WasDone old new (deed turns names d) answer → [] ≡ levels_after d answer [] → [] ≡ objects_after d answer []
       → names' ≡ buffers_after d answer names
       → DidCommand layout tells looked follows turns c words old new names names' None region board board answer
@@ -364,8 +365,9 @@ module _ {S B : Type 0} {G : Ghosts S} {layout : B → Layout} {tells : B → Ac
       (outside c d is silent has (did_in_role stood did) (did.stands_is.role ∙ stood) levels objects changed)
 
   -- one by which they do, wherever the thread stands
-  pub spoken : AreOf G.facts → {old new : Env S G} {names : Names} {region : Option Region} {board board' : B}
-      {answer : Result Reply Fault} (c : Command) (region' : Option Region) → region' ≡ region → StandsWith region old
+  pub spoken : AreOf G.facts → {old new : Env S G} {names : Names} {region : Option NamedLevels} {board board' : B}
+      {answer : Result Reply Fault} (c : Command) (region' : Option NamedLevels)
+      → region' ≡ region → StandsWith region old
       → is_speaking c ≡ true → new.held.frames ≡ old.held.frames
       → HasSpoken G.facts old.held.steps new.held.steps (talk_of tells looked turns board') names words c answer
       → follows board' (words_after names c answer words) → Keeps layout tells board board'
@@ -384,8 +386,8 @@ module _ {S B : Type 0} {G : Ghosts S} {layout : B → Layout} {tells : B → Ac
       })
 
   -- a wait
-  pub waited : AreOf G.facts → {old new : Env S G} {names : Names} {region : Option Region} {board board' : B}
-      {answer : Result Reply Fault} {n : List ℕ} (c : Command) (region' : Option Region) → region' ≡ region
+  pub waited : AreOf G.facts → {old new : Env S G} {names : Names} {region : Option NamedLevels} {board board' : B}
+      {answer : Result Reply Fault} {n : List ℕ} (c : Command) (region' : Option NamedLevels) → region' ≡ region
       → StandsWith region old → c ≡ commands.Make make.Wait n → new.held.frames ≡ old.held.frames
       → HasWaited G.facts old.held.steps new.held.steps (tells board') (WasInVain looked turns n) n (word_under words n)
       answer → (found : Option ℕ) × (answer ≡ reply_to_wait found) × follows board' (words_found n found words)
@@ -399,8 +401,8 @@ module _ {S B : Type 0} {G : Ghosts S} {layout : B → Layout} {tells : B → Ac
       kept
 
   -- a post
-  pub posted : AreOf G.facts → {old new : Env S G} {names : Names} {region : Option Region} {board board' : B}
-      {answer : Result Reply Fault} {v : OnName} {n : List ℕ} {w : ℕ} (c : Command) (region' : Option Region)
+  pub posted : AreOf G.facts → {old new : Env S G} {names : Names} {region : Option NamedLevels} {board board' : B}
+      {answer : Result Reply Fault} {v : OnName} {n : List ℕ} {w : ℕ} (c : Command) (region' : Option NamedLevels)
       → region' ≡ region → StandsWith region old → c ≡ commands.OnName v n → w ≡ word_posted names n
       → answer ≡ Ok replies.Done → new.held.frames ≡ old.held.frames
       → HasPosted G.facts old.held.steps new.held.steps (tells board') words n w → follows board' (words_with words n w)

@@ -24,7 +24,7 @@ use Rattle.jr_syntax.specs.declared.verb.OnNameAt.{OnNameAt}
 use Rattle.jr_syntax.specs.declared.verb.OnNameAt.TheVariants as on_name_at
 use Rattle.jr_syntax.specs.declared.verb.PutAt.{PutAt}
 use Rattle.jr_syntax.specs.declared.verb.PutAt.TheVariants as put_at
-use Rattle.jr_scripts.specs.declared.region.Region.{Region}
+use Rattle.jr_scripts.specs.declared.region.NamedLevels.{NamedLevels}
 use Rattle.jr_scripts.specs.declared.reply.Reply.{Reply}
 use Rattle.jr_elements.specs.Copies.{answer_in}
 use Rattle.jr_scripts.specs.declared.reply.Reply.TheVariants as replies
@@ -59,26 +59,26 @@ deed_spoken speech turns p words c old answer new =
     deed_at turns p c old answer new × speech p.names words c old.pass.seen answer new.pass.seen
 
 -- the names of the levels of a region, the first first
-abbrev pub level_names : Option Region → List (List ℕ)
+abbrev pub level_names : Option NamedLevels → List (List ℕ)
 level_names None = []
 level_names (Some r) = r.names.items
 
 -- their objects
-abbrev pub objects_in : Option Region → List ℕ
+abbrev pub objects_in : Option NamedLevels → List ℕ
 objects_in None = []
 objects_in (Some r) = objects_of r.levels
 
 -- the place of a thread whose names stand for this, with its region
-abbrev pub place_with : Names → Option Region → Place
+abbrev pub place_with : Names → Option NamedLevels → Place
 place_with names region = record { names = names; levels = level_names region; objects = objects_in region }
 
 -- the thread is within while a region stands
-abbrev pub role_with : Option Region → Role
+abbrev pub role_with : Option NamedLevels → Role
 role_with None = Outside
 role_with (Some r) = Within
 
 -- the frames are those of the thread's locals, and the header of each level is known
-abbrev pub KnowsWith : Option Region → Frames → Known → Type 0
+abbrev pub KnowsWith : Option NamedLevels → Frames → Known → Type 0
 KnowsWith None f k = Holds f k
 KnowsWith (Some r) f k = KnowsLevels r.levels f k
 
@@ -89,18 +89,18 @@ KnowsOpened (Err e) f k = Holds f k
 
 module _ {S : Type 0} {G : Ghosts S} where
   -- a region stands over the env, and each of its levels has a name
-  pub record StandsIn (r : Region) (env : Env S G) : Type 0 where
+  pub record StandsIn (r : NamedLevels) (env : Env S G) : Type 0 where
     pub stand : StandOver r.levels env.held
     pub named : length r.names.items ≡ length (objects_of r.levels)
 
   -- the thread of the env stands outside, or in a region
-  abbrev pub StandsWith : Option Region → Env S G → Type 0
+  abbrev pub StandsWith : Option NamedLevels → Env S G → Type 0
   StandsWith None env = IsOutside env
   StandsWith (Some r) env = StandsIn r env
 
 module _ {S A : Type 0} {G : Ghosts S} where
   -- the deed was done, from one region to another
-  abbrev pub DidWith : Env S G → Env S G → Option Region → Option Region → Deed A → Result A Fault → Type 0
+  abbrev pub DidWith : Env S G → Env S G → Option NamedLevels → Option NamedLevels → Deed A → Result A Fault → Type 0
   DidWith old new region left deed answer =
       WasDoneFrom old new (KnowsWith region) (KnowsWith left) (role_with left) deed answer
 
@@ -124,7 +124,7 @@ module _ {S : Type 0} {G : Ghosts S} where
 module _ {S B : Type 0} {G : Ghosts S} (layout : B → Layout) (tells : B → Account)
     (looked : B → List ℕ → Option ℕ → B → Type 0) (has : B → ThreadWords → Type 0) where
   pub record DidCommand (turns : ℕ) (c : Command) (words : ThreadWords) (old new : Env S G) (named named' : Names)
-      (region region' : Option Region) (board board' : B) (answer : Result Reply Fault) : Type 0 where
+      (region region' : Option NamedLevels) (board board' : B) (answer : Result Reply Fault) : Type 0 where
     pub does : DidWith old new region region'
         (deed_spoken (talk_of tells looked turns board') turns (place_with named region) words c) answer
     pub stand : StandsWith region' new

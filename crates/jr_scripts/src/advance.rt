@@ -10,7 +10,7 @@ use crate::commands::posting::{post, wait};
 use crate::commands::regions::{close, nest, read_by, write_by};
 use crate::names::Names;
 use crate::perform::perform;
-use crate::region::Region;
+use crate::region::NamedLevels;
 use crate::reply::Reply;
 use jr_env::Env;
 use jr_steps::Steps;
@@ -22,13 +22,13 @@ use std::alloc::Global;
 /// What a command leaves, and its answer.
 pub(crate) struct Outcome {
     /// The region in which the thread stands then, if it does in one.
-    pub(crate) region: Option<Region>,
+    pub(crate) region: Option<NamedLevels>,
     /// The reply, or the refusal.
     pub(crate) answer: Result<Reply, Fault>,
 }
 
 /// The answer of a command behind which the region stands still.
-fn still(region: Region, answer: Result<Reply, Fault>) -> Outcome
+fn still(region: NamedLevels, answer: Result<Reply, Fault>) -> Outcome
     ensures region { result.region ≡ Some region }
     ensures answer { result.answer ≡ answer }
 {
@@ -42,7 +42,7 @@ fn still(region: Region, answer: Result<Reply, Fault>) -> Outcome
 fn within<S: Steps, B: Board<S>>(
     env: &mut Env<S>,
     names: &Names,
-    mut region: Region,
+    mut region: NamedLevels,
     words: &[(Name, u64)],
     board: &mut B,
     turns: u64,
@@ -90,7 +90,7 @@ pub(crate) fn advance<S: Steps, B: Board<S>>(
     env: &mut Env<S>,
     names: &mut Names,
     marker: &mut Marker,
-    region: Option<Region>,
+    region: Option<NamedLevels>,
     words: &[(Name, u64)],
     board: &mut B,
     turns: u64,

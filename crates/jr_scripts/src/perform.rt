@@ -21,7 +21,7 @@ use crate::commands::elements::{load, store};
 use crate::commands::posting::{post, wait};
 use crate::commands::regions::open_region;
 use crate::names::Names;
-use crate::region::Region;
+use crate::region::NamedLevels;
 use crate::reply::{IntoReply, Reply};
 use jr_env::Env;
 use jr_env::calls::{
@@ -235,7 +235,7 @@ pub fn perform<S: Steps, B: Board<S>>(
     env: &mut Env<S>,
     names: &mut Names,
     marker: &mut Marker,
-    region: &mut Option<Region>,
+    region: &mut Option<NamedLevels>,
     words: &[(Name, u64)],
     board: &mut B,
     turns: u64,

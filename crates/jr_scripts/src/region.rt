@@ -10,19 +10,19 @@ use jr_syntax::Name;
 use jr_word::Fault;
 
 /// The levels of a critical region, and their names, the first first.
-pub struct Region {
+pub struct NamedLevels {
     pub(crate) levels: Levels,
     pub(crate) names: ArrayVec<Name, LEVELS>,
 }
 
 /// A region of one level.
-pub(crate) fn first(levels: Levels, name: &Name) -> Region
+pub(crate) fn first(levels: Levels, name: &Name) -> NamedLevels
     ensures levels { result.levels ≡ levels }
     ensures names { result.names.items ≡ name.now ∷ [] }
 {
     let mut names = ArrayVec::new();
     names.push(name.copy());
-    Region { levels, names }
+    NamedLevels { levels, names }
 }
 
 /// The number of the newest level of a name, none where no level has it.
@@ -38,7 +38,7 @@ fn newest_level(names: &ArrayVec<Name, LEVELS>, name: &Name) -> Option<usize>
     found
 }
 
-impl Region {
+impl NamedLevels {
     /// The number of the level that a name means, the newest one of that name.
     ///
     /// # Errors

@@ -11,7 +11,7 @@ use std::process::Abort;
 
 /// A call that takes a reference.
 #[derive(Clone, Copy)]
-pub(crate) enum Call {
+pub(crate) enum CallOfReference {
     Delete(RefKind),
     Of(OfReference),
     Object(OfObject),
@@ -71,48 +71,48 @@ pub(crate) enum OfRegion {
 }
 
 /// All that delete.
-pub(crate) const DELETIONS: [Call; 3] = [
-    Call::Delete(RefKind::Global),
-    Call::Delete(RefKind::Weak),
-    Call::Delete(RefKind::Local),
+pub(crate) const DELETIONS: [CallOfReference; 3] = [
+    CallOfReference::Delete(RefKind::Global),
+    CallOfReference::Delete(RefKind::Weak),
+    CallOfReference::Delete(RefKind::Local),
 ];
 
 /// All that open no region in a region, and delete nothing. Of those the last one alone makes something of NULL.
-pub(crate) const CALLS: [Call; 20] = [
-    Call::Object(OfObject::Kind),
-    Call::Object(OfObject::ArrayLength),
-    Call::Object(OfObject::StringLength),
-    Call::Object(OfObject::GetElement),
-    Call::Object(OfObject::SetElement),
-    Call::Object(OfObject::GetInts),
-    Call::Object(OfObject::SetInts),
-    Call::Copy(OfCopy::Ints),
-    Call::Copy(OfCopy::Chars),
-    Call::Copy(OfCopy::Release(Mode::Commit)),
-    Call::Copy(OfCopy::Release(Mode::Copy)),
-    Call::Critical(OfRegion::Array),
-    Call::Critical(OfRegion::String),
-    Call::Critical(OfRegion::ArrayByLevels),
-    Call::Critical(OfRegion::StringByLevels),
-    Call::Of(OfReference::NewGlobal),
-    Call::Of(OfReference::NewWeakGlobal),
-    Call::Of(OfReference::NewLocal),
-    Call::Of(OfReference::PopFrame),
-    Call::Of(OfReference::NewArray),
+pub(crate) const CALLS: [CallOfReference; 20] = [
+    CallOfReference::Object(OfObject::Kind),
+    CallOfReference::Object(OfObject::ArrayLength),
+    CallOfReference::Object(OfObject::StringLength),
+    CallOfReference::Object(OfObject::GetElement),
+    CallOfReference::Object(OfObject::SetElement),
+    CallOfReference::Object(OfObject::GetInts),
+    CallOfReference::Object(OfObject::SetInts),
+    CallOfReference::Copy(OfCopy::Ints),
+    CallOfReference::Copy(OfCopy::Chars),
+    CallOfReference::Copy(OfCopy::Release(Mode::Commit)),
+    CallOfReference::Copy(OfCopy::Release(Mode::Copy)),
+    CallOfReference::Critical(OfRegion::Array),
+    CallOfReference::Critical(OfRegion::String),
+    CallOfReference::Critical(OfRegion::ArrayByLevels),
+    CallOfReference::Critical(OfRegion::StringByLevels),
+    CallOfReference::Of(OfReference::NewGlobal),
+    CallOfReference::Of(OfReference::NewWeakGlobal),
+    CallOfReference::Of(OfReference::NewLocal),
+    CallOfReference::Of(OfReference::PopFrame),
+    CallOfReference::Of(OfReference::NewArray),
 ];
 
 /// Those that add a level to a region.
-pub(crate) const NESTING: [Call; 4] = [
-    Call::Critical(OfRegion::NestArray),
-    Call::Critical(OfRegion::NestString),
-    Call::Critical(OfRegion::NestArrayByLevels),
-    Call::Critical(OfRegion::NestStringByLevels),
+pub(crate) const NESTING: [CallOfReference; 4] = [
+    CallOfReference::Critical(OfRegion::NestArray),
+    CallOfReference::Critical(OfRegion::NestString),
+    CallOfReference::Critical(OfRegion::NestArrayByLevels),
+    CallOfReference::Critical(OfRegion::NestStringByLevels),
 ];
 
 /// Those that take a second reference.
-pub(crate) const OF_TWO: [Call; 2] = [
-    Call::Of(OfReference::IsSame),
-    Call::Object(OfObject::SetElement),
+pub(crate) const OF_TWO: [CallOfReference; 2] = [
+    CallOfReference::Of(OfReference::IsSame),
+    CallOfReference::Object(OfObject::SetElement),
 ];
 
 /// What calls are made with beside their words.
@@ -157,18 +157,20 @@ pub(crate) fn refused_by<S: Steps>(
     alloc: Global,
     env: &mut Env<S>,
     given: &mut Given,
-    call: Call,
+    call: CallOfReference,
     words: [Handle; 2],
 ) -> Option<Fault> {
     let [word, other] = words;
     match call {
-        Call::Delete(kind) => deletion_refused(env, kind, word),
-        Call::Of(call) => reference_refused(env, call, word, other),
-        Call::Object(call) => object_refused(env, call, word, other),
-        Call::Copy(OfCopy::Ints) => copy_refused(env, alloc, word),
-        Call::Copy(OfCopy::Chars) => env.get_string_chars(alloc, word).err(),
-        Call::Copy(OfCopy::Release(mode)) => release_refused(rt, alloc, env, given, word, mode),
-        Call::Critical(call) => region_refused(rt, env, call, given.base, word),
+        CallOfReference::Delete(kind) => deletion_refused(env, kind, word),
+        CallOfReference::Of(call) => reference_refused(env, call, word, other),
+        CallOfReference::Object(call) => object_refused(env, call, word, other),
+        CallOfReference::Copy(OfCopy::Ints) => copy_refused(env, alloc, word),
+        CallOfReference::Copy(OfCopy::Chars) => env.get_string_chars(alloc, word).err(),
+        CallOfReference::Copy(OfCopy::Release(mode)) => release_refused(
+            rt, alloc, env, given, word, mode,
+        ),
+        CallOfReference::Critical(call) => region_refused(rt, env, call, given.base, word),
     }
 }
 

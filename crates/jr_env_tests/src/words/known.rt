@@ -1,6 +1,6 @@
 //! What a call is to be refused with, worked out from the word alone and from what was made in the room.
 
-use crate::words::calls::{Call, OfCopy, OfObject, OfReference, OfRegion};
+use crate::words::calls::{CallOfReference, OfCopy, OfObject, OfReference, OfRegion};
 use jr_word::{Config, Fault, Handle, Kind, RefKind};
 use std::alloc::Global;
 use std::test::Fail;
@@ -32,16 +32,17 @@ enum Asks {
 }
 
 /// What it asks.
-fn asked_by(call: Call) -> Asks {
+fn asked_by(call: CallOfReference) -> Asks {
     match call {
-        Call::Delete(_) | Call::Of(_) => Asks::Nothing,
-        Call::Object(OfObject::Kind) => Asks::Object,
-        Call::Object(OfObject::ArrayLength) => Asks::Array,
-        Call::Object(OfObject::GetElement | OfObject::SetElement) => Asks::Objects,
-        Call::Object(OfObject::GetInts | OfObject::SetInts) => Asks::Ints,
-        Call::Copy(OfCopy::Ints | OfCopy::Release(_)) => Asks::Ints,
-        Call::Object(OfObject::StringLength) | Call::Copy(OfCopy::Chars) => Asks::String,
-        Call::Critical(call) => match call {
+        CallOfReference::Delete(_) | CallOfReference::Of(_) => Asks::Nothing,
+        CallOfReference::Object(OfObject::Kind) => Asks::Object,
+        CallOfReference::Object(OfObject::ArrayLength) => Asks::Array,
+        CallOfReference::Object(OfObject::GetElement | OfObject::SetElement) => Asks::Objects,
+        CallOfReference::Object(OfObject::GetInts | OfObject::SetInts) => Asks::Ints,
+        CallOfReference::Copy(OfCopy::Ints | OfCopy::Release(_)) => Asks::Ints,
+        CallOfReference::Object(OfObject::StringLength) | CallOfReference::Copy(OfCopy::Chars) =>
+            Asks::String,
+        CallOfReference::Critical(call) => match call {
             OfRegion::String | OfRegion::StringByLevels => Asks::String,
             OfRegion::NestString | OfRegion::NestStringByLevels => Asks::String,
             _ => Asks::Primitives,
@@ -101,7 +102,7 @@ impl Known {
     }
 
     /// The first check that a word fails, by its number, and the refusal. NULL fails none.
-    fn failed(&self, call: Call, word: Handle) -> (u8, Option<Fault>) {
+    fn failed(&self, call: CallOfReference, word: Handle) -> (u8, Option<Fault>) {
         let (kind, index, owner) = (word.0 & 3, word.0 >> 34 & 0xFFFF, word.0 >> 50);
         let (is_local, most) = (kind == 1, if kind == 1 { 64 } else { 1 });
         let limit = if is_local {
@@ -117,7 +118,7 @@ impl Known {
             return (1, Some(Fault::Stale));
         }
         match call {
-            Call::Delete(wanted) if code(wanted) != kind => (2, Some(Fault::WrongKind)),
+            CallOfReference::Delete(wanted) if code(wanted) != kind => (2, Some(Fault::WrongKind)),
             _ if is_outside => (3, Some(Fault::Stale)),
             _ if owner != 0 => (4, Some(Fault::Foreign)),
             _ if self.named_by(word).is_none() => (5, Some(Fault::Stale)),
@@ -126,12 +127,12 @@ impl Known {
     }
 
     /// With what a call is refused whose references stand.
-    fn standing_refused(&self, call: Call, word: Handle) -> Option<Fault> {
+    fn standing_refused(&self, call: CallOfReference, word: Handle) -> Option<Fault> {
         let kind = self.named_by(word).flatten();
         match (asked_by(call), kind) {
             (Asks::Nothing, Some(_)) => self.lacked(call),
             (Asks::Nothing, None) => match call {
-                Call::Of(OfReference::NewArray) => self.array_refused,
+                CallOfReference::Of(OfReference::NewArray) => self.array_refused,
                 _ => None,
             },
             (_, None) => Some(Fault::Null),
@@ -140,13 +141,12 @@ impl Known {
     }
 
     /// What the room lacks for a call by a reference to an object.
-    fn lacked(&self, call: Call) -> Option<Fault> {
+    fn lacked(&self, call: CallOfReference) -> Option<Fault> {
         match call {
-            Call::Of(OfReference::NewArray) => self.array_refused,
-            Call::Of(OfReference::NewGlobal | OfReference::NewWeakGlobal) if self.is_full => {
-                Some(Fault::RowFull)
-            }
-            Call::Of(OfReference::NewLocal | OfReference::PopFrame) if self.is_full => {
+            CallOfReference::Of(OfReference::NewArray) => self.array_refused,
+            CallOfReference::Of(OfReference::NewGlobal | OfReference::NewWeakGlobal)
+                if self.is_full => { Some(Fault::RowFull) }
+            CallOfReference::Of(OfReference::NewLocal | OfReference::PopFrame) if self.is_full => {
                 Some(Fault::LocalsFull)
             }
             _ => None,
@@ -154,8 +154,8 @@ impl Known {
     }
 
     /// With what a call is to be refused, if it is: each check is made of both words, where it takes two, before the next check.
-    pub(crate) fn refusal(&self, call: Call, words: [Handle; 2]) -> Option<Fault> {
-        if matches!(call, Call::Of(OfReference::PopFrame)) && !self.has_frame {
+    pub(crate) fn refusal(&self, call: CallOfReference, words: [Handle; 2]) -> Option<Fault> {
+        if matches!(call, CallOfReference::Of(OfReference::PopFrame)) && !self.has_frame {
             return Some(Fault::NoFrame);
         }
         let [word, other] = words;

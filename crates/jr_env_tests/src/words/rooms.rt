@@ -1,6 +1,8 @@
 //! The rooms in which each call is made with each word.
 
-use crate::words::calls::{CALLS, Call, DELETIONS, Given, INTS, NESTING, OF_TWO, refused_by};
+use crate::words::calls::{
+    CALLS, CallOfReference, DELETIONS, Given, INTS, NESTING, OF_TWO, refused_by,
+};
 use crate::words::known::Known;
 use jr_env::{Env, NativeInterface};
 use jr_fixtures::{LAST, NoPass, closed, collects, has_type, made, next_env, next_pass, plain_env};
@@ -198,7 +200,7 @@ fn is_answered<S: Steps>(
     env: &mut Env<S>,
     given: &mut Given,
     known: &Known,
-    call: Call,
+    call: CallOfReference,
     words: [Handle; 2],
 ) -> Result<(), Fault> {
     let refused = refused_by(rt, alloc, env, given, call, words);
@@ -216,7 +218,7 @@ fn is_answered_by<S: Steps>(
     env: &mut Env<S>,
     given: &mut Given,
     known: &Known,
-    calls: &[Call],
+    calls: &[CallOfReference],
     word: Handle,
 ) -> Result<(), Fail> {
     has_type(env, word, known.ref_type(word))?;
@@ -233,7 +235,7 @@ fn are_answered_by<S: Steps>(
     env: &mut Env<S>,
     given: &mut Given,
     known: &Known,
-    calls: &[Call],
+    calls: &[CallOfReference],
     words: &[Handle],
 ) -> Result<(), Fail> {
     for word in words {

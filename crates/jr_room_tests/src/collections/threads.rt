@@ -203,7 +203,7 @@ fn renew_often<S: Steps>(alloc: Global, env: &mut Env<S>, how: How, rounds: u32)
 
 /// What a thread does, and how often.
 #[derive(Clone, Copy)]
-enum Job {
+enum Duty {
     /// Makes, writes, reads and drops arrays, and collects so where there is no room.
     Replace(How, u32),
     /// Makes, finds and deletes global references to an array, for which it collects so where there is no room.
@@ -214,22 +214,22 @@ enum Job {
     Knock(u32),
 }
 
-impl Job {
+impl Duty {
     /// How often it is to be done.
     fn times(self) -> u32 {
         match self {
-            Job::Replace(_, times) | Job::Renew(_, times) => times,
-            Job::Collect(_, times) | Job::Knock(times) => times,
+            Duty::Replace(_, times) | Duty::Renew(_, times) => times,
+            Duty::Collect(_, times) | Duty::Knock(times) => times,
         }
     }
 
     /// Does it. How often it was done.
     fn work<S: Steps + Drop>(self, alloc: Global, mut env: Env<S>) -> u32 {
         match self {
-            Job::Replace(how, times) => replace_often(alloc, &mut env, how, times),
-            Job::Renew(how, times) => renew_often(alloc, &mut env, how, times),
-            Job::Collect(how, times) => collect_often(alloc, &mut env, how, times),
-            Job::Knock(times) => knock_often(&mut env, times),
+            Duty::Replace(how, times) => replace_often(alloc, &mut env, how, times),
+            Duty::Renew(how, times) => renew_often(alloc, &mut env, how, times),
+            Duty::Collect(how, times) => collect_often(alloc, &mut env, how, times),
+            Duty::Knock(times) => knock_often(&mut env, times),
         }
     }
 }
@@ -290,7 +290,7 @@ fn has_arrays(
 fn start<'s, E, S: Steps + Drop + Send + 's>(
     alloc: Global,
     scope: &Scope<'s, E>,
-    job: Job,
+    job: Duty,
     env: Result<Env<S>, NoPass>,
 ) -> Option<JoinHandle<u32>> {
     let env = env.ok()?;
@@ -306,7 +306,7 @@ fn ended<R: Threads>(rt: &R, thread: Option<JoinHandle<u32>>) -> Option<u32> {
 fn done_by<R: Threads + Wait, S: Steps + Drop + Send>(
     rt: &R,
     alloc: Global,
-    jobs: [Job; 5],
+    jobs: [Duty; 5],
     first: Result<Env<S>, NoPass>,
     second: Result<Env<S>, NoPass>,
     third: Result<Env<S>, NoPass>,
@@ -331,7 +331,7 @@ fn done_by<R: Threads + Wait, S: Steps + Drop + Send>(
 }
 
 /// Each job was done as often as it was to be.
-fn is_each_done(rt: &impl Abort, jobs: [Job; 5], done: [Option<u32>; 5]) {
+fn is_each_done(rt: &impl Abort, jobs: [Duty; 5], done: [Option<u32>; 5]) {
     for at in 0..5 {
         assert!(rt; done[at] == Some(jobs[at].times()));
     }
@@ -341,7 +341,7 @@ fn is_each_done(rt: &impl Abort, jobs: [Job; 5], done: [Option<u32>; 5]) {
 fn all_do<R: Threads + Wait + Abort>(
     rt: &R,
     alloc: Global,
-    jobs: [Job; 5],
+    jobs: [Duty; 5],
     arrays: u32,
 ) -> Result<(), Fail> {
     let (room, mut passes) = Room::<LAST>::open(alloc, SEVEN)?;
@@ -358,8 +358,8 @@ fn all_do<R: Threads + Wait + Abort>(
 /// Four threads make, write, read and drop arrays beside one that collects.
 #[test]
 fn four_threads_and_one_that_collects(rt: HostRuntime) -> Result<(), Fail> {
-    let replace = Job::Replace(How::Plain, ROUNDS);
-    let collect = Job::Collect(How::Plain, COLLECTIONS);
+    let replace = Duty::Replace(How::Plain, ROUNDS);
+    let collect = Duty::Collect(How::Plain, COLLECTIONS);
     let jobs = [replace, replace, replace, replace, collect];
     all_do(&rt, rt.alloc(), jobs, 4)
 }
@@ -367,8 +367,8 @@ fn four_threads_and_one_that_collects(rt: HostRuntime) -> Result<(), Fail> {
 /// The same, where each collection is announced, also those of threads that find no room: each thread reads what it wrote, and each collection comes in.
 #[test]
 fn four_threads_and_one_that_announces(rt: HostRuntime) -> Result<(), Fail> {
-    let replace = Job::Replace(How::Few, ROUNDS);
-    let collect = Job::Collect(How::Many, ANNOUNCED);
+    let replace = Duty::Replace(How::Few, ROUNDS);
+    let collect = Duty::Collect(How::Many, ANNOUNCED);
     let jobs = [replace, replace, replace, replace, collect];
     all_do(&rt, rt.alloc(), jobs, 4)
 }
@@ -376,16 +376,16 @@ fn four_threads_and_one_that_announces(rt: HostRuntime) -> Result<(), Fail> {
 /// Four threads make, find and delete global references, one at a time each, beside one that collects.
 #[test]
 fn global_references_beside_one_that_collects(rt: HostRuntime) -> Result<(), Fail> {
-    let renew = Job::Renew(How::Plain, ROUNDS);
-    let collect = Job::Collect(How::Plain, COLLECTIONS);
+    let renew = Duty::Renew(How::Plain, ROUNDS);
+    let collect = Duty::Collect(How::Plain, COLLECTIONS);
     all_do(&rt, rt.alloc(), [renew, renew, renew, renew, collect], 4)
 }
 
 /// The same, where each collection is announced.
 #[test]
 fn global_references_beside_one_that_announces(rt: HostRuntime) -> Result<(), Fail> {
-    let renew = Job::Renew(How::Few, ROUNDS);
-    let collect = Job::Collect(How::Many, ANNOUNCED);
+    let renew = Duty::Renew(How::Few, ROUNDS);
+    let collect = Duty::Collect(How::Many, ANNOUNCED);
     all_do(&rt, rt.alloc(), [renew, renew, renew, renew, collect], 4)
 }
 
@@ -393,11 +393,11 @@ fn global_references_beside_one_that_announces(rt: HostRuntime) -> Result<(), Fa
 #[test]
 fn announced_collections_beside_plain_ones(rt: HostRuntime) -> Result<(), Fail> {
     let jobs = [
-        Job::Replace(How::Plain, ROUNDS),
-        Job::Replace(How::Few, ROUNDS),
-        Job::Replace(How::Many, ROUNDS),
-        Job::Collect(How::Many, ANNOUNCED),
-        Job::Collect(How::Plain, COLLECTIONS),
+        Duty::Replace(How::Plain, ROUNDS),
+        Duty::Replace(How::Few, ROUNDS),
+        Duty::Replace(How::Many, ROUNDS),
+        Duty::Collect(How::Many, ANNOUNCED),
+        Duty::Collect(How::Plain, COLLECTIONS),
     ];
     all_do(&rt, rt.alloc(), jobs, 3)
 }
@@ -405,13 +405,13 @@ fn announced_collections_beside_plain_ones(rt: HostRuntime) -> Result<(), Fail> 
 /// One thread comes in and goes, or knocks, without a break: announced collections come in nevertheless.
 #[test]
 fn announced_collections_beside_one_that_knocks(rt: HostRuntime) -> Result<(), Fail> {
-    let replace = Job::Replace(How::Few, ROUNDS);
+    let replace = Duty::Replace(How::Few, ROUNDS);
     let jobs = [
         replace,
         replace,
         replace,
-        Job::Knock(KNOCKS),
-        Job::Collect(How::Many, ANNOUNCED),
+        Duty::Knock(KNOCKS),
+        Duty::Collect(How::Many, ANNOUNCED),
     ];
     all_do(&rt, rt.alloc(), jobs, 3)
 }

@@ -15,7 +15,7 @@ ghost use Rattle.jr_scripts.specs.RegionCommands.{deed_within, giving_up, giving
 use crate::ask::{no_more, patience_for};
 use crate::names::Names;
 use crate::number::{Number, NumberKind};
-use crate::region::{Region, first};
+use crate::region::{NamedLevels, first};
 use crate::reply::Reply;
 use jr_critical::Levels;
 use jr_env::levels_beside::{First, retry_open};
@@ -75,7 +75,7 @@ fn open_levels<S: Steps>(
 pub(crate) fn open_region<S: Steps>(
     env: &mut Env<S>,
     names: &Names,
-    region: &mut Option<Region>,
+    region: &mut Option<NamedLevels>,
     turns: u64,
     verb: OpenLevel,
     name: &Name,
@@ -123,7 +123,7 @@ fn add<S: Steps>(
 pub(crate) fn nest<S: Steps>(
     env: &mut Env<S>,
     names: &Names,
-    region: &mut Region,
+    region: &mut NamedLevels,
     verb: OpenLevel,
     name: &Name,
     target: &Target,
@@ -191,7 +191,7 @@ fn read_at<S: Steps>(
 /// The number at an index of the level that a name means.
 fn read<S: Steps>(
     env: &mut Env<S>,
-    region: &Region,
+    region: &NamedLevels,
     name: &Name,
     index: u32,
 ) -> Result<Reply, Fault>
@@ -206,7 +206,7 @@ fn read<S: Steps>(
 /// The number at an index of the level that a name means, where that is what the verb asks for: E19 where it asks for another.
 pub(crate) fn read_by<S: Steps>(
     env: &mut Env<S>,
-    region: &Region,
+    region: &NamedLevels,
     verb: OnNameAt,
     name: &Name,
     index: u32,
@@ -265,7 +265,7 @@ fn write_at<S: Steps>(
 /// Stores a number at an index of the level that a name means.
 fn write<S: Steps>(
     env: &mut Env<S>,
-    region: &Region,
+    region: &NamedLevels,
     name: &Name,
     index: u32,
     number: i64,
@@ -281,7 +281,7 @@ fn write<S: Steps>(
 /// Stores a number at an index of the level that a name means, where that is what the verb asks for: E19 where it asks for another.
 pub(crate) fn write_by<S: Steps>(
     env: &mut Env<S>,
-    region: &Region,
+    region: &NamedLevels,
     verb: PutAt,
     name: &Name,
     index: u32,
@@ -299,26 +299,30 @@ pub(crate) fn write_by<S: Steps>(
 }
 
 /// Gives up the last level of a region: none is left of its first one.
-pub(crate) fn close<S: Steps>(env: &mut Env<S>, region: Region, mode: Mode) -> Option<Region>
+pub(crate) fn close<S: Steps>(
+    env: &mut Env<S>,
+    region: NamedLevels,
+    mode: Mode,
+) -> Option<NamedLevels>
     requires { StandsIn region env.old }
     ensures does { DidWith env.old env.new (Some region) result (giving_up (length (objects_of region.levels))) (Ok tt) }
     ensures stand { StandsWith result env.new }
     ensures names { level_names result ≡ all_but_last region.names.items }
     ensures objects { objects_in result ≡ all_but_last (objects_of region.levels) }
 {
-    let Region { levels, mut names } = region;
+    let NamedLevels { levels, mut names } = region;
     names.pop();
     let levels = levels_beside::close(env, levels, mode)?;
-    Some(Region { levels, names })
+    Some(NamedLevels { levels, names })
 }
 
 /// Gives up all levels of a region, if one stands.
-pub(crate) fn end<S: Steps>(env: &mut Env<S>, region: Option<Region>)
+pub(crate) fn end<S: Steps>(env: &mut Env<S>, region: Option<NamedLevels>)
     requires { StandsWith region env.old }
     ensures does { DidWith env.old env.new region None (giving_up_all (objects_in region)) (Ok tt) }
     ensures outside { IsOutside env.new }
 {
-    if let Some(Region { levels, names: _ }) = region {
+    if let Some(NamedLevels { levels, names: _ }) = region {
         levels_beside::close_all(env, levels);
     }
 }

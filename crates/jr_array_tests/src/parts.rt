@@ -48,7 +48,7 @@ fn ends_at_its_length<S: Steps>(rt: &impl Abort, env: &mut Env<S>, array: Handle
 }
 
 /// Regions of none, of one and of all elements are read and written, and none past the end.
-pub(crate) fn has_regions<S: Steps>(rt: &impl Abort, env: &mut Env<S>) -> Result<(), Fail> {
+pub(crate) fn has_parts<S: Steps>(rt: &impl Abort, env: &mut Env<S>) -> Result<(), Fail> {
     let array = env.new_array::<i32>(3)?;
     refuses(rt, env.new_array::<i16>(u32::MAX), Fault::SpaceFull(3));
     env.set_array_region(array, 0, &[10, 20, 30])?;
@@ -62,8 +62,8 @@ pub(crate) fn has_regions<S: Steps>(rt: &impl Abort, env: &mut Env<S>) -> Result
 }
 
 #[test]
-fn regions_of_none_of_one_of_all_and_past_the_end(rt: HostRuntime) -> Result<(), Fail> {
-    alone(&rt, rt.alloc(), TWO, Case::HasRegions)
+fn parts_of_none_of_one_of_all_and_past_the_end(rt: HostRuntime) -> Result<(), Fail> {
+    alone(&rt, rt.alloc(), TWO, Case::HasParts)
 }
 
 /// Two threads, and words for an array of 4,096 elements.
@@ -131,7 +131,7 @@ fn is_no_such_array<S: Steps>(
 }
 
 /// None of these words names such an array. The kind is looked at before the length.
-pub(crate) fn have_no_regions<S: Steps>(rt: &impl Abort, env: &mut Env<S>) -> Result<(), Fail> {
+pub(crate) fn have_no_parts<S: Steps>(rt: &impl Abort, env: &mut Env<S>) -> Result<(), Fail> {
     let rows = no_arrays_of_chars(env)?;
     for (word, fault) in rows {
         is_no_such_array(rt, env, word, 0, fault);
@@ -142,5 +142,5 @@ pub(crate) fn have_no_regions<S: Steps>(rt: &impl Abort, env: &mut Env<S>) -> Re
 
 #[test]
 fn what_is_no_array_of_the_kind(rt: HostRuntime) -> Result<(), Fail> {
-    alone(&rt, rt.alloc(), TWO, Case::HaveNoRegions)
+    alone(&rt, rt.alloc(), TWO, Case::HaveNoParts)
 }
