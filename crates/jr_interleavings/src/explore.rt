@@ -22,6 +22,9 @@ use std::thread::Threads;
 /// The last serial of a slot and of a local place: two handles each.
 const LAST: u32 = 1;
 
+/// How many runs the same threads go through, each in a room of its own. A thread costs more than a run.
+const RUNS: u32 = 64;
+
 /// What is wrong, and after which order of steps.
 #[derive(Drop)]
 pub(crate) struct Wrong {
@@ -31,17 +34,46 @@ pub(crate) struct Wrong {
     pub(crate) order: Vec<Choice>,
 }
 
-/// One thread of a run, by its steps in the room, in an env of its own.
-fn play_by<R: Wait, S: Steps + Drop>(rt: &R, alloc: Global, steps: S, case: &Case, run: &Run)
-    requires { (S.facts steps).stands.role ≡ Outside }
-{
+/// A thread's part in a run: its steps in the room of that run.
+#[derive(Drop)]
+struct Seat<'a, S: Steps + Drop> {
+    steps: S,
+    run: &'a Run,
+    /// The run behind this one.
+    next: Option<&'a Run>,
+    ghost outside: { (S.facts steps).stands.role ≡ Outside },
+}
+
+/// What each thread goes through, the first run last.
+type Seats<'a> = Vec<Vec<Seat<'a, RoomSteps<'a, LAST>>>>;
+
+/// A thread's part in a run, in an env of its own.
+fn play_by<R: Wait, S: Steps + Drop>(rt: &R, alloc: Global, case: &Case, seat: Seat<'_, S>) {
+    let Seat { steps, run, next } = seat;
     let thread = steps.thread();
-    let baton = Baton::new(rt, run, thread);
+    let baton = Baton::new(rt, run, next, thread);
+    if !baton.is_on() {
+        return;
+    }
     let at = usize::from(thread);
     let ready = calls_at(case.ready, at);
     let calls = calls_at(case.calls, at);
     if let Ok(mut env) = Env::new(Scheduled { steps, baton }) {
         play(&mut env, alloc, ready, calls);
+    }
+}
+
+/// One thread, in each run.
+fn play_each<R: Wait, S: Steps + Drop>(
+    rt: &R,
+    alloc: Global,
+    case: &Case,
+    mut seats: Vec<Seat<'_, S>>,
+) {
+    for _ in 0..seats.len() {
+        if let Some(seat) = seats.pop() {
+            play_by(rt, alloc, case, seat);
+        }
     }
 }
 
@@ -51,13 +83,6 @@ fn calls_at(calls: &'static [&'static [Call]], thread: usize) -> &'static [Call]
         Some(calls) => *calls,
         None => &[],
     }
-}
-
-/// One thread of a run.
-fn play_one<R: Wait>(rt: &R, alloc: Global, room: &Room<LAST>, pass: Pass, case: &Case, run: &Run)
-    requires { IsOpened room.now.row pass }
-{
-    play_by(rt, alloc, RoomSteps::new(room, pass), case, run);
 }
 
 /// The last of the passes of a room, none of which has stepped.
@@ -77,7 +102,7 @@ fn closed(room: Room<LAST>, pass: Option<Pass>) -> Option<Summary>
 }
 
 /// What the threads of a run share, before the first step.
-fn start(alloc: Global, case: &Case, schedule: Schedule) -> Result<Run, &'static str> {
+fn start(alloc: Global, case: &Case) -> Result<Run, &'static str> {
     let mut turns = Vec::new(alloc);
     let mut stages = Vec::new(alloc);
     let mut own = Vec::new(alloc);
@@ -87,7 +112,7 @@ fn start(alloc: Global, case: &Case, schedule: Schedule) -> Result<Run, &'static
         add(&mut own, None)?;
     }
     let state = State {
-        schedule,
+        schedule: None,
         machine: Machine::new(alloc, case.config(), LAST)?,
         stages,
         own,
@@ -101,42 +126,149 @@ fn start(alloc: Global, case: &Case, schedule: Schedule) -> Result<Run, &'static
     })
 }
 
-/// One run of a case in a room of its own, in this order of steps: the order, whole.
-fn run_once<R: Threads + Wait + Sync>(
-    rt: &R,
-    alloc: Global,
-    case: &Case,
-    schedule: Schedule,
-) -> Result<Schedule, Wrong> {
-    let nothing = |what| Wrong {
+/// The threads, none with a part in a run yet.
+fn no_seats<'a>(alloc: Global, case: &Case) -> Result<Seats<'a>, &'static str> {
+    let mut seats = Vec::new(alloc);
+    for _ in 0..case.threads() {
+        seats.push(Vec::new(alloc)).map_err(|_| NO_MEMORY)?;
+    }
+    Ok(seats)
+}
+
+/// A thread's part in a run, by its pass.
+fn seated<'a>(
+    room: &'a Room<LAST>,
+    pass: Pass,
+    run: &'a Run,
+    next: Option<&'a Run>,
+) -> Seat<'a, RoomSteps<'a, LAST>>
+    requires { IsOpened room.now.row pass }
+{
+    Seat {
+        steps: RoomSteps::new(room, pass),
+        run,
+        next,
+    }
+}
+
+/// Gives each thread its part in a run, which comes before those that it has.
+fn give_seats<'a>(
+    room: &'a Room<LAST>,
+    passes: Vec<Pass>,
+    run: &'a Run,
+    next: Option<&'a Run>,
+    mut seats: Seats<'a>,
+) -> Result<Seats<'a>, &'static str>
+    requires { All (λ p. IsOpened room.now.row p) passes.items }
+{
+    for pass in passes {
+        let seat = seated(room, pass, run, next);
+        if let Some(own) = seats.get_mut(usize::from(seat.steps.thread())) {
+            own.push(seat).map_err(|_| NO_MEMORY)?;
+        }
+    }
+    Ok(seats)
+}
+
+/// What some runs came to.
+#[derive(Drop)]
+struct Played {
+    /// How many there were.
+    count: u64,
+    /// The order of the last, none where each order was tried before it.
+    last: Option<Schedule>,
+}
+
+/// Something is wrong, in no order of steps.
+fn nothing(alloc: Global, what: &'static str) -> Wrong {
+    Wrong {
         what,
         order: Vec::new(alloc),
-    };
-    let run = start(alloc, case, schedule).map_err(nothing)?;
-    let Ok((room, mut passes)) = Room::<LAST>::open(alloc, case.config()) else {
-        return Err(nothing(NO_MEMORY));
-    };
-    let (shared, run_of) = (&room, &run);
-    let closing = take_last(shared, &mut passes);
-    let play_each = |pass| play_one(rt, alloc, shared, pass, case, run_of);
-    let played = thread::map_vec(rt, passes, &play_each).is_ok();
-    let Run { state, turns: _ } = run;
+    }
+}
+
+/// A case, and with what it is run.
+#[derive(Clone, Copy)]
+struct Exploring<'r, R: Threads + Wait + Sync> {
+    rt: &'r R,
+    alloc: Global,
+    case: &'r Case,
+}
+
+impl<'r, R: Threads + Wait + Sync> Exploring<'r, R> {
+    /// The threads go through their runs, the first of which has this order.
+    fn play_all(
+        &self,
+        first: Option<&Run>,
+        schedule: Schedule,
+        seats: Seats<'_>,
+    ) -> Result<Played, Wrong> {
+        let Exploring { rt, alloc, case } = *self;
+        if let Some(first) = first {
+            first.begin(rt, Some(schedule));
+        }
+        let play = |seats| play_each(rt, alloc, case, seats);
+        match thread::map_vec(rt, seats, &play) {
+            Ok(_) => Ok(Played {
+                count: 0,
+                last: None,
+            }),
+            Err(_) => Err(nothing(alloc, NO_MEMORY)),
+        }
+    }
+
+    /// Goes through so many further runs before those of which the threads have a part, each in a room of its own and in the order behind that of the run before.
+    fn play_runs(
+        &self,
+        left: u32,
+        schedule: Schedule,
+        next: Option<&Run>,
+        seats: Seats<'_>,
+    ) -> Result<Played, Wrong> {
+        if left == 0 {
+            return self.play_all(next, schedule, seats);
+        }
+        let Exploring { rt: _, alloc, case } = *self;
+        let run = start(alloc, case).map_err(|what| nothing(alloc, what))?;
+        let Ok((room, mut passes)) = Room::<LAST>::open(alloc, case.config()) else {
+            return Err(nothing(alloc, NO_MEMORY));
+        };
+        let closing = take_last(&room, &mut passes);
+        let seats = give_seats(&room, passes, &run, next, seats).map_err(|what| nothing(
+            alloc, what,
+        ))?;
+        let before = self.play_runs(left - 1, schedule, Some(&run), seats)?;
+        let Run { state, turns: _ } = run;
+        ended(before.count, state.into_inner(), closed(room, closing))
+    }
+}
+
+/// What runs came to, of which the last ended in this state, and its room closed with this.
+fn ended(before: u64, state: State, summary: Option<Summary>) -> Result<Played, Wrong> {
     let State {
         schedule,
         machine,
         wrong,
         ..
-    } = state.into_inner();
-    let summary = closed(room, closing);
+    } = state;
+    let Some(schedule) = schedule else {
+        return Ok(Played {
+            count: before,
+            last: None,
+        });
+    };
     let verdict = match wrong {
         Some(wrong) => Err(wrong),
-        None => must(played, NO_MEMORY).and(must(
+        None => must(
             summary == Some(machine.summary()),
             "the room closed with other things than stood",
-        )),
+        ),
     };
     match verdict {
-        Ok(()) => Ok(schedule),
+        Ok(()) => Ok(Played {
+            count: before.saturating_add(1),
+            last: Some(schedule),
+        }),
         Err(what) => Err(Wrong {
             what,
             order: schedule.choices,
@@ -150,12 +282,20 @@ pub(crate) fn explore<R: Threads + Wait + Sync>(
     alloc: Global,
     case: &Case,
 ) -> Result<u64, Wrong> {
+    let exploring = Exploring { rt, alloc, case };
     let mut schedule = Schedule::new(Vec::new(alloc));
-    for count in 1..u64::MAX {
-        match run_once(rt, alloc, case, schedule)?.next() {
+    let mut count = 0u64;
+    for _ in 0..u64::MAX {
+        let seats = no_seats(alloc, case).map_err(|what| nothing(alloc, what))?;
+        let played = exploring.play_runs(RUNS, schedule, None, seats)?;
+        count = count.saturating_add(played.count);
+        let Some(last) = played.last else {
+            return Ok(count);
+        };
+        match last.following(alloc).map_err(|what| nothing(alloc, what))? {
             Some(next) => schedule = next,
             None => return Ok(count),
         }
     }
-    Ok(u64::MAX)
+    Ok(count)
 }

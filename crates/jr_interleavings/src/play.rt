@@ -150,5 +150,6 @@ pub(crate) fn play<R: Wait, S: Steps>(
     make_all(env, alloc, calls);
     if env.held.steps.baton.be_done() {
         look_at_all(env);
+        env.held.steps.baton.end(alloc);
     }
 }

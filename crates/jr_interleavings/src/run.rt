@@ -6,6 +6,7 @@ use crate::schedule::{Schedule, bit};
 use crate::seen::Answer;
 use crate::step::Step;
 use jr_word::Handle;
+use std::alloc::Global;
 use std::hint::spin_loop;
 use std::sync::atomic::{AtomicU64, Ordering};
 use std::sync::{Mutex, Wait};
@@ -30,8 +31,8 @@ pub(crate) enum Stage {
 /// What the threads of a run share. Who has the turn changes it, and nobody else.
 #[derive(Drop)]
 pub(crate) struct State {
-    /// The order of steps.
-    pub(crate) schedule: Schedule,
+    /// The order of steps: none where each was tried, or none has come yet.
+    pub(crate) schedule: Option<Schedule>,
     /// The sequential machine.
     pub(crate) machine: Machine,
     /// Where each thread is that is to call.
@@ -59,6 +60,22 @@ impl Run {
     fn turn(&self, thread: u8) -> Option<&AtomicU64> {
         self.turns.get(usize::from(thread))
     }
+
+    /// Hands the turn to a thread: whether there is such a thread.
+    fn hand<R: Wait>(&self, rt: &R, thread: u8) -> bool {
+        let Some(turn) = self.turn(thread) else {
+            return false;
+        };
+        turn.store(1, Ordering::SeqCst);
+        turn.wake_one();
+        true
+    }
+
+    /// The run begins, in this order of steps. Where there is none its threads leave it out.
+    pub(crate) fn begin<R: Wait>(&self, rt: &R, schedule: Option<Schedule>) {
+        self.state.lock(rt).schedule = schedule;
+        self.hand(rt, 0);
+    }
 }
 
 impl State {
@@ -72,7 +89,11 @@ impl State {
     /// Who goes next.
     fn pick(&mut self) -> Option<u8> {
         let could = self.could;
-        match self.schedule.pick(could) {
+        let picked = match &mut self.schedule {
+            Some(schedule) => schedule.pick(could),
+            None => Ok(None),
+        };
+        match picked {
             Ok(next) => next,
             Err(wrong) => {
                 self.note(Err(wrong));
@@ -152,6 +173,20 @@ impl State {
         }
     }
 
+    /// The order of the next run: none where something is wrong, or each was tried.
+    fn following(&mut self, alloc: Global) -> Option<Schedule> {
+        let (Some(schedule), None) = (&self.schedule, self.wrong) else {
+            return None;
+        };
+        match schedule.following(alloc) {
+            Ok(following) => following,
+            Err(wrong) => {
+                self.note(Err(wrong));
+                None
+            }
+        }
+    }
+
     /// The handle that a name means for a thread.
     fn handle(&self, thread: u8, name: Name) -> Option<Handle> {
         match name {
@@ -166,16 +201,21 @@ impl State {
 pub(crate) struct Baton<'r, 'a, R: Wait> {
     rt: &'r R,
     run: &'a Run,
+    /// The run behind this one, which the same threads go through.
+    next: Option<&'a Run>,
     thread: u8,
 }
 
 impl<'r, 'a, R: Wait> Baton<'r, 'a, R> {
     /// The side of a thread, which waits for its turn to make ready what it needs.
-    pub(crate) fn new(rt: &'r R, run: &'a Run, thread: u8) -> Self {
-        let baton = Baton { rt, run, thread };
-        if thread != 0 {
-            baton.wait();
-        }
+    pub(crate) fn new(rt: &'r R, run: &'a Run, next: Option<&'a Run>, thread: u8) -> Self {
+        let baton = Baton {
+            rt,
+            run,
+            next,
+            thread,
+        };
+        baton.wait();
         baton
     }
 
@@ -199,11 +239,32 @@ impl<'r, 'a, R: Wait> Baton<'r, 'a, R> {
     /// Hands the turn to a thread.
     fn hand(&self, next: Option<u8>) {
         if let Some(next) = next {
-            if let Some(turn) = self.run.turn(next) {
-                turn.store(1, Ordering::SeqCst);
-                turn.wake_one();
-            }
+            self.run.hand(self.rt, next);
         }
+    }
+
+    /// The run behind this one begins, in this order.
+    fn begin_next(&self, schedule: Option<Schedule>) {
+        if let Some(next) = self.next {
+            next.begin(self.rt, schedule);
+        }
+    }
+
+    /// Whether an order is left for the run. Where none is, the next thread learns so, and behind the last one the next run.
+    pub(crate) fn is_on(&self) -> bool {
+        if self.run.state.lock(self.rt).schedule.is_some() {
+            return true;
+        }
+        if !self.run.hand(self.rt, self.thread.saturating_add(1)) {
+            self.begin_next(None);
+        }
+        false
+    }
+
+    /// The run is at its end.
+    pub(crate) fn end(&self, alloc: Global) {
+        let following = self.run.state.lock(self.rt).following(alloc);
+        self.begin_next(following);
     }
 
     /// Hands the turn to a thread, and waits for it to come back; goes on where it is this thread.

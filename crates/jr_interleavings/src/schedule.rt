@@ -1,6 +1,7 @@
 //! Orders of steps: who goes next, wherever more than one can.
 
-use crate::machine::NO_MEMORY;
+use crate::machine::{NO_MEMORY, add};
+use std::alloc::Global;
 
 /// Who went, of those that could.
 #[derive(Clone, Copy)]
@@ -62,18 +63,30 @@ impl Schedule {
     }
 
     /// The next order of steps, by the last choice that has another thread left: none where each was tried.
-    pub(crate) fn next(self) -> Option<Self> {
-        let mut choices = self.choices;
-        for _ in 0..choices.len() {
-            let Some(choice) = choices.pop() else {
-                return None;
-            };
-            if let Some(taken) = first_from(choice.taken.saturating_add(1), choice.could) {
-                let could = choice.could;
-                choices.push(Choice { taken, could }).ok()?;
-                return Some(Schedule { choices, at: 0 });
+    pub(crate) fn following(&self, alloc: Global) -> Result<Option<Self>, &'static str> {
+        for at in (0..self.choices.len()).rev() {
+            if let Some(other) = self.other_at(at) {
+                let choices = self.until(alloc, at, other)?;
+                return Ok(Some(Schedule::new(choices)));
             }
         }
-        None
+        Ok(None)
+    }
+
+    /// The choice in the place of one that was made, of the next thread: none where it was the last.
+    fn other_at(&self, at: usize) -> Option<Choice> {
+        let Choice { taken, could } = *self.choices.get(at)?;
+        let taken = first_from(taken.saturating_add(1), could)?;
+        Some(Choice { taken, could })
+    }
+
+    /// The choices before one, and another in its place.
+    fn until(&self, alloc: Global, end: usize, other: Choice) -> Result<Vec<Choice>, &'static str> {
+        let mut choices = Vec::new(alloc);
+        for choice in self.choices.iter().take(end) {
+            add(&mut choices, *choice)?;
+        }
+        add(&mut choices, other)?;
+        Ok(choices)
     }
 }
