@@ -20,7 +20,7 @@ pub use jr_rule::{
     Site, SiteSteps, StepsIn, ThreadNumber,
 };
 pub use jr_steps::Steps;
-pub use jr_threads::{NativeCode, NoMessage, QueueEnd, Ran, run_native};
+pub use jr_threads::{HandedOn, NativeCode, NoMessage, QueueEnd, Ran, run_native};
 pub use jr_weak::{Collected, Marker};
 pub use jr_word::{
     Config, Elem, Fault, FaultReport, Handle, HandleParts, HeaderParts, Kind, LAST_SERIAL,

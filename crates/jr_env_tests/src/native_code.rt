@@ -76,14 +76,14 @@ struct Fills;
 #[derive(Clone, Copy, Debug, PartialEq, Eq)]
 struct Queued {
     empty: Option<NoMessage>,
-    too_many: u8,
-    taken: [u8; 2],
-    too_late: u8,
+    too_many: Handle,
+    taken: [Handle; 2],
+    too_late: Handle,
     over: Option<NoMessage>,
 }
 
 impl NativeCode for Fills {
-    type Message = u8;
+    type Message = Handle;
 
     type Answer = Option<Queued>;
 
@@ -93,16 +93,16 @@ impl NativeCode for Fills {
         &self,
         _: u8,
         env: &mut Env<S>,
-        queue: &mut QueueEnd<'_, u8, Q>,
+        queue: &mut QueueEnd<'_, Handle, Q>,
     ) -> Option<Queued> {
         let empty = queue.take().err();
-        queue.put(1, env.note()).ok()?;
-        queue.put(2, env.note()).ok()?;
-        let (too_many, _) = queue.put(3, env.note()).err()?;
+        queue.put(Handle(1), env.note()).ok()?;
+        queue.put(Handle(2), env.note()).ok()?;
+        let (too_many, _) = queue.put(Handle(3), env.note()).err()?;
         let (first, _) = queue.take().ok()?;
         let (second, _) = queue.take().ok()?;
         queue.puts_no_more();
-        let (too_late, _) = queue.put(4, env.note()).err()?;
+        let (too_late, _) = queue.put(Handle(4), env.note()).err()?;
         Some(Queued {
             empty,
             too_many,
@@ -127,9 +127,9 @@ fn a_queue_is_full_and_comes_to_its_end(rt: HostRuntime) -> Result<(), Fail> {
     )?;
     let queued = Queued {
         empty: Some(NoMessage::Yet),
-        too_many: 3,
-        taken: [1, 2],
-        too_late: 4,
+        too_many: Handle(3),
+        taken: [Handle(1), Handle(2)],
+        too_late: Handle(4),
         over: Some(NoMessage::More),
     };
     assert!(rt; ran.answers.len() == 1);

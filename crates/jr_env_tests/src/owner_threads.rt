@@ -5,8 +5,8 @@ ghost use Rattle.jr_rule.specs.Passes.{known_of, Closes};
 
 use crate::owners::{AT_THE_END, THREE, closed_by_one, shares, takes_over};
 use jr::{
-    Env, Fault, Handle, NoMessage, NoteOf, OwnedCode, OwnedStepsOf, Patience, QueueEnd, RunsCode,
-    Site, StepsIn, Summary, close_owned, of_any_site, spawn_owned,
+    Env, Fault, HandedOn, Handle, NoMessage, NoteOf, OwnedCode, OwnedStepsOf, Patience, QueueEnd,
+    RunsCode, Site, StepsIn, Summary, close_owned, of_any_site, spawn_owned,
 };
 use std::test::Fail;
 use std::thread;
@@ -21,6 +21,8 @@ struct Sent {
     from: u8,
     shared: Handle,
 }
+
+impl HandedOn for Sent {}
 
 /// Each thread sends an array, and takes over the one that its neighbour sent.
 #[derive(Drop)]

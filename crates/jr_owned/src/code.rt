@@ -15,7 +15,7 @@ use crate::site::{OwnedStepsOf, of_site};
 use jr_env::Env;
 use jr_rule::{Pass, Room, Site};
 use jr_steps::Steps;
-use jr_threads::{NoteQueue, QueueEnd};
+use jr_threads::{HandedOn, NoteQueue, QueueEnd};
 use jr_word::{Config, Fault};
 use std::alloc::{AllocError, Global};
 use std::marker::Brand;
@@ -35,7 +35,7 @@ pub trait OwnedCode: Drop {
     ghost use Rattle.jr_rule.specs.Over.{facts_over};
 
     /// What a thread hands on beside a note, as a handle.
-    type Message: Drop;
+    type Message: HandedOn;
 
     /// What a thread answers at its end.
     type Answer: Drop;
@@ -142,7 +142,7 @@ where
 }
 
 /// Lets go the ends of threads that were not started, so that the queue is over without them.
-fn let_go_ends<M: Drop, Q: Site>(queue: &NoteQueue<M, Q>, started: usize, threads: usize) {
+fn let_go_ends<M: HandedOn, Q: Site>(queue: &NoteQueue<M, Q>, started: usize, threads: usize) {
     for _ in started..threads {
         drop(queue.end());
     }

@@ -7,5 +7,5 @@ mod queue;
 mod running;
 
 pub use native::NativeCode;
-pub use queue::{NoMessage, NoteQueue, QueueEnd};
+pub use queue::{HandedOn, NoMessage, NoteQueue, QueueEnd};
 pub use running::{Ran, run_native};

@@ -6,7 +6,7 @@ ghost use Rattle.jr_rule.specs.Sites.{IsPassOf, IsSiteOf};
 ghost use Rattle.jr_threads.specs.Parts.{DidOver, DidWithPass};
 ghost use Rattle.jr_threads.specs.Sites.{ThreadRan, IsSiteRoom};
 
-use crate::queue::QueueEnd;
+use crate::queue::{HandedOn, QueueEnd};
 use jr_env::Env;
 use jr_rule::{Pass, Room, Site, SiteSteps, StepsIn, ThreadNumber};
 use jr_word::LAST_SERIAL;
@@ -25,7 +25,7 @@ pub trait NativeCode {
     ghost use Rattle.jr_env.specs.Envs.{Does, IsOutside};
 
     /// What a thread hands on to another, beside a note of what it had seen: `()` where none does.
-    type Message: Send + Drop;
+    type Message: HandedOn + Send;
 
     /// What a thread answers at its end.
     type Answer: Send + Drop;

@@ -1,24 +1,46 @@
 //! A queue between the threads of a room: bounded, with an end that its readers see. No call of it waits.
-ghost use Rattle.std.specs.Prelude.{◌≡◌, false, Err, IfErr};
+ghost use Rattle.std.specs.Prelude.{◌≡◌, false, Err, IfOk, IfErr};
+ghost use Rattle.jr_rule.specs.Rooms.{seen_by_note};
 
 use crossbeam_queue::RuledArrayQueue;
 use crossbeam_queue::protocol::Free;
 use jr_env::Patience;
 use jr_rule::{NoteOf, Site};
+use jr_word::Handle;
 use std::alloc::{AllocError, Global};
 use std::sync::atomic::{AtomicU64, Ordering};
 use std::thread;
 
+/// What is handed on beside a note. Where it wants to, it says something of what its thread had seen as the note was made, in a room of these sizes: by default nothing.
+pub trait HandedOn: Drop {
+    ghost use Rattle.jr_word.specs.declared.config.Config.{Config};
+    ghost use Rattle.jr_model.specs.History.{History};
+
+    ghost says: { Self → Config → History → Type 0 } = { λ message sizes seen. Unit {0} };
+}
+
+impl HandedOn for () {}
+
+impl HandedOn for Handle {}
+
+/// A message on its way, and what it says.
+#[derive(Drop)]
+struct Sent<M: HandedOn, Q: Site> {
+    message: M,
+    note: NoteOf<Q>,
+    ghost said: { ∥ M.says message Q.sizes (seen_by_note note.note) ∥₁ },
+}
+
 /// What the threads of a room hand on to one another: each message with a note of the room. All memory is taken as it is made.
 #[derive(Drop)]
-pub struct NoteQueue<M: Drop, Q: Site> {
-    ring: RuledArrayQueue<(M, NoteOf<Q>), (), Free>,
+pub struct NoteQueue<M: HandedOn, Q: Site> {
+    ring: RuledArrayQueue<Sent<M, Q>, (), Free>,
     ends: u64,
     handed_out: AtomicU64,
     putting: AtomicU64,
 }
 
-impl<M: Drop, Q: Site> NoteQueue<M, Q> {
+impl<M: HandedOn, Q: Site> NoteQueue<M, Q> {
     /// A queue of so many places, at least 1, and for so many ends.
     ///
     /// # Errors
@@ -60,28 +82,32 @@ pub enum NoMessage {
 }
 
 /// A thread's end of the queue. Once it is let go the thread puts no more.
-pub struct QueueEnd<'q, M: Drop, Q: Site> {
+pub struct QueueEnd<'q, M: HandedOn, Q: Site> {
     queue: &'q NoteQueue<M, Q>,
     puts: bool,
 }
 
-impl<'q, M: Drop, Q: Site> QueueEnd<'q, M, Q> {
+impl<'q, M: HandedOn, Q: Site> QueueEnd<'q, M, Q> {
     /// Puts a message, with a note of this room.
     ///
     /// # Errors
     ///
     /// Both come back where the queue is full, another thread is in the way, or this one puts no more. Only the last stays so.
     pub fn put(&self, message: M, note: NoteOf<Q>) -> Result<(), (M, NoteOf<Q>)>
+        requires says { M.says message Q.sizes (seen_by_note note.note) }
         ensures back { IfErr result (λ back. back ≡ (message, note)) }
         ensures over { self.now.puts ≡ false → result ≡ Err (message, note) }
     {
         if !self.puts {
             return Err((message, note));
         }
-        let mut pass = self.queue.ring.pass();
-        self.queue
-            .ring
-            .try_push_as::<Free>(&mut pass, (message, note))
+        let ring = &self.queue.ring;
+        let mut pass = ring.pass();
+        let sent = Sent { message, note };
+        match ring.try_push_as::<Free>(&mut pass, sent) {
+            Ok(()) => Ok(()),
+            Err(Sent { message, note }) => Err((message, note)),
+        }
     }
 
     /// Takes the oldest message, with its note, which is one of this room: `learn` of an env has no condition.
@@ -89,13 +115,15 @@ impl<'q, M: Drop, Q: Site> QueueEnd<'q, M, Q> {
     /// # Errors
     ///
     /// Why none was taken (`NoMessage`).
-    pub fn take(&self) -> Result<(M, NoteOf<Q>), NoMessage> {
+    pub fn take(&self) -> Result<(M, NoteOf<Q>), NoMessage>
+        ensures { IfOk result (λ r. ∥ M.says r.0 Q.sizes (seen_by_note r.1.note) ∥₁) }
+    {
         let ring = &self.queue.ring;
         // Looked at first: once nobody puts, what is not there now never comes.
         let is_over = self.queue.putting.load(Ordering::SeqCst) == 0;
         let mut pass = ring.pass();
-        if let Some(taken) = ring.try_pop_as::<Free>(&mut pass) {
-            return Ok(taken);
+        if let Some(Sent { message, note }) = ring.try_pop_as::<Free>(&mut pass) {
+            return Ok((message, note));
         }
         if is_over && ring.is_empty_as::<Free>(&mut pass) {
             return Err(NoMessage::More);
@@ -114,6 +142,7 @@ impl<'q, M: Drop, Q: Site> QueueEnd<'q, M, Q> {
         note: NoteOf<Q>,
         patience: Patience,
     ) -> Result<(), (M, NoteOf<Q>)>
+        requires says { M.says message Q.sizes (seen_by_note note.note) }
         ensures back { IfErr result (λ back. back ≡ (message, note)) }
     {
         let (mut message, mut note) = (message, note);
@@ -132,7 +161,9 @@ impl<'q, M: Drop, Q: Site> QueueEnd<'q, M, Q> {
     /// # Errors
     ///
     /// Those of the last `take`.
-    pub fn retry_take(&self, patience: Patience) -> Result<(M, NoteOf<Q>), NoMessage> {
+    pub fn retry_take(&self, patience: Patience) -> Result<(M, NoteOf<Q>), NoMessage>
+        ensures { IfOk result (λ r. ∥ M.says r.0 Q.sizes (seen_by_note r.1.note) ∥₁) }
+    {
         for _ in 0..patience.more {
             match self.take() {
                 Err(NoMessage::Yet) => pause(patience),
@@ -153,7 +184,7 @@ impl<'q, M: Drop, Q: Site> QueueEnd<'q, M, Q> {
     }
 }
 
-impl<'q, M: Drop, Q: Site> Drop for QueueEnd<'q, M, Q> {
+impl<'q, M: HandedOn, Q: Site> Drop for QueueEnd<'q, M, Q> {
     fn drop(mut self) {
         self.puts_no_more();
         let Self { queue: _, puts: _ } = self;

@@ -7,7 +7,8 @@ mod symbol_table;
 mod worker;
 
 use jr::{
-    Config, Env, Fault, Handle, NativeCode, Patience, QueueEnd, Site, StepsIn, Summary, run_native,
+    Config, Env, Fault, HandedOn, Handle, NativeCode, Patience, QueueEnd, Site, StepsIn, Summary,
+    run_native,
 };
 use std::alloc::{AllocError, Global};
 use std::io;
@@ -57,6 +58,8 @@ enum Done {
     /// The collector left so many weak references of the cache cleared.
     Collected(u32),
 }
+
+impl HandedOn for Symbol {}
 
 impl NativeCode for Machine {
     type Message = Symbol;
