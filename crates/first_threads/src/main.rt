@@ -114,7 +114,8 @@ fn run<R: Threads + Sync>(rt: &R, alloc: Global) -> Result<(i64, Summary), Fault
 fn main(rt: HostRuntime) -> io::Result<()> {
     match run(&rt, rt.alloc()) {
         Ok((sum, left)) => {
-            println!(rt; "the sum is {sum}; left: {} objects, {} global references", left.live, left.globals)
+            let (live, globals) = (left.live, left.globals);
+            println!(rt; "the sum is {sum}; left: {live} objects, {globals} global references")
         }
         Err(fault) => println!(rt; "refused: {fault}"),
     }
