@@ -14,6 +14,7 @@ FILES = {
     "HANDLES": "Handles allowed: none.\n", ".gitignore": "out/\n", "crates/jr_scripts/src/lib.rt": "", "crates/first_threads/src/main.rt": "", "crates/first_threads/stdout": "1\n",
     "crates/jr_word/src/lib.rt": "one", "crates/jr_word/must-fail/it.edit": "", "crates/jr_word/README.md": "", "crates/jr_word/out/it": "", "crates/jr/src/lib.rt": "", "crates/jr/specs/Lib.antt": "",
 }
+LIBRARY = {f"library/{it}": text for it, text in FILES.items()}
 MADE = [".gitignore", "HANDLES", "crates.txt", "crates/first_threads/src/main.rt", "crates/first_threads/stdout", "crates/jr/specs/Lib.antt", "crates/jr/src/lib.rt", "crates/jr_word/src/lib.rt"]
 
 
@@ -29,14 +30,14 @@ class Own(unittest.TestCase):
     def setUp(self):
         self.script = script("../new-repository")
 
-    def run_over(self, room):
+    def run_over(self, room, folder="mine"):
         """Has the script stand in a small library, and makes a repository of it."""
-        self.script.HERE = room
+        self.script.HERE = os.path.realpath(f"{room}/library")
         with mock.patch("builtins.print"):
-            self.script.main(["mine"])
+            self.script.main([folder])
 
     def test_the_library_is_copied_as_the_first_program_needs_it(self):
-        with repository(FILES) as room:
+        with repository(LIBRARY) as room:
             self.run_over(room)
             self.assertEqual(files_below("mine"), MADE)
             lines = text_of("mine/crates.txt").split("\n")
@@ -44,11 +45,11 @@ class Own(unittest.TestCase):
             self.assertEqual(lines[1:], ["jr_word:", "jr: jr_word", "", "# Your own crates:", "first_threads: jr", ""])
 
     def test_another_run_changes_the_library_alone(self):
-        with repository(FILES) as room:
+        with repository(LIBRARY) as room:
             self.run_over(room)
             write("mine/crates.txt", text_of("mine/crates.txt") + "more: jr\n")
             write("mine/crates/first_threads/src/main.rt", "own")
-            write("crates.txt", "jr:\nfirst_threads: jr\n")
+            write("library/crates.txt", "jr:\nfirst_threads: jr\n")
             self.run_over(room)
             self.assertEqual(files_below("mine"), MADE[:-1])
             self.assertEqual(text_of("mine/crates.txt").split("\n")[1:], ["jr:", "", "# Your own crates:", "first_threads: jr", "more: jr", ""])
@@ -56,7 +57,13 @@ class Own(unittest.TestCase):
 
     def test_what_it_has_not_made_it_leaves_alone(self):
         for name in ("crates.txt", "it"):
-            with repository({**FILES, f"mine/{name}": "jr_word:\n"}) as room:
+            with repository({**LIBRARY, f"mine/{name}": "jr_word:\n"}) as room:
                 with self.assertRaises(SystemExit):
                     self.run_over(room)
                 self.assertEqual(files_below("mine"), [name])
+
+    def test_none_is_made_in_the_checkout_itself(self):
+        with repository(LIBRARY) as room:
+            with self.assertRaises(SystemExit):
+                self.run_over(room, "library/mine")
+            self.assertFalse(os.path.exists("library/mine"))
