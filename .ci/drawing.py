@@ -15,9 +15,11 @@ import os
 import re
 from html import escape
 
+from layers import layers
 from pages import is_kept
 from rattle import text_of
 
+LAYERS = "docs/pictures/layers.txt"
 WIDE, HIGH, MARGIN, SIZE = 9, 19, 18, 14.9
 LEFT, RIGHT, UP, DOWN = (-1, 0), (1, 0), (0, -1), (0, 1)
 INK, PAPER, BOX, ABOUT, POINT, FAINT = "#1f2937", "#ffffff", "#eef2f7", "#fdf0d5", "#c2410c", "#64748b"
@@ -187,14 +189,15 @@ def svg_of(text):
 
 
 def pictures():
-    """Yields the path of each picture of docs/pictures/ with what it has to be: nothing where it has no text."""
+    """Yields the path of each picture of docs/pictures/ with what it has to be: nothing where it has no text. The text of the layers, which is made too, comes first."""
+    yield LAYERS, layers()
     for path in sorted({f"{it.rpartition('.')[0]}.svg" for it in glob.glob("docs/pictures/*")}):
         of = path.replace(".svg", ".txt")
         yield path, svg_of(text_of(of)) if os.path.exists(of) else ""
 
 
 def out_of_date():
-    """Yields a line for each picture that is not what its text says."""
-    for path, svg in pictures():
-        if not is_kept(path, svg):
-            yield f"{path} is not what its text says: run .ci/draw, and look at it"
+    """Yields a line for each picture that is not what its text says, or what crates.txt does."""
+    for path, made in pictures():
+        if not is_kept(path, made):
+            yield f"{path} is not what {'crates.txt' if path == LAYERS else 'its text'} says: run .ci/draw, and look at it"

@@ -1,10 +1,14 @@
 """Tries what makes pages: what sources and definitions say, and the pages of a small repository."""
 
+import os
 import unittest
+from unittest import mock
 
-from shared import repository, script
+from shared import CI, repository, script
 
+from layers import layers
 from pages import anchor, loose_links
+from rattle import libraries
 from reading import Repository, Specs
 
 SPECS = """-- what is
@@ -254,3 +258,34 @@ class Pages(unittest.TestCase):
     def test_links(self):
         self.assertEqual(anchor("By `law`, and call"), "by-law-and-call")
         self.assertEqual(loose_links("# One\n[a](#one) [b](#two) <a id=\"three\"></a> [c](#three)"), ["two"])
+
+
+class Layers(unittest.TestCase):
+    """The picture of the layers."""
+
+    def setUp(self):
+        before = os.getcwd()
+        os.chdir(f"{CI}/..")
+        self.addCleanup(os.chdir, before)
+        self.named = libraries()
+
+    def layers_of(self, **changed):
+        """Returns the picture where some crates stand on other libraries."""
+        with mock.patch("layers.libraries", lambda: {**self.named, **changed}):
+            return layers()
+
+    def test_each_crate_stands_once_and_on_no_higher_layer(self):
+        boxes = [it.split() for it in self.layers_of().replace("└─", "├─").replace("╔═", "├─").split("├─")]
+        layer_of = {crate: [at for at, words in enumerate(boxes) if crate in words] for crate in self.named}
+        self.assertEqual([it for it, found in layer_of.items() if len(found) != 1], [])
+        for crate, below in self.named.items():
+            self.assertEqual([it for it in below if it in layer_of and layer_of[it] < layer_of[crate]], [], crate)
+
+    def test_a_crate_that_is_new_comes_in_by_what_stands_on_it(self):
+        text = self.layers_of(jr_new=["jr_word"], jr_gate=[*self.named["jr_gate"], "jr_new"])
+        self.assertIn("jr_new", text.partition("\n  the gate")[2].partition("\n  the waist")[0])
+
+    def test_layers_that_crates_txt_has_not_are_told(self):
+        for changed in ({"jr_gate": ["jr_rule"]}, {"jrefs": [], "jr_model": ["jrefs"]}):
+            with self.assertRaises(SystemExit):
+                self.layers_of(**changed)
