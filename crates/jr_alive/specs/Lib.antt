@@ -1,0 +1,4 @@
+pub mod Ways
+pub mod Searching
+pub mod Retained
+pub mod Groups
