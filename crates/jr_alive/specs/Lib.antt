@@ -2,3 +2,5 @@ pub mod Ways
 pub mod Searching
 pub mod Retained
 pub mod Groups
+pub mod Places
+pub mod Handles

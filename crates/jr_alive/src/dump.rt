@@ -1,8 +1,9 @@
 //! A dump that owns its notes, and how it is read.
 ghost use Rattle.std.specs.Prelude.{◌≡◌, ◌≤◌, ◌↔◌, IsTrue, IfOk, IfSome, Some, vec_len};
 ghost use Rattle.jr_word.specs.declared.kind.Kind.TheVariants.{Objects};
+ghost use Rattle.jr_alive.specs.Places.{in_place, in_slot};
 
-use jr_word::{Config, Fault, HeaderParts, Kind, LocalParts, SlotParts};
+use jr_word::{Config, Fault, Handle, HeaderParts, Kind, LocalParts, RefKind, SlotParts};
 use std::alloc::{AllocError, Global};
 
 /// What stands in a room at one step, as `dump` of an env notes it in these four lists.
@@ -11,7 +12,7 @@ pub struct Dump {
     /// What each slot has, by its index.
     pub slots: Vec<SlotParts>,
     /// How many local places each thread has, at least 1.
-    pub places: usize,
+    pub places: u32,
     /// What each local place has: those of a thread behind those of the threads before it.
     pub locals: Vec<LocalParts>,
     /// The header of each object, by its number less 1. Its place is that of the first element among the words.
@@ -19,6 +20,7 @@ pub struct Dump {
     /// The words of the elements.
     pub words: Vec<u64>,
     ghost some: { 1 ≤ places },
+    ghost indexed: { vec_len slots ≤ 65536 },
     ghost few: { vec_len headers ≤ 65535 },
 }
 
@@ -47,10 +49,36 @@ pub(crate) fn object_of(word: u64) -> Option<u16>
     }
 }
 
+/// The object that a reference of the kind and the serial names, by what its slot has.
+fn in_slot(kind: RefKind, serial: u32, slot: SlotParts) -> Option<u16>
+    ensures { result ≡ in_slot kind serial slot }
+{
+    match (kind, slot) {
+        (RefKind::Global, SlotParts::Global { serial: given, object }) if given == serial => {
+            Some(object)
+        }
+        (RefKind::Weak, SlotParts::Weak { serial: given, object }) if given == serial => object,
+        _ => None,
+    }
+}
+
+/// The object that a local reference names, by what its place has.
+fn in_place(local: LocalParts) -> Option<u16>
+    ensures { result ≡ in_place local }
+{
+    match local {
+        LocalParts::Free => None,
+        LocalParts::Object(object) => Some(object),
+    }
+}
+
 impl Dump {
-    ghost use Rattle.std.specs.Prelude.{◌≡◌, ◌≤◌, ◌↔◌, ◌⊎◌, true, false, Err, IfOk, IfErr};
+    ghost use Rattle.std.specs.Prelude.{◌≡◌, ◌≤◌, ◌↔◌, ◌⊎◌, ◌<◌, ◌≢◌, true, false, None, Err, IfOk, IfErr};
     ghost use Rattle.jr_word.specs.declared.fault.Fault.TheVariants.{Memory, Size};
     ghost use Rattle.jr_word.specs.Config.{in_limits};
+    ghost use Rattle.jr_word.specs.declared.handle.HandleParts.{HandleParts};
+    ghost use Rattle.jr_word.specs.Handle.{IsHandle, handle_word};
+    ghost use Rattle.jr_alive.specs.Handles.{local_at, named_by, slot_at};
     ghost use Rattle.jr_alive.specs.Ways.{HasRoomFor, header_of, word_of};
 
     /// Room for a dump of a room of these sizes, in which nothing stands yet.
@@ -76,11 +104,52 @@ impl Dump {
     {
         Ok(Dump {
             slots: blank(alloc, SlotParts::Free { serial: 0 }, config.slots)?,
-            places: config.locals as usize,
+            places: config.locals,
             locals: blank(alloc, LocalParts::Free, config.threads * config.locals)?,
             headers: blank(alloc, None, config.objects)?,
             words: blank(alloc, 0, config.words)?,
         })
+    }
+
+    /// The number of the object that a handle named at the dump's step. None where its reference was deleted or cleared, or the word is no handle. A local handle is looked up by its thread and its place alone: no note has its serial.
+    pub fn object_of(&self, handle: Handle) -> Option<u16>
+        ensures named { (p : HandleParts) → IsHandle p → handle.0 ≡ handle_word p → result ≡ named_by self.now p }
+        ensures none { ((p : HandleParts) → IsHandle p → handle.0 ≢ handle_word p) → result ≡ None }
+    {
+        let parts = Handle::parts(handle.0)?;
+        let index = usize::from(parts.index);
+        match parts.kind {
+            RefKind::Local => in_place(self.local(usize::from(parts.owner), index)),
+            RefKind::Global | RefKind::Weak => in_slot(parts.kind, parts.serial, self.slot(index)),
+        }
+    }
+
+    /// What a slot has, as a free one beyond the slots.
+    fn slot(&self, index: usize) -> SlotParts
+        ensures { result ≡ slot_at self.now index }
+    {
+        if index < self.slots.len() {
+            self.slots[index]
+        } else {
+            SlotParts::Free { serial: 0 }
+        }
+    }
+
+    /// What a local place of a thread has, as a free one beyond the places.
+    fn local(&self, thread: usize, place: usize) -> LocalParts
+        requires { thread < 256 }
+        ensures { result ≡ local_at self.now thread place }
+    {
+        let places = self.places as usize;
+        if place >= places {
+            return LocalParts::Free;
+        }
+        let at = thread * places + place;
+        if at < self.locals.len() {
+            self.locals[at]
+        } else {
+            LocalParts::Free
+        }
     }
 
     /// The header of an object, if the dump has it and it isn't the one that is taken out, 0 for none.

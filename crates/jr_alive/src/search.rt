@@ -3,16 +3,36 @@ ghost use Rattle.std.specs.Prelude.{◌≡◌, IfOk};
 ghost use Rattle.jr_alive.specs.Searching.{IsDone};
 
 use crate::dump::{Dump, has_references, object_of};
-use jr_word::{LocalParts, SlotParts};
+use jr_word::{Handle, HandleParts, LocalParts, RefKind, SlotParts};
 use std::alloc::{AllocError, Global};
 
 /// A reference that keeps its object alive by itself.
 #[derive(Clone, Copy, Debug, PartialEq, Eq)]
 pub enum Root {
     /// The global reference of a slot, with its serial.
-    Global { slot: usize, serial: u32 },
+    Global { slot: u16, serial: u32 },
     /// The local reference of a thread's place.
     Local { thread: usize, place: usize },
+}
+
+impl Root {
+    ghost use Rattle.std.specs.Prelude.{◌≡◌};
+    ghost use Rattle.jr_alive.specs.Handles.{handle_of};
+
+    /// The handle of a global reference. None of a local one, whose serial is its thread's own: no dump has it.
+    pub fn handle(self) -> Option<Handle>
+        ensures { result ≡ handle_of self }
+    {
+        match self {
+            Root::Global { slot, serial } => Some(Handle::pack(HandleParts {
+                kind: RefKind::Global,
+                serial,
+                index: slot,
+                owner: 0,
+            })),
+            Root::Local { .. } => None,
+        }
+    }
 }
 
 /// What names an object on its way from a root.
@@ -99,8 +119,9 @@ impl Search {
         ensures nearest { OnOk result (AreWithin 0 self.new.entries.items) }
         ensures found { OnOk result ((i n o : ℕ) → IsRoot dump.now (root.Global i n) o → IsThere dump.now without o → IsFound self.new.entries.items o) }
     {
-        for (slot, parts) in dump.slots.iter().enumerate() {
+        for (index, parts) in dump.slots.iter().enumerate() {
             if let SlotParts::Global { serial, object } = *parts {
+                let slot = index as u16;
                 let origin = Origin::Root(Root::Global { slot, serial });
                 self.reach(dump, without, object, Entry { origin, depth: 0 })?;
             }
@@ -117,9 +138,10 @@ impl Search {
         ensures grows { OnOk result (Grows self.old.entries.items self.old.queue.items self.new.entries.items self.new.queue.items) }
         ensures found { OnOk result ((t p o : ℕ) → IsRoot dump.now (root.Local t p) o → IsThere dump.now without o → IsFound self.new.entries.items o) }
     {
+        let places = dump.places as usize;
         for (index, parts) in dump.locals.iter().enumerate() {
             if let LocalParts::Object(object) = *parts {
-                let (thread, place) = (index / dump.places, index % dump.places);
+                let (thread, place) = (index / places, index % places);
                 let origin = Origin::Root(Root::Local { thread, place });
                 self.reach(dump, without, object, Entry { origin, depth: 0 })?;
             }

@@ -1,5 +1,5 @@
 use Rattle.jr_alive.proofs.Rooted.{GlobalsTo}
 use Rattle.jr_alive.proofs.search.Search.reach_globals.Given as goal
 
-abbrev pub invariant-loop-slot : goal.invariant-loop-slot
-invariant-loop-slot l = GlobalsTo l.dump l.without l.slot l.self.entries.items l.self.queue.items
+abbrev pub invariant-loop-index : goal.invariant-loop-index
+invariant-loop-index l = GlobalsTo l.dump l.without l.index l.self.entries.items l.self.queue.items
