@@ -5,3 +5,5 @@ pub mod Walked
 pub mod Kept
 pub mod Rooted
 pub mod Elements
+pub mod Present
+pub mod Falling

@@ -54,10 +54,20 @@ fn in_slot(kind: RefKind, serial: u32, slot: SlotParts) -> Option<u16>
     ensures { result ≡ in_slot kind serial slot }
 {
     match (kind, slot) {
-        (RefKind::Global, SlotParts::Global { serial: given, object }) if given == serial => {
-            Some(object)
-        }
-        (RefKind::Weak, SlotParts::Weak { serial: given, object }) if given == serial => object,
+        (
+            RefKind::Global,
+            SlotParts::Global {
+                serial: given,
+                object,
+            },
+        ) if given == serial => { Some(object) }
+        (
+            RefKind::Weak,
+            SlotParts::Weak {
+                serial: given,
+                object,
+            },
+        ) if given == serial => object,
         _ => None,
     }
 }

@@ -1,8 +1,9 @@
-use Rattle.std.proofs.Common.{◌≡◌, ◌≤◌, ◌<◌, ◌-◌, List, [], ◌∷◌, length, map, slice_index_or, ap, subst, rules, arith}
+use Rattle.std.proofs.Common.{◌≡◌, ℕ, List, [], ◌∷◌, map, subst, rules}
 use Rattle.std.proofs.lemmas.List.Sorted.{IsNonDecreasingBy-from_sort_by_key, IsPermutation-trans}
-use Rattle.std.specs.List.Sorted.{IsPermutation, IsNonDecreasingBy}
+use Rattle.std.specs.List.Sorted.{IsPermutation}
 use Rattle.jr_alive.specs.declared.groups.Group.{Group}
 use Rattle.jr_alive.specs.Groups.{all_kinds, group_of}
+use Rattle.jr_alive.proofs.Falling.{falls_reversed}
 use Rattle.jr_alive.proofs.dump.Dump.groups.Goals as goal
 
 pub returns-clause-each : goal.returns-clause-each
@@ -14,12 +15,8 @@ returns-clause-each c =
     c.sort_unstable_by_key.ensures.permutation) c.reverse.ensures.permutation
 
 pub returns-clause-largest : goal.returns-clause-largest
-returns-clause-largest c = λ i j x le l.
-    let sorted = c.sort_unstable_by_key.new.self in
-    let rises : IsNonDecreasingBy (λ (g : Group). g.words) sorted =
-    IsNonDecreasingBy-from_sort_by_key (λ (g : Group). g.words) _ c.sort_unstable_by_key.ensures.sorted (λ a r q k. search rules) in
-    let n = c.reverse.ensures.len in
-    let a = ap (λ (g : Group). g.words) (c.reverse.ensures.by_index i x (omega arith)) in
-    let b = ap (λ (g : Group). g.words) (c.reverse.ensures.by_index j x (omega arith)) in
-    let r = rises (length sorted - 1 - j) (length sorted - 1 - i) x (omega arith) (omega arith) in
-    omega arith
+returns-clause-largest c =
+    let words : Group → ℕ = λ g. g.words in
+    falls_reversed words c.sort_unstable_by_key.new.self c.reverse.new.self
+    (IsNonDecreasingBy-from_sort_by_key words _ c.sort_unstable_by_key.ensures.sorted (λ a r q k. search rules))
+    c.reverse.ensures.len c.reverse.ensures.by_index
