@@ -21,11 +21,11 @@ fn leave_text<S: Steps>(env: &mut Env<S>) -> Result<(), Fault> {
     env.delete_local_ref(text)
 }
 
-/// Makes a shelf that a global reference keeps, which keeps a cache, which keeps two pages. One of these has a global reference of its own, and nothing else names the other.
-fn keep_shelf<S: Steps>(env: &mut Env<S>) -> Result<(), Fault> {
+/// Makes a shelf that a global reference keeps, which keeps a cache, which keeps two pages. One of these has a global reference of its own, and nothing else names the other. Tells the shelf's global reference.
+fn keep_shelf<S: Steps>(env: &mut Env<S>) -> Result<Handle, Fault> {
     let cache = env.new_object_array(3, Handle::NULL)?;
     let shelf = env.new_object_array(1, cache)?;
-    env.new_global_ref(shelf)?;
+    let kept = Handle::or_null(env.new_global_ref(shelf)?);
     env.delete_local_ref(shelf)?;
     for index in 0..2 {
         let page = env.new_array::<i32>(4)?;
@@ -35,16 +35,20 @@ fn keep_shelf<S: Steps>(env: &mut Env<S>) -> Result<(), Fault> {
         }
         env.delete_local_ref(page)?;
     }
-    env.delete_local_ref(cache)
+    env.delete_local_ref(cache)?;
+    Ok(kept)
 }
 
-/// Leaves a string, which a collection drops, and so its weak reference cleared; a shelf; another string; and a local reference. Then the room has no number for an object more, and the words of one that is refused for that are lost.
-pub(crate) fn leak<S: Steps>(env: &mut Env<S>, marker: &mut Marker) -> Result<(), Fault> {
+/// Leaves a string, which a collection drops, and so its weak reference cleared; a shelf; another string; and a local reference. Then the room has no number for an object more, and the words of one that is refused for that are lost. Tells the local reference, and the shelf's global one.
+pub(crate) fn leak<S: Steps>(
+    env: &mut Env<S>,
+    marker: &mut Marker,
+) -> Result<(Handle, Handle), Fault> {
     leave_text(env)?;
     env.collect(marker)?;
-    keep_shelf(env)?;
+    let shelf = keep_shelf(env)?;
     leave_text(env)?;
-    env.new_array::<i64>(3)?;
+    let local = env.new_array::<i64>(3)?;
     let _refused = env.new_array::<i64>(2);
-    Ok(())
+    Ok((local, shelf))
 }

@@ -1,17 +1,16 @@
 //! A room that leaks, and what a census and a dump tell of it: as text, and as a drawing that Graphviz's `dot` makes.
 #![tactic(auto)]
 
-mod drawing;
-mod dump;
 mod leak;
+mod why;
 
-use crate::drawing::draw;
-use crate::dump::Dump;
 use crate::leak::{keep_some, leak};
+use crate::why::tell_why;
+use jr_alive::{Dump, NotDrawn};
 use jr_env::Env;
 use jr_rule::{Room, RoomSteps, Steps};
 use jr_word::{Config, Fault, LAST_SERIAL};
-use std::alloc::Global;
+use std::alloc::{AllocError, Global};
 use std::io;
 use std::io::Write;
 use thiserror::Error;
@@ -34,6 +33,12 @@ pub enum Trouble {
     /// What was told was not written.
     #[error("not written: {0}")]
     Output(#[from] io::Error),
+    /// Memory was refused.
+    #[error("memory was refused")]
+    Memory(#[from] AllocError),
+    /// The dump was not drawn.
+    #[error("not drawn: {0}")]
+    Drawing(#[from] NotDrawn),
 }
 
 fn main(rt: HostRuntime) -> Result<(), Trouble> {
@@ -50,18 +55,38 @@ fn tell<W: Write + Drop>(alloc: Global, out: &mut W) -> Result<(), Trouble> {
     tell_by(alloc, &mut env, out)
 }
 
-/// Leaks by an env, and tells what stands in its room.
+/// Leaks by an env, and tells what stands in its room, and why.
 fn tell_by<S: Steps, W: Write>(
     alloc: Global,
     env: &mut Env<S>,
     out: &mut W,
 ) -> Result<(), Trouble> {
     let mut marker = env.marker(alloc)?;
-    leak(env, &mut marker)?;
+    let (local, shelf) = leak(env, &mut marker)?;
     let census = env.census(&mut marker)?;
     writeln!(out, "{census}")?;
-    let dump = Dump::of(alloc, env)?;
-    let reached = dump.reached(alloc)?;
-    draw(out, &dump, &reached, SIZES.locals)?;
+    let dump = dump_of(alloc, env)?;
+    tell_why(alloc, &dump, shelf, out)?;
+    dump.draw(alloc, out, 50, census.words.lost, &[local])?;
     Ok(())
+}
+
+/// A dump of the room of an env.
+fn dump_of<S: Steps>(alloc: Global, env: &mut Env<S>) -> Result<Dump, Fault> {
+    let room = Dump::new(alloc, env.held.steps.config())?;
+    let Dump {
+        mut slots,
+        places,
+        mut locals,
+        mut headers,
+        mut words,
+    } = room;
+    env.dump(&mut slots, &mut locals, &mut headers, &mut words)?;
+    Ok(Dump {
+        slots,
+        places,
+        locals,
+        headers,
+        words,
+    })
 }

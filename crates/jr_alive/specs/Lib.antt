@@ -1,0 +1,6 @@
+pub mod Ways
+pub mod Searching
+pub mod Retained
+pub mod Groups
+pub mod Places
+pub mod Handles

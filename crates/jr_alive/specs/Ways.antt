@@ -1,0 +1,65 @@
+-- What references of a dump lead to.
+use Rattle.std.specs.Prelude.{◌≡◌, ◌≤◌, ◌<◌, ◌+◌, ◌-◌, ◌*◌, ◌==◌, ◌||◌, ℕ, if◌then◌else◌}
+use Rattle.std.specs.Prelude.{Option, Some, None, IsSome, List, [], ◌∷◌, length, slice_index_or, vec_len}
+use Rattle.jr_word.specs.declared.config.Config.{Config}
+use Rattle.jr_word.specs.declared.header.HeaderParts.{HeaderParts}
+use Rattle.jr_word.specs.declared.kind.Kind.TheVariants.{Objects}
+use Rattle.jr_word.specs.declared.local.LocalParts.TheVariants as local
+use Rattle.jr_word.specs.declared.slot.SlotParts.TheVariants as slot
+use Rattle.jr_alive.specs.declared.dump.Dump.{Dump}
+use Rattle.jr_alive.specs.declared.paths.Step.{Step}
+use Rattle.jr_alive.specs.declared.search.Root.{Root}
+use Rattle.jr_alive.specs.declared.search.Root.TheVariants.{Global, Local}
+
+-- room for the notes of a room of these sizes
+pub record HasRoomFor (c : Config) (d : Dump) : Type 0 where
+  pub slots : vec_len d.slots ≡ c.slots
+  pub places : d.places ≡ c.locals
+  pub locals : vec_len d.locals ≡ c.threads * c.locals
+  pub headers : vec_len d.headers ≡ c.objects
+  pub words : vec_len d.words ≡ c.words
+
+-- the header of the object of a number, from 1 on, once the object x is taken out: x = 0 takes none out
+abbrev pub header_of : Dump → ℕ → ℕ → Option HeaderParts
+header_of d x o = if (o == 0) || (o == x) then None else slice_index_or d.headers.items (o - 1) None
+
+-- the dump has the object, and it isn't the one that is taken out
+abbrev pub IsThere : Dump → ℕ → ℕ → Type 0
+IsThere d x o = IsSome (header_of d x o)
+
+-- the word of an element
+abbrev pub word_of : Dump → HeaderParts → ℕ → ℕ
+word_of d h i = slice_index_or d.words.items (h.place + i) 0
+
+-- AN ELEMENT NAMES AN OBJECT: that of the object array a at the index i names o
+pub record Names (d : Dump) (x a i o : ℕ) : Type 0 where
+  pub header : HeaderParts
+  pub array : header_of d x a ≡ Some header
+  pub kind : header.kind ≡ Objects
+  pub inside : i < header.length
+  pub word : word_of d header i ≡ o
+  pub named : IsThere d x o
+
+-- A ROOT NAMES AN OBJECT: a global reference of a slot, or the local reference of a thread's place. A weak one is no root
+abbrev pub IsRoot : Dump → Root → ℕ → Type 0
+IsRoot d (Global i serial) o = slice_index_or d.slots.items i (slot.Free 0) ≡ slot.Global serial o
+IsRoot d (Local t p) o = (p < d.places) × (slice_index_or d.locals.items (t * d.places + p) local.Free ≡ local.Object o)
+
+-- the steps lead from an object to another, each by the element of its index in the object before it
+abbrev pub Lead : Dump → ℕ → ℕ → List Step → ℕ → Type 0
+Lead d x a [] o = a ≡ o
+Lead d x a (s ∷ steps) o = Names d x a s.index s.object × Lead d x s.object steps o
+
+-- A WAY FROM A ROOT TO AN OBJECT: the root names the first, and the steps lead on from it
+pub record IsWay (d : Dump) (x : ℕ) (r : Root) (a : ℕ) (steps : List Step) (o : ℕ) : Type 0 where
+  pub root : IsRoot d r a
+  pub there : IsThere d x a
+  pub lead : Lead d x a steps o
+
+-- no way to the object has fewer steps
+abbrev pub AreFewest : Dump → ℕ → List Step → ℕ → Type 0
+AreFewest d x steps o = (r : Root) (a : ℕ) (others : List Step) → IsWay d x r a others o → length steps ≤ length others
+
+-- THE OBJECT IS REACHED, once x is taken out
+abbrev pub IsReached : Dump → ℕ → ℕ → Type 0
+IsReached d x o = (r : Root) × (a : ℕ) × (steps : List Step) × IsWay d x r a steps o

@@ -1,0 +1,15 @@
+//! Why an object is alive, by a dump: what leads to it from a root, and what would go with it.
+#![tactic(auto)]
+
+mod drawing;
+mod dump;
+mod groups;
+mod paths;
+mod retaining;
+mod search;
+
+pub use drawing::NotDrawn;
+pub use dump::Dump;
+pub use groups::Group;
+pub use paths::{Path, Step};
+pub use search::Root;

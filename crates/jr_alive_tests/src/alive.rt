@@ -1,0 +1,128 @@
+//! A dump of six objects, and what it says, worked out by hand.
+use jr_alive::{Dump, Path};
+use jr_word::{Handle, HeaderParts, Kind, LocalParts, SlotParts};
+use std::alloc::{AllocError, Global};
+use std::process::Abort;
+use std::test::Fail;
+
+/// The header of an object.
+fn header(kind: Kind, place: u32, length: u32) -> Option<HeaderParts> {
+    Some(HeaderParts {
+        kind,
+        length,
+        place,
+    })
+}
+
+/// Slot 0 has a weak reference to object 4, and slot 1 a global one to object 1, with serial 5. Place 1 of thread 1 names object 5.
+///
+/// - Object 1 names 2 and 3, and 2 names 3 and, last, 6. So 3 is one step from 1, and 6 two.
+/// - Object 5 names itself and 6.
+/// - Object 4 is a string, which the weak reference alone names, and 3 and 6 are arrays of integers.
+fn six_objects(alloc: Global) -> Result<Dump, AllocError> {
+    let weak = SlotParts::Weak {
+        serial: 7,
+        object: Some(4),
+    };
+    let global = SlotParts::Global {
+        serial: 5,
+        object: 1,
+    };
+    let (free, local) = (LocalParts::Free, LocalParts::Object(5));
+    Ok(Dump {
+        slots: Vec::from_array(alloc, [weak, global])?,
+        places: 2,
+        locals: Vec::from_array(alloc, [free, free, free, local])?,
+        headers: Vec::from_array(
+            alloc,
+            [
+                header(Kind::Objects, 0, 2),
+                header(Kind::Objects, 2, 3),
+                header(Kind::Int, 5, 4),
+                header(Kind::Text, 9, 6),
+                header(Kind::Objects, 15, 2),
+                header(Kind::Int, 17, 3),
+                None,
+            ],
+        )?,
+        words: Vec::from_array(
+            alloc,
+            [2, 3, 3, 0, 6, 9, 9, 9, 9, 1, 2, 3, 4, 5, 6, 5, 6, 9, 9, 9],
+        )?,
+    })
+}
+
+/// How many steps a way has, and the handle that it begins with; none where there is none.
+fn told(path: &Option<Path>) -> Option<(usize, Option<Handle>)> {
+    match path {
+        None => None,
+        Some(path) => Some((path.steps.len(), path.root.handle())),
+    }
+}
+
+/// Object 3 is at one step from the global reference, 6 at one from the local one, and 4 at none. Object 7 isn't there.
+fn tells_paths(rt: &impl Abort, alloc: Global, dump: &Dump) -> Result<(), AllocError> {
+    let (third, sixth) = (dump.path_to(alloc, 3)?, dump.path_to(alloc, 6)?);
+    let (fourth, seventh) = (dump.path_to(alloc, 4)?, dump.path_to(alloc, 7)?);
+    // serial 5, index 1, kind 2
+    let global = Handle(17_179_869_206);
+    assert!(rt; told(&third) == Some((1, Some(global))));
+    assert!(rt; told(&sixth) == Some((1, None)));
+    assert!(rt; told(&fourth).is_none());
+    assert!(rt; told(&seventh).is_none());
+    Ok(())
+}
+
+/// Object 1 retains itself, 2 and 3, with 2 + 3 + 4 words. Object 2 retains its own 3, since 1 names 3 too. Object 5 retains its own 2, since 6 is reached by 2. Nothing reaches 4.
+fn tells_retained(rt: &impl Abort, alloc: Global, dump: &Dump) -> Result<(), AllocError> {
+    let (first, second) = (
+        dump.retained_words(alloc, 1)?,
+        dump.retained_words(alloc, 2)?,
+    );
+    let (fifth, fourth) = (
+        dump.retained_words(alloc, 5)?,
+        dump.retained_words(alloc, 4)?,
+    );
+    assert!(rt; first == 9);
+    assert!(rt; second == 3);
+    assert!(rt; fifth == 2);
+    assert!(rt; fourth == 0);
+    Ok(())
+}
+
+/// Three object arrays and two of integers have 7 words each, and the string 6, which makes it the largest object.
+fn tells_largest(rt: &impl Abort, alloc: Global, dump: &Dump) -> Result<(), AllocError> {
+    let largest = dump.largest(alloc, 1)?;
+    let all = dump.largest(alloc, 100)?;
+    let [first, second, third, ..] = dump.groups();
+    assert!(rt; largest.as_slice() == [4].as_slice());
+    assert!(rt; all.len() == 6);
+    assert!(rt; first.words == 7 && second.words == 7);
+    assert!(rt; first.count.checked_add(second.count) == Some(5));
+    assert!(rt; third.words == 6 && third.count == 1);
+    Ok(())
+}
+
+/// A weak and a global reference are looked up with their serial, and a local one by its place.
+fn tells_objects(rt: &impl Abort, dump: &Dump) {
+    // serial 7, index 0, kind 3; then serial 5, index 1, kind 2; then another serial; and NULL
+    assert!(rt; dump.object_of(Handle(31)) == Some(4));
+    assert!(rt; dump.object_of(Handle(17_179_869_206)) == Some(1));
+    assert!(rt; dump.object_of(Handle(17_179_869_202)).is_none());
+    assert!(rt; dump.object_of(Handle::NULL).is_none());
+}
+
+/// All that is tried.
+fn tells_all(rt: &impl Abort, alloc: Global, dump: &Dump) -> Result<(), AllocError> {
+    tells_objects(rt, dump);
+    tells_paths(rt, alloc, dump)?;
+    tells_retained(rt, alloc, dump)?;
+    tells_largest(rt, alloc, dump)
+}
+
+#[test]
+fn a_dump_tells_why_objects_are_alive(rt: HostRuntime) -> Result<(), Fail> {
+    let dump = six_objects(rt.alloc())?;
+    tells_all(&rt, rt.alloc(), &dump)?;
+    Ok(())
+}
