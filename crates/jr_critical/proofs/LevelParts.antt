@@ -52,10 +52,12 @@ module _ {S : Type 0} {facts : S → Facts} (fits : AreOf facts) (v : Levels) (l
 
   -- the tests refuse, by no step
   pub refuses_part : {A : Type 0} (a : S) (f : Frames) (ts : Kind → ℕ → Tests) (call : ℕ → Call A) {e : Fault}
-      (answer : Result A Fault) → IsErrAnd answer (λ y. y ≡ e) → AreSilent (ts (h_of v level).kind (h_of v level).length)
+      (answer : Result A Fault) → IsErrAnd answer (λ y. y ≡ e)
+      → AreSilent (ts (h_of v level).kind (h_of v level).length)
       → refused_by (ts x.header.kind x.header.length) ≡ Err e → Reached facts v level a a f ts call answer
   refuses_part a f ts call {e} answer given silent refused = subst (λ r. Reached facts v level a a f ts call r)
-      (sym (is_refusal answer given)) (reaches_not fits v level inside a f (λ l m. tested (ts l m) (call (o_of v level))) (Err e) (λ p l.
+      (sym (is_refusal answer given)) (reaches_not fits v level inside a f
+      (λ l m. tested (ts l m) (call (o_of v level))) (Err e) (λ p l.
       ran_stopped p f (ts (h_of v level).kind (h_of v level).length) (call (o_of v level)) silent
       (subst (λ (y : Level). refused_by (ts y.header.kind y.header.length) ≡ Err e) is refused) l))
 
@@ -109,7 +111,8 @@ module _ {S : Type 0} {facts : S → Facts} (fits : AreOf facts) (v : Levels) (l
     -- the levels stand still
     pub stand_part : {t : Table} → Stand facts v a t → Stand facts v b t
     stand_part {t} s = stand_still v same (∥∥₁_map s.known (λ k.
-        ((there.ran k.0 k.1 (held_at v level inside k.0 k.2.0)).0, (there.ran k.0 k.1 (held_at v level inside k.0 k.2.0)).1, known_part t.frames k.0 k.1 k.2))) s
+        let y = there.ran k.0 k.1 (held_at v level inside k.0 k.2.0) in
+        (y.0, y.1, known_part t.frames k.0 k.1 k.2))) s
 
 -- THE CALLS, of parts and of words
 

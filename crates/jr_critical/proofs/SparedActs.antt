@@ -19,8 +19,12 @@ pub record AreSpared (n : ℕ) (acts : List Act) : Type 0 where
   pub fresh : (b : Bool) → fresh_from b acts ≡ b
   pub hint : (slots i : ℕ) → hint_from slots i acts ≡ i
 
+-- none are
+pub none_spared : AreSpared 0 []
+none_spared = record { long = refl; stays = tt; spares = tt; fresh = λ b. refl; hint = λ slots i. refl }
+
 spared_read : (o start : ℕ) (vs : List ℕ) → AreSpared (length vs) (read_acts o start vs)
-spared_read o start [] = record { long = refl; stays = tt; spares = tt; fresh = λ b. refl; hint = λ slots i. refl }
+spared_read o start [] = none_spared
 spared_read o start (v ∷ vs) = let x = spared_read o (start + 1) vs in
     record {
       long = ap suc x.long;
@@ -31,7 +35,7 @@ spared_read o start (v ∷ vs) = let x = spared_read o (start + 1) vs in
     }
 
 spared_write : (o start : ℕ) (vs : List ℕ) → AreSpared (length vs) (write_acts o start vs)
-spared_write o start [] = record { long = refl; stays = tt; spares = tt; fresh = λ b. refl; hint = λ slots i. refl }
+spared_write o start [] = none_spared
 spared_write o start (v ∷ vs) = let x = spared_write o (start + 1) vs in
     record {
       long = ap suc x.long;

@@ -1,3 +1,3 @@
 pub mod Levels
-pub mod Finding
 pub mod LevelParts
+pub mod Finding

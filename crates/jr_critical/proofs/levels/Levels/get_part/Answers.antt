@@ -14,7 +14,8 @@ returns-in_err-has_part-clause-call g c =
     c.args.held.now.steps c.args.held.now.frames.frames (get_part_tests g.E.Elem.KIND c.args.start n)
     (λ o. read o c.args.start n) (part_read c.from_residual.result ws)
     (no_part _ c.from_residual.result ws c.from_residual.ensures.1) (refl, (refl, tt))
-    (same_tests {answer = Err c.in_err-has_part.field-0.0} c.KIND.ensures (λ k. get_part_tests k c.args.start n h.kind h.length) c.in_err-has_part.ensures)
+    (same_tests {answer = Err c.in_err-has_part.field-0.0} c.KIND.ensures (λ k.
+    get_part_tests k c.args.start n h.kind h.length) c.in_err-has_part.ensures)
 
 pub read_part-requires-clause-known : goal.read_part-requires-clause-known
 read_part-requires-clause-known g c =
@@ -29,7 +30,8 @@ returns-clause-call g c =
     (λ o. read o c.args.start n) answer (λ f o acts. read_spared o c.args.start n f f acts answer)
     c.read_part.ensures.stands c.requires.stand.ready.role_is c.read_part.ensures.call
     c.args.held.now.frames.frames (get_part_tests g.E.Elem.KIND c.args.start n)
-    (same_tests {answer = Ok tt} c.KIND.ensures (λ k. get_part_tests k c.args.start n h.kind h.length) c.in_ok-has_part.ensures)
+    (same_tests {answer = Ok tt} c.KIND.ensures (λ k. get_part_tests k c.args.start n h.kind h.length)
+    c.in_ok-has_part.ensures)
 
 pub invariant_of-held : goal.invariant_of-held
 invariant_of-held g c =
@@ -38,7 +40,8 @@ invariant_of-held g c =
     record {
       own = (stand_part g.met.S.Steps.fits c.args.self.now c.args.level c.requires.level c.level-object.ensures n
           (λ o. read o c.args.start n) answer (λ f o acts. read_spared o c.args.start n f f acts answer)
-          c.read_part.ensures.stands c.requires.stand.ready.role_is c.read_part.ensures.call c.requires.stand).ready.own;
+          c.read_part.ensures.stands c.requires.stand.ready.role_is c.read_part.ensures.call
+          c.requires.stand).ready.own;
     }
 
 pub returns-clause-stand : goal.returns-clause-stand

@@ -13,10 +13,11 @@ returns-in_err-has_part_to_write-clause-call g c =
     refuses_part g.met.S.Steps.fits c.args.self.now c.args.level c.requires.level c.level-object.ensures
     c.args.held.now.steps c.args.held.now.frames.frames (set_part_tests g.E.Elem.KIND c.args.start (length ws))
     (λ o. write o c.args.start ws) c.from_residual.result c.from_residual.ensures.1 (refl, (refl, (refl, tt)))
-    (same_tests {answer = Err c.in_err-has_part_to_write.field-0.0} (sym (length-map c.args.elements.now g.E.Elem.word_of)) (λ n.
+    (same_tests {answer = Err c.in_err-has_part_to_write.field-0.0}
+    (sym (length-map c.args.elements.now g.E.Elem.word_of)) (λ n.
     set_part_tests g.E.Elem.KIND c.args.start n h.kind h.length)
-    (same_tests {answer = Err c.in_err-has_part_to_write.field-0.0} c.KIND.ensures (λ k. set_part_tests k c.args.start (length c.args.elements.now) h.kind h.length)
-    c.in_err-has_part_to_write.ensures))
+    (same_tests {answer = Err c.in_err-has_part_to_write.field-0.0} c.KIND.ensures (λ k.
+    set_part_tests k c.args.start (length c.args.elements.now) h.kind h.length) c.in_err-has_part_to_write.ensures))
 
 pub write_part-requires-clause-known : goal.write_part-requires-clause-known
 write_part-requires-clause-known g c =
@@ -26,8 +27,8 @@ pub write_part-requires-clause-kind : goal.write_part-requires-clause-kind
 write_part-requires-clause-kind g c =
     let h = c.level-object.result.header in
     written_kind g.E.Elem.KIND h.kind c.args.start (length c.args.elements.now) h.length
-    (same_tests {answer = Ok tt} c.KIND.ensures (λ k. set_part_tests k c.args.start (length c.args.elements.now) h.kind h.length)
-    c.in_ok-has_part_to_write.ensures)
+    (same_tests {answer = Ok tt} c.KIND.ensures (λ k.
+    set_part_tests k c.args.start (length c.args.elements.now) h.kind h.length) c.in_ok-has_part_to_write.ensures)
 
 pub returns-clause-call : goal.returns-clause-call
 returns-clause-call g c =
