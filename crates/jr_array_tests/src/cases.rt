@@ -10,6 +10,7 @@ use crate::envs::env_of;
 use crate::in_a_stay::has_levels;
 use crate::levels::stands_anew;
 use crate::objects::have_kinds;
+use crate::parts::{are_copied, ends_with_a_closure, has_parts};
 use crate::regions::{a_long_part, has_regions, have_no_regions};
 use crate::texts::spell_texts;
 use crate::undisturbed::is_undisturbed;
@@ -27,6 +28,9 @@ use std::test::Fail;
 pub(crate) enum Case {
     StandsAnew,
     HasLevels,
+    HasParts,
+    EndsWithAClosure,
+    AreCopied,
     HasRegions,
     LongPart,
     HaveNoRegions,
@@ -53,6 +57,9 @@ fn shows<S: Steps>(
     match case {
         Case::StandsAnew => stands_anew(rt, env),
         Case::HasLevels => has_levels(rt, env),
+        Case::HasParts => has_parts(rt, env),
+        Case::EndsWithAClosure => ends_with_a_closure(rt, env),
+        Case::AreCopied => are_copied(rt, env),
         Case::HasRegions => has_regions(rt, env),
         Case::LongPart => a_long_part(rt, env),
         Case::HaveNoRegions => have_no_regions(rt, env),

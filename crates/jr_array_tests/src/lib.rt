@@ -30,6 +30,8 @@ mod objects;
 #[cfg(test)]
 mod overtaken;
 #[cfg(test)]
+mod parts;
+#[cfg(test)]
 mod plans;
 #[cfg(test)]
 mod region_threads;
