@@ -461,6 +461,34 @@ impl Env<'_> {
         self.word_at(levels, level, index)?.store(u64::from(element as u32), SeqCst);
         Ok(())
     }
+    /// The words of a part at a level.
+    #[inline(always)]
+    fn part_at(&self, levels: &Levels, level: usize, start: u64, length: usize) -> Result<&[AtomicU64], u64> {
+        let header = levels.headers[level];
+        if header & 15 != INT {
+            return Err(WRONG_ELEMENT);
+        }
+        let most = header >> 4 & 0xff_ffff;
+        if start > most || length as u64 > most - start {
+            return Err(RANGE);
+        }
+        Ok(self.room.elements((header >> 28) + start, length))
+    }
+    #[inline(always)]
+    fn get_part_at(&self, levels: &Levels, level: usize, start: u64, elements: &mut [i32]) -> Result<(), u64> {
+        let words = self.part_at(levels, level, start, elements.len())?;
+        for (element, word) in elements.iter_mut().zip(words) {
+            *element = word.load(SeqCst) as u32 as i32;
+        }
+        Ok(())
+    }
+    #[inline(always)]
+    fn set_part_at(&self, levels: &Levels, level: usize, start: u64, elements: &[i32]) -> Result<(), u64> {
+        for (element, word) in elements.iter().zip(self.part_at(levels, level, start, elements.len())?) {
+            word.store(u64::from(*element as u32), SeqCst);
+        }
+        Ok(())
+    }
     /// The words of a part of an array of integers.
     #[inline(always)]
     fn part(&mut self, array: u64, start: u64, length: usize) -> Result<&[AtomicU64], u64> {
@@ -694,7 +722,7 @@ impl Env<'_> {
 }
 
 /// The calls, as `jr_bench` names them.
-pub const CASES: [&str; 39] = [
+pub const CASES: [&str; 42] = [
     "get_object_ref_type(NULL)",
     "new_plain",
     "new_global_ref(local)",
@@ -726,6 +754,9 @@ pub const CASES: [&str; 39] = [
     "get_array_critical,release",
     "get_of_region",
     "set_of_region",
+    "get_part_of_region(64)",
+    "set_part_of_region(64)",
+    "copy_array(64)",
     "in_a_stay:get_object_ref_type(NULL)",
     "in_a_stay:new_global_ref(local)",
     "in_a_stay:delete_global_ref",
@@ -749,8 +780,11 @@ const COMMIT_LONG: usize = 26;
 const CHARS: usize = 27;
 const CRITICAL: usize = 28;
 const GET_OF_REGION: usize = 29;
+const GET_PART: usize = 31;
+const SET_PART: usize = 32;
+const COPY_ARRAY: usize = 33;
 /// The first of the cases in stays, and for each the case whose call is made in them.
-const STAYS: usize = 31;
+const STAYS: usize = 34;
 const OF_STAYS: [usize; 8] = [0, 2, 3, 6, 7, 8, 9, LENGTH];
 /// How many calls are made in a stay.
 const CALLS_OF_STAY: usize = 16;
@@ -873,6 +907,35 @@ fn region_of_each(env: &mut Env, handed: &[u64], is_read: bool) -> usize {
     right
 }
 
+#[inline(never)]
+fn get_part_of(env: &mut Env, levels: &Levels, elements: &mut [i32]) -> bool {
+    env.get_part_at(levels, 0, 0, elements).is_ok()
+}
+
+#[inline(never)]
+fn set_part_of(env: &mut Env, levels: &Levels, elements: &[i32]) -> bool {
+    env.set_part_at(levels, 0, 0, elements).is_ok()
+}
+
+/// Copies elements out of one critical region, or into it, for each of the handles.
+fn part_of_region_each(env: &mut Env, handed: &[u64], is_out: bool) -> usize {
+    let mut elements = [0; SMALL as usize];
+    let Ok(levels) = env.open(handed[0]) else { return 0 };
+    let mut right = 0;
+    for _ in handed {
+        let is_right = if is_out { get_part_of(env, &levels, &mut elements) } else { set_part_of(env, &levels, &elements) };
+        right += usize::from(is_right);
+    }
+    env.release(levels);
+    right
+}
+
+/// Copies elements within each array, through a buffer.
+fn copy_array_each(env: &mut Env, handed: &[u64]) -> usize {
+    let mut elements = [0; SMALL as usize];
+    handed.iter().filter(|handle| get_region(env, **handle, &mut elements) && set_region(env, **handle, &elements)).count()
+}
+
 #[inline(always)]
 fn make_each(env: &mut Env, handed: &[u64], call: impl Fn(&mut Env, u64, u64) -> bool) -> usize {
     handed.iter().filter(|handle| call(env, handed[0], **handle)).count()
@@ -937,6 +1000,8 @@ pub fn make_all(case: usize, env: &mut Env, handed: &[u64]) -> usize {
         COMMIT | COMMIT_LONG => make_each(env, handed, commit),
         CHARS => make_each(env, handed, chars),
         CRITICAL => make_each(env, handed, critical),
+        GET_PART | SET_PART => part_of_region_each(env, handed, case == GET_PART),
+        COPY_ARRAY => copy_array_each(env, handed),
         _ => region_of_each(env, handed, case == GET_OF_REGION),
     }
 }

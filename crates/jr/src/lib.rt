@@ -4,10 +4,10 @@
 pub use jr_census::{Census, KindCounts, Objects, Slots, WordCounts};
 pub use jr_elements::{Elements, discard_left, text_of, utf16_of};
 pub use jr_env::{
-    Checked, Env, Evidence, Examined, Explains, Explanation, Handed, LocalFrames, NativeCall,
-    NativeCaller, NativeInterface, Patience, Refusal, Region, Stay, Unreleased, Unscoped, Watcher,
-    calls, is_made_again, is_short_of_room, with_array_elements, with_local_frame,
-    with_local_frame_returning, with_patience,
+    Checked, CriticalRegion, Env, Evidence, Examined, Explains, Explanation, Handed, LocalFrames,
+    NativeCall, NativeCaller, NativeInterface, Patience, Refusal, Region, Stay, Unreleased,
+    Unscoped, Watcher, calls, is_made_again, is_short_of_room, with_array_elements, with_critical,
+    with_local_frame, with_local_frame_returning, with_patience,
 };
 pub use jr_model::{Mode, Summary};
 pub use jr_owned::{

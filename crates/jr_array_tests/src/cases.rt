@@ -8,6 +8,7 @@ use crate::copies::{
 use crate::element_types::{are_of_one_type, has_units};
 use crate::envs::env_of;
 use crate::in_a_stay::has_levels;
+use crate::level_parts::{are_copied, ends_with_a_closure, has_level_parts};
 use crate::levels::stands_anew;
 use crate::objects::have_kinds;
 use crate::parts::{a_long_part, has_parts, have_no_parts};
@@ -28,6 +29,9 @@ pub(crate) enum Case {
     StandsAnew,
     HasLevels,
     HasParts,
+    HasLevelParts,
+    EndsWithAClosure,
+    AreCopied,
     LongPart,
     HaveNoParts,
     HaveKinds,
@@ -54,6 +58,9 @@ fn shows<S: Steps>(
         Case::StandsAnew => stands_anew(rt, env),
         Case::HasLevels => has_levels(rt, env),
         Case::HasParts => has_parts(rt, env),
+        Case::HasLevelParts => has_level_parts(rt, env),
+        Case::EndsWithAClosure => ends_with_a_closure(rt, env),
+        Case::AreCopied => are_copied(rt, env),
         Case::LongPart => a_long_part(rt, env),
         Case::HaveNoParts => have_no_parts(rt, env),
         Case::HaveKinds => have_kinds(rt, env),

@@ -64,7 +64,7 @@ pub(crate) fn is_outside<S: Steps>(rt: &impl Abort, env: &mut Env<S>) {
 }
 
 /// Checks that elements are the same.
-fn are_alike<E: Elem + PartialEq>(rt: &impl Abort, found: &[E], wanted: &[E]) {
+pub(crate) fn are_alike<E: Elem + PartialEq>(rt: &impl Abort, found: &[E], wanted: &[E]) {
     assert!(rt; found == wanted);
 }
 

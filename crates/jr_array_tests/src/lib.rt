@@ -22,6 +22,8 @@ mod envs;
 #[cfg(test)]
 mod in_a_stay;
 #[cfg(test)]
+mod level_parts;
+#[cfg(test)]
 mod levels;
 #[cfg(test)]
 mod not_opened;

@@ -12,6 +12,7 @@ pub(crate) enum ArrayCase {
     Length,
     CopyOut(usize),
     CopyIn(usize),
+    Copy,
     New,
     GetElement,
     SetElement,
@@ -19,6 +20,9 @@ pub(crate) enum ArrayCase {
 
 /// How many elements a new array has.
 const SHORT: u32 = 16;
+
+/// How many elements are copied from array to array.
+const COPIED: usize = 64;
 
 /// How often an array is made again where another thread was faster at its words.
 const TRIES: u32 = 1_000;
@@ -34,6 +38,7 @@ impl ArrayCase {
             ArrayCase::CopyIn(1) => "set_array_region(1)",
             ArrayCase::CopyIn(64) => "set_array_region(64)",
             ArrayCase::CopyIn(_) => "set_array_region(4096)",
+            ArrayCase::Copy => "copy_array(64)",
             ArrayCase::New => "new_array(16)",
             ArrayCase::GetElement => "get_object_array_element",
             ArrayCase::SetElement => "set_object_array_element",
@@ -54,6 +59,7 @@ impl ArrayCase {
             ArrayCase::Length => make_each(env, handed, Inline(Length)),
             ArrayCase::CopyOut(length) => copy_out_each(env, handed, length),
             ArrayCase::CopyIn(length) => copy_in_each(env, handed, length),
+            ArrayCase::Copy => copy_each(env, handed),
             ArrayCase::New => make_each(env, handed, New),
             ArrayCase::GetElement => make_each(env, handed, GetElement),
             ArrayCase::SetElement => make_each(env, handed, SetElement),
@@ -126,6 +132,18 @@ fn copy_in_each<S: Steps>(env: &mut Env<S>, handed: &[Handle], length: usize) ->
     let mut right = 0usize;
     for handle in handed {
         if env.set_array_region(*handle, 0, part).is_ok() {
+            right = right.saturating_add(1);
+        }
+    }
+    right
+}
+
+/// Copies elements within each array: how often that was done.
+fn copy_each<S: Steps>(env: &mut Env<S>, handed: &[Handle]) -> usize {
+    let mut buffer = [0i32; COPIED];
+    let mut right = 0usize;
+    for handle in handed {
+        if env.copy_array(*handle, 0, *handle, 0, &mut buffer).is_ok() {
             right = right.saturating_add(1);
         }
     }

@@ -45,7 +45,7 @@ pub(crate) enum FrameCase {
 }
 
 /// Each case. The first does nothing between the entry and the exit.
-pub(crate) const CASES: [Case; 39] = [
+pub(crate) const CASES: [Case; 42] = [
     Case::TypeOfNull,
     Case::NewPlain,
     Case::NewGlobal,
@@ -77,6 +77,9 @@ pub(crate) const CASES: [Case; 39] = [
     Case::Criticals(CriticalCase::Open),
     Case::Criticals(CriticalCase::Get),
     Case::Criticals(CriticalCase::Set),
+    Case::Criticals(CriticalCase::GetPart),
+    Case::Criticals(CriticalCase::SetPart),
+    Case::Arrays(ArrayCase::Copy),
     Case::Stays(StayCase::TypeOfNull),
     Case::Stays(StayCase::NewGlobal),
     Case::Stays(StayCase::DeleteGlobal),

@@ -16,10 +16,17 @@ pub(crate) enum CriticalCase {
     Get,
     /// An element of one is written.
     Set,
+    /// A part of one is read.
+    GetPart,
+    /// A part of one is written.
+    SetPart,
 }
 
 /// How many elements the array of a region has.
 const LENGTH: u32 = 4_096;
+
+/// How many elements a part has.
+const PART: usize = 64;
 
 /// The last of the elements that are reached.
 const LAST_INDEX: u64 = 63;
@@ -31,6 +38,8 @@ impl CriticalCase {
             CriticalCase::Open => "get_array_critical,release",
             CriticalCase::Get => "get_of_region",
             CriticalCase::Set => "set_of_region",
+            CriticalCase::GetPart => "get_part_of_region(64)",
+            CriticalCase::SetPart => "set_part_of_region(64)",
         }
     }
 
@@ -45,6 +54,8 @@ impl CriticalCase {
             CriticalCase::Open => make_each(env, handed, Open),
             CriticalCase::Get => read_each(env, handed),
             CriticalCase::Set => write_each(env, handed),
+            CriticalCase::GetPart => read_part_each(env, handed),
+            CriticalCase::SetPart => write_part_each(env, handed),
         }
     }
 }
@@ -113,4 +124,42 @@ fn write_each<S: Steps>(env: &mut Env<S>, handed: &[Handle]) -> usize {
         Some(_) => unreachable!(),
         None => right,
     }
+}
+
+/// Reads a part of one region for each of the handles: how often that was done. The elements are looked at behind the last, since the compiler leaves out what nobody reads.
+fn read_part_each<S: Steps>(env: &mut Env<S>, handed: &[Handle]) -> usize {
+    let mut part = [0i32; PART];
+    let Some(first) = handed.first() else {
+        return 0;
+    };
+    let Ok(mut region) = env.get_array_critical(*first) else {
+        return 0;
+    };
+    let mut right = 0usize;
+    for _handle in handed {
+        if region.get_part(0, 0, &mut part).is_ok() {
+            right = right.saturating_add(1);
+        }
+    }
+    region.release_all();
+    if part.contains(&0) { right } else { 0 }
+}
+
+/// Writes a part of one region for each of the handles: how often that was done.
+fn write_part_each<S: Steps>(env: &mut Env<S>, handed: &[Handle]) -> usize {
+    let part = [0i32; PART];
+    let Some(first) = handed.first() else {
+        return 0;
+    };
+    let Ok(mut region) = env.get_array_critical(*first) else {
+        return 0;
+    };
+    let mut right = 0usize;
+    for _handle in handed {
+        if region.set_part(0, 0, &part).is_ok() {
+            right = right.saturating_add(1);
+        }
+    }
+    region.release_all();
+    right
 }

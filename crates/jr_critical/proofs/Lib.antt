@@ -2,6 +2,8 @@ pub mod KnownLevels
 pub mod LevelFound
 pub mod Reaching
 pub mod LevelElements
+pub mod SparedActs
+pub mod LevelParts
 pub mod Closing
 pub mod Nesting
 pub mod Opening

@@ -79,6 +79,26 @@ pub held_at : (v : Levels) (level : ℕ) → level < length (objects_of v) → (
     → HoldsHeader (o_of v level) (h_of v level) k
 held_at v level inside k known = known_at v.levels.items level k (is_level v level inside) known
 
+-- the levels stand, where the thread stands as before and knows their headers
+pub stand_still : {S : Type 0} {facts : S → Facts} (v : Levels) {a b : S} {t : Table}
+    → (facts b).stands ≡ (facts a).stands → MayKnow facts b (KnowsLevels v t.frames) → Stand facts v a t
+    → Stand facts v b t
+stand_still v now known s = record {
+  stay = (s.stay.0 ∙ sym (ap (λ (z : Standing). z.thread) now), ap (λ (z : Standing). z.role) now ∙ s.stay.1);
+  ready = record {
+    role_is = ap (λ (z : Standing). z.role) now ∙ s.ready.role_is;
+    spent = ap (λ (z : Standing). z.fresh) now ∙ s.ready.spent;
+    own = record {
+      owner = s.ready.own.owner ∙ sym (ap (λ (z : Standing). z.thread) now);
+      last = s.ready.own.last ∙ sym (ap (λ (z : Standing). z.last) now);
+      places = s.ready.own.places ∙ sym (ap (λ (z : Standing). z.config.locals) now);
+      agrees = ∥∥₁_map known (λ k. (k.0, k.1, k.2.1));
+    };
+  };
+  some = s.some;
+  known = known;
+}
+
 module _ {S : Type 0} {facts : S → Facts} (fits : AreOf facts) (v : Levels) (level : ℕ) where
   module _ (inside : level < length (objects_of v)) where
     pub may_at : {a : S} {t : Table} → Stand facts v a t → MayKnow facts a (KnowsHeader (o_of v level) (h_of v level))
@@ -137,26 +157,9 @@ module _ {S : Type 0} {facts : S → Facts} (fits : AreOf facts) (v : Levels) (l
 
       -- the levels stand still
       pub stand_reached : {t : Table} → Stand facts v a t → Stand facts v b t
-      stand_reached {t} s =
-          let now = took.stands_is ∙ same in
-          let known : MayKnow facts b (KnowsLevels v t.frames) =
-          ∥∥₁_map s.known (λ k. let y = took.goes k.0 k.1 (meets k.0 (held_at v level inside k.0 k.2.0)) in
-          (y.0, y.1, known_reached t.frames k.0 k.1 k.2)) in
-          record {
-            stay = (s.stay.0 ∙ sym (ap (λ (z : Standing). z.thread) now), ap (λ (z : Standing). z.role) now ∙ s.stay.1);
-            ready = record {
-              role_is = ap (λ (z : Standing). z.role) now ∙ s.ready.role_is;
-              spent = ap (λ (z : Standing). z.fresh) now ∙ s.ready.spent;
-              own = record {
-                owner = s.ready.own.owner ∙ sym (ap (λ (z : Standing). z.thread) now);
-                last = s.ready.own.last ∙ sym (ap (λ (z : Standing). z.last) now);
-                places = s.ready.own.places ∙ sym (ap (λ (z : Standing). z.config.locals) now);
-                agrees = ∥∥₁_map known (λ k. (k.0, k.1, k.2.1));
-              };
-            };
-            some = s.some;
-            known = known;
-          }
+      stand_reached {t} s = stand_still v (took.stands_is ∙ same)
+          (∥∥₁_map s.known (λ k. let y = took.goes k.0 k.1 (meets k.0 (held_at v level inside k.0 k.2.0)) in
+          (y.0, y.1, known_reached t.frames k.0 k.1 k.2))) s
 
     -- the word that was read has the bits of the kind
     pub word_fits : {a b : S} {t : Table} (k : Kind) (i x : ℕ) → is_read_as k (h_of v level).kind ≡ true

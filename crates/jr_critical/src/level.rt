@@ -1,15 +1,18 @@
 //! A level of a critical region, and how its object is found.
-ghost use Rattle.std.specs.Prelude.{◌≡◌, ◌<◌, IfOk};
+ghost use Rattle.std.specs.Prelude.{◌≡◌, ◌+◌, ◌<◌, nat_lt, IfOk};
 ghost use Rattle.jr_model.specs.declared.event.Role.TheVariants.{Within};
 ghost use Rattle.jr_model.specs.declared.frames.TheConstants.{LEVELS as MOST};
 ghost use Rattle.jr_model.specs.Checks.{is_read_as as is_read_as_of};
+ghost use Rattle.jr_model.specs.Tests.{refused_by};
 ghost use Rattle.jr_gate.specs.Stays.{IsOwnStay};
 ghost use Rattle.jr_frames.specs.Reading.{word_of, OwnerFits};
 ghost use Rattle.jr_frames.specs.Ready.{StandsReady};
 ghost use Rattle.jr_critical.specs.Finding.{kind_answer, FindsLevel};
+ghost use Rattle.jr_critical.specs.LevelParts.{get_part_tests, set_part_tests};
 
 use jr_frames::{Frames, Reference, find};
 use jr_gate::Inside;
+use jr_heap::is_text;
 use jr_model::LEVELS;
 use jr_steps::Steps;
 use jr_word::{Fault, HeaderParts, Kind};
@@ -105,4 +108,55 @@ pub(crate) fn is_read_as(wanted: Kind, kind: Kind) -> bool
         Kind::Text => matches!(wanted, Kind::Char),
         _ => wanted == kind,
     }
+}
+
+/// Whether so many elements from an index on, read as those of a kind, lie in an object with this header.
+///
+/// # Errors
+///
+/// E6 where its elements are of another kind, E7 where they don't all lie in it.
+#[inline(always)]
+pub(crate) fn has_part(
+    header: HeaderParts,
+    kind: Kind,
+    start: u32,
+    count: usize,
+) -> Result<(), Fault>
+    ensures { refused_by (get_part_tests kind start count header.kind header.length) ≡ result }
+{
+    if !is_read_as(kind, header.kind) {
+        return Err(Fault::WrongElement);
+    }
+    if lies_past(header.length, start, count) {
+        return Err(Fault::Range);
+    }
+    Ok(())
+}
+
+/// The same of elements that are to be written.
+///
+/// # Errors
+///
+/// E5 where it is a string, and then those of `has_part`.
+#[inline(always)]
+pub(crate) fn has_part_to_write(
+    header: HeaderParts,
+    kind: Kind,
+    start: u32,
+    count: usize,
+) -> Result<(), Fault>
+    ensures { refused_by (set_part_tests kind start count header.kind header.length) ≡ result }
+{
+    if is_text(header.kind) {
+        return Err(Fault::NotArray);
+    }
+    has_part(header, kind, start, count)
+}
+
+/// Whether so many elements from an index on don't all lie in an object of this length.
+#[inline(always)]
+fn lies_past(length: u32, start: u32, count: usize) -> bool
+    ensures { result ≡ nat_lt length (start + count) }
+{
+    start > length || count > (length - start) as usize
 }

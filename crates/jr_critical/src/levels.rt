@@ -5,11 +5,11 @@ ghost use Rattle.jr_gate.specs.Stays.{IsOwnStay};
 ghost use Rattle.jr_critical.specs.Finding.{level_work};
 ghost use Rattle.jr_critical.specs.Levels.{objects_of, without_stay, OpensOver, OpensWithinOver, StandOver, StandsOutside, StandsWithin};
 
-use crate::level::{Level, Wanted, find_level, is_read_as};
+use crate::level::{Level, Wanted, find_level, has_part, has_part_to_write, is_read_as};
 use arrayvec::ArrayVec;
 use jr_frames::{Held, Reference};
 use jr_gate::{Inside, enter};
-use jr_heap::is_text;
+use jr_heap::{is_text, read_part, write_part};
 use jr_model::{LEVELS, Mode};
 use jr_steps::Steps;
 use jr_word::{Elem, Fault, Handle, Kind};
@@ -74,11 +74,12 @@ fn open_within<S: Steps>(
 }
 
 impl Levels {
-    ghost use Rattle.std.specs.Prelude.{◌≡◌, ◌<◌, ◌≤◌, IfOk, IfErr, IfSome, IfNone, length};
+    ghost use Rattle.std.specs.Prelude.{◌≡◌, ◌<◌, ◌≤◌, IfOk, IfErr, IfSome, IfNone, length, map};
     ghost use Rattle.jr_model.specs.declared.frames.TheConstants.{LEVELS};
     ghost use Rattle.jr_model.specs.CallPrograms.{get_array_critical, get_string_critical};
     ghost use Rattle.jr_gate.specs.Stays.{IsOwnStay};
     ghost use Rattle.jr_critical.specs.Finding.{level_nesting};
+    ghost use Rattle.jr_critical.specs.LevelParts.{part_read, ReadsPartAt, WritesPartAt};
     ghost use Rattle.jr_critical.specs.Levels.{objects_of, level_object, level_at, in_words, nested_by, opened_by, opened_within, stay_of, without_stay, OpensOver, OpensWithinOver, NestsOver, ReadsAt, WritesAt, GivesUpAllOver, GivesUpLastOver, LeavesBefore, StandOver, StandsOutside, StandsWithin, TellsKind, TellsLength, WasAdded};
 
     /// Enters the gate, and opens the first level over an array whose elements are no objects. The thread has to stand outside. (JNI Specification, chapter 4, "GetPrimitiveArrayCritical")
@@ -350,6 +351,70 @@ impl Levels {
         }
         let word = value.to_word();
         held.steps.put_element(object, header, index, word);
+        Ok(())
+    }
+
+    /// Copies a part of the elements at a level out, from an index on: as many as the slice has room for, one after the other, rising. The units of a string are read as chars. The levels have to stand over the steps and the frames, and the level has to be one of them.
+    ///
+    /// # Errors
+    ///
+    /// E6 where the level's elements are of another kind; E7 where the part does not lie in its array or string.
+    ///
+    /// Nothing is read then, the slice is as it was, and the levels stand.
+    ///
+    /// # Operations
+    ///
+    /// A load for each element, and none where it is refused.
+    #[inline(always)]
+    pub fn get_part<S: Steps, E: Elem>(
+        &self,
+        held: &mut Held<S>,
+        level: usize,
+        start: u32,
+        elements: &mut [E],
+    ) -> Result<(), Fault>
+        requires stand { StandOver self.now held.old }
+        requires level { level < length (objects_of self.now) }
+        ensures size { length elements.new ≡ length elements.old }
+        ensures call { ReadsPartAt held.old held.new self.now level E.KIND start (length elements.old) (part_read result (map E.word_of elements.new)) }
+        ensures frames { held.new.frames ≡ held.old.frames }
+        ensures stand { StandOver self.now held.new }
+        ensures err { IfErr result (λ _. elements.new ≡ elements.old) }
+    {
+        let Level { object, header } = self.level(level);
+        has_part(header, E::KIND, start, elements.len())?;
+        read_part(&mut held.steps, object, header, start, elements);
+        Ok(())
+    }
+
+    /// Copies elements into a part of a level's array, from an index on, one after the other, rising. The levels have to stand over the steps and the frames, and the level has to be one of them.
+    ///
+    /// # Errors
+    ///
+    /// E5 at a string; E6 where the level's elements are of another kind; E7 where the part does not lie in its array.
+    ///
+    /// Nothing is written then, and the levels stand.
+    ///
+    /// # Operations
+    ///
+    /// A store for each element, and none where it is refused.
+    #[inline(always)]
+    pub fn set_part<S: Steps, E: Elem>(
+        &self,
+        held: &mut Held<S>,
+        level: usize,
+        start: u32,
+        elements: &[E],
+    ) -> Result<(), Fault>
+        requires stand { StandOver self.now held.old }
+        requires level { level < length (objects_of self.now) }
+        ensures call { WritesPartAt held.old held.new self.now level E.KIND start (map E.word_of elements.now) result }
+        ensures frames { held.new.frames ≡ held.old.frames }
+        ensures stand { StandOver self.now held.new }
+    {
+        let Level { object, header } = self.level(level);
+        has_part_to_write(header, E::KIND, start, elements.len())?;
+        write_part(&mut held.steps, object, header, start, elements);
         Ok(())
     }
 

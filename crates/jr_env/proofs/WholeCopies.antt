@@ -16,7 +16,8 @@ use Rattle.jr_steps.specs.Knowing.{Facts, Holds}
 use Rattle.jr_gate.specs.Performing.{Performed}
 use Rattle.jr_heap.specs.Heap.{Called, HoldsHeader, LeavesObject, by_steps}
 use Rattle.jr_elements.specs.Copies.{answer_in, copy_steps}
-use Rattle.jr_env.proofs.ArrayParts.{AreSpared, at_elements, read_spared}
+use Rattle.jr_critical.proofs.SparedActs.{AreSpared, none_spared, read_spared}
+use Rattle.jr_env.proofs.ArrayParts.{at_elements}
 
 -- A BUFFER has as many words as the array
 
@@ -52,7 +53,7 @@ spared_by form o n f g acts (Ok x) (inl r) = read_spared o 0 n f g acts (Ok (for
 spared_by form o n f g acts (Ok x) (inr r) = absurd (let e = r.1 in cc)
 spared_by form o n f g acts (Err e) (inl r) = absurd (let d = r.3 in cc)
 spared_by form o n f g acts (Err e) (inr r) =
-    subst (AreSpared 0) (sym r.0) (record { long = refl; spares = tt; fresh = λ b. refl; hint = λ slots i. refl })
+    subst (AreSpared 0) (sym r.0) none_spared
 
 module _ {S : Type 0} {facts : S → Facts} {b c : S} {f : Frames} {o : ℕ} {h : HeaderParts} {V : Type 0}
     (form : V → List ℕ) (answer : Result V Fault) (same : (facts c).stands ≡ (facts b).stands) where

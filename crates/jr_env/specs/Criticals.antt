@@ -14,7 +14,8 @@ use Rattle.jr_frames.specs.declared.held.Held.{Held}
 use Rattle.jr_frames.specs.Table.{Table}
 use Rattle.jr_steps.specs.declared.steps.Steps as steps
 use Rattle.jr_critical.specs.declared.levels.Levels.{Levels}
-use Rattle.jr_critical.specs.Levels.{objects_of, GivesUpLastOver, LeavesBefore, Opens, OpensOver, StandOver}
+use Rattle.jr_critical.specs.Levels.{objects_of, GivesUpAllOver, GivesUpLastOver, LeavesBefore, Opens, OpensOver}
+use Rattle.jr_critical.specs.Levels.{StandOver}
 use Rattle.jr_env.specs.declared.env.Env.{Env}
 use Rattle.jr_env.specs.contracts.env.Env as env
 use Rattle.jr_env.specs.declared.critical_region.Region.{Region}
@@ -89,6 +90,15 @@ module _ {S : Type 0} {G : steps.Ghosts S} where
     pub undisturbed : EndsUndisturbed (held_of r) new.held (levels_of r)
     pub frames : new.held.frames ≡ frames_of r
     pub outside : IsOutside new
+
+  -- THE REGION ENDED with all its levels, and the env was handed back to who lent it: its thread left the gate and
+  -- stands outside, with the frames as they were, and no collection disturbed the region since its entry
+  pub record EndedWhole (r : Region S G) (lent : MutBor (Env S G)) : Type 0 where
+    pub same_reference : lent.ghost_name ≡ (env_of r).ghost_name
+    pub call : GivesUpAllOver (held_of r) lent.now.held (levels_of r)
+    pub undisturbed : EndsUndisturbed (held_of r) lent.now.held (levels_of r)
+    pub frames : lent.now.held.frames ≡ frames_of r
+    pub outside : IsOutside lent.now
 
 module _ (S : RattleType) (G : steps.Ghosts S.Denot) where
   -- who lent the env gets it back at the region's end; where none was opened, at once, as the refusal left it

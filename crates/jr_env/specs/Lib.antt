@@ -3,6 +3,7 @@ pub mod Deeds
 pub mod Envs
 pub mod StandingRegions
 pub mod OpenStays
+pub mod Copying
 pub mod Criticals
 pub mod Collections
 pub mod Censuses

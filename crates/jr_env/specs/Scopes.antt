@@ -1,4 +1,5 @@
--- A closure that runs in a frame of local references of its own, or over a copy of an array's elements.
+-- A closure that runs in a frame of local references of its own, over a copy of an array's elements, or in a critical
+-- region.
 use Rattle.std.specs.Prelude.{◌≡◌, ℕ, List, Option, Result, Ok, Err, length}
 use Rattle.std.specs.Fn.{FnOnceReturnsAtMut, Once}
 use Rattle.std.specs.List.{refill}
@@ -64,3 +65,8 @@ abbrev pub RanOverCopy : {M F V T R : Type 0} → (M → Result (List V) Fault �
 RanOverCopy {M} {V = V} copies releases g body old new x left released = (begun : M) × (copied shown : List V)
     × copies old (Ok copied) begun × FnOnceReturnsAtMut g body copied x shown
     × (left ≡ refill (length copied) copied shown) × releases left begun released new
+
+-- A CLOSURE RAN IN A REGION, with this answer: it was called once, and what it left of the region was ended
+abbrev pub RanInRegion : {R F T L : Type 0} → (R → L → Type 0)
+    → Once F (MutBor R × Unit {0}) (T × (MutBor R × Unit {0})) → F → R → T → L → Type 0
+RanInRegion {R} ended g body region x lent = (left : R) × FnOnceReturnsAtMut g body region x left × ended left lent

@@ -17,11 +17,12 @@ pub struct Region<'e, S: Steps> {
 }
 
 impl<'e, S: Steps> Region<'e, S> {
-    ghost use Rattle.std.specs.Prelude.{◌≡◌, ◌<◌, ◌≤◌, ◌+◌, IfErr, IfOk, IfSome, Some, false, length};
+    ghost use Rattle.std.specs.Prelude.{◌≡◌, ◌<◌, ◌≤◌, ◌+◌, IfErr, IfOk, IfSome, Some, false, length, map};
     ghost use Rattle.std.specs.Borrow.{sem};
     ghost use Rattle.jr_word.specs.declared.fault.Fault.TheVariants.{Stale};
     ghost use Rattle.jr_model.specs.CallPrograms.{get_array_critical, get_string_critical};
     ghost use Rattle.jr_critical.specs.Levels.{objects_of, in_words, nested_by, GivesUpAllOver, GivesUpLastOver, LeavesBefore, NestsOver, ReadsAt, TellsKind, TellsLength, WasAdded, WritesAt};
+    ghost use Rattle.jr_critical.specs.LevelParts.{part_read, ReadsPartAt, WritesPartAt};
     ghost use Rattle.jr_env.specs.Envs.{IsOutside};
     ghost use Rattle.jr_env.specs.StandingRegions.{EndsUndisturbed, StandsOn};
     ghost use Rattle.jr_env.specs.Criticals.{env_of, levels_of, held_of, frames_of, rests_in_left, AtLevel};
@@ -129,6 +130,68 @@ impl<'e, S: Steps> Region<'e, S> {
             return Err(Fault::Stale);
         }
         levels_beside::set(self.env, &self.levels, level, index, value)
+    }
+
+    /// Copies a part of the elements at a level out, from an index on: as many as the slice has room for, one after the other, rising. The units of a string are read as chars. It is `get_array_region` without an entry, an exit and a look at a reference. Others may write between two of its loads.
+    ///
+    /// # Errors
+    ///
+    /// E2 where no level of the number stands; E6 where its elements are of another kind; E7 where the part does not lie in its array or string.
+    ///
+    /// Nothing is read then, the slice is as it was, and the levels stand.
+    ///
+    /// # Operations
+    ///
+    /// A load for each element, and none where it is refused.
+    #[inline(always)]
+    pub fn get_part<E: Elem>(
+        &mut self,
+        level: usize,
+        start: u32,
+        elements: &mut [E],
+    ) -> Result<(), Fault>
+        ensures same_reference { (env_of self.new).ghost_name ≡ (env_of self.old).ghost_name }
+        ensures size { length elements.new ≡ length elements.old }
+        ensures call { AtLevel self.old self.new level (part_read result (map E.word_of elements.new)) (ReadsPartAt (held_of self.old) (held_of self.new) (levels_of self.old) level E.KIND start (length elements.old) (part_read result (map E.word_of elements.new))) }
+        ensures region { StandsOn (held_of self.old) (held_of self.new) (levels_of self.old) (levels_of self.new) }
+        ensures frames { frames_of self.new ≡ frames_of self.old }
+        ensures levels { levels_of self.new ≡ levels_of self.old }
+        ensures err { IfErr result (λ _. elements.new ≡ elements.old) }
+    {
+        if self.levels.depth() <= level {
+            return Err(Fault::Stale);
+        }
+        levels_beside::get_part(self.env, &self.levels, level, start, elements)
+    }
+
+    /// Copies elements into a part of a level's array, from an index on, one after the other, rising. It is `set_array_region` without an entry, an exit and a look at a reference. Others may read between two of its stores.
+    ///
+    /// # Errors
+    ///
+    /// E2 where no level of the number stands; E5 at a string; E6 where its elements are of another kind; E7 where the part does not lie in its array.
+    ///
+    /// Nothing is written then, and the levels stand.
+    ///
+    /// # Operations
+    ///
+    /// A store for each element, and none where it is refused.
+    #[inline(always)]
+    pub fn set_part<E: Elem>(
+        &mut self,
+        level: usize,
+        start: u32,
+        elements: &[E],
+    ) -> Result<(), Fault>
+        ensures same_reference { (env_of self.new).ghost_name ≡ (env_of self.old).ghost_name }
+        ensures call { AtLevel self.old self.new level result (WritesPartAt (held_of self.old) (held_of self.new) (levels_of self.old) level E.KIND start (map E.word_of elements.now) result) }
+        ensures region { StandsOn (held_of self.old) (held_of self.new) (levels_of self.old) (levels_of self.new) }
+        ensures frames { frames_of self.new ≡ frames_of self.old }
+        ensures levels { levels_of self.new ≡ levels_of self.old }
+    {
+        if self.levels.depth() <= level {
+            return Err(Fault::Stale);
+        }
+        levels_beside::set_part(self.env, &self.levels, level, start, elements)
     }
 
     /// How many elements or units a level's array or string has.

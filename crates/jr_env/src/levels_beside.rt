@@ -1,9 +1,10 @@
 //! The calls of a critical region by its levels, which stand beside their env and don't borrow it. They are for who keeps levels and env from one command to the next, as an interpreter of commands does, and can't hold a borrow of the env meanwhile; [`Region`](crate::Region) is the way for everybody else, and asks for nothing.
 //!
 //! The levels have to be closed on the env that opened them, the last first. Each other call of the env ends the stay that they stand in.
-ghost use Rattle.std.specs.Prelude.{◌≡◌, ◌<◌, IfErr, IfOk, length, IfNone, IfSome};
+ghost use Rattle.std.specs.Prelude.{◌≡◌, ◌<◌, IfErr, IfOk, length, map, IfNone, IfSome};
 ghost use Rattle.jr_model.specs.CallPrograms.{get_array_critical, get_string_critical};
 ghost use Rattle.jr_critical.specs.Levels.{objects_of, in_words, nested_by, opened_by, GivesUpAllOver, GivesUpLastOver, LeavesBefore, NestsOver, ReadsAt, StandOver, WasAdded, WritesAt};
+ghost use Rattle.jr_critical.specs.LevelParts.{part_read, ReadsPartAt, WritesPartAt};
 ghost use Rattle.jr_env.specs.Envs.{IsOutside};
 ghost use Rattle.jr_env.specs.StandingRegions.{EndsUndisturbed, StandsOn, StandsSince};
 ghost use Rattle.jr_env.specs.Criticals.{HasEntered, WasRefused};
@@ -208,6 +209,66 @@ pub fn set<S: Steps, E: Elem>(
     ensures stand { StandOver levels.now env.new.held }
 {
     levels.set(&mut env.held, level, index, value)
+}
+
+/// Copies a part of the elements at a level out, from an index on: as many as the slice has room for. The units of a string are read as chars. The levels have to stand over the env, and the level has to be one of them.
+///
+/// # Errors
+///
+/// E6 where the level's elements are of another kind; E7 where the part does not lie in its array or string.
+///
+/// Nothing is read then, the slice is as it was, and the levels stand.
+///
+/// # Operations
+///
+/// A load for each element, and none where it is refused.
+#[inline(always)]
+pub fn get_part<S: Steps, E: Elem>(
+    env: &mut Env<S>,
+    levels: &Levels,
+    level: usize,
+    start: u32,
+    elements: &mut [E],
+) -> Result<(), Fault>
+    requires stand { StandOver levels.now env.old.held }
+    requires level { level < length (objects_of levels.now) }
+    ensures size { length elements.new ≡ length elements.old }
+    ensures call { ReadsPartAt env.old.held env.new.held levels.now level E.KIND start (length elements.old) (part_read result (map E.word_of elements.new)) }
+    ensures region { StandsOn env.old.held env.new.held levels.now levels.now }
+    ensures frames { env.new.held.frames ≡ env.old.held.frames }
+    ensures stand { StandOver levels.now env.new.held }
+    ensures err { IfErr result (λ _. elements.new ≡ elements.old) }
+{
+    levels.get_part(&mut env.held, level, start, elements)
+}
+
+/// Copies elements into a part of a level's array, from an index on. The levels have to stand over the env, and the level has to be one of them.
+///
+/// # Errors
+///
+/// E5 at a string; E6 where the level's elements are of another kind; E7 where the part does not lie in its array.
+///
+/// Nothing is written then, and the levels stand.
+///
+/// # Operations
+///
+/// A store for each element, and none where it is refused.
+#[inline(always)]
+pub fn set_part<S: Steps, E: Elem>(
+    env: &mut Env<S>,
+    levels: &Levels,
+    level: usize,
+    start: u32,
+    elements: &[E],
+) -> Result<(), Fault>
+    requires stand { StandOver levels.now env.old.held }
+    requires level { level < length (objects_of levels.now) }
+    ensures call { WritesPartAt env.old.held env.new.held levels.now level E.KIND start (map E.word_of elements.now) result }
+    ensures region { StandsOn env.old.held env.new.held levels.now levels.now }
+    ensures frames { env.new.held.frames ≡ env.old.held.frames }
+    ensures stand { StandOver levels.now env.new.held }
+{
+    levels.set_part(&mut env.held, level, start, elements)
 }
 
 /// Gives up the last level, and answers those before it. With the first one the thread leaves the gate, and none is left. Every mode does the same, since a region is no copy. The levels have to stand over the env. (JNI Specification, chapter 4, "ReleasePrimitiveArrayCritical", "ReleaseStringCritical")

@@ -19,6 +19,7 @@ use std::marker::PhantomData;
 pub trait NativeInterface<S: Steps>: NativeCaller<S> {
     ghost use Rattle.std.specs.Prelude.{◌≡◌, IfErr, length, map};
     ghost use Rattle.jr_word.specs.declared.handle.RefKind.TheVariants as ref_kind;
+    ghost use Rattle.jr_env.specs.Copying.{CopiesThrough};
     ghost use Rattle.jr_env.specs.Deeds.{read_answer};
     ghost use Rattle.jr_env.specs.Requests.{for_delete_local_ref, for_delete_reference, for_free_locals, for_get_array_elements, for_get_array_length, for_get_array_region, for_get_object_array_element, for_get_object_ref_type, for_get_string_chars, for_get_string_length, for_is_same_object, for_kind_of, for_new_array, for_new_local_ref, for_new_object_array, for_new_plain, for_new_reference, for_new_string, for_pop_local_frame, for_set_array_region, for_set_object_array_element, told_by};
 
@@ -383,6 +384,32 @@ pub trait NativeInterface<S: Steps>: NativeCaller<S> {
         ensures { Self.made self.old self.new (for_set_array_region E.KIND array.0 start (map E.word_of elements.now)) result }
     {
         self.make(SetArrayRegion(array, start, elements))
+    }
+
+    /// Copies elements from a part of an array to a part of an array of the same elements, through a buffer, which is as long as the part. All are read before the first is written. So the arrays may be one, and the parts may overlap: what is written is what was read, as if through a temporary array. It is `get_array_region` into the buffer, and then `set_array_region` of it, of an env two calls. Others may write between two of its operations. (Java's `System.arraycopy`)
+    ///
+    /// # Errors
+    ///
+    /// E2 where the first handle is malformed or lies outside the room; E3 where it is a local one of another thread; E2 where its reference does not stand; E1 where it is to null; E5 where it is to a plain object or a string; E6 where it is to an array of other elements; E7 where the part does not lie in the array; E2 where the second handle is malformed or lies outside the room; E3 where it is a local one of another thread; E2 where its reference does not stand; E1 where it is to null; E5 where it is to a plain object or a string; E6 where it is to an array of other elements; E7 where the part does not lie in the array.
+    ///
+    /// Nothing is written then. Where the second array refused, the buffer has what was read, and else it is as it was.
+    ///
+    /// # Operations
+    ///
+    /// Those of `get_array_region` and of `set_array_region`.
+    fn copy_array<E: Elem>(
+        &mut self,
+        from: Handle,
+        start: u32,
+        to: Handle,
+        target: u32,
+        buffer: &mut [E],
+    ) -> Result<(), Fault>
+        ensures size { length buffer.new ≡ length buffer.old }
+        ensures call { CopiesThrough Self.made Self.made (for_get_array_region E.KIND from.0 start (length buffer.old)) (map E.word_of buffer.new) (for_set_array_region E.KIND to.0 target (map E.word_of buffer.new)) self.old self.new result }
+    {
+        self.copy_part(from, start, buffer)?;
+        self.make(SetArrayRegion(to, target, buffer))
     }
 
     /// Copies all elements of an array, one after the other, rising. (JNI Specification, chapter 4, "Get<PrimitiveType>ArrayElements Routines")
