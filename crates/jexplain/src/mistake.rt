@@ -1,5 +1,7 @@
 //! Where a text leaves the form of a script: the place, what stands there, and what is expected.
 
+ghost use Rattle.std.specs.Prelude.{◌≡◌, IfOk};
+
 use crate::forms::{Fit, Form, Part};
 use jr_syntax::{Reason, VERBS, Verb};
 use std::alloc::{AllocError, Global};
@@ -323,7 +325,9 @@ impl<'a> Mistake<'a> {
         text: &'a [u8],
         number: usize,
         reason: Reason,
-    ) -> Result<Mistake<'a>, AllocError> {
+    ) -> Result<Mistake<'a>, AllocError>
+        ensures { IfOk result (λ m. (m.line ≡ number) × (m.reason ≡ reason)) }
+    {
         let line = line_at(text, number);
         let place = Place::of(alloc, text, number, line, reason)?;
         Ok(Mistake {
