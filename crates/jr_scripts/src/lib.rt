@@ -36,6 +36,7 @@ pub use board::{Board, Posts};
 pub use hold::{Hold, NoHold};
 pub use jr_syntax::{Reason, Script, ScriptFault, parse, print};
 pub use laws::{a_script_that_was_read_can_be_run, runs_mean};
+pub use reply::Reply;
 pub use run::run_thread;
 pub use sightings::Sightings;
 pub use single::run_one;

@@ -136,11 +136,11 @@ pub fn run_thread<S: Steps, B: Board<S>, H: Hold>(
             turns,
             command,
         );
-        hold.after(env.held.steps.thread(), line);
         let Outcome {
             region: stands,
             answer,
         } = outcome;
+        hold.after(env.held.steps.thread(), line, &answer);
         region = stands;
         let Ok(()) = record(alloc, &mut names, &mut words, line, command, answer, out) else {
             end(env, region);

@@ -5,7 +5,7 @@ ghost use Rattle.jr_env.specs.Envs.{IsOutside};
 use crate::printing::{BEFORE, TURNS, leaves};
 use crate::thread_ends::plain_env;
 use jr_env::Env;
-use jr_scripts::{Hold, NoHold, Posts, Sightings, run_all, run_one, run_thread};
+use jr_scripts::{Hold, NoHold, Posts, Reply, Sightings, run_all, run_one, run_thread};
 use jr_steps::Steps;
 use jr_syntax::{Command, Name, Script, Sequence, ThreadPart, is_name, parse};
 use jr_weak::Marker;
@@ -129,7 +129,7 @@ impl Hold for CommandCounts {
         self.begun.fetch_add(1, Ordering::SeqCst);
     }
 
-    fn after(&self, _thread: u8, _line: usize) {
+    fn after(&self, _thread: u8, _line: usize, _answer: &Result<Reply, Fault>) {
         self.answered.fetch_add(1, Ordering::SeqCst);
     }
 }

@@ -1,7 +1,8 @@
 //! Threads of one script that are held: they wait for each other with many turns. Where memory is refused to one of them, the others wait in vain, so that `.ci/refuse-allocations` leaves these tests out.
 
-use jr_scripts::{Hold, run_all};
+use jr_scripts::{Hold, Reply, run_all};
 use jr_syntax::parse;
+use jr_word::Fault;
 use std::alloc::Global;
 use std::process::Abort;
 use std::sync::Wait;
@@ -92,7 +93,7 @@ impl Hold for Meeting {
         }
     }
 
-    fn after(&self, thread: u8, line: usize) {
+    fn after(&self, thread: u8, line: usize, _answer: &Result<Reply, Fault>) {
         count(&self.answered, thread);
         if line == 10 {
             self.answered_10.store(1, Ordering::SeqCst);

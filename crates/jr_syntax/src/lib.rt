@@ -24,6 +24,7 @@ mod vm_line;
 mod word;
 mod writer;
 
+pub use argument::Argument;
 pub use command::Command;
 pub use fault::{Reason, ScriptFault};
 pub use laws::{
@@ -39,6 +40,6 @@ pub use tries::Tries;
 pub use units::Units;
 pub use verb::{
     CloseLevel, Make, MakeAt, MakeFilled, MakeFrom, MakeSized, MakeText, OfRoom, On, OnAt, OnBoth,
-    OnName, OnNameAt, OpenLevel, PutAt, Release, SetAt, StoreAt, Verb, WithCount, WithTries,
+    OnName, OnNameAt, OpenLevel, PutAt, Release, SetAt, StoreAt, VERBS, Verb, WithCount, WithTries,
 };
 pub use writer::print;

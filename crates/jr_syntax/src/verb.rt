@@ -225,7 +225,8 @@ pub enum Verb {
     WithTries(WithTries),
 }
 
-const VERBS: [Verb; 38] = [
+/// All verbs, each once.
+pub const VERBS: [Verb; 38] = [
     Verb::Make(Make::Plain),
     Verb::Make(Make::Wait),
     Verb::MakeFrom(MakeFrom::Global),
