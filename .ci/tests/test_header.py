@@ -163,6 +163,11 @@ class Made(unittest.TestCase):
             after = self.texts(path, old, new)
             self.assertTrue(all(after[it] != before[it] for it in before), new)
 
+    def test_a_crate_of_another_version_is_told(self):
+        first, second = self.header.CARGO
+        with repository({**FILES, first: '[package]\nversion = "3.4.5"\n', second: '[package]\nversion = "3.4.6"\n'}):
+            self.assertEqual([*self.header.other_versions()], [f"{second} has another version than {self.header.VERSION}"])
+
     def test_what_has_no_form_is_told(self):
         for old, new in (("array: u64", "array: Option<u64>"), ("`NativeInterface::look`", "`NativeInterface::gone`")):
             with self.assertRaises(self.header.Unfit):

@@ -1,9 +1,9 @@
 -- The walk of a function that asks whether a handle's pointer is NULL, whatever the types of handle and value.
-use Rattle.std.proofs.Common.{◌≡◌, ℕ, List, [], ◌∷◌, Bool, true, false, refl, sym, lit<}
+use Rattle.std.proofs.Common.{◌≡◌, List, [], ◌∷◌, refl, sym, lit<}
 use Rattle.std.proofs.raw_atomic.Walks.{proved}
 use base.Fraction.{full_share}
 use base.Logic.{emp, ent, guard, guard_i, snd∗, via}
-use base.Fml.{Fml, ftrue, fsep, flft}
+use base.Fml.{Fml, ftrue, flft}
 use contract.Monad.{fact, fact_use}
 use contract.Running.{Running, MachineTables, tables}
 use denote.Builtin.{bool}
@@ -25,7 +25,7 @@ use lib.Dec.{T}
 use mir.Raw.{raw as bare}
 use mir.Syntax.{ty_ptr, ty_ref, ty_bool, Fn, Callee, local, value_local, named, mut, place, deref, field, ptr_eq, op2}
 use mir.Syntax.{seq, assign, return, rv_opd, copy, int, w64}
-use mir.Val.{Val, vbool, vnull, vstruct, vcons, vnil, op2_val, has_ty, WT}
+use mir.Val.{Val, vbool, vnull, op2_val, has_ty, WT}
 use prog.Model.{Model}
 use prog.Wp.{Closed}
 use Rattle.std.proofs.alloc.Global.TheLaws as heap

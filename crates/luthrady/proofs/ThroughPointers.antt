@@ -1,5 +1,5 @@
 -- What the env behind a pointer did.
-use Rattle.std.proofs.Common.{◌≡◌, ◌∙◌, ◌==◌, Bool, true, Option, Some, Result, ap, refl, sym, subst}
+use Rattle.std.proofs.Common.{◌≡◌, ◌∙◌, ◌==◌, Bool, true, Option, Some, Result, ap, sym, subst}
 use Rattle.std.specs.Global.{Box}
 use Rattle.jr_word.specs.declared.fault.Fault.{Fault}
 use Rattle.jr_env.specs.Envs.{Does}
