@@ -23,7 +23,7 @@
    - `count` elements lie at a pointer with a count. What a call writes to overlaps nothing else.
    - malloc, realloc and free are of one allocator, which aligns to 16.
    - No call is made in a signal handler, nor in a forked child of a process with threads.
-   - The stack has room: 137 KB were measured for an open of 64 threads, 54 KB for an attach, and less than
+   - The stack has room: 139 KB were measured for an open of 64 threads, 54 KB for an attach, and less than
      1 KB for each other call that was tried. */
 #ifndef LUTHRADY_H
 #define LUTHRADY_H
