@@ -97,7 +97,7 @@ struct luthrady_reply (luthrady_collect)(struct luthrady_env *env, struct luthra
 }
 struct luthrady_reply (luthrady_set_int_array_region)(struct luthrady_env *env, uint64_t array, uint32_t start, const int32_t *elements, size_t count)
 {
-    struct luthrady_reply reply = {array + start + elements[0] + count, 0, 0, 0};
+    struct luthrady_reply reply = {array + start + (count ? elements[0] : 0) + count, 0, 0, 0};
     made += env != NULL;
     return reply;
 }
@@ -108,10 +108,12 @@ int main(void)
     if (luthrady_collect(NULL, &counts).fault != LUTHRADY_FAULT_NOT_FRESH) return 1;
     if (luthrady_collect(&env, NULL).fault != LUTHRADY_FAULT_NOT_FRESH) return 2;
     if (luthrady_set_int_array_region(NULL, 0, 0, (const int32_t[]){1, 2}, 2).fault != LUTHRADY_FAULT_NOT_FRESH) return 3;
+    if (luthrady_set_int_array_region(&env, 0, 0, NULL, 2).fault != LUTHRADY_FAULT_NOT_FRESH) return 8;
     if (made) return 4;
     if (luthrady_collect(&env, &counts).fault) return 5;
     if (luthrady_set_int_array_region(&env, 100, 10, (const int32_t[]){5, 6}, 2).value != 117) return 6;
-    return made == 2 ? 0 : 7;
+    if (luthrady_set_int_array_region(&env, 100, 10, NULL, 0).value != 110) return 9;
+    return made == 3 ? 0 : 7;
 }
 """
 

@@ -14,8 +14,9 @@
    - A handle is a struct of one pointer. It holds what luthrady_open or luthrady_attach wrote, or NULL.
      Checked: a call by a handle with NULL is E21. So is one by a room's pointer in an env's place or the
      other way round, since a place begins with a mark. A pointer to anything else is not told.
-   - An address of a handle or of an `out` that is NULL is E21 by the tests in this header. They end the call
-     before it comes to the library. With LUTHRADY_NO_CHECKS such a call ends the process.
+   - An address of a handle, of an `out` or of `count` elements that is NULL is E21 by the tests in this
+     header. They end the call before it comes to the library. With LUTHRADY_NO_CHECKS it ends the process.
+     Where `count` is 0 the address may be NULL.
    - A room's handle goes to luthrady_attach and luthrady_release alone.
    - Each handle is in one call at a time. Whoever hands one to another thread orders that by a lock, by a
      thread's start or join, or by a sequentially consistent atomic.
@@ -496,9 +497,9 @@ static inline const char *luthrady_fault_text(uint32_t fault)
     }
 }
 
-/* The calls with a test of their pointers before them: an env, a room or an out that is NULL is E21, and
-   nothing is done. They take the names of the calls where LUTHRADY_NO_CHECKS isn't defined. In brackets a
-   name is the call's own: (luthrady_free_locals)(&env). */
+/* The calls with a test of their pointers before them: an env, a room, an out or count elements whose
+   address is NULL are E21, and nothing is done. They take the names of the calls where LUTHRADY_NO_CHECKS
+   isn't defined. In brackets a name is the call's own: (luthrady_free_locals)(&env). */
 #ifndef LUTHRADY_NO_CHECKS
 static inline struct luthrady_reply luthrady_refused_null(void)
 {
@@ -624,7 +625,9 @@ static inline struct luthrady_reply luthrady_checked_new_object_array(
 static inline struct luthrady_reply luthrady_checked_new_string(
     struct luthrady_env *env, const uint16_t *units, size_t count)
 {
-    return env == NULL ? luthrady_refused_null() : luthrady_new_string(env, units, count);
+    return env == NULL || (count != 0 && units == NULL)
+        ? luthrady_refused_null()
+        : luthrady_new_string(env, units, count);
 }
 
 static inline struct luthrady_reply luthrady_checked_get_array_length(
@@ -648,50 +651,57 @@ static inline struct luthrady_reply luthrady_checked_get_object_array_element(
 static inline struct luthrady_reply luthrady_checked_set_object_array_element(
     struct luthrady_env *env, uint64_t array, uint32_t index, uint64_t value)
 {
-    return env == NULL ? luthrady_refused_null() : luthrady_set_object_array_element(
-    env, array, index, value);
+    return env == NULL
+        ? luthrady_refused_null()
+        : luthrady_set_object_array_element(env, array, index, value);
 }
 
 static inline struct luthrady_reply luthrady_checked_set_byte_array_region(
     struct luthrady_env *env, uint64_t array, uint32_t start, const int8_t *elements, size_t count)
 {
-    return env == NULL ? luthrady_refused_null() : luthrady_set_byte_array_region(
-    env, array, start, elements, count);
+    return env == NULL || (count != 0 && elements == NULL)
+        ? luthrady_refused_null()
+        : luthrady_set_byte_array_region(env, array, start, elements, count);
 }
 
 static inline struct luthrady_reply luthrady_checked_set_int_array_region(
     struct luthrady_env *env, uint64_t array, uint32_t start, const int32_t *elements, size_t count)
 {
-    return env == NULL ? luthrady_refused_null() : luthrady_set_int_array_region(
-    env, array, start, elements, count);
+    return env == NULL || (count != 0 && elements == NULL)
+        ? luthrady_refused_null()
+        : luthrady_set_int_array_region(env, array, start, elements, count);
 }
 
 static inline struct luthrady_reply luthrady_checked_set_long_array_region(
     struct luthrady_env *env, uint64_t array, uint32_t start, const int64_t *elements, size_t count)
 {
-    return env == NULL ? luthrady_refused_null() : luthrady_set_long_array_region(
-    env, array, start, elements, count);
+    return env == NULL || (count != 0 && elements == NULL)
+        ? luthrady_refused_null()
+        : luthrady_set_long_array_region(env, array, start, elements, count);
 }
 
 static inline struct luthrady_reply luthrady_checked_get_byte_array_region(
     struct luthrady_env *env, uint64_t array, uint32_t start, int8_t *elements, size_t count)
 {
-    return env == NULL ? luthrady_refused_null() : luthrady_get_byte_array_region(
-    env, array, start, elements, count);
+    return env == NULL || (count != 0 && elements == NULL)
+        ? luthrady_refused_null()
+        : luthrady_get_byte_array_region(env, array, start, elements, count);
 }
 
 static inline struct luthrady_reply luthrady_checked_get_int_array_region(
     struct luthrady_env *env, uint64_t array, uint32_t start, int32_t *elements, size_t count)
 {
-    return env == NULL ? luthrady_refused_null() : luthrady_get_int_array_region(
-    env, array, start, elements, count);
+    return env == NULL || (count != 0 && elements == NULL)
+        ? luthrady_refused_null()
+        : luthrady_get_int_array_region(env, array, start, elements, count);
 }
 
 static inline struct luthrady_reply luthrady_checked_get_long_array_region(
     struct luthrady_env *env, uint64_t array, uint32_t start, int64_t *elements, size_t count)
 {
-    return env == NULL ? luthrady_refused_null() : luthrady_get_long_array_region(
-    env, array, start, elements, count);
+    return env == NULL || (count != 0 && elements == NULL)
+        ? luthrady_refused_null()
+        : luthrady_get_long_array_region(env, array, start, elements, count);
 }
 
 static inline struct luthrady_reply luthrady_checked_collect(
@@ -709,7 +719,9 @@ static inline struct luthrady_reply luthrady_checked_collect_announced(
 static inline struct luthrady_reply luthrady_checked_batch(
     struct luthrady_env *env, struct luthrady_call *calls, size_t count)
 {
-    return env == NULL ? luthrady_refused_null() : luthrady_batch(env, calls, count);
+    return env == NULL || (count != 0 && calls == NULL)
+        ? luthrady_refused_null()
+        : luthrady_batch(env, calls, count);
 }
 
 #define luthrady_open(...) luthrady_checked_open(__VA_ARGS__)
