@@ -180,7 +180,7 @@ struct luthrady_reply luthrady_open(struct luthrady_sizes sizes, void **out);
 /* Makes the env of the next thread, and writes the pointer to it.
    Refused: E21 where no room stands behind the handle, each of its threads has one, or it was released;
    E16 where memory was refused.
-   At E21 nothing has changed. At E16 the env of the next thread may be gone. */
+   At E21 nothing has changed. At E16 the env of the next thread is gone, and no other. */
 struct luthrady_reply luthrady_attach(struct luthrady_room *room, void **out);
 
 /* Lets go of the envs of threads that were not attached, and of the place that the envs had. No further
@@ -191,7 +191,8 @@ struct luthrady_reply luthrady_release(struct luthrady_room *room);
 
 /* Detaches a thread: no env stands behind the handle then. Its local references stay, and keep what they
    name. Where it closed the room it answers 1, and writes what stood there; else 0.
-   Refused: E21 where no env stands behind the handle; E22 where threads were inside as it closed the room. */
+   Refused: E21 where no env stands behind the handle; E22 with how many threads were inside, knocking,
+   announcing or collecting as it closed the room, at least 1. */
 struct luthrady_reply luthrady_detach(struct luthrady_env *env, struct luthrady_stood *out);
 
 /* A new global reference to what the word names, NULL to null. (JNI Specification, chapter 4,

@@ -1,9 +1,9 @@
 -- How threads come to a room, and leave it.
 use Rattle.std.specs.Prelude.{◌≡◌, ℕ, Bool, true, false, [], ◌∷◌, Option, Some, None, Result, Ok, Err}
-use Rattle.std.specs.Prelude.{IfOk, IfSome, IsSome}
+use Rattle.std.specs.Prelude.{◌≤◌, ◌⊎◌, drop, IfErr, IfOk, IfSome, IsSome}
 use Rattle.std.specs.Global.{Box}
 use Rattle.jr_word.specs.declared.fault.Fault.{Fault}
-use Rattle.jr_word.specs.declared.fault.Fault.TheVariants.{NotFresh}
+use Rattle.jr_word.specs.declared.fault.Fault.TheVariants.{LeftInside, Memory, NotFresh}
 use Rattle.jr_model.specs.declared.summary.Summary.{Summary}
 use Rattle.jr_rule.specs.Passes.{Closes}
 use Rattle.jr_rule.specs.Rule.{stepping_pass}
@@ -33,10 +33,14 @@ TakesNext old new answer =
 abbrev pub IsRefusedAtNone : Opened → Opened → Result (Box Attached) Fault → Type 0
 IsRefusedAtNone old new answer = old.envs.items ≡ [] → (answer ≡ Err NotFresh) × (new ≡ old)
 
+-- else it is refused with E16 alone, and the next thread's env is gone then, and no other
+abbrev pub IsRefusedElse : Opened → Opened → Fault → Type 0
+IsRefusedElse old new e = (old.envs.items ≡ []) ⊎ ((e ≡ Memory) × (new.envs.items ≡ drop 1 old.envs.items))
+
 -- by the place of a room, which keeps its mark; where none stands behind the handle, it is E21, and nothing has changed
 abbrev pub ByPlace : Bool → RoomHandle → RoomHandle → Result (Box Attached) Fault → Type 0
 ByPlace true old new answer = TakesNext old.value new.value answer × IsRefusedAtNone old.value new.value answer
-    × (new.value.mark ≡ old.value.mark)
+    × IfErr answer (IsRefusedElse old.value new.value) × (new.value.mark ≡ old.value.mark)
 ByPlace false old new answer = (answer ≡ Err NotFresh) × (new ≡ old)
 
 -- the number of what stands behind a pointer, which is written elsewhere
@@ -80,12 +84,16 @@ abbrev pub WasClosedBy : Native → Result (Option Summary) Fault → Type 0
 WasClosedBy n closed =
     IsOutside n.env → IfOk closed (λ o. IfSome o (λ s. Closes (stepping_pass n.env.held.steps.cells.cells.seat.me) s))
 
+-- some threads were left inside
+abbrev pub LeavesSome : Fault → Type 0
+LeavesSome e = (n : ℕ) × (1 ≤ n) × (e ≡ LeftInside n)
+
 -- what the env that stood there left behind as its thread was detached; where none stood, it is E21
 abbrev pub ByLeaver : Option (Box Native) → Reply → Stood → Stood → Type 0
 ByLeaver None reply before after = (reply ≡ reply_of the_number (Err NotFresh)) × (after ≡ before)
 ByLeaver (Some n) reply before after =
     (closed : Result (Option Summary) Fault) × (reply ≡ reply_of the_number (leaving_answer closed))
-    × (after ≡ stood_of closed before) × WasClosedBy n.value closed
+    × (after ≡ stood_of closed before) × WasClosedBy n.value closed × IfErr closed LeavesSome
 
 -- THE THREAD WAS DETACHED, and the handle has no env any more
 abbrev pub DetachReplied : EnvHandle → EnvHandle → Reply → Stood → Stood → Type 0

@@ -8,6 +8,7 @@ ghost use Rattle.jr_owned.specs.Owners.{AreEnvsOpened};
 ghost use Rattle.jr_env.specs.Envs.{IsOutside};
 ghost use Rattle.jr_env.specs.Collections.{FitsRoom};
 ghost use Rattle.luthrady.specs.Places.{native_in, room_mark};
+ghost use Rattle.luthrady.specs.Threads.{IsRefusedElse, LeavesSome};
 
 use jr_model::Summary;
 use jr_owned::{OwnedEnv, close_owned, open_envs};
@@ -69,11 +70,12 @@ impl Opened {
     ///
     /// # Errors
     ///
-    /// E21 where each thread has one; E16 where memory was refused, and then the thread's env may be gone.
+    /// E21 where each thread has one; E16 where memory was refused, and then the thread's env is gone.
     pub(crate) fn attach(&mut self, alloc: Global) -> Result<Box<Attached>, Fault>
         ensures next { IfOk result (λ a. IfSome (native_in a.value) (λ n. self.old.envs.items ≡ n.value.env ∷ self.new.envs.items)) }
         ensures fits { IfOk result (λ a. IfSome (native_in a.value) (λ n. FitsRoom n.value.marker n.value.env)) }
         ensures there { IfOk result (λ a. IsSome (native_in a.value)) }
+        ensures refused { IfErr result (IsRefusedElse self.old self.new) }
         ensures mark { self.new.mark ≡ self.old.mark }
         ensures none { self.old.envs.items ≡ [] → (result ≡ Err NotFresh) × (self.new ≡ self.old) }
     {
@@ -100,6 +102,7 @@ impl Opened {
 /// E16 where memory was refused.
 fn native_of(alloc: Global, env: OwnedEnv) -> Result<Box<Native>, Fault>
     ensures env { IfOk result (λ n. n.value.env ≡ env) }
+    ensures memory { IfErr result (λ e. e ≡ Memory) }
     ensures fits { IfOk result (λ n. FitsRoom n.value.marker n.value.env) }
 {
     let marker = env.marker(alloc)?;
@@ -115,7 +118,8 @@ fn native_of(alloc: Global, env: OwnedEnv) -> Result<Box<Native>, Fault>
 ///
 /// E22 where threads are left inside.
 pub(crate) fn closed(native: Box<Native>) -> Result<Option<Summary>, Fault>
-    ensures { IsOutside native.value.env → IfOk result (λ o. IfSome o (λ s. Closes (stepping_pass native.value.env.held.steps.cells.cells.seat.me) s)) }
+    ensures closed { IsOutside native.value.env → IfOk result (λ o. IfSome o (λ s. Closes (stepping_pass native.value.env.held.steps.cells.cells.seat.me) s)) }
+    ensures left { IfErr result LeavesSome }
 {
     let Native { env, marker: _ } = Box::into_inner(native);
     match close_owned(env.into_pass()) {

@@ -66,7 +66,7 @@ fn opened(answer: Result<Box<Opened>, Fault>, out: &mut *mut u8) -> Reply
 ///
 /// E21 where no room stands behind the handle, each of its threads has one, or it was released; E16 where memory was refused.
 ///
-/// At E21 nothing has changed. At E16 the env of the next thread may be gone.
+/// At E21 nothing has changed. At E16 the env of the next thread is gone, and no other.
 #[unsafe(no_mangle)]
 pub extern "C" fn luthrady_attach(alloc: Global, room: &mut RoomHandle, out: &mut *mut u8) -> Reply
     ensures { AttachReplied room.old room.new result }
@@ -138,7 +138,7 @@ fn told_of(summary: Summary) -> Stood
 ///
 /// # Errors
 ///
-/// E21 where no env stands behind the handle; E22 where threads were inside as it closed the room.
+/// E21 where no env stands behind the handle; E22 with how many threads were inside, knocking, announcing or collecting as it closed the room, at least 1.
 #[unsafe(no_mangle)]
 pub extern "C" fn luthrady_detach(env: &mut EnvHandle, out: &mut Stood) -> Reply
     ensures { DetachReplied env.old env.new result out.old out.new }

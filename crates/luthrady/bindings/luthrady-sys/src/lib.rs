@@ -167,7 +167,7 @@ unsafe extern "C" {
     ///
     /// Refused: E21 where no room stands behind the handle, each of its threads has one, or it was released; E16 where memory was refused.
     ///
-    /// At E21 nothing has changed. At E16 the env of the next thread may be gone.
+    /// At E21 nothing has changed. At E16 the env of the next thread is gone, and no other.
     pub fn luthrady_attach(room: *mut RoomHandle, out: *mut *mut u8) -> Reply;
     /// Lets go of the envs of threads that were not attached, and of the place that the envs had. No further thread is attached then.
     ///
@@ -177,7 +177,7 @@ unsafe extern "C" {
     pub fn luthrady_release(room: *mut RoomHandle) -> Reply;
     /// Detaches a thread: no env stands behind the handle then. Its local references stay, and keep what they name. Where it closed the room it answers 1, and writes what stood there; else 0.
     ///
-    /// Refused: E21 where no env stands behind the handle; E22 where threads were inside as it closed the room.
+    /// Refused: E21 where no env stands behind the handle; E22 with how many threads were inside, knocking, announcing or collecting as it closed the room, at least 1.
     pub fn luthrady_detach(env: *mut EnvHandle, out: *mut Stood) -> Reply;
     /// A new global reference to what the word names, NULL to null. (JNI Specification, chapter 4, "NewGlobalRef")
     ///

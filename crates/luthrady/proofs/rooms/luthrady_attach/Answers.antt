@@ -1,9 +1,10 @@
 use Rattle.std.proofs.Common.{◌≡◌, ◌∙◌, Bool, Err, ap, refl, subst, sym}
+use Rattle.std.specs.Prelude.{IfErr}
 use Rattle.jr_word.specs.declared.fault.Fault.TheVariants.{NotFresh}
 use Rattle.luthrady.specs.Behind.{with_room_of}
 use Rattle.luthrady.specs.declared.handles.RoomHandle.{RoomHandle}
 use Rattle.luthrady.specs.declared.held.Opened.{Opened}
-use Rattle.luthrady.specs.Threads.{ByPlace, IsRefusedAtNone, TakesNext}
+use Rattle.luthrady.specs.Threads.{ByPlace, IsRefusedAtNone, IsRefusedElse, TakesNext}
 use Rattle.luthrady.proofs.rooms.luthrady_attach.Goals as goal
 
 -- src/rooms.rt
@@ -24,9 +25,10 @@ returns c =
     let is = sym c.is_room.ensures.value ∙ c.if-not-is_room.false in
     let same = c.is_room.ensures.unchanged in
     let now = c.attach.new.self in
-    let there = subst (λ (o : Opened). TakesNext o now a × IsRefusedAtNone o now a × (now.mark ≡ o.mark))
+    let there = subst (λ (o : Opened). TakesNext o now a × IsRefusedAtNone o now a × IfErr a (IsRefusedElse o now)
+    × (now.mark ≡ o.mark))
     (c.room_of.ensures.value ∙ ap (λ (x : RoomHandle). x.value) same)
-    (c.attach.ensures.next, c.attach.ensures.none, c.attach.ensures.mark) in (
+    (c.attach.ensures.next, c.attach.ensures.none, c.attach.ensures.refused, c.attach.ensures.mark) in (
       a,
       c.attached.ensures,
       ap (λ (x : RoomHandle). x.at) same,
