@@ -4,7 +4,6 @@
 #[allow(dead_code)]
 #[path = "../bench/floor.rs"]
 mod floor;
-mod luthrady;
 
 use luthrady::{Answer, Call, Env, Operation, Room, Sizes};
 use std::time::Instant;

@@ -3,7 +3,6 @@
 //!
 //! With libFuzzer it is `LLVMFuzzerTestOneInput`. Without it `main` draws the bytes: `fuzz RUNS [SEED]`.
 #![allow(dead_code)]
-mod luthrady;
 mod model;
 
 use luthrady::{Answer, Call, Element, Env, Fault, Operation, Room, Sizes};
@@ -154,7 +153,7 @@ impl Case<'_> {
         let wanted = if self.is_attached[env] {
             wanted
         } else {
-            Err(Fault(21, 0))
+            Err(Fault::new(21, 0))
         };
         assert_eq!(
             found, wanted,
@@ -162,7 +161,7 @@ impl Case<'_> {
             self.calls
         );
         self.calls += 1;
-        if let Err(Fault(number, _)) = found {
+        if let Err(Fault { number, .. }) = found {
             self.refusals[number as usize] += 1;
         }
     }
@@ -209,7 +208,7 @@ impl Case<'_> {
     fn by<T>(&mut self, env: usize, ask: impl FnOnce(&mut Model) -> Answer<T>) -> Answer<T> {
         match self.is_attached[env] {
             true => ask(&mut self.model),
-            false => Err(Fault(21, 0)),
+            false => Err(Fault::new(21, 0)),
         }
     }
 
@@ -419,7 +418,7 @@ impl Case<'_> {
                 self.envs.push(env);
                 self.is_attached.push(true);
             }
-            Err(Fault(21, 0)) if !has_place => (),
+            Err(Fault { number: 21, .. }) if !has_place => (),
             it => panic!("an attach answered {:?}", it.err()),
         }
     }
@@ -437,7 +436,7 @@ impl Case<'_> {
             && (self.is_released || self.envs.len() == self.threads);
         let wanted = match was_attached {
             true => Ok(is_last.then(|| self.model.stood())),
-            false => Err(Fault(21, 0)),
+            false => Err(Fault::new(21, 0)),
         };
         assert_eq!(found, wanted, "a detach of thread {env}");
         self.calls += 1;
@@ -493,7 +492,7 @@ fn run(bytes: &[u8]) -> Met {
         sizes.threads > 0 && sizes.slots > 0 && sizes.objects > 0 && sizes.locals > 15;
     let room = match Room::open(sizes) {
         Ok(room) if is_in_limits => room,
-        Err(Fault(17, 0)) if !is_in_limits => return Met::default(),
+        Err(Fault { number: 17, .. }) if !is_in_limits => return Met::default(),
         it => panic!("an open answered {:?}", it.err()),
     };
     let mut case = Case {

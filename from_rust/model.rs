@@ -1,6 +1,6 @@
 //! What the functions of the library answer one thread after the other, as docs/REFERENCE.md says it: with lists and maps in the place of
 //! a row of words. It is for the fuzz target beside it, and knows nothing of the library's text.
-use crate::luthrady::{Answer, Counts, Fault, Sizes, Stood};
+use luthrady::{Answer, Counts, Fault, Sizes, Stood};
 use std::collections::{BTreeMap, BTreeSet, HashMap, HashSet};
 
 const MOST_FRAMES: usize = 256;
@@ -58,7 +58,7 @@ pub struct Model {
 }
 
 fn refused<T>(number: u32) -> Answer<T> {
-    Err(Fault(number, 0))
+    Err(Fault::new(number, 0))
 }
 
 impl Parts {
@@ -303,7 +303,7 @@ impl Model {
     fn has_room(&self, thread: usize, length: u32) -> Answer<()> {
         self.has_place(thread)?;
         if u64::from(self.used) + u64::from(length) > u64::from(self.sizes.words) {
-            return Err(Fault(10, self.used));
+            return Err(Fault::new(10, self.used));
         }
         Ok(())
     }
@@ -336,7 +336,7 @@ impl Model {
         let found = self.array(thread, array, sort)?;
         let elements = &mut self.objects.get_mut(&found).unwrap().elements;
         let (first, last) = (start as usize, start as usize + count);
-        elements.get_mut(first..last).ok_or(Fault(7, 0))
+        elements.get_mut(first..last).ok_or(Fault::new(7, 0))
     }
 
     /// What an element of an array of objects is to, 0 for null.

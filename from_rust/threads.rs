@@ -1,5 +1,4 @@
 //! Four native threads hand each other global references in a ring, while each collects now and then. Each knows what it must find.
-mod luthrady;
 
 use luthrady::{Answer, Counts, Env, Fault, Room, Sizes, Stood};
 use std::sync::Arc;
@@ -71,8 +70,13 @@ impl Native {
         loop {
             match call(&mut self.env) {
                 Ok(answer) => return answer,
-                Err(Fault(12 | 13 | 14 | 23, _)) => self.tally.again += 1,
-                Err(Fault(10 | 11, _)) => self.make_room(),
+                Err(Fault {
+                    number: 12 | 13 | 14 | 23,
+                    ..
+                }) => self.tally.again += 1,
+                Err(Fault {
+                    number: 10 | 11, ..
+                }) => self.make_room(),
                 Err(fault) => panic!("refused: {fault:?}"),
             }
             thread::yield_now();
@@ -162,11 +166,11 @@ fn opened() -> Vec<Env> {
             ..sizes
         })
         .err(),
-        Some(Fault(17, 0))
+        Some(Fault::new(17, 0))
     );
     let mut room = Room::open(sizes).unwrap();
     let envs = (0..THREADS).map(|_| room.attach().unwrap()).collect();
-    assert_eq!(room.attach().err(), Some(Fault(21, 0)));
+    assert_eq!(room.attach().err(), Some(Fault::new(21, 0)));
     room.release();
     envs
 }

@@ -65,12 +65,12 @@ module _ {S : Type 0} {G : Ghosts S} where
       subst (λ l. AreMade first last calls l) (append-nil (take i after) ∙ whole) all
 
 -- what the env did in one stay that stood behind the pointer is the thread's
-pub by_thread_in_stay : (cs after : List Call) (answer : Result (Unit {0}) Fault) (o : Option (Box Native))
+pub by_thread_in_stay : (cs calls : List Call) (answer : Result (Unit {0}) Fault) (o after : Option (Box Native))
     (n m : Box Native) (k : Native)
-    → o ≡ Some n → k ≡ n.value → WasStayed k.env m.value.env cs after answer → m.value.marker ≡ k.marker
-    → ByThreadInStay o (Some m) cs after answer
-by_thread_in_stay cs after answer o n m k is same stayed marker =
-    let there = subst (λ (x : Native). WasStayed x.env m.value.env cs after answer × (m.value.marker ≡ x.marker)) same
+    → o ≡ Some n → after ≡ Some m → k ≡ n.value → WasStayed k.env m.value.env cs calls answer
+    → m.value.marker ≡ k.marker → ByThreadInStay o after cs calls answer
+by_thread_in_stay cs calls answer o after n m k is left same stayed marker =
+    let there = subst (λ (x : Native). WasStayed x.env m.value.env cs calls answer × (m.value.marker ≡ x.marker)) same
     (stayed, marker) in
-    subst (λ (x : Option (Box Native)). ByThreadInStay x (Some m) cs after answer) (sym is)
-    (m, refl, there.0, there.1)
+    subst (λ (x : Option (Box Native)). ByThreadInStay x after cs calls answer) (sym is)
+    (m, left, there.0, there.1)

@@ -1,9 +1,9 @@
 -- The walk of a function that lends what stands behind a handle's pointer, whatever the types of handle and value:
 -- its code and its contract are made of the two.
-use Rattle.std.proofs.Common.{◌≡◌, ℕ, List, [], ◌∷◌, refl, sym, ap, ◌∙◌}
+use Rattle.std.proofs.Common.{false, ◌≡◌, ℕ, List, [], ◌∷◌, refl, sym, ap, ◌∙◌}
 use Rattle.std.proofs.raw_atomic.Walks.{proved}
 use base.Fraction.{full_share}
-use base.Logic.{ent, sep, emp, id⊢, fst∗, never}
+use base.Logic.{ent, sep, id⊢}
 use base.Fml.{Fml, GName, ftrue, fsep, flft}
 use contract.Monad.{fact}
 use contract.Running.{Running, MachineTables, tables}
@@ -12,10 +12,10 @@ use denote.Follow.{follows, Part, lends_Part}
 use denote.Laws.{shows}
 use denote.Memory.{lone, cell_at, part_at, part_of, pointee, mem}
 use denote.RattleType.{RattleType}
-use denote.RawPtr.{Ptr, block_ptr, null_ptr, ptr_val, in_a_block}
+use denote.RawPtr.{Ptr, block_ptr, ptr_val}
 use denote.Ref.{MutRef, mut_vals, mut_Tells}
 use denote.Signature.{Signature, plain, mut_ref_to}
-use denote.Steps.{nothing, opens, peeks}
+use denote.Steps.{heard, nothing, opens, peeks}
 use denote.Struct.Laws.{RawPtr-laws}
 use denote.Struct.Owning.{Owning, row, shape, to}
 use denote.Struct.OwningLaws.{Tells-lowered}
@@ -33,9 +33,11 @@ use prog.Wp.{Closed}
 use Rattle.std.proofs.VecSteps.Shapes.{after}
 use Rattle.std.proofs.alloc.Global.TheLaws as heap
 use Rattle.std.specs.Box.Ownership.{box_owns}
+use Rattle.std.specs.Ptr.{if_non_null}
 use Rattle.std.specs.contracts.impls.GlobalAllocator.TheImpl.{ghosts}
 use Rattle.std.specs.declared.alloc.Global.{Global}
-use Rattle.luthrady.proofs.Pointers.{Handle}
+use Rattle.luthrady.proofs.Pointers.{Handle, at_a_block}
+use Rattle.luthrady.specs.Places.{is_null}
 use seplogic.Ra.Ura.{Ura}
 use types.ByLocal.{alloc_all, pass_all, free_all, look_at, get, through, sets, sets_last, env}
 use types.Kit.{‵, raw, ◌⊛◌, some, later, at_ret, ◌$◌, ◌∵◌, !, qed, done, move, keep, use1, split, split3, join}
@@ -91,7 +93,7 @@ module _ (T : Owning) (I : RattleType) (at : T.D → Ptr) (alloc : T.D → Globa
     abbrev clauses : Clauses 𝓤 ended
     clauses = λ κs args. record {
       ghost = Unit {0};
-      requires = λ _. emp 𝓤;
+      requires = λ _. fact 𝓤 (is_null (at args.0.now) ≡ false);
       ensures = λ _ res end. sep 𝓤 (sem 𝓛 (follows R I args.0.ghost_name res.ghost_name (over args.0.now)))
           (fact 𝓤 (res.now ≡ value args.0.now));
     }
@@ -106,7 +108,8 @@ module _ (T : Owning) (I : RattleType) (at : T.D → Ptr) (alloc : T.D → Globa
           → ent 𝓤 (sep 𝓤 (sem 𝓛 ((mem I).own_at w b' o')) (sem 𝓛 Rest)) (sem 𝓛 ((mem R).own_at (over h w) b o))
       unfolding part_of
       back e w =
-          let Heap = λ (z : Ptr × (Global × I.Denot)). ‵ (box_owns (ghosts.dealloc_token z.1.0) I z.0 z.1.1) in
+          let Heap = λ (z : Ptr × (Global × I.Denot)).
+          ‵ (if_non_null z.0 (box_owns (ghosts.dealloc_token z.1.0) I z.0 z.1.1)) in
           let Fields = λ (z : Ptr × (Global × I.Denot)).
           ‵ ((Struct (shape lender)).own_val (intos lender.parts (z.0, (z.1.0, tt))) us) in
           qed 𝓛 (‵ (part_at I full_share w b' o') ∷ ‵ Rest ∷ []) ∵
@@ -129,13 +132,14 @@ module _ (T : Owning) (I : RattleType) (at : T.D → Ptr) (alloc : T.D → Globa
           let b = a.0.ref_ptr.0 in let o = a.0.ref_ptr.1 in let h = a.0.now in let vs = mut_vals a.0 in
           let y : W.Ghost = ((κs, qs, bounds, a, (vs, tt)), tt) in
           qed 𝓛 (((‵ (flft κs.0 qs.0) ⊛ ‵ ftrue) ⊛ ‵ ((MutRef (named 0) κs.0 R).own_val a.0 vs) ⊛ ‵ ftrue)
-          ∷ ‵ ftrue ∷ []) ∵
+          ∷ raw (fact 𝓤 (is_null (at h) ≡ false)) ∷ []) ∵
+          move ! (1 ∷ []) $ heard ! (is_null (at h) ≡ false) (λ there.
           split ! $ split ! $ move ! (2 ∷ []) $ split ! $ keep ! (0 ∷ 2 ∷ []) $
           enter ! _ _ _ _ _ $ alloc_all ! (λ l. pass_all ! refl ((tt, tt), tt) $
           fsplit3 ! $ move ! (1 ∷ 2 ∷ 3 ∷ []) $ opens ! tt R b o (λ us.
           move ! (1 ∷ []) $ peeks ! R _ (shows 𝓛 R) h us (λ is. fsplit ! $ move ! (1 ∷ []) $
-          in_a_block ! (at h) (λ p. box_owns (ghosts.dealloc_token (alloc h)) I p (value h))
-          (fst∗ 𝓤 (never 𝓤) (sem 𝓛 ((ghosts.dealloc_token (alloc h)) (bare (lone I.mir)) null_ptr))) (λ b' o' e.
+          at_a_block ! (at h) (λ p. if_non_null p (box_owns (ghosts.dealloc_token (alloc h)) I p (value h)))
+          there (λ b' o' e.
           fsplit ! $
           -- [the value; the right to free its block; what the fields own; the handle's cell;
           -- the open borrow, in three entries]
@@ -164,4 +168,4 @@ module _ (T : Owning) (I : RattleType) (at : T.D → Ptr) (alloc : T.D → Globa
           suffices ! _ (ends_at 𝓛 ended stayed c y (vptr b' o')
           (record { ref_ptr = (b', o'); ghost_name = γ'; now = value h }) (tt, tt) (tt, tt)) $
           nothing ! $ nothing ! $ fjoin ! $ join ! $ nothing ! $ move ! (2 ∷ 0 ∷ []) $ join ! $ join ! $ frame ! $
-          says ! refl $ done !))))))
+          says ! refl $ done !)))))))

@@ -1,4 +1,5 @@
 pub mod Pointers
 pub mod Lending
+pub mod Asking
 pub mod ThroughPointers
 pub mod Batching

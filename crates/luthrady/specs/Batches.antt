@@ -21,6 +21,7 @@ use Rattle.luthrady.specs.declared.batches.Operation.TheVariants as operation
 use Rattle.luthrady.specs.declared.handles.EnvHandle.{EnvHandle}
 use Rattle.luthrady.specs.declared.held.Native.{Native}
 use Rattle.luthrady.specs.declared.reply.Reply.{Reply}
+use Rattle.luthrady.specs.Places.{native_behind}
 use Rattle.luthrady.specs.Replies.{reply_of, nothing_told, the_number, word_or_null, zero_or_one}
 
 -- the number of a call
@@ -93,8 +94,8 @@ module _ {S : Type 0} {G : Ghosts S} where
       × (new.held.frames ≡ frames_in last) × IsOutside new
   WasStayed old new cs after (Err e) = WasBarred old new e × (after ≡ cs)
 
--- the env of an attached thread did, and the thread stays attached, with the marker as it was;
--- a thread that was detached is refused with E21, and no call is made
+-- the env that stood there did, and still stands, with the marker as it was;
+-- where none stood, it is E21, and no call is made
 abbrev pub ByThreadInStay : Option (Box Native) → Option (Box Native) → List Call → List Call
     → Result (Unit {0}) Fault → Type 0
 ByThreadInStay None new cs after answer = (answer ≡ Err NotFresh) × (new ≡ None) × (after ≡ cs)
@@ -104,7 +105,7 @@ ByThreadInStay (Some n) new cs after answer = (m : Box Native) × (new ≡ Some 
 -- the batch was made by the env behind the handle, with this answer; the handle points where it did
 abbrev pub WasBatched : EnvHandle → EnvHandle → List Call → List Call → Result (Unit {0}) Fault → Type 0
 WasBatched old new cs after answer =
-    (new.at ≡ old.at) × ByThreadInStay old.value.native new.value.native cs after answer
+    (new.at ≡ old.at) × ByThreadInStay (native_behind old) (native_behind new) cs after answer
 
 -- THE BATCH WAS MADE, with an answer that the reply tells
 abbrev pub BatchReplied : EnvHandle → EnvHandle → List Call → List Call → Reply → Type 0

@@ -1,5 +1,5 @@
 -- What a call through a pointer did.
-use Rattle.std.specs.Prelude.{◌≡◌, ℕ, Option, Some, None, Result, Err, List}
+use Rattle.std.specs.Prelude.{◌≡◌, ℕ, Option, Some, None, Result, Err, IfErr, List}
 use Rattle.std.specs.Global.{Box}
 use Rattle.jr_word.specs.declared.fault.Fault.{Fault}
 use Rattle.jr_word.specs.declared.fault.Fault.TheVariants.{NotFresh}
@@ -10,6 +10,7 @@ use Rattle.luthrady.specs.declared.frames.FrameCall.TheVariants.{Ensure, Push}
 use Rattle.luthrady.specs.declared.handles.EnvHandle.{EnvHandle}
 use Rattle.luthrady.specs.declared.held.Native.{Native}
 use Rattle.luthrady.specs.declared.reply.Reply.{Reply}
+use Rattle.luthrady.specs.Places.{native_behind}
 use Rattle.luthrady.specs.Replies.{reply_of, nothing_told}
 
 -- a call for room for so many local references
@@ -17,8 +18,7 @@ abbrev pub for_so_many : FrameCall → ℕ → Deed (Unit {0})
 for_so_many Ensure n = ensure_local_capacity n
 for_so_many Push n = push_local_frame n
 
--- the env of an attached thread did the deed, and the thread stays attached, with the marker as it was;
--- a thread that was detached is refused with E21
+-- the env that stood there did the deed, and still stands, with the marker as it was; where none stood, it is E21
 abbrev pub ByThread : {A : Type 0} → Option (Box Native) → Option (Box Native) → Deed A → Result A Fault → Type 0
 ByThread None after deed answer = (answer ≡ Err NotFresh) × (after ≡ None)
 ByThread (Some n) after deed answer =
@@ -26,14 +26,14 @@ ByThread (Some n) after deed answer =
 
 -- THE CALL WAS MADE by the env behind the handle, with this answer; the handle points where it did
 abbrev pub WasMade : {A : Type 0} → EnvHandle → EnvHandle → Deed A → Result A Fault → Type 0
-WasMade old new deed answer = (new.at ≡ old.at) × ByThread old.value.native new.value.native deed answer
+WasMade old new deed answer = (new.at ≡ old.at) × ByThread (native_behind old) (native_behind new) deed answer
 
 -- THE CALL WAS MADE, with an answer that the reply tells, in numbers
 abbrev pub Replied : {A : Type 0} → (A → ℕ) → EnvHandle → EnvHandle → Deed A → Reply → Type 0
 Replied {A} word old new deed reply =
     (answer : Result A Fault) × (reply ≡ reply_of word answer) × WasMade old new deed answer
 
--- THE WORDS WERE READ, with an answer that the reply tells; those read stand in the slice
-abbrev pub ReadReplied : EnvHandle → EnvHandle → Deed (List ℕ) → Reply → List ℕ → Type 0
-ReadReplied old new deed reply ws = (answer : Result (Unit {0}) Fault) × (reply ≡ reply_of nothing_told answer)
-    × WasMade old new deed (read_answer answer ws)
+-- THE WORDS WERE READ, with an answer that the reply tells; those read stand in the slice, and a refusal leaves it
+abbrev pub ReadReplied : EnvHandle → EnvHandle → Deed (List ℕ) → Reply → List ℕ → List ℕ → Type 0
+ReadReplied old new deed reply before ws = (answer : Result (Unit {0}) Fault) × (reply ≡ reply_of nothing_told answer)
+    × WasMade old new deed (read_answer answer ws) × IfErr answer (λ e. ws ≡ before)

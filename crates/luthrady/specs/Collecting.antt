@@ -12,14 +12,15 @@ use Rattle.luthrady.specs.declared.collecting.Counts.{Counts}
 use Rattle.luthrady.specs.declared.handles.EnvHandle.{EnvHandle}
 use Rattle.luthrady.specs.declared.held.Native.{Native}
 use Rattle.luthrady.specs.declared.reply.Reply.{Reply}
+use Rattle.luthrady.specs.Places.{native_behind}
 use Rattle.luthrady.specs.Replies.{reply_of}
 
 -- the number of tries: at least one
 abbrev pub at_least_one : ℕ → ℕ
 at_least_one n = if n == 0 then 1 else n
 
--- the env of an attached thread made the collection, where its marker fits the room, as it does from the attaching on;
--- the marker stays one of a room of so many objects; a thread that was detached is refused with E21
+-- the env that stood there made the collection, where its marker fits the room, as it does from the attaching on;
+-- the marker stays one of a room of so many objects; where no env stood, it is E21
 abbrev pub ByCollector : Option (Box Native) → Option (Box Native) → Deed Collected → Result Collected Fault → Type 0
 ByCollector None after deed answer = (answer ≡ Err NotFresh) × (after ≡ None)
 ByCollector (Some n) after deed answer = (m : Box Native) × (after ≡ Some m)
@@ -28,7 +29,7 @@ ByCollector (Some n) after deed answer = (m : Box Native) × (after ≡ Some m)
 
 -- THE COLLECTION WAS MADE by the env behind the handle, with this answer; the handle points where it did
 abbrev pub WasCollected : EnvHandle → EnvHandle → Deed Collected → Result Collected Fault → Type 0
-WasCollected old new deed answer = (new.at ≡ old.at) × ByCollector old.value.native new.value.native deed answer
+WasCollected old new deed answer = (new.at ≡ old.at) × ByCollector (native_behind old) (native_behind new) deed answer
 
 -- what is told of an answer: what the collection did; of a refusal, nothing
 abbrev pub counts_of : Result Collected Fault → Counts → Counts

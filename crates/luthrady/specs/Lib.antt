@@ -1,4 +1,5 @@
 pub mod Replies
+pub mod Places
 pub mod Calls
 pub mod Collecting
 pub mod Threads

@@ -9,6 +9,7 @@ use Rattle.jr_owned.specs.Owners.{AreEnvsOpened}
 use Rattle.luthrady.specs.declared.held.Opened.{Opened}
 use Rattle.luthrady.specs.declared.reply.Reply.{Reply}
 use Rattle.luthrady.specs.declared.rooms.Sizes.{Sizes}
+use Rattle.luthrady.specs.Places.{room_mark}
 use Rattle.luthrady.specs.Replies.{reply_of}
 use Rattle.luthrady.specs.Threads.{elsewhere}
 
@@ -16,9 +17,10 @@ use Rattle.luthrady.specs.Threads.{elsewhere}
 abbrev pub config_of : Sizes → Config
 config_of s = record { threads = s.threads; slots = s.slots; objects = s.objects; words = s.words; locals = s.locals }
 
--- A ROOM WAS OPENED of these sizes, with an env for each thread, or refused, as the reply tells:
+-- A ROOM WAS OPENED of these sizes, in a marked place, with an env for each thread, or refused, as the reply tells:
 -- with E17 exactly where the sizes are beyond their limits, and else with E16
 abbrev pub OpenReplied : Sizes → Reply → Type 0
 OpenReplied sizes reply = (answer : Result (Box Opened) Fault) × (reply ≡ reply_of elsewhere answer)
     × ((answer ≡ Err Size) ↔ (in_limits (config_of sizes) ≡ false)) × IfErr answer (λ e. (e ≡ Size) ⊎ (e ≡ Memory))
     × IfOk answer (λ b. AreEnvsOpened (config_of sizes) b.value.envs.items)
+    × IfOk answer (λ b. b.value.mark ≡ room_mark)

@@ -6,7 +6,7 @@ use Rattle.jr_word.specs.declared.fault.Fault.TheVariants.{SpaceFull, Raced, Bus
 use Rattle.jr_word.specs.Fault.{fault_number}
 use Rattle.luthrady.specs.declared.reply.Reply.{Reply}
 
--- the number that a refusal has beside its own, 0 where it has none
+-- the number that a refusal has beside its own, the first where it has two, 0 where it has none
 abbrev pub told_beside : Fault → ℕ
 told_beside (SpaceFull found) = found
 told_beside (Raced looked found) = looked
@@ -15,11 +15,18 @@ told_beside (LeftInside threads) = threads
 told_beside (Moved looked found) = looked
 told_beside _ = 0
 
+-- the second number that a refusal has beside its own, 0 where it has none
+abbrev pub found_beside : Fault → ℕ
+found_beside (Raced looked found) = found
+found_beside (Moved looked found) = found
+found_beside _ = 0
+
 -- THE REPLY for an answer, whose number this is:
--- a refusal has its number and what it tells, and an answer has no refusal's number
+-- a refusal has its number and the two that it tells, and an answer has no refusal's number
 abbrev pub reply_of : {A : Type 0} → (A → ℕ) → Result A Fault → Reply
-reply_of word (Ok a) = record { value = word a; fault = 0; told = 0 }
-reply_of word (Err e) = record { value = 0; fault = fault_number e; told = told_beside e }
+reply_of word (Ok a) = record { value = word a; fault = 0; told = 0; found = 0 }
+reply_of word (Err e) =
+    record { value = 0; fault = fault_number e; told = told_beside e; found = found_beside e }
 
 -- the number of a number
 abbrev pub the_number : ℕ → ℕ

@@ -3,7 +3,7 @@ ghost use Rattle.std.specs.Prelude.{◌≡◌, IfSome, None};
 ghost use Rattle.jr_env.specs.LentStays.{env_in};
 ghost use Rattle.luthrady.specs.Batches.{operation_number, AreMade, BatchReplied, WasMadeInStay, WasBatched, WasStayed};
 
-use crate::behind::env_of;
+use crate::behind::{env_of, is_env};
 use crate::handles::EnvHandle;
 use crate::held::Native;
 use crate::reply::{Reply, of_bool, of_byte, of_nothing, of_number, of_optional};
@@ -84,7 +84,9 @@ impl Operation {
 ///
 /// # Errors
 ///
-/// E21 where the thread was detached; E13 where a thread is collecting at the entry, or has announced it. No call is made then.
+/// E21 where no env stands behind the handle; E13 where a thread is collecting at the entry, or has announced that it will.
+///
+/// No call is made then.
 #[unsafe(no_mangle)]
 pub extern "C" fn luthrady_batch(env: &mut EnvHandle, calls: &mut [Call]) -> Reply
     ensures { BatchReplied env.old env.new calls.old calls.new result }
@@ -96,10 +98,13 @@ pub extern "C" fn luthrady_batch(env: &mut EnvHandle, calls: &mut [Call]) -> Rep
 ///
 /// # Errors
 ///
-/// E21 where the thread was detached; E13 where no stay was entered.
+/// E21 where no env stands behind the handle; E13 where no stay was entered.
 fn batch(handle: &mut EnvHandle, calls: &mut [Call]) -> Result<(), Fault>
     ensures { WasBatched handle.old handle.new calls.old calls.new result }
 {
+    if !is_env(handle) {
+        return Err(Fault::NotFresh);
+    }
     let Some(native) = &mut env_of(handle).native else {
         return Err(Fault::NotFresh);
     };

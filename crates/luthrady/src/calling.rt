@@ -4,7 +4,7 @@ ghost use Rattle.jr_env.specs.Deeds.{whole};
 ghost use Rattle.jr_env.specs.Envs.{Does};
 ghost use Rattle.luthrady.specs.Calls.{WasMade};
 
-use crate::behind::env_of;
+use crate::behind::{env_of, is_env};
 use crate::handles::EnvHandle;
 use crate::held::Native;
 use jr_env::{NativeCall, NativeCaller};
@@ -15,13 +15,16 @@ use jr_word::Fault;
 ///
 /// # Errors
 ///
-/// E21 where the thread was detached; else those of the call.
+/// E21 where no env stands behind the handle; else those of the call.
 pub(crate) fn make<C: NativeCall<OwnedSteps> + Copy>(
     handle: &mut EnvHandle,
     call: C,
 ) -> Result<C::Answer, Fault>
     ensures { WasMade handle.old handle.new (whole (C.request call)) result }
 {
+    if !is_env(handle) {
+        return Err(Fault::NotFresh);
+    }
     let Some(native) = &mut env_of(handle).native else {
         return Err(Fault::NotFresh);
     };

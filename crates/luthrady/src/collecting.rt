@@ -7,7 +7,7 @@ ghost use Rattle.jr_env.specs.Envs.{Does};
 ghost use Rattle.luthrady.specs.Collecting.{WasCollected, CountsReplied, at_least_one, counts_of};
 ghost use Rattle.luthrady.specs.Replies.{reply_of};
 
-use crate::behind::env_of;
+use crate::behind::{env_of, is_env};
 use crate::handles::EnvHandle;
 use crate::held::Native;
 use crate::reply::{Reply, of_nothing};
@@ -30,7 +30,7 @@ pub struct Counts {
 ///
 /// # Errors
 ///
-/// E21 where the thread was detached; else those of `Env::collect`.
+/// E21 where no env stands behind the handle; else those of `Env::collect`.
 #[unsafe(no_mangle)]
 pub extern "C" fn luthrady_collect(env: &mut EnvHandle, out: &mut Counts) -> Reply
     ensures { CountsReplied env.old env.new collection result out.old out.new }
@@ -42,7 +42,7 @@ pub extern "C" fn luthrady_collect(env: &mut EnvHandle, out: &mut Counts) -> Rep
 ///
 /// # Errors
 ///
-/// E21 where the thread was detached; else those of `Env::collect_announced`.
+/// E21 where no env stands behind the handle; else those of `Env::collect_announced`.
 #[unsafe(no_mangle)]
 pub extern "C" fn luthrady_collect_announced(
     env: &mut EnvHandle,
@@ -76,10 +76,13 @@ fn told(answer: Result<Collected, Fault>, out: &mut Counts) -> Reply
 ///
 /// # Errors
 ///
-/// E21 where the thread was detached; else those of `Env::collect`.
+/// E21 where no env stands behind the handle; else those of `Env::collect`.
 fn collect(handle: &mut EnvHandle) -> Result<Collected, Fault>
     ensures { WasCollected handle.old handle.new collection result }
 {
+    if !is_env(handle) {
+        return Err(Fault::NotFresh);
+    }
     let Some(native) = &mut env_of(handle).native else {
         return Err(Fault::NotFresh);
     };
@@ -102,10 +105,13 @@ fn collect_by(native: &mut Native) -> Result<Collected, Fault>
 ///
 /// # Errors
 ///
-/// E21 where the thread was detached; else those of `Env::collect_announced`.
+/// E21 where no env stands behind the handle; else those of `Env::collect_announced`.
 fn collect_announced(handle: &mut EnvHandle, tries: u32) -> Result<Collected, Fault>
     ensures { WasCollected handle.old handle.new (announced_collection (at_least_one tries)) result }
 {
+    if !is_env(handle) {
+        return Err(Fault::NotFresh);
+    }
     let Some(native) = &mut env_of(handle).native else {
         return Err(Fault::NotFresh);
     };

@@ -5,7 +5,7 @@ ghost use Rattle.jr_env.specs.Envs.{Does};
 ghost use Rattle.luthrady.specs.Calls.{Replied, WasMade, for_so_many};
 ghost use Rattle.luthrady.specs.Replies.{nothing_told, word_or_null};
 
-use crate::behind::env_of;
+use crate::behind::{env_of, is_env};
 use crate::calling::make;
 use crate::handles::EnvHandle;
 use crate::held::Native;
@@ -17,7 +17,7 @@ use jr_word::{Fault, Handle};
 ///
 /// # Errors
 ///
-/// E21 where the thread was detached; else those of the same call of `Env`.
+/// E21 where no env stands behind the handle; else those of `Env::ensure_local_capacity`.
 #[unsafe(no_mangle)]
 pub extern "C" fn luthrady_ensure_local_capacity(env: &mut EnvHandle, capacity: u32) -> Reply
     ensures { Replied nothing_told env.old env.new (ensure_local_capacity capacity) result }
@@ -29,7 +29,7 @@ pub extern "C" fn luthrady_ensure_local_capacity(env: &mut EnvHandle, capacity: 
 ///
 /// # Errors
 ///
-/// E21 where the thread was detached; else those of the same call of `Env`.
+/// E21 where no env stands behind the handle; else those of `Env::push_local_frame`.
 #[unsafe(no_mangle)]
 pub extern "C" fn luthrady_push_local_frame(env: &mut EnvHandle, capacity: u32) -> Reply
     ensures { Replied nothing_told env.old env.new (push_local_frame capacity) result }
@@ -41,7 +41,7 @@ pub extern "C" fn luthrady_push_local_frame(env: &mut EnvHandle, capacity: u32) 
 ///
 /// # Errors
 ///
-/// E21 where the thread was detached; else those of the same call of `Env`.
+/// E21 where no env stands behind the handle; else those of `NativeInterface::pop_local_frame`.
 #[unsafe(no_mangle)]
 pub extern "C" fn luthrady_pop_local_frame(env: &mut EnvHandle, kept: u64) -> Reply
     ensures { Replied word_or_null env.old env.new (pop_local_frame kept) result }
@@ -53,7 +53,7 @@ pub extern "C" fn luthrady_pop_local_frame(env: &mut EnvHandle, kept: u64) -> Re
 ///
 /// # Errors
 ///
-/// E21 where the thread was detached; else those of the same call of `Env`.
+/// E21 where no env stands behind the handle; else those of `NativeInterface::free_locals`.
 #[unsafe(no_mangle)]
 pub extern "C" fn luthrady_free_locals(env: &mut EnvHandle) -> Reply
     ensures { Replied nothing_told env.old env.new (free_locals) result }
@@ -74,10 +74,13 @@ enum FrameCall {
 ///
 /// # Errors
 ///
-/// E21 where the thread was detached; else those of the same call of `Env`.
+/// E21 where no env stands behind the handle; else those of the same call of `Env`.
 fn with_room(handle: &mut EnvHandle, call: FrameCall, capacity: u32) -> Result<(), Fault>
     ensures { WasMade handle.old handle.new (for_so_many call capacity) result }
 {
+    if !is_env(handle) {
+        return Err(Fault::NotFresh);
+    }
     let Some(native) = &mut env_of(handle).native else {
         return Err(Fault::NotFresh);
     };

@@ -7,6 +7,8 @@ ghost use Rattle.jr_rule.specs.Rule.{stepping_pass};
 ghost use Rattle.jr_owned.specs.Owners.{AreEnvsOpened};
 ghost use Rattle.jr_env.specs.Envs.{IsOutside};
 ghost use Rattle.jr_env.specs.Collections.{FitsRoom};
+ghost use Rattle.luthrady.specs.Places.{native_in, room_mark};
+ghost use Rattle.luthrady.specs.Threads.{IsRefusedElse, LeavesSome};
 
 use jr_model::Summary;
 use jr_owned::{OwnedEnv, close_owned, open_envs};
@@ -14,9 +16,16 @@ use jr_weak::Marker;
 use jr_word::{Config, Fault};
 use std::alloc::Global;
 
-/// A room, by the envs of those of its threads that are not attached.
+/// What the place of a room begins with.
+pub(crate) const ROOM_MARK: u64 = 0x6c75_7468_726f_6f6d;
+
+/// What the place of a thread's env begins with.
+pub(crate) const ENV_MARK: u64 = 0x6c75_7468_7265_6e76;
+
+/// The place of a room: its mark, and the envs of those of its threads that are not attached.
 #[derive(Drop)]
 pub struct Opened {
+    pub(crate) mark: u64,
     pub(crate) envs: Vec<OwnedEnv>,
 }
 
@@ -27,9 +36,10 @@ pub struct Native {
     pub(crate) marker: Marker,
 }
 
-/// The place of a thread's env: none once the thread was detached.
+/// The place of a thread's env: its mark, and the env, none once the thread was detached.
 #[derive(Drop)]
 pub struct Attached {
+    pub(crate) mark: u64,
     pub(crate) native: Option<Box<Native>>,
 }
 
@@ -42,9 +52,14 @@ pub(crate) fn open_room(alloc: Global, config: Config) -> Result<Box<Opened>, Fa
     ensures size { (result ≡ Err Size) ↔ (in_limits config ≡ false) }
     ensures memory { IfErr result (λ e. (e ≡ Size) ⊎ (e ≡ Memory)) }
     ensures opened { IfOk result (λ b. AreEnvsOpened config b.value.envs.items) }
+    ensures marked { IfOk result (λ b. b.value.mark ≡ room_mark) }
 {
     let envs = open_envs(alloc, config)?;
-    let Ok(opened) = Box::new(alloc, Opened { envs }) else {
+    let place = Opened {
+        mark: ROOM_MARK,
+        envs,
+    };
+    let Ok(opened) = Box::new(alloc, place) else {
         return Err(Fault::Memory);
     };
     Ok(opened)
@@ -55,11 +70,13 @@ impl Opened {
     ///
     /// # Errors
     ///
-    /// E21 where each thread has one; E16 where memory was refused, and then the thread's env may be gone.
+    /// E21 where each thread has one; E16 where memory was refused, and then the thread's env is gone.
     pub(crate) fn attach(&mut self, alloc: Global) -> Result<Box<Attached>, Fault>
-        ensures next { IfOk result (λ a. IfSome a.value.native (λ n. self.old.envs.items ≡ n.value.env ∷ self.new.envs.items)) }
-        ensures fits { IfOk result (λ a. IfSome a.value.native (λ n. FitsRoom n.value.marker n.value.env)) }
-        ensures there { IfOk result (λ a. IsSome a.value.native) }
+        ensures next { IfOk result (λ a. IfSome (native_in a.value) (λ n. self.old.envs.items ≡ n.value.env ∷ self.new.envs.items)) }
+        ensures fits { IfOk result (λ a. IfSome (native_in a.value) (λ n. FitsRoom n.value.marker n.value.env)) }
+        ensures there { IfOk result (λ a. IsSome (native_in a.value)) }
+        ensures refused { IfErr result (IsRefusedElse self.old self.new) }
+        ensures mark { self.new.mark ≡ self.old.mark }
         ensures none { self.old.envs.items ≡ [] → (result ≡ Err NotFresh) × (self.new ≡ self.old) }
     {
         if self.envs.is_empty() {
@@ -68,6 +85,7 @@ impl Opened {
         let env = self.envs.remove(0);
         let native = native_of(alloc, env)?;
         let attached = Attached {
+            mark: ENV_MARK,
             native: Some(native),
         };
         let Ok(made) = Box::new(alloc, attached) else {
@@ -84,6 +102,7 @@ impl Opened {
 /// E16 where memory was refused.
 fn native_of(alloc: Global, env: OwnedEnv) -> Result<Box<Native>, Fault>
     ensures env { IfOk result (λ n. n.value.env ≡ env) }
+    ensures memory { IfErr result (λ e. e ≡ Memory) }
     ensures fits { IfOk result (λ n. FitsRoom n.value.marker n.value.env) }
 {
     let marker = env.marker(alloc)?;
@@ -99,7 +118,8 @@ fn native_of(alloc: Global, env: OwnedEnv) -> Result<Box<Native>, Fault>
 ///
 /// E22 where threads are left inside.
 pub(crate) fn closed(native: Box<Native>) -> Result<Option<Summary>, Fault>
-    ensures { IsOutside native.value.env → IfOk result (λ o. IfSome o (λ s. Closes (stepping_pass native.value.env.held.steps.cells.cells.seat.me) s)) }
+    ensures closed { IsOutside native.value.env → IfOk result (λ o. IfSome o (λ s. Closes (stepping_pass native.value.env.held.steps.cells.cells.seat.me) s)) }
+    ensures left { IfErr result LeavesSome }
 {
     let Native { env, marker: _ } = Box::into_inner(native);
     match close_owned(env.into_pass()) {

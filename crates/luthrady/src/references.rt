@@ -17,7 +17,7 @@ use jr_word::Handle;
 ///
 /// # Errors
 ///
-/// E21 where the thread was detached; else those of the same call of `Env`.
+/// E21 where no env stands behind the handle; else those of `NativeInterface::new_global_ref`.
 #[unsafe(no_mangle)]
 pub extern "C" fn luthrady_new_global_ref(env: &mut EnvHandle, object: u64) -> Reply
     ensures { Replied word_or_null env.old env.new (new_reference Global object) result }
@@ -29,7 +29,7 @@ pub extern "C" fn luthrady_new_global_ref(env: &mut EnvHandle, object: u64) -> R
 ///
 /// # Errors
 ///
-/// E21 where the thread was detached; else those of the same call of `Env`.
+/// E21 where no env stands behind the handle; else those of `NativeInterface::new_weak_global_ref`.
 #[unsafe(no_mangle)]
 pub extern "C" fn luthrady_new_weak_global_ref(env: &mut EnvHandle, object: u64) -> Reply
     ensures { Replied word_or_null env.old env.new (new_reference Weak object) result }
@@ -41,7 +41,7 @@ pub extern "C" fn luthrady_new_weak_global_ref(env: &mut EnvHandle, object: u64)
 ///
 /// # Errors
 ///
-/// E21 where the thread was detached; else those of the same call of `Env`.
+/// E21 where no env stands behind the handle; else those of `NativeInterface::new_local_ref`.
 #[unsafe(no_mangle)]
 pub extern "C" fn luthrady_new_local_ref(env: &mut EnvHandle, object: u64) -> Reply
     ensures { Replied word_or_null env.old env.new (new_local_ref object) result }
@@ -53,7 +53,7 @@ pub extern "C" fn luthrady_new_local_ref(env: &mut EnvHandle, object: u64) -> Re
 ///
 /// # Errors
 ///
-/// E21 where the thread was detached; else those of the same call of `Env`.
+/// E21 where no env stands behind the handle; else those of `NativeInterface::delete_global_ref`.
 #[unsafe(no_mangle)]
 pub extern "C" fn luthrady_delete_global_ref(env: &mut EnvHandle, reference: u64) -> Reply
     ensures { Replied nothing_told env.old env.new (delete_reference Global reference) result }
@@ -65,7 +65,7 @@ pub extern "C" fn luthrady_delete_global_ref(env: &mut EnvHandle, reference: u64
 ///
 /// # Errors
 ///
-/// E21 where the thread was detached; else those of the same call of `Env`.
+/// E21 where no env stands behind the handle; else those of `NativeInterface::delete_weak_global_ref`.
 #[unsafe(no_mangle)]
 pub extern "C" fn luthrady_delete_weak_global_ref(env: &mut EnvHandle, reference: u64) -> Reply
     ensures { Replied nothing_told env.old env.new (delete_reference Weak reference) result }
@@ -77,7 +77,7 @@ pub extern "C" fn luthrady_delete_weak_global_ref(env: &mut EnvHandle, reference
 ///
 /// # Errors
 ///
-/// E21 where the thread was detached; else those of the same call of `Env`.
+/// E21 where no env stands behind the handle; else those of `NativeInterface::delete_local_ref`.
 #[unsafe(no_mangle)]
 pub extern "C" fn luthrady_delete_local_ref(env: &mut EnvHandle, reference: u64) -> Reply
     ensures { Replied nothing_told env.old env.new (delete_local_ref reference) result }
@@ -89,7 +89,7 @@ pub extern "C" fn luthrady_delete_local_ref(env: &mut EnvHandle, reference: u64)
 ///
 /// # Errors
 ///
-/// E21 where the thread was detached; else those of the same call of `Env`.
+/// E21 where no env stands behind the handle; else those of `NativeInterface::is_same_object`.
 #[unsafe(no_mangle)]
 pub extern "C" fn luthrady_is_same_object(env: &mut EnvHandle, left: u64, right: u64) -> Reply
     ensures { Replied zero_or_one env.old env.new (is_same_object left right) result }
@@ -101,7 +101,7 @@ pub extern "C" fn luthrady_is_same_object(env: &mut EnvHandle, left: u64, right:
 ///
 /// # Errors
 ///
-/// E21 where the thread was detached; else those of the same call of `Env`.
+/// E21 where no env stands behind the handle; else those of `NativeInterface::get_object_ref_type`.
 #[unsafe(no_mangle)]
 pub extern "C" fn luthrady_get_object_ref_type(env: &mut EnvHandle, object: u64) -> Reply
     ensures { Replied the_number env.old env.new (get_object_ref_type object) result }

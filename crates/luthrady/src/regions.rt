@@ -8,7 +8,7 @@ ghost use Rattle.jr_env.specs.Envs.{Does};
 ghost use Rattle.luthrady.specs.Calls.{Replied, ReadReplied, WasMade};
 ghost use Rattle.luthrady.specs.Replies.{nothing_told};
 
-use crate::behind::env_of;
+use crate::behind::{env_of, is_env};
 use crate::calling::make;
 use crate::handles::EnvHandle;
 use crate::held::Native;
@@ -21,7 +21,7 @@ use jr_word::{Elem, Fault, Handle};
 ///
 /// # Errors
 ///
-/// E21 where the thread was detached; else those of the same call of `Env`.
+/// E21 where no env stands behind the handle; else those of `NativeInterface::set_array_region`.
 #[unsafe(no_mangle)]
 pub extern "C" fn luthrady_set_byte_array_region(
     env: &mut EnvHandle,
@@ -39,7 +39,7 @@ pub extern "C" fn luthrady_set_byte_array_region(
 ///
 /// # Errors
 ///
-/// E21 where the thread was detached; else those of the same call of `Env`.
+/// E21 where no env stands behind the handle; else those of `NativeInterface::set_array_region`.
 #[unsafe(no_mangle)]
 pub extern "C" fn luthrady_set_int_array_region(
     env: &mut EnvHandle,
@@ -57,7 +57,7 @@ pub extern "C" fn luthrady_set_int_array_region(
 ///
 /// # Errors
 ///
-/// E21 where the thread was detached; else those of the same call of `Env`.
+/// E21 where no env stands behind the handle; else those of `NativeInterface::set_array_region`.
 #[unsafe(no_mangle)]
 pub extern "C" fn luthrady_set_long_array_region(
     env: &mut EnvHandle,
@@ -71,11 +71,11 @@ pub extern "C" fn luthrady_set_long_array_region(
     of_nothing(make(env, call))
 }
 
-/// Copies a part of an array of bytes out, from an index on: as many elements as the slice has room for. (JNI Specification, chapter 4, "Get<PrimitiveType>ArrayRegion Routines")
+/// Copies a part of an array of bytes out, from an index on: as many elements as there is room for. (JNI Specification, chapter 4, "Get<PrimitiveType>ArrayRegion Routines")
 ///
 /// # Errors
 ///
-/// E21 where the thread was detached; else those of the same call of `Env`.
+/// E21 where no env stands behind the handle; else those of `NativeInterface::get_array_region`.
 #[unsafe(no_mangle)]
 pub extern "C" fn luthrady_get_byte_array_region(
     env: &mut EnvHandle,
@@ -83,16 +83,16 @@ pub extern "C" fn luthrady_get_byte_array_region(
     start: u32,
     elements: &mut [i8],
 ) -> Reply
-    ensures { ReadReplied env.old env.new (get_array_region Byte array start (length elements.old)) result (map (signed_word w8) elements.new) }
+    ensures { ReadReplied env.old env.new (get_array_region Byte array start (length elements.old)) result (map (signed_word w8) elements.old) (map (signed_word w8) elements.new) }
 {
     of_nothing(read(env, Handle(array), start, elements))
 }
 
-/// Copies a part of an array of ints out, from an index on: as many elements as the slice has room for. (JNI Specification, chapter 4, "Get<PrimitiveType>ArrayRegion Routines")
+/// Copies a part of an array of ints out, from an index on: as many elements as there is room for. (JNI Specification, chapter 4, "Get<PrimitiveType>ArrayRegion Routines")
 ///
 /// # Errors
 ///
-/// E21 where the thread was detached; else those of the same call of `Env`.
+/// E21 where no env stands behind the handle; else those of `NativeInterface::get_array_region`.
 #[unsafe(no_mangle)]
 pub extern "C" fn luthrady_get_int_array_region(
     env: &mut EnvHandle,
@@ -100,16 +100,16 @@ pub extern "C" fn luthrady_get_int_array_region(
     start: u32,
     elements: &mut [i32],
 ) -> Reply
-    ensures { ReadReplied env.old env.new (get_array_region Int array start (length elements.old)) result (map (signed_word w32) elements.new) }
+    ensures { ReadReplied env.old env.new (get_array_region Int array start (length elements.old)) result (map (signed_word w32) elements.old) (map (signed_word w32) elements.new) }
 {
     of_nothing(read(env, Handle(array), start, elements))
 }
 
-/// Copies a part of an array of longs out, from an index on: as many elements as the slice has room for. (JNI Specification, chapter 4, "Get<PrimitiveType>ArrayRegion Routines")
+/// Copies a part of an array of longs out, from an index on: as many elements as there is room for. (JNI Specification, chapter 4, "Get<PrimitiveType>ArrayRegion Routines")
 ///
 /// # Errors
 ///
-/// E21 where the thread was detached; else those of the same call of `Env`.
+/// E21 where no env stands behind the handle; else those of `NativeInterface::get_array_region`.
 #[unsafe(no_mangle)]
 pub extern "C" fn luthrady_get_long_array_region(
     env: &mut EnvHandle,
@@ -117,7 +117,7 @@ pub extern "C" fn luthrady_get_long_array_region(
     start: u32,
     elements: &mut [i64],
 ) -> Reply
-    ensures { ReadReplied env.old env.new (get_array_region Long array start (length elements.old)) result (map (signed_word w64) elements.new) }
+    ensures { ReadReplied env.old env.new (get_array_region Long array start (length elements.old)) result (map (signed_word w64) elements.old) (map (signed_word w64) elements.new) }
 {
     of_nothing(read(env, Handle(array), start, elements))
 }
@@ -126,7 +126,7 @@ pub extern "C" fn luthrady_get_long_array_region(
 ///
 /// # Errors
 ///
-/// E21 where the thread was detached; else those of `Env::get_array_region`.
+/// E21 where no env stands behind the handle; else those of `Env::get_array_region`.
 fn read<E: Elem>(
     handle: &mut EnvHandle,
     array: Handle,
@@ -137,6 +137,9 @@ fn read<E: Elem>(
     ensures size { length elements.new ≡ length elements.old }
     ensures err { IfErr result (λ _. elements.new ≡ elements.old) }
 {
+    if !is_env(handle) {
+        return Err(Fault::NotFresh);
+    }
     let Some(native) = &mut env_of(handle).native else {
         return Err(Fault::NotFresh);
     };

@@ -1,6 +1,6 @@
 //! What a call answers, as C and Rust see it.
 ghost use Rattle.std.specs.Prelude.{◌≡◌, Ok, Err};
-ghost use Rattle.luthrady.specs.Replies.{told_beside, reply_of, the_number, the_word, word_or_null, zero_or_one, nothing_told};
+ghost use Rattle.luthrady.specs.Replies.{told_beside, found_beside, reply_of, the_number, the_word, word_or_null, zero_or_one, nothing_told};
 
 use jr_word::{Fault, Handle};
 
@@ -12,11 +12,13 @@ pub struct Reply {
     pub value: u64,
     /// The number of the refusal, 0 where there is none.
     pub fault: u32,
-    /// What the refusal tells beside its number.
+    /// The number that the refusal tells beside its own, the first where it tells two, 0 where it tells none.
     pub told: u32,
+    /// The second number that the refusal tells, 0 where it has none.
+    pub found: u32,
 }
 
-/// What a refusal tells beside its number.
+/// The first number that a refusal tells beside its own.
 fn told(fault: Fault) -> u32
     ensures { result ≡ told_beside fault }
 {
@@ -30,6 +32,17 @@ fn told(fault: Fault) -> u32
     }
 }
 
+/// The second number that a refusal tells beside its own.
+fn found(fault: Fault) -> u32
+    ensures { result ≡ found_beside fault }
+{
+    match fault {
+        Fault::Raced(_, found) => found,
+        Fault::Moved(_, found) => found,
+        _ => 0,
+    }
+}
+
 /// The answer of a call that was made.
 fn answered(value: u64) -> Reply
     ensures { result ≡ reply_of the_number (Ok value) }
@@ -38,6 +51,7 @@ fn answered(value: u64) -> Reply
         value,
         fault: 0,
         told: 0,
+        found: 0,
     }
 }
 
@@ -49,6 +63,7 @@ fn refused(fault: Fault) -> Reply
         value: 0,
         fault: u32::from(fault.number()),
         told: told(fault),
+        found: found(fault),
     }
 }
 

@@ -1,10 +1,10 @@
 //! Rooms and their threads.
-ghost use Rattle.std.specs.Prelude.{◌≡◌, []};
+ghost use Rattle.std.specs.Prelude.{◌≡◌};
 ghost use Rattle.luthrady.specs.Opening.{OpenReplied};
 ghost use Rattle.luthrady.specs.Replies.{reply_of, the_number};
-ghost use Rattle.luthrady.specs.Threads.{AttachReplied, DetachReplied, elsewhere, leaving_answer, stood_of, told_summary};
+ghost use Rattle.luthrady.specs.Threads.{AttachReplied, DetachReplied, ReleaseReplied, elsewhere, leaving_answer, stood_of, told_summary};
 
-use crate::behind::{env_of, room_of};
+use crate::behind::{env_of, is_env, is_room, room_of};
 use crate::handles::{EnvHandle, RoomHandle, env_pointer, room_pointer};
 use crate::held::{Attached, Opened, closed, open_room};
 use crate::reply::{Reply, of_nothing, of_number};
@@ -64,11 +64,16 @@ fn opened(answer: Result<Box<Opened>, Fault>, out: &mut *mut u8) -> Reply
 ///
 /// # Errors
 ///
-/// E21 where each thread has one, or the room was released; E16 where memory was refused.
+/// E21 where no room stands behind the handle, each of its threads has one, or it was released; E16 where memory was refused.
+///
+/// At E21 nothing has changed. At E16 the env of the next thread is gone, and no other.
 #[unsafe(no_mangle)]
 pub extern "C" fn luthrady_attach(alloc: Global, room: &mut RoomHandle, out: &mut *mut u8) -> Reply
     ensures { AttachReplied room.old room.new result }
 {
+    if !is_room(room) {
+        return of_nothing(Err(Fault::NotFresh));
+    }
     attached(room_of(room).attach(alloc), out)
 }
 
@@ -86,12 +91,21 @@ fn attached(answer: Result<Box<Attached>, Fault>, out: &mut *mut u8) -> Reply
 }
 
 /// Lets go of the envs of threads that were not attached, and of the place that the envs had. No further thread is attached then.
+///
+/// # Errors
+///
+/// E21 where no room stands behind the handle.
+///
+/// Nothing has changed then.
 #[unsafe(no_mangle)]
-pub extern "C" fn luthrady_release(alloc: Global, room: &mut RoomHandle)
-    ensures none { room.new.value.envs.items ≡ [] }
-    ensures pointer { room.new.at ≡ room.old.at }
+pub extern "C" fn luthrady_release(alloc: Global, room: &mut RoomHandle) -> Reply
+    ensures { ReleaseReplied room.old room.new result }
 {
+    if !is_room(room) {
+        return of_nothing(Err(Fault::NotFresh));
+    }
     room_of(room).envs = Vec::new(alloc);
+    of_nothing(Ok(()))
 }
 
 /// What stood in a room as it was closed.
@@ -120,15 +134,18 @@ fn told_of(summary: Summary) -> Stood
     }
 }
 
-/// Detaches a thread. The last one of a room closes it: then it answers 1, and writes what stood there; else 0. A room with threads that were not attached is closed once it was released.
+/// Detaches a thread: no env stands behind the handle then. Its local references stay, and keep what they name. Where it closed the room it answers 1, and writes what stood there; else 0.
 ///
 /// # Errors
 ///
-/// E21 where the thread was detached; E22 where the room is closed with threads inside.
+/// E21 where no env stands behind the handle; E22 with how many threads were inside, knocking, announcing or collecting as it closed the room, at least 1.
 #[unsafe(no_mangle)]
 pub extern "C" fn luthrady_detach(env: &mut EnvHandle, out: &mut Stood) -> Reply
     ensures { DetachReplied env.old env.new result out.old out.new }
 {
+    if !is_env(env) {
+        return of_number(Err(Fault::NotFresh));
+    }
     let Some(native) = env_of(env).native.take() else {
         return of_number(Err(Fault::NotFresh));
     };

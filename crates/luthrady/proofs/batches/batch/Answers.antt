@@ -1,12 +1,16 @@
-use Rattle.std.proofs.Common.{refl, sym, ap, ◌∙◌}
-use Rattle.luthrady.specs.declared.held.Attached.{Attached}
+use Rattle.std.proofs.Common.{sym, ap, ◌∙◌}
+use Rattle.luthrady.specs.declared.handles.EnvHandle.{EnvHandle}
 use Rattle.luthrady.proofs.Batching.{by_thread_in_stay}
+use Rattle.luthrady.proofs.ThroughPointers.{stands, stood}
 use Rattle.luthrady.proofs.batches.batch.Goals as goal
 
 -- src/batches.rt
 pub returns : goal.returns
-returns c = (
-  refl,
-  by_thread_in_stay _ _ _ _ _ _ _ (sym (ap (λ (a : Attached). a.native) c.env_of.ensures.value) ∙ c.in-Some.is)
-      c.deref_mut.ensures.value c.batch_by.ensures.call c.batch_by.ensures.marker,
-)
+returns c =
+    let is = sym c.is_env.ensures.value ∙ c.if-not-is_env.false in
+    let same = c.is_env.ensures.unchanged in
+    let lent = c.env_of.ensures.value in (
+      ap (λ (x : EnvHandle). x.at) same,
+      by_thread_in_stay _ _ _ _ _ _ _ _ (stood _ _ _ _ is same lent c.in-Some.is) (stands _ _ _ _ is same lent)
+          c.deref_mut.ensures.value c.batch_by.ensures.call c.batch_by.ensures.marker,
+    )

@@ -1,12 +1,15 @@
-use Rattle.std.proofs.Common.{refl, sym, ap, ◌∙◌}
-use Rattle.luthrady.specs.declared.held.Attached.{Attached}
-use Rattle.luthrady.proofs.ThroughPointers.{by_thread}
+use Rattle.std.proofs.Common.{sym, ap, ◌∙◌}
+use Rattle.luthrady.specs.declared.handles.EnvHandle.{EnvHandle}
+use Rattle.luthrady.proofs.ThroughPointers.{by_thread, stands, stood}
 use Rattle.luthrady.proofs.calling.make.Goals as goal
 
--- src/calling.rt:18:1
+-- src/calling.rt
 pub returns : goal.returns
-returns g c = (
-  refl,
-  by_thread _ _ _ _ (sym (ap (λ (a : Attached). a.native) c.env_of.ensures.value) ∙ c.in-Some.is)
-      c.deref_mut.ensures.value c.make_by.ensures.call c.make_by.ensures.marker,
-)
+returns g c =
+    let is = sym c.is_env.ensures.value ∙ c.if-not-is_env.false in
+    let same = c.is_env.ensures.unchanged in
+    let lent = c.env_of.ensures.value in (
+      ap (λ (x : EnvHandle). x.at) same,
+      by_thread _ _ _ _ _ (stood _ _ _ _ is same lent c.in-Some.is) (stands _ _ _ _ is same lent)
+          c.deref_mut.ensures.value c.make_by.ensures.call c.make_by.ensures.marker,
+    )

@@ -1,12 +1,15 @@
-use Rattle.std.proofs.Common.{refl, sym, ap, ◌∙◌}
-use Rattle.luthrady.specs.declared.held.Attached.{Attached}
-use Rattle.luthrady.proofs.ThroughPointers.{by_collector}
+use Rattle.std.proofs.Common.{sym, ap, ◌∙◌}
+use Rattle.luthrady.specs.declared.handles.EnvHandle.{EnvHandle}
+use Rattle.luthrady.proofs.ThroughPointers.{by_collector, stands, stood}
 use Rattle.luthrady.proofs.collecting.collect.Goals as goal
 
 -- src/collecting.rt
 pub returns : goal.returns
-returns c = (
-  refl,
-  by_collector _ _ _ _ (sym (ap (λ (a : Attached). a.native) c.env_of.ensures.value) ∙ c.in-Some.is)
-      c.deref_mut.ensures.value c.collect_by.ensures.call c.collect_by.ensures.room,
-)
+returns c =
+    let is = sym c.is_env.ensures.value ∙ c.if-not-is_env.false in
+    let same = c.is_env.ensures.unchanged in
+    let lent = c.env_of.ensures.value in (
+      ap (λ (x : EnvHandle). x.at) same,
+      by_collector _ _ _ _ _ (stood _ _ _ _ is same lent c.in-Some.is) (stands _ _ _ _ is same lent)
+          c.deref_mut.ensures.value c.collect_by.ensures.call c.collect_by.ensures.room,
+    )

@@ -1,18 +1,22 @@
-use Rattle.std.proofs.Common.{ℕ, refl, sym, subst, ap, ◌∙◌}
+use Rattle.std.proofs.Common.{ℕ, sym, subst, ap, ◌∙◌}
 use Rattle.jr_env.specs.Envs.{Does}
 use Rattle.jr_env.specs.Collections.{announced_collection}
-use Rattle.luthrady.specs.declared.held.Attached.{Attached}
-use Rattle.luthrady.proofs.ThroughPointers.{by_collector}
+use Rattle.luthrady.specs.declared.handles.EnvHandle.{EnvHandle}
+use Rattle.luthrady.proofs.ThroughPointers.{by_collector, stands, stood}
 use Rattle.luthrady.proofs.collecting.collect_announced.Goals as goal
 
 -- src/collecting.rt
 pub returns : goal.returns
-returns c = (
-  refl,
-  by_collector _ _ _ _ (sym (ap (λ (a : Attached). a.native) c.env_of.ensures.value) ∙ c.in-Some.is)
-      c.deref_mut.ensures.value
-      (λ fits.
-      subst (λ (n : ℕ). Does c.deref_mut.result.now.env c.collect_announced_by.new.native.env (announced_collection n)
-      c.collect_announced_by.result) c.some.ensures.tries (c.collect_announced_by.ensures.call fits))
-      c.collect_announced_by.ensures.room,
-)
+returns c =
+    let is = sym c.is_env.ensures.value ∙ c.if-not-is_env.false in
+    let same = c.is_env.ensures.unchanged in
+    let lent = c.env_of.ensures.value in (
+      ap (λ (x : EnvHandle). x.at) same,
+      by_collector _ _ _ _ _ (stood _ _ _ _ is same lent c.in-Some.is) (stands _ _ _ _ is same lent)
+          c.deref_mut.ensures.value
+          (λ fits.
+          subst (λ (n : ℕ). Does c.deref_mut.result.now.env c.collect_announced_by.new.native.env
+          (announced_collection n) c.collect_announced_by.result)
+          c.some.ensures.tries (c.collect_announced_by.ensures.call fits))
+          c.collect_announced_by.ensures.room,
+    )

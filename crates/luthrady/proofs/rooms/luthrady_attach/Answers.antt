@@ -1,12 +1,37 @@
-use Rattle.std.proofs.Common.{refl, subst}
+use Rattle.std.proofs.Common.{◌≡◌, ◌∙◌, Bool, Err, ap, refl, subst, sym}
+use Rattle.std.specs.Prelude.{IfErr}
+use Rattle.jr_word.specs.declared.fault.Fault.TheVariants.{NotFresh}
+use Rattle.luthrady.specs.Behind.{with_room_of}
+use Rattle.luthrady.specs.declared.handles.RoomHandle.{RoomHandle}
 use Rattle.luthrady.specs.declared.held.Opened.{Opened}
-use Rattle.luthrady.specs.Threads.{TakesNext, IsRefusedAtNone}
+use Rattle.luthrady.specs.Threads.{ByPlace, IsRefusedAtNone, IsRefusedElse, TakesNext}
 use Rattle.luthrady.proofs.rooms.luthrady_attach.Goals as goal
 
 -- src/rooms.rt
+pub returns-then-not-is_room : goal.returns-then-not-is_room
+returns-then-not-is_room c =
+    let is = sym c.is_room.ensures.value ∙ c.if-not-is_room.true in
+    let same = c.is_room.ensures.unchanged in (
+      Err NotFresh,
+      c.of_nothing.ensures,
+      ap (λ (x : RoomHandle). x.at) same,
+      (tt, tt),
+      subst (λ (b : Bool). ByPlace b c.args.room.now c.is_room.new.handle (Err NotFresh)) (sym is) (refl, same),
+    )
+
 pub returns : goal.returns
 returns c =
     let a = c.attach.result in
-    let there = subst (λ (o : Opened). TakesNext o c.attach.new.self a × IsRefusedAtNone o c.attach.new.self a)
-    c.room_of.ensures.value (c.attach.ensures.next, c.attach.ensures.none) in
-    (a, c.attached.ensures, refl, (c.attach.ensures.there, c.attach.ensures.fits), there.0, there.1)
+    let is = sym c.is_room.ensures.value ∙ c.if-not-is_room.false in
+    let same = c.is_room.ensures.unchanged in
+    let now = c.attach.new.self in
+    let there = subst (λ (o : Opened). TakesNext o now a × IsRefusedAtNone o now a × IfErr a (IsRefusedElse o now)
+    × (now.mark ≡ o.mark))
+    (c.room_of.ensures.value ∙ ap (λ (x : RoomHandle). x.value) same)
+    (c.attach.ensures.next, c.attach.ensures.none, c.attach.ensures.refused, c.attach.ensures.mark) in (
+      a,
+      c.attached.ensures,
+      ap (λ (x : RoomHandle). x.at) same,
+      (c.attach.ensures.there, c.attach.ensures.fits),
+      subst (λ (b : Bool). ByPlace b c.args.room.now (with_room_of c.is_room.new.handle now) a) (sym is) there,
+    )

@@ -1,0 +1,405 @@
+//! What the static library `luthrady` has, as Rust declares it. `.ci/header` makes this file.
+#![no_std]
+
+/// The version of this interface.
+pub const VERSION: &str = "0.1.0";
+
+/// The most threads of a room.
+pub const MOST_THREADS: u32 = 64;
+
+/// The most slots of a room.
+pub const MOST_SLOTS: u32 = 65_536;
+
+/// The most objects of a room.
+pub const MOST_OBJECTS: u32 = 65_535;
+
+/// The most words of a room's array space.
+pub const MOST_WORDS: u32 = 1_048_576;
+
+/// The fewest places for local references of a thread.
+pub const LEAST_LOCALS: u32 = 16;
+
+/// The most places for local references of a thread.
+pub const MOST_LOCALS: u32 = 4_096;
+
+/// What a refusal says, by its number, in a clause of English.
+pub const fn fault_text(fault: u32) -> &'static str {
+    match fault {
+        0 => "not refused",
+        1 => "null, where an object is needed",
+        2 => "no reference of this word stands",
+        3 => "the word is a local reference of another thread",
+        4 => "the word names something of another kind than the call is for",
+        5 => "the object is not an array",
+        6 => "the array's elements are of another kind than the call is for",
+        7 => "an index, a part or a length doesn't fit the object",
+        8 => "the search found no free slot",
+        9 => "the thread has too little room for local references",
+        10 => "the request doesn't fit beside the words in use",
+        11 => "every object number is present",
+        12 => "another thread reserved words meanwhile",
+        13 => "a collection keeps threads from coming in",
+        14 => "other threads keep the collection from coming in",
+        15 => "the base frame can't be popped",
+        16 => "the system refused memory or a thread",
+        17 => "a size or a count is outside of its limits",
+        18 => "the word is none of the array's element kind",
+        19 => "the command is not allowed where the thread stands",
+        20 => "the turns ran out",
+        21 => {
+            "no room or no env that may be used stands behind the pointer, or a room has no env left"
+        }
+        22 => "other threads kept the room from being closed",
+        23 => "a thread went in or out before the announcement",
+        _ => "no refusal has this number",
+    }
+}
+
+/// Which call a call of a batch is.
+#[derive(Clone, Copy, Debug, PartialEq, Eq)]
+pub enum Operation {
+    NewGlobalRef = 1,
+    NewWeakGlobalRef = 2,
+    NewLocalRef = 3,
+    DeleteGlobalRef = 4,
+    DeleteWeakGlobalRef = 5,
+    DeleteLocalRef = 6,
+    IsSameObject = 7,
+    GetObjectRefType = 8,
+    GetArrayLength = 9,
+    GetStringLength = 10,
+    GetObjectArrayElement = 11,
+    SetObjectArrayElement = 12,
+}
+
+/// A call's answer.
+#[repr(C)]
+#[derive(Clone, Copy, Debug, Default, PartialEq, Eq)]
+pub struct Reply {
+    /// What it answers, 0 where it is refused.
+    pub value: u64,
+    /// The number of the refusal, 0 where there is none.
+    pub fault: u32,
+    /// The number that the refusal tells beside its own, the first where it tells two, 0 where it tells none.
+    pub told: u32,
+    /// The second number that the refusal tells, 0 where it has none.
+    pub found: u32,
+}
+
+/// A call of a batch, and its answer.
+#[repr(C)]
+#[derive(Clone, Copy, Debug, Default, PartialEq, Eq)]
+pub struct Call {
+    /// Which call it is, by its number.
+    pub operation: u32,
+    /// The index of an element, where the call has one.
+    pub index: u32,
+    /// The reference that it is handed.
+    pub first: u64,
+    /// The second reference, where the call has one.
+    pub second: u64,
+    /// What it answered.
+    pub reply: Reply,
+}
+
+/// What a collection did.
+#[repr(C)]
+#[derive(Clone, Copy, Debug, Default, PartialEq, Eq)]
+pub struct Counts {
+    /// How many weak references it cleared.
+    pub cleared: u32,
+    /// How many objects it dropped.
+    pub dropped: u32,
+    /// How many words were used then.
+    pub used: u32,
+}
+
+/// A room's handle: NULL, or the pointer to its place.
+#[repr(C)]
+#[derive(Debug)]
+pub struct RoomHandle {
+    pub at: *mut u8,
+}
+
+/// An env's handle: NULL, or the pointer to its place.
+#[repr(C)]
+#[derive(Debug)]
+pub struct EnvHandle {
+    pub at: *mut u8,
+}
+
+/// The sizes of a room.
+#[repr(C)]
+#[derive(Clone, Copy, Debug, Default, PartialEq, Eq)]
+pub struct Sizes {
+    /// How many threads there are.
+    pub threads: u32,
+    /// How many slots for global and weak references there are.
+    pub slots: u32,
+    /// How many objects there may be.
+    pub objects: u32,
+    /// How many words of elements there may be.
+    pub words: u32,
+    /// How many local references a thread may have.
+    pub locals: u32,
+}
+
+/// What stood in a room as it was closed.
+#[repr(C)]
+#[derive(Clone, Copy, Debug, Default, PartialEq, Eq)]
+pub struct Stood {
+    /// How many global references stood.
+    pub globals: u32,
+    /// How many weak references stood.
+    pub weaks: u32,
+    /// How many objects were present.
+    pub live: u32,
+    /// How many words were used.
+    pub used: u32,
+}
+
+unsafe extern "C" {
+    /// Opens a room of these sizes, and writes the pointer to it.
+    ///
+    /// Refused: E17 where the sizes are beyond their limits; E16 where memory was refused.
+    pub fn luthrady_open(sizes: Sizes, out: *mut *mut u8) -> Reply;
+    /// Makes the env of the next thread, and writes the pointer to it.
+    ///
+    /// Refused: E21 where no room stands behind the handle, each of its threads has one, or it was released; E16 where memory was refused.
+    ///
+    /// At E21 nothing has changed. At E16 the env of the next thread is gone, and no other.
+    pub fn luthrady_attach(room: *mut RoomHandle, out: *mut *mut u8) -> Reply;
+    /// Lets go of the envs of threads that were not attached, and of the place that the envs had. No further thread is attached then.
+    ///
+    /// Refused: E21 where no room stands behind the handle.
+    ///
+    /// Nothing has changed then.
+    pub fn luthrady_release(room: *mut RoomHandle) -> Reply;
+    /// Detaches a thread: no env stands behind the handle then. Its local references stay, and keep what they name. Where it closed the room it answers 1, and writes what stood there; else 0.
+    ///
+    /// Refused: E21 where no env stands behind the handle; E22 with how many threads were inside, knocking, announcing or collecting as it closed the room, at least 1.
+    pub fn luthrady_detach(env: *mut EnvHandle, out: *mut Stood) -> Reply;
+    /// A new global reference to what the word names, NULL to null. (JNI Specification, chapter 4, "NewGlobalRef")
+    ///
+    /// Refused: E21 where no env stands behind the handle; E13 where a thread is collecting at the entry, or has announced that it will; E2 where the handle is malformed or lies outside the room; E3 where it is a local one of another thread; E2 where its reference does not stand; E8 where each slot was occupied when it was tried, or later in the call.
+    ///
+    /// Nothing has changed then.
+    pub fn luthrady_new_global_ref(env: *mut EnvHandle, object: u64) -> Reply;
+    /// A new weak global reference to what the word names, NULL to null. (JNI Specification, chapter 4, "NewWeakGlobalRef")
+    ///
+    /// Refused: E21 where no env stands behind the handle; E13 where a thread is collecting at the entry, or has announced that it will; E2 where the handle is malformed or lies outside the room; E3 where it is a local one of another thread; E2 where its reference does not stand; E8 where each slot was occupied when it was tried, or later in the call.
+    ///
+    /// Nothing has changed then.
+    pub fn luthrady_new_weak_global_ref(env: *mut EnvHandle, object: u64) -> Reply;
+    /// A new local reference to what the word names, NULL to null. (JNI Specification, chapter 4, "NewLocalRef")
+    ///
+    /// Refused: E21 where no env stands behind the handle; E13 where a thread is collecting at the entry, or has announced that it will; E2 where the handle is malformed or lies outside the room; E3 where it is a local one of another thread; E2 where its reference does not stand; E9 where no local place is free.
+    ///
+    /// Nothing has changed then.
+    pub fn luthrady_new_local_ref(env: *mut EnvHandle, object: u64) -> Reply;
+    /// Deletes a global reference. (JNI Specification, chapter 4, "DeleteGlobalRef")
+    ///
+    /// Refused: E21 where no env stands behind the handle; E13 where a thread is collecting at the entry, or has announced that it will; E2 where the handle is malformed; E4 where it is of another kind; E2 where it lies outside the room, its reference does not stand, or another thread deletes it first.
+    ///
+    /// Nothing has changed then.
+    pub fn luthrady_delete_global_ref(env: *mut EnvHandle, reference: u64) -> Reply;
+    /// Deletes a weak global reference. (JNI Specification, chapter 4, "DeleteWeakGlobalRef")
+    ///
+    /// Refused: E21 where no env stands behind the handle; E13 where a thread is collecting at the entry, or has announced that it will; E2 where the handle is malformed; E4 where it is of another kind; E2 where it lies outside the room, its reference does not stand, or another thread deletes it first.
+    ///
+    /// Nothing has changed then.
+    pub fn luthrady_delete_weak_global_ref(env: *mut EnvHandle, reference: u64) -> Reply;
+    /// Deletes a local reference. (JNI Specification, chapter 4, "DeleteLocalRef")
+    ///
+    /// Refused: E21 where no env stands behind the handle; E13 where a thread is collecting at the entry, or has announced that it will; E2 where the handle is malformed; E4 where it is of another kind; E2 where it lies outside the room; E3 where it is one of another thread; E2 where its reference does not stand.
+    ///
+    /// Nothing has changed then.
+    pub fn luthrady_delete_local_ref(env: *mut EnvHandle, reference: u64) -> Reply;
+    /// Whether both words name the same object, 1 or 0. (JNI Specification, chapter 4, "IsSameObject")
+    ///
+    /// Refused: E21 where no env stands behind the handle; E13 where a thread is collecting at the entry, or has announced that it will; E2 where a handle is malformed or lies outside the room; E3 where one is a local one of another thread; E2 where the reference of one does not stand.
+    ///
+    /// Nothing has changed then.
+    pub fn luthrady_is_same_object(env: *mut EnvHandle, left: u64, right: u64) -> Reply;
+    /// The type of a reference: 0 invalid, 1 local, 2 global, 3 weak. (JNI Specification, chapter 4, "GetObjectRefType")
+    ///
+    /// Refused: E21 where no env stands behind the handle; E13 where a thread is collecting at the entry, or has announced that it will.
+    pub fn luthrady_get_object_ref_type(env: *mut EnvHandle, object: u64) -> Reply;
+    /// Ensures that so many local references can be made in the current frame. (JNI Specification, chapter 4, "EnsureLocalCapacity")
+    ///
+    /// Refused: E21 where no env stands behind the handle; E9 where fewer places are free.
+    ///
+    /// Nothing has changed then, and the thread stands outside.
+    pub fn luthrady_ensure_local_capacity(env: *mut EnvHandle, capacity: u32) -> Reply;
+    /// Opens a frame for so many local references. (JNI Specification, chapter 4, "PushLocalFrame")
+    ///
+    /// Refused: E21 where no env stands behind the handle; E9 where 256 frames are open, or fewer places are free.
+    ///
+    /// Nothing has changed then, and the thread stands outside.
+    pub fn luthrady_push_local_frame(env: *mut EnvHandle, capacity: u32) -> Reply;
+    /// Closes the current frame, and makes a reference in the one before to what the word names. (JNI Specification, chapter 4, "PopLocalFrame")
+    ///
+    /// Refused: E21 where no env stands behind the handle; E13 where a thread is collecting at the entry, or has announced that it will; E15 where no frame was pushed; E2 where the handle is malformed or lies outside the room; E3 where it is a local one of another thread; E2 where its reference does not stand; E9 where no place would be free for the result, once those of the frame are.
+    ///
+    /// Nothing is taken away then.
+    pub fn luthrady_pop_local_frame(env: *mut EnvHandle, kept: u64) -> Reply;
+    /// Frees all local references, as at the end of a native method. The Java Native Interface has no such call.
+    ///
+    /// Refused: E21 where no env stands behind the handle; E13 where a thread is collecting at the entry, or has announced that it will.
+    pub fn luthrady_free_locals(env: *mut EnvHandle) -> Reply;
+    /// A plain object, and a local reference to it. The Java Native Interface has no such call.
+    ///
+    /// Refused: E21 where no env stands behind the handle; E13 where a thread is collecting at the entry, or has announced that it will; E9 where no local place is free; E11 where every object number was present at one moment of the call.
+    ///
+    /// Nothing has changed then.
+    pub fn luthrady_new_plain(env: *mut EnvHandle) -> Reply;
+    /// An array of bytes, each zero, and a local reference to it. (JNI Specification, chapter 4, "New<PrimitiveType>Array Routines")
+    ///
+    /// Refused: E21 where no env stands behind the handle; E13 where a thread is collecting at the entry, or has announced that it will; E9 where no local place is free; E10 with how many words are reserved, where so many more don't fit; E12 with how many words were looked at and how many were found, where another thread reserved some in between; E11 where every object number was present at one moment of the call.
+    ///
+    /// Nothing has changed then; but after E11 the words of the array stay reserved until the next collection.
+    pub fn luthrady_new_byte_array(env: *mut EnvHandle, length: u32) -> Reply;
+    /// An array of ints, each zero, and a local reference to it. (JNI Specification, chapter 4, "New<PrimitiveType>Array Routines")
+    ///
+    /// Refused: E21 where no env stands behind the handle; E13 where a thread is collecting at the entry, or has announced that it will; E9 where no local place is free; E10 with how many words are reserved, where so many more don't fit; E12 with how many words were looked at and how many were found, where another thread reserved some in between; E11 where every object number was present at one moment of the call.
+    ///
+    /// Nothing has changed then; but after E11 the words of the array stay reserved until the next collection.
+    pub fn luthrady_new_int_array(env: *mut EnvHandle, length: u32) -> Reply;
+    /// An array of longs, each zero, and a local reference to it. (JNI Specification, chapter 4, "New<PrimitiveType>Array Routines")
+    ///
+    /// Refused: E21 where no env stands behind the handle; E13 where a thread is collecting at the entry, or has announced that it will; E9 where no local place is free; E10 with how many words are reserved, where so many more don't fit; E12 with how many words were looked at and how many were found, where another thread reserved some in between; E11 where every object number was present at one moment of the call.
+    ///
+    /// Nothing has changed then; but after E11 the words of the array stay reserved until the next collection.
+    pub fn luthrady_new_long_array(env: *mut EnvHandle, length: u32) -> Reply;
+    /// An array of object references, each to what the word names, and a local reference to it. (JNI Specification, chapter 4, "NewObjectArray")
+    ///
+    /// Refused: E21 where no env stands behind the handle; E13 where a thread is collecting at the entry, or has announced that it will; E2 where the handle is malformed or lies outside the room; E3 where it is a local one of another thread; E2 where its reference does not stand; E9 where no local place is free; E10 with how many words are reserved, where so many more don't fit; E12 with how many words were looked at and how many were found, where another thread reserved some in between; E11 where every object number was present at one moment of the call.
+    ///
+    /// Nothing has changed then; but after E11 the words of the array stay reserved until the next collection.
+    pub fn luthrady_new_object_array(env: *mut EnvHandle, length: u32, initial: u64) -> Reply;
+    /// A string of these UTF-16 units, and a local reference to it. (JNI Specification, chapter 4, "NewString")
+    ///
+    /// Refused: E21 where no env stands behind the handle; E13 where a thread is collecting at the entry, or has announced that it will; E9 where no local place is free; E10 with how many words are reserved, where so many more don't fit; E12 with how many words were looked at and how many were found, where another thread reserved some in between; E11 where every object number was present at one moment of the call.
+    ///
+    /// Nothing has changed then; but after E11 the words of the string stay reserved until the next collection.
+    pub fn luthrady_new_string(env: *mut EnvHandle, units: *const u16, count: usize) -> Reply;
+    /// How many elements an array has. (JNI Specification, chapter 4, "GetArrayLength")
+    ///
+    /// Refused: E21 where no env stands behind the handle; E13 where a thread is collecting at the entry, or has announced that it will; E2 where the handle is malformed or lies outside the room; E3 where it is a local one of another thread; E2 where its reference does not stand; E1 where it is to null; E5 where it is to a plain object or a string.
+    ///
+    /// Nothing has changed then.
+    pub fn luthrady_get_array_length(env: *mut EnvHandle, array: u64) -> Reply;
+    /// How many UTF-16 units a string has. (JNI Specification, chapter 4, "GetStringLength")
+    ///
+    /// Refused: E21 where no env stands behind the handle; E13 where a thread is collecting at the entry, or has announced that it will; E2 where the handle is malformed or lies outside the room; E3 where it is a local one of another thread; E2 where its reference does not stand; E1 where it is to null; E4 where it is to no string.
+    ///
+    /// Nothing has changed then.
+    pub fn luthrady_get_string_length(env: *mut EnvHandle, string: u64) -> Reply;
+    /// An element of an object array, as a local reference, NULL for null. (JNI Specification, chapter 4, "GetObjectArrayElement")
+    ///
+    /// Refused: E21 where no env stands behind the handle; E13 where a thread is collecting at the entry, or has announced that it will; E2 where the handle is malformed or lies outside the room; E3 where it is a local one of another thread; E2 where its reference does not stand; E1 where it is to null; E5 where it is to a plain object or a string; E6 where it is to an array of other elements than objects; E7 where the index is not below the length; E9 where the element is to an object and no local place is free.
+    ///
+    /// Nothing has changed then.
+    pub fn luthrady_get_object_array_element(env: *mut EnvHandle, array: u64, index: u32) -> Reply;
+    /// Makes an element of an object array refer to what a word names. (JNI Specification, chapter 4, "SetObjectArrayElement")
+    ///
+    /// Refused: E21 where no env stands behind the handle; E13 where a thread is collecting at the entry, or has announced that it will; E2 where a handle is malformed or lies outside the room; E3 where one is a local one of another thread; E2 where the reference of one does not stand; E1 where the array's is to null; E5 where it is to a plain object or a string; E6 where it is to an array of other elements than objects; E7 where the index is not below the length.
+    ///
+    /// Nothing has changed then.
+    pub fn luthrady_set_object_array_element(
+        env: *mut EnvHandle,
+        array: u64,
+        index: u32,
+        value: u64,
+    ) -> Reply;
+    /// Copies bytes into a part of an array, from an index on. (JNI Specification, chapter 4, "Set<PrimitiveType>ArrayRegion Routines")
+    ///
+    /// Refused: E21 where no env stands behind the handle; E13 where a thread is collecting at the entry, or has announced that it will; E2 where the handle is malformed or lies outside the room; E3 where it is a local one of another thread; E2 where its reference does not stand; E1 where it is to null; E5 where it is to a plain object or a string; E6 where it is to an array of other elements; E7 where the part does not lie in the array.
+    ///
+    /// Nothing is written then.
+    pub fn luthrady_set_byte_array_region(
+        env: *mut EnvHandle,
+        array: u64,
+        start: u32,
+        elements: *const i8,
+        count: usize,
+    ) -> Reply;
+    /// Copies ints into a part of an array, from an index on. (JNI Specification, chapter 4, "Set<PrimitiveType>ArrayRegion Routines")
+    ///
+    /// Refused: E21 where no env stands behind the handle; E13 where a thread is collecting at the entry, or has announced that it will; E2 where the handle is malformed or lies outside the room; E3 where it is a local one of another thread; E2 where its reference does not stand; E1 where it is to null; E5 where it is to a plain object or a string; E6 where it is to an array of other elements; E7 where the part does not lie in the array.
+    ///
+    /// Nothing is written then.
+    pub fn luthrady_set_int_array_region(
+        env: *mut EnvHandle,
+        array: u64,
+        start: u32,
+        elements: *const i32,
+        count: usize,
+    ) -> Reply;
+    /// Copies longs into a part of an array, from an index on. (JNI Specification, chapter 4, "Set<PrimitiveType>ArrayRegion Routines")
+    ///
+    /// Refused: E21 where no env stands behind the handle; E13 where a thread is collecting at the entry, or has announced that it will; E2 where the handle is malformed or lies outside the room; E3 where it is a local one of another thread; E2 where its reference does not stand; E1 where it is to null; E5 where it is to a plain object or a string; E6 where it is to an array of other elements; E7 where the part does not lie in the array.
+    ///
+    /// Nothing is written then.
+    pub fn luthrady_set_long_array_region(
+        env: *mut EnvHandle,
+        array: u64,
+        start: u32,
+        elements: *const i64,
+        count: usize,
+    ) -> Reply;
+    /// Copies a part of an array of bytes out, from an index on: as many elements as there is room for. (JNI Specification, chapter 4, "Get<PrimitiveType>ArrayRegion Routines")
+    ///
+    /// Refused: E21 where no env stands behind the handle; E13 where a thread is collecting at the entry, or has announced that it will; E2 where the handle is malformed or lies outside the room; E3 where it is a local one of another thread; E2 where its reference does not stand; E1 where it is to null; E5 where it is to a plain object or a string; E6 where it is to an array of other elements; E7 where the part does not lie in the array.
+    ///
+    /// The slice is as it was, and nothing has changed.
+    pub fn luthrady_get_byte_array_region(
+        env: *mut EnvHandle,
+        array: u64,
+        start: u32,
+        elements: *mut i8,
+        count: usize,
+    ) -> Reply;
+    /// Copies a part of an array of ints out, from an index on: as many elements as there is room for. (JNI Specification, chapter 4, "Get<PrimitiveType>ArrayRegion Routines")
+    ///
+    /// Refused: E21 where no env stands behind the handle; E13 where a thread is collecting at the entry, or has announced that it will; E2 where the handle is malformed or lies outside the room; E3 where it is a local one of another thread; E2 where its reference does not stand; E1 where it is to null; E5 where it is to a plain object or a string; E6 where it is to an array of other elements; E7 where the part does not lie in the array.
+    ///
+    /// The slice is as it was, and nothing has changed.
+    pub fn luthrady_get_int_array_region(
+        env: *mut EnvHandle,
+        array: u64,
+        start: u32,
+        elements: *mut i32,
+        count: usize,
+    ) -> Reply;
+    /// Copies a part of an array of longs out, from an index on: as many elements as there is room for. (JNI Specification, chapter 4, "Get<PrimitiveType>ArrayRegion Routines")
+    ///
+    /// Refused: E21 where no env stands behind the handle; E13 where a thread is collecting at the entry, or has announced that it will; E2 where the handle is malformed or lies outside the room; E3 where it is a local one of another thread; E2 where its reference does not stand; E1 where it is to null; E5 where it is to a plain object or a string; E6 where it is to an array of other elements; E7 where the part does not lie in the array.
+    ///
+    /// The slice is as it was, and nothing has changed.
+    pub fn luthrady_get_long_array_region(
+        env: *mut EnvHandle,
+        array: u64,
+        start: u32,
+        elements: *mut i64,
+        count: usize,
+    ) -> Reply;
+    /// Collects, by the thread's own marker, and writes what it did.
+    ///
+    /// Refused: E21 where no env stands behind the handle; E17 exactly where the marker was made for another number of objects; E14 with how many threads were inside, knocking, announcing or collecting at its one step, at least 1.
+    ///
+    /// Nothing has changed then, and the marker is as it was. At E14 the thread stands outside, and at E17 it has taken no step. Over one thread a marker that fits is never refused.
+    pub fn luthrady_collect(env: *mut EnvHandle, out: *mut Counts) -> Reply;
+    /// Collects as `luthrady_collect` does, but announces it first, and tries so many times to shut the gate, at least once.
+    ///
+    /// Refused: E21 where no env stands behind the handle; E17 exactly where the marker was made for another number of objects; E14 with how many threads were inside, knocking, announcing or collecting, at least 1, where another thread kept the gate closed already; E23 with two counts of the open gate, where another thread went in or out between the look at it and the announcement; E14 with how many other threads were inside or knocking at the last try, at least 1.
+    ///
+    /// Nothing has changed then, and the marker is as it was. At E14 and E23 the thread stands outside, and at E17 it has taken no step. Over one thread a marker that fits is never refused.
+    pub fn luthrady_collect_announced(env: *mut EnvHandle, tries: u32, out: *mut Counts) -> Reply;
+    /// Makes calls in one stay: each as by its own function, but between one entry at the gate and one exit. Each call's answer is written to it. A call whose number is none is E7.
+    ///
+    /// Refused: E21 where no env stands behind the handle; E13 where a thread is collecting at the entry, or has announced that it will.
+    ///
+    /// No call is made then.
+    pub fn luthrady_batch(env: *mut EnvHandle, calls: *mut Call, count: usize) -> Reply;
+}

@@ -1,0 +1,299 @@
+//! Safe Rust over the static library `luthrady`.
+//!
+//! What is proved ends at the entry of each function. This file answers for the rest:
+//! - a handle is what `luthrady_open` or `luthrady_attach` wrote;
+//! - each handle is in one call at a time (`&mut self`);
+//! - a handle's memory stays, so that a call after a detach is E21.
+//!
+//! Each declaration of `luthrady_sys` is made of the function that it is of.
+
+use luthrady_sys as sys;
+use std::{error, fmt, ptr};
+
+pub use sys::{Counts, Operation, Sizes, Stood};
+
+/// A call of a batch, and its answer.
+#[derive(Clone, Copy, Debug, Default, PartialEq, Eq)]
+#[repr(transparent)]
+pub struct Call(sys::Call);
+
+impl Call {
+    /// A call that is handed these references, and an index.
+    pub fn new(operation: Operation, first: u64, second: u64, index: u32) -> Call {
+        Call(sys::Call {
+            operation: operation as u32,
+            index,
+            first,
+            second,
+            reply: sys::Reply::default(),
+        })
+    }
+
+    /// What it answered in the batch that it was last in.
+    pub fn answer(&self) -> Answer<u64> {
+        value(self.0.reply)
+    }
+}
+
+/// A refusal: its number, and the two that it tells beside it, 0 where it tells none.
+#[derive(Clone, Copy, Debug, PartialEq, Eq)]
+pub struct Fault {
+    pub number: u32,
+    pub told: u32,
+    pub found: u32,
+}
+
+impl Fault {
+    /// A refusal that tells one number, or 0.
+    pub fn new(number: u32, told: u32) -> Fault {
+        Fault {
+            number,
+            told,
+            found: 0,
+        }
+    }
+}
+
+impl fmt::Display for Fault {
+    fn fmt(&self, to: &mut fmt::Formatter<'_>) -> fmt::Result {
+        write!(to, "E{}: {}", self.number, sys::fault_text(self.number))?;
+        match (self.told, self.found) {
+            (0, 0) => Ok(()),
+            (told, 0) => write!(to, " ({told})"),
+            (told, found) => write!(to, " ({told}, {found})"),
+        }
+    }
+}
+
+impl error::Error for Fault {}
+
+/// What a call answers.
+pub type Answer<T> = Result<T, Fault>;
+
+fn value(reply: sys::Reply) -> Answer<u64> {
+    match reply.fault {
+        0 => Ok(reply.value),
+        number => Err(Fault {
+            number,
+            told: reply.told,
+            found: reply.found,
+        }),
+    }
+}
+
+fn nothing(reply: sys::Reply) -> Answer<()> {
+    value(reply).map(|_| ())
+}
+
+/// A room. Where it is dropped it is released.
+#[derive(Debug)]
+pub struct Room(sys::RoomHandle);
+
+/// A thread's env. Where it is dropped the thread is detached.
+#[derive(Debug)]
+pub struct Env(sys::EnvHandle);
+
+// SAFETY: the library proves that what stands behind the pointers may go to another thread.
+unsafe impl Send for Room {}
+unsafe impl Send for Env {}
+
+impl Room {
+    /// Opens a room.
+    pub fn open(sizes: Sizes) -> Answer<Room> {
+        let mut at = ptr::null_mut();
+        nothing(unsafe { sys::luthrady_open(sizes, &mut at) })?;
+        Ok(Room(sys::RoomHandle { at }))
+    }
+
+    /// The env of the next thread. E21 where each has one.
+    pub fn attach(&mut self) -> Answer<Env> {
+        let mut at = ptr::null_mut();
+        nothing(unsafe { sys::luthrady_attach(&mut self.0, &mut at) })?;
+        Ok(Env(sys::EnvHandle { at }))
+    }
+
+    /// Lets go of the envs of threads that were not attached: each later attach is E21.
+    pub fn release(&mut self) {
+        let _ = unsafe { sys::luthrady_release(&mut self.0) };
+    }
+}
+
+impl Drop for Room {
+    fn drop(&mut self) {
+        self.release();
+    }
+}
+
+/// What the elements of an array of numbers are.
+pub trait Element: Copy {
+    /// Makes an array.
+    fn new_array(env: &mut Env, length: u32) -> Answer<u64>;
+    /// Copies a part of an array out.
+    fn get(env: &mut Env, array: u64, start: u32, to: &mut [Self]) -> Answer<()>;
+    /// Copies elements into a part of an array.
+    fn set(env: &mut Env, array: u64, start: u32, from: &[Self]) -> Answer<()>;
+}
+
+macro_rules! element {
+    ($element:ty, $new:path, $get:path, $set:path) => {
+        impl Element for $element {
+            fn new_array(env: &mut Env, length: u32) -> Answer<u64> {
+                value(unsafe { $new(&mut env.0, length) })
+            }
+
+            fn get(env: &mut Env, array: u64, start: u32, to: &mut [Self]) -> Answer<()> {
+                let (at, count) = (to.as_mut_ptr(), to.len());
+                nothing(unsafe { $get(&mut env.0, array, start, at, count) })
+            }
+
+            fn set(env: &mut Env, array: u64, start: u32, from: &[Self]) -> Answer<()> {
+                let (at, count) = (from.as_ptr(), from.len());
+                nothing(unsafe { $set(&mut env.0, array, start, at, count) })
+            }
+        }
+    };
+}
+
+element!(
+    i8,
+    sys::luthrady_new_byte_array,
+    sys::luthrady_get_byte_array_region,
+    sys::luthrady_set_byte_array_region
+);
+element!(
+    i32,
+    sys::luthrady_new_int_array,
+    sys::luthrady_get_int_array_region,
+    sys::luthrady_set_int_array_region
+);
+element!(
+    i64,
+    sys::luthrady_new_long_array,
+    sys::luthrady_get_long_array_region,
+    sys::luthrady_set_long_array_region
+);
+
+impl Env {
+    /// Detaches the thread: each later call is E21. The last one of a room that was released closes it, and tells what stood there.
+    pub fn detach(&mut self) -> Answer<Option<Stood>> {
+        let mut stood = Stood::default();
+        let closed = value(unsafe { sys::luthrady_detach(&mut self.0, &mut stood) })?;
+        Ok((closed == 1).then_some(stood))
+    }
+
+    pub fn global(&mut self, object: u64) -> Answer<u64> {
+        value(unsafe { sys::luthrady_new_global_ref(&mut self.0, object) })
+    }
+
+    pub fn weak(&mut self, object: u64) -> Answer<u64> {
+        value(unsafe { sys::luthrady_new_weak_global_ref(&mut self.0, object) })
+    }
+
+    pub fn local(&mut self, object: u64) -> Answer<u64> {
+        value(unsafe { sys::luthrady_new_local_ref(&mut self.0, object) })
+    }
+
+    pub fn delete_global(&mut self, global: u64) -> Answer<()> {
+        nothing(unsafe { sys::luthrady_delete_global_ref(&mut self.0, global) })
+    }
+
+    pub fn delete_weak(&mut self, weak: u64) -> Answer<()> {
+        nothing(unsafe { sys::luthrady_delete_weak_global_ref(&mut self.0, weak) })
+    }
+
+    pub fn delete_local(&mut self, local: u64) -> Answer<()> {
+        nothing(unsafe { sys::luthrady_delete_local_ref(&mut self.0, local) })
+    }
+
+    /// The type of a reference: 0 invalid, 1 local, 2 global, 3 weak.
+    pub fn ref_type(&mut self, object: u64) -> Answer<u64> {
+        value(unsafe { sys::luthrady_get_object_ref_type(&mut self.0, object) })
+    }
+
+    pub fn same(&mut self, left: u64, right: u64) -> Answer<bool> {
+        let same = value(unsafe { sys::luthrady_is_same_object(&mut self.0, left, right) })?;
+        Ok(same == 1)
+    }
+
+    pub fn ensure(&mut self, capacity: u32) -> Answer<()> {
+        nothing(unsafe { sys::luthrady_ensure_local_capacity(&mut self.0, capacity) })
+    }
+
+    pub fn push_frame(&mut self, capacity: u32) -> Answer<()> {
+        nothing(unsafe { sys::luthrady_push_local_frame(&mut self.0, capacity) })
+    }
+
+    pub fn pop_frame(&mut self, kept: u64) -> Answer<u64> {
+        value(unsafe { sys::luthrady_pop_local_frame(&mut self.0, kept) })
+    }
+
+    pub fn free_locals(&mut self) -> Answer<()> {
+        nothing(unsafe { sys::luthrady_free_locals(&mut self.0) })
+    }
+
+    pub fn new_plain(&mut self) -> Answer<u64> {
+        value(unsafe { sys::luthrady_new_plain(&mut self.0) })
+    }
+
+    pub fn new_array<E: Element>(&mut self, length: u32) -> Answer<u64> {
+        E::new_array(self, length)
+    }
+
+    pub fn new_objects(&mut self, length: u32, initial: u64) -> Answer<u64> {
+        value(unsafe { sys::luthrady_new_object_array(&mut self.0, length, initial) })
+    }
+
+    pub fn new_string(&mut self, units: &[u16]) -> Answer<u64> {
+        value(unsafe { sys::luthrady_new_string(&mut self.0, units.as_ptr(), units.len()) })
+    }
+
+    pub fn length(&mut self, array: u64) -> Answer<u32> {
+        let length = value(unsafe { sys::luthrady_get_array_length(&mut self.0, array) })?;
+        Ok(length as u32)
+    }
+
+    pub fn string_length(&mut self, string: u64) -> Answer<u32> {
+        let length = value(unsafe { sys::luthrady_get_string_length(&mut self.0, string) })?;
+        Ok(length as u32)
+    }
+
+    pub fn element(&mut self, array: u64, index: u32) -> Answer<u64> {
+        value(unsafe { sys::luthrady_get_object_array_element(&mut self.0, array, index) })
+    }
+
+    pub fn set_element(&mut self, array: u64, index: u32, value: u64) -> Answer<()> {
+        nothing(unsafe { sys::luthrady_set_object_array_element(&mut self.0, array, index, value) })
+    }
+
+    pub fn get<E: Element>(&mut self, array: u64, start: u32, to: &mut [E]) -> Answer<()> {
+        E::get(self, array, start, to)
+    }
+
+    pub fn set<E: Element>(&mut self, array: u64, start: u32, from: &[E]) -> Answer<()> {
+        E::set(self, array, start, from)
+    }
+
+    /// Makes calls between one entry at the gate and one exit, and writes each answer to its call.
+    pub fn batch(&mut self, calls: &mut [Call]) -> Answer<()> {
+        nothing(unsafe { sys::luthrady_batch(&mut self.0, calls.as_mut_ptr().cast(), calls.len()) })
+    }
+
+    pub fn collect(&mut self) -> Answer<Counts> {
+        let mut counts = Counts::default();
+        nothing(unsafe { sys::luthrady_collect(&mut self.0, &mut counts) })?;
+        Ok(counts)
+    }
+
+    /// Collects, announced first, with so many tries at the gate.
+    pub fn collect_announced(&mut self, tries: u32) -> Answer<Counts> {
+        let mut counts = Counts::default();
+        nothing(unsafe { sys::luthrady_collect_announced(&mut self.0, tries, &mut counts) })?;
+        Ok(counts)
+    }
+}
+
+impl Drop for Env {
+    fn drop(&mut self) {
+        let _ = self.detach();
+    }
+}

@@ -1,0 +1,96 @@
+//! What the crate adds to the functions: refusals as errors, envs that detach, and rooms that are released.
+
+use luthrady::{Answer, Call, Env, Fault, Operation, Room, Sizes};
+use std::error::Error;
+use std::thread;
+
+const SIZES: Sizes = Sizes {
+    threads: 2,
+    slots: 4,
+    objects: 4,
+    words: 8,
+    locals: 16,
+};
+
+#[test]
+fn a_refusal_is_an_error_with_text_and_numbers() -> Result<(), Box<dyn Error>> {
+    let mut room = Room::open(SIZES)?;
+    let mut env = room.attach()?;
+    env.new_array::<i32>(3)?;
+    let full = env.new_array::<i64>(6).unwrap_err();
+    assert_eq!(full, Fault::new(10, 3));
+    assert_eq!(
+        full.to_string(),
+        "E10: the request doesn't fit beside the words in use (3)"
+    );
+    let stale: Box<dyn Error> = Box::new(env.length(7).unwrap_err());
+    assert_eq!(stale.to_string(), "E2: no reference of this word stands");
+    Ok(())
+}
+
+#[test]
+fn elements_come_back_and_a_refused_read_leaves_the_slice() -> Answer<()> {
+    let mut room = Room::open(SIZES)?;
+    let mut env = room.attach()?;
+    let array = env.new_array::<i8>(4)?;
+    env.set(array, 1, &[-7i8, 9])?;
+    let mut read = [1i8; 4];
+    env.get(array, 0, &mut read)?;
+    assert_eq!(read, [0, -7, 9, 0]);
+    let mut part = [5i8; 2];
+    assert_eq!(env.get(array, 3, &mut part), Err(Fault::new(7, 0)));
+    assert_eq!(part, [5, 5]);
+    Ok(())
+}
+
+#[test]
+fn a_batch_answers_each_call() -> Answer<()> {
+    let mut room = Room::open(SIZES)?;
+    let mut env = room.attach()?;
+    let object = env.new_plain()?;
+    let mut calls = [
+        Call::new(Operation::GetObjectRefType, object, 0, 0),
+        Call::new(Operation::IsSameObject, object, 0, 0),
+        Call::new(Operation::GetArrayLength, object, 0, 0),
+    ];
+    env.batch(&mut calls)?;
+    assert_eq!(
+        calls.map(|it| it.answer()),
+        [Ok(1), Ok(0), Err(Fault::new(5, 0))]
+    );
+    Ok(())
+}
+
+#[test]
+fn a_dropped_env_is_detached_and_the_last_one_closes_the_room() -> Answer<()> {
+    let mut room = Room::open(SIZES)?;
+    let mut first = room.attach()?;
+    let mut second = room.attach()?;
+    assert_eq!(room.attach().unwrap_err(), Fault::new(21, 0));
+    room.release();
+    let object = second.new_plain()?;
+    let global = second.global(object)?;
+    let other = thread::spawn(move || -> Answer<u64> { first.ref_type(global) });
+    assert_eq!(other.join().unwrap()?, 2);
+    let stood = second.detach()?.expect("it is the last one");
+    assert_eq!((stood.globals, stood.live), (1, 1));
+    assert_eq!(second.new_plain(), Err(Fault::new(21, 0)));
+    assert_eq!(second.detach().unwrap_err(), Fault::new(21, 0));
+    Ok(())
+}
+
+#[test]
+fn sizes_outside_are_refused() {
+    let sizes = Sizes {
+        threads: 65,
+        ..SIZES
+    };
+    assert_eq!(Room::open(sizes).unwrap_err(), Fault::new(17, 0));
+}
+
+#[test]
+fn an_env_and_a_room_may_go_to_another_thread() {
+    fn crosses<T: Send>() {}
+    crosses::<Env>();
+    crosses::<Room>();
+}

@@ -1,0 +1,12 @@
+-- `is_null_room` asks whether the pointer is NULL.
+use Rattle.luthrady.specs.contracts.behind.is_null_room as f
+use Rattle.luthrady.specs.contracts.handles.RoomHandle.{the_type}
+use Rattle.luthrady.specs.contracts.held.Opened.{the_row}
+use Rattle.luthrady.proofs.behind.is_null_room.Statement.{statement}
+use Rattle.luthrady.proofs.behind.is_null_room.Code as code
+use Rattle.luthrady.proofs.Asking.{asks}
+
+pub is_null_room_spec : {M : Type 1} → statement M
+is_null_room_spec 𝓤 𝓛 𝓜 𝓡 wired =
+    asks the_type the_row (λ h. h.at) (λ h. h.alloc) (λ h. h.value) 𝓛 𝓜 𝓡
+    f.Key.name (code.unfolded 𝓤 𝓛.H 𝓜 𝓡 wired)

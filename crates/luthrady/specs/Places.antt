@@ -1,0 +1,46 @@
+-- What stands behind a handle's pointer.
+use Rattle.std.specs.Prelude.{◌==◌, ℕ, Bool, true, false, Option, None}
+use Rattle.std.specs.Global.{Box}
+use denote.RawPtr.{Ptr, block_ptr, null_ptr}
+use Rattle.luthrady.specs.declared.handles.EnvHandle.{EnvHandle}
+use Rattle.luthrady.specs.declared.handles.RoomHandle.{RoomHandle}
+use Rattle.luthrady.specs.declared.held.Attached.{Attached}
+use Rattle.luthrady.specs.declared.held.Native.{Native}
+
+-- what the place of a room begins with, and that of an env: eight letters in ASCII, `luthroom` and `luthrenv`
+abbrev pub room_mark : ℕ
+room_mark = 7815280720316690285
+
+abbrev pub env_mark : ℕ
+env_mark = 7815280720316034678
+
+-- whether a pointer is NULL
+abbrev pub is_null : Ptr → Bool
+is_null (block_ptr b o) = false
+is_null null_ptr = true
+
+-- a test of what stands behind a pointer: at NULL nothing does
+abbrev pub at_place : Ptr → Bool → Bool
+at_place (block_ptr b o) test = test
+at_place null_ptr test = false
+
+-- whether the place of a room stands behind a pointer, by its mark
+abbrev pub is_room : RoomHandle → Bool
+is_room h = at_place h.at (h.value.mark == room_mark)
+
+-- whether the place of an env stands behind a pointer, by its mark
+abbrev pub is_env : EnvHandle → Bool
+is_env h = at_place h.at (h.value.mark == env_mark)
+
+-- what was found, where the test was passed
+abbrev pub taken : {A : Type 0} → Bool → Option A → Option A
+taken true o = o
+taken false o = None
+
+-- the env in a place, by its mark: none once the thread was detached
+abbrev pub native_in : Attached → Option (Box Native)
+native_in a = taken (a.mark == env_mark) a.native
+
+-- THE ENV BEHIND A HANDLE: none at NULL, in another place than an env's, and once the thread was detached
+abbrev pub native_behind : EnvHandle → Option (Box Native)
+native_behind h = taken (is_env h) h.value.native
