@@ -95,11 +95,7 @@ fn comes_and_goes<Q: Site, S: StepsIn<Q> + Drop>(
 }
 
 /// Starts a thread that comes to the pool.
-fn start<
-    R: Threads,
-    Q: Site + Send + Sync + 'static,
-    S: StepsIn<Q> + Drop + Send + Sync + 'static,
->(
+fn start<R: Threads, Q: Site + Send + Sync + 'static, S: StepsIn<Q> + Drop + Send + 'static>(
     rt: &R,
     pool: &Arc<PoolOver<S>>,
     left: &Arc<Parcel<Q>>,
@@ -109,11 +105,7 @@ fn start<
 }
 
 /// More threads come to the pool than it has envs, and each goes, with the number of one of two threads.
-fn all_come<
-    R: Threads,
-    Q: Site + Send + Sync + 'static,
-    S: StepsIn<Q> + Drop + Send + Sync + 'static,
->(
+fn all_come<R: Threads, Q: Site + Send + Sync + 'static, S: StepsIn<Q> + Drop + Send + 'static>(
     rt: &R,
     alloc: Global,
     pool: &Arc<PoolOver<S>>,
