@@ -6,8 +6,7 @@ ghost use Rattle.jr_rule.specs.Passes.{known_of, Closes};
 use crate::owners::{AT_THE_END, THREE, closed_by_one, shares, takes_over};
 use jr::{
     Env, Fault, HandedOn, Handle, NoMessage, NoteOf, OwnedCode, OwnedStepsOf, Patience, QueueEnd,
-    RunsCode, Site, StepsIn, Summary, close_owned, of_any_site, spawn_owned,
-    with_patience,
+    RunsCode, Site, StepsIn, Summary, close_owned, of_any_site, spawn_owned, with_patience,
 };
 use std::test::Fail;
 use std::thread::{PromisedHandle, Threads};
