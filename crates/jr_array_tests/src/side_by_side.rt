@@ -73,11 +73,14 @@ fn writes_in_region<S: Steps>(env: &mut Env<S>, last: i64, number: i64) -> Resul
     let found = region.get::<i64>(0, 1);
     let written = region.set(0, 1, number);
     let read = region.get::<i64>(0, 1);
-    match region.release(Mode::Copy) {
-        None => {}
-        Some(_) => unreachable!(),
-    }
-    Ok(found == Ok(last) && written == Ok(()) && read == Ok(number))
+    let is_over = match region.release(Mode::Copy) {
+        None => true,
+        Some(region) => {
+            region.release_all();
+            false
+        }
+    };
+    Ok(is_over && found == Ok(last) && written == Ok(()) && read == Ok(number))
 }
 
 /// Opens a region over a new array so often, and writes there how many it opened. That is read at once, and in the next region.

@@ -104,23 +104,46 @@ fn start<R: Threads, Q: Site + Send + Sync + 'static, S: StepsIn<Q> + Drop + Sen
     Ok(thread::spawn(rt, move || comes_and_goes::<Q, S>(&*pool, &*left))?)
 }
 
-/// More threads come to the pool than it has envs, and each goes, with the number of one of two threads.
-fn all_come<R: Threads, Q: Site + Send + Sync + 'static, S: StepsIn<Q> + Drop + Send + 'static>(
+/// Starts more threads than the pool has envs.
+fn start_all<R: Threads, Q: Site + Send + Sync + 'static, S: StepsIn<Q> + Drop + Send + 'static>(
     rt: &R,
     alloc: Global,
     pool: &Arc<PoolOver<S>>,
-) -> Result<(), Fail> {
+) -> Result<Vec<JoinHandle<Result<u8, Fault>>>, AllocError> {
     let left = Arc::new(alloc, Mutex::new(None))?;
     let mut threads = Vec::with_capacity(alloc, COMERS)?;
     for _ in 0..COMERS {
         threads.push(start::<R, Q, S>(rt, pool, &left)?)?;
     }
-    for thread in threads {
+    Ok(threads)
+}
+
+/// Hands an env back where one was attached.
+fn detach_any<S: Steps + Drop>(attached: Option<AttachedOver<'_, S>>) -> Result<(), Fault> {
+    match attached {
+        Some(attached) => detach(attached),
+        None => Ok(()),
+    }
+}
+
+/// More threads come to the pool than it has envs, while this one holds both. Then each of them finds one, whose thread has the number of one of two, and goes.
+fn all_come<R: Threads, Q: Site + Send + Sync + 'static, S: StepsIn<Q> + Drop + Send + 'static>(
+    rt: &R,
+    alloc: Global,
+    pool: &Arc<PoolOver<S>>,
+) -> Result<(), Fail> {
+    let first = pool.attach();
+    let second = pool.attach();
+    let threads = start_all::<R, Q, S>(rt, alloc, pool);
+    let (first, second) = (detach_any(first), detach_any(second));
+    for thread in threads? {
         let number = thread.join(rt)?;
         if number >= 2 {
             return Err("a thread of another number")?;
         }
     }
+    first?;
+    second?;
     Ok(())
 }
 
