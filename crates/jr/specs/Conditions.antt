@@ -2,4 +2,4 @@
 pub use Rattle.jr_env.specs.Collections.{FitsRoom}
 pub use Rattle.jr_env.specs.Envs.{IsOutside}
 pub use Rattle.jr_rule.specs.Rooms.{AreInOneRoom, IsNoteThere, IsOfRoom, IsPinnedThere}
-pub use Rattle.jr_owned.specs.PoolRooms.{IsRoomOfSite, site_of}
+pub use Rattle.jr_owned.specs.PoolRooms.{IsRoomOfSite}

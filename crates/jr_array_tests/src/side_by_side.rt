@@ -2,7 +2,7 @@
 use crate::deletion_threads::{Side, delete_beside, make_contested};
 use crate::envs::leaves;
 use crate::overtaken::FIRST;
-use jr_env::{Env, NativeInterface};
+use jr_env::{Env, NativeInterface, Patience};
 use jr_fixtures::{LAST, NoPass, next_env};
 use jr_gate::shut_gate;
 use jr_model::{Mode, Summary};
@@ -67,35 +67,30 @@ const THREE: Config = Config {
     locals: 16,
 };
 
-/// Writes a number in a region over the first array of thread 1, and reads there what was written last. None where no region is opened, since another thread collects.
-fn writes_in_region<S: Steps>(env: &mut Env<S>, last: i64, number: i64) -> Option<bool> {
-    let Ok(mut region) = env.get_array_critical(FIRST) else {
-        return None;
-    };
+/// Writes a number in a region over the first array of thread 1, opened again while another thread collects, and reads there what was written last.
+fn writes_in_region<S: Steps>(env: &mut Env<S>, last: i64, number: i64) -> Result<bool, Fault> {
+    let mut region = env.retry_array_critical(FIRST, Patience::LONG)?;
     let found = region.get::<i64>(0, 1);
     let written = region.set(0, 1, number);
     let read = region.get::<i64>(0, 1);
-    match region.release(Mode::Copy) {
-        None => {}
-        Some(_) => unreachable!(),
-    }
-    Some(found == Ok(last) && written == Ok(()) && read == Ok(number))
+    let is_over = match region.release(Mode::Copy) {
+        None => true,
+        Some(region) => {
+            region.release_all();
+            false
+        }
+    };
+    Ok(is_over && found == Ok(last) && written == Ok(()) && read == Ok(number))
 }
 
-/// Opens a region over a new array so often, or until it has tried so often, and writes there how many it opened. How often that was read, at once and in the next region.
-fn write_often<S: Steps>(env: &mut Env<S>, regions: u32, tries: u32) -> Result<u32, Fault> {
-    let mut done = 0;
-    for _ in 0..tries {
-        if done >= regions {
-            break;
-        }
-        match writes_in_region(env, i64::from(done), i64::from(done) + 1) {
-            Some(true) => done += 1,
-            Some(false) => return Err(Fault::Value),
-            None => thread::yield_now(),
+/// Opens a region over a new array so often, and writes there how many it opened. That is read at once, and in the next region.
+fn write_often<S: Steps>(env: &mut Env<S>) -> Result<u32, Fault> {
+    for done in 0..REGIONS {
+        if !writes_in_region(env, i64::from(done), i64::from(done) + 1)? {
+            return Err(Fault::Value);
         }
     }
-    Ok(done)
+    Ok(REGIONS)
 }
 
 /// Shuts the gate and opens it again so often, or until it has tried so often. How often it was shut.
@@ -147,7 +142,7 @@ impl SideWork {
     fn work<S: Steps + Drop>(self, mut env: Env<S>) -> Result<u32, Fault> {
         match self {
             SideWork::Make => make_often(&mut env),
-            SideWork::Write => write_often(&mut env, REGIONS, TRIES),
+            SideWork::Write => write_often(&mut env),
             SideWork::Collect => {
                 let mut steps = env.into_pass();
                 Ok(collect_often(&mut steps, COLLECTIONS, TRIES))

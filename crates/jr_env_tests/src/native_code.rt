@@ -73,19 +73,38 @@ fn each_thread_made_an_object(rt: HostRuntime) -> Result<(), Fail> {
 struct Fills;
 
 /// What the queue answered to it.
-#[derive(Clone, Copy, Debug, PartialEq, Eq)]
+#[derive(Clone, Copy, PartialEq)]
 struct Queued {
-    empty: Option<NoMessage>,
-    too_many: Handle,
-    taken: [Handle; 2],
-    too_late: Handle,
-    over: Option<NoMessage>,
+    /// Of each message that was put, what came back.
+    back: [Option<Handle>; 4],
+    /// What was taken, or why nothing was.
+    taken: [Result<Handle, NoMessage>; 4],
+}
+
+/// Puts a handle: what came back.
+fn back<Q: Site, S: StepsIn<Q>>(
+    env: &mut Env<S>,
+    queue: &QueueEnd<'_, Handle, Q>,
+    handle: Handle,
+) -> Option<Handle> {
+    match queue.put(handle, env.note()) {
+        Ok(()) => None,
+        Err((handle, _)) => Some(handle),
+    }
+}
+
+/// Takes a handle.
+fn taken<Q: Site>(queue: &QueueEnd<'_, Handle, Q>) -> Result<Handle, NoMessage> {
+    match queue.take() {
+        Ok((handle, _)) => Ok(handle),
+        Err(why) => Err(why),
+    }
 }
 
 impl NativeCode for Fills {
     type Message = Handle;
 
-    type Answer = Option<Queued>;
+    type Answer = Queued;
 
     const PLACES: usize = 2;
 
@@ -94,47 +113,42 @@ impl NativeCode for Fills {
         _: u8,
         env: &mut Env<S>,
         queue: &mut QueueEnd<'_, Handle, Q>,
-    ) -> Option<Queued> {
-        let empty = queue.take().err();
-        queue.put(Handle(1), env.note()).ok()?;
-        queue.put(Handle(2), env.note()).ok()?;
-        let (too_many, _) = queue.put(Handle(3), env.note()).err()?;
-        let (first, _) = queue.take().ok()?;
-        let (second, _) = queue.take().ok()?;
+    ) -> Queued {
+        let empty = taken(queue);
+        let first = back(env, queue, Handle(1));
+        let second = back(env, queue, Handle(2));
+        let too_many = back(env, queue, Handle(3));
+        let oldest = taken(queue);
+        let next = taken(queue);
         queue.puts_no_more();
-        let (too_late, _) = queue.put(Handle(4), env.note()).err()?;
-        Some(Queued {
-            empty,
-            too_many,
-            taken: [first, second],
-            too_late,
-            over: queue.take().err(),
-        })
+        let too_late = back(env, queue, Handle(4));
+        Queued {
+            back: [first, second, too_many, too_late],
+            taken: [empty, oldest, next, taken(queue)],
+        }
     }
 }
 
 /// A queue of two places takes no third message, hands them out in their order, and is over once nobody puts.
 #[test]
 fn a_queue_is_full_and_comes_to_its_end(rt: HostRuntime) -> Result<(), Fail> {
-    let ran = run_native(
-        &rt,
-        rt.alloc(),
-        Config {
-            threads: 1,
-            ..SIZES
-        },
-        &Fills,
-    )?;
+    let one = Config {
+        threads: 1,
+        ..SIZES
+    };
+    let ran = run_native(&rt, rt.alloc(), one, &Fills)?;
     let queued = Queued {
-        empty: Some(NoMessage::Yet),
-        too_many: Handle(3),
-        taken: [Handle(1), Handle(2)],
-        too_late: Handle(4),
-        over: Some(NoMessage::More),
+        back: [None, None, Some(Handle(3)), Some(Handle(4))],
+        taken: [
+            Err(NoMessage::Yet),
+            Ok(Handle(1)),
+            Ok(Handle(2)),
+            Err(NoMessage::More),
+        ],
     };
     assert!(rt; ran.answers.len() == 1);
     for answer in ran.answers {
-        assert!(rt; answer == Some(queued));
+        assert!(rt; answer == queued);
     }
     Ok(())
 }

@@ -6,14 +6,10 @@ ghost use Rattle.jr_rule.specs.Passes.{known_of, Closes};
 use crate::owners::{AT_THE_END, THREE, closed_by_one, shares, takes_over};
 use jr::{
     Env, Fault, HandedOn, Handle, NoMessage, NoteOf, OwnedCode, OwnedStepsOf, Patience, QueueEnd,
-    RunsCode, Site, StepsIn, Summary, close_owned, of_any_site, spawn_owned,
+    RunsCode, Site, StepsIn, Summary, close_owned, of_any_site, spawn_owned, with_patience,
 };
 use std::test::Fail;
-use std::thread;
 use std::thread::{PromisedHandle, Threads};
-
-/// In how many turns a thread looks for what its neighbour sent.
-const TURNS: u32 = 10_000_000;
 
 /// A global reference, and the number of the thread that sent it.
 #[derive(Clone, Copy)]
@@ -43,17 +39,22 @@ fn puts<Q: Site>(queue: &QueueEnd<'_, Sent, Q>, sent: Sent, note: NoteOf<Q>) -> 
         .map_err(|_| Fault::Turns)
 }
 
-/// What the thread of this number sent, with its note, once it is there. What others sent is put back.
-fn taken<Q: Site>(queue: &QueueEnd<'_, Sent, Q>, from: u8) -> Result<(Sent, NoteOf<Q>), Fault> {
-    for _ in 0..TURNS {
-        match queue.take() {
-            Ok((sent, note)) if sent.from == from => return Ok((sent, note)),
-            Ok((sent, note)) => puts(queue, sent, note)?,
-            Err(NoMessage::Yet) => thread::yield_now(),
-            Err(NoMessage::More) => return Err(Fault::Turns),
+/// The oldest message with its note, where the thread of this number sent it. What another sent is put back: E13, as where none is there yet.
+fn takes<Q: Site>(queue: &QueueEnd<'_, Sent, Q>, from: u8) -> Result<(Sent, NoteOf<Q>), Fault> {
+    match queue.take() {
+        Ok((sent, note)) if sent.from == from => Ok((sent, note)),
+        Ok((sent, note)) => {
+            puts(queue, sent, note)?;
+            Err(Fault::Barred)
         }
+        Err(NoMessage::Yet) => Err(Fault::Barred),
+        Err(NoMessage::More) => Err(Fault::Turns),
     }
-    Err(Fault::Turns)
+}
+
+/// What the thread of this number sent, with its note, once it is there.
+fn taken<Q: Site>(queue: &QueueEnd<'_, Sent, Q>, from: u8) -> Result<(Sent, NoteOf<Q>), Fault> {
+    with_patience(&mut (), Patience::LONG, |_| takes(queue, from))
 }
 
 /// Learns a note of its own, which is pinned, and which no other thread has.

@@ -3,16 +3,17 @@ ghost use Rattle.jr.specs.Conditions.{IsRoomOfSite};
 
 use crate::owners::shares;
 use jr::{
-    Attached, Config, Env, EnvPool, Explains, Fault, Handle, NativeInterface, NoteOf, OwnedStepsOf,
-    Patience, PoolRoom, Site, Steps, StepsIn, Summary, close_owned, of_any_site,
+    AttachedOver, Config, Env, EnvPool, Explains, Fault, Handle, NativeInterface, NoteOf,
+    OwnedStepsOf, Patience, PoolOver, PoolRoom, Site, Steps, StepsIn, Summary, close_owned,
+    of_any_site,
 };
 use jr_fixtures::is_refused;
-use std::alloc::Global;
+use std::alloc::{AllocError, Global};
 use std::marker::Brand;
 use std::sync::{Arc, Mutex};
 use std::test::Fail;
 use std::thread;
-use std::thread::Threads;
+use std::thread::{JoinHandle, Threads};
 
 /// A room in which two threads may be attached at a time.
 const TWO: Config = Config {
@@ -25,9 +26,6 @@ const TWO: Config = Config {
 
 /// How many threads come and go.
 const COMERS: usize = 7;
-
-/// In how many turns a thread looks for an env.
-const TURNS: u32 = 10_000_000;
 
 /// What stands at the end: an array of three elements and a global reference to it of each thread.
 const AT_THE_END: Summary = Summary {
@@ -73,7 +71,7 @@ fn works<Q: Site, S: StepsIn<Q>>(env: &mut Env<S>, left: &Parcel<Q>) -> Result<u
 }
 
 /// Hands an env back: E13 where it is refused, and then it is gone.
-fn detach<Q: Site>(attached: Attached<'_, Q>) -> Result<(), Fault> {
+fn detach<S: Steps + Drop>(attached: AttachedOver<'_, S>) -> Result<(), Fault> {
     match attached.detach(Patience::LONG) {
         Ok(()) => Ok(()),
         Err((attached, fault)) => {
@@ -84,20 +82,72 @@ fn detach<Q: Site>(attached: Attached<'_, Q>) -> Result<(), Fault> {
 }
 
 /// A thread that comes, works, and goes: the number of the env's thread. E20 where it finds no env.
-fn comes_and_goes<Q: Site>(pool: &EnvPool<Q>, left: &Parcel<Q>) -> Result<u8, Fault> {
-    for _ in 0..TURNS {
-        let Some(mut attached) = pool.attach() else {
-            thread::yield_now();
-            continue;
-        };
-        let answer = works(&mut *attached.env, left);
-        detach(attached)?;
-        return answer;
-    }
-    Err(Fault::Turns)
+fn comes_and_goes<Q: Site, S: StepsIn<Q> + Drop>(
+    pool: &PoolOver<S>,
+    left: &Parcel<Q>,
+) -> Result<u8, Fault> {
+    let Some(mut attached) = pool.retry_attach(Patience::LONG) else {
+        return Err(Fault::Turns);
+    };
+    let answer = works(&mut *attached.env, left);
+    detach(attached)?;
+    answer
 }
 
-/// More threads come to the pool of the site's room than it has envs. What stands behind them all, where no thread's number is too big.
+/// Starts a thread that comes to the pool.
+fn start<R: Threads, Q: Site + Send + Sync + 'static, S: StepsIn<Q> + Drop + Send + 'static>(
+    rt: &R,
+    pool: &Arc<PoolOver<S>>,
+    left: &Arc<Parcel<Q>>,
+) -> Result<JoinHandle<Result<u8, Fault>>, AllocError> {
+    let (pool, left) = (Arc::try_clone(pool)?, Arc::try_clone(left)?);
+    Ok(thread::spawn(rt, move || comes_and_goes::<Q, S>(&*pool, &*left))?)
+}
+
+/// Starts more threads than the pool has envs.
+fn start_all<R: Threads, Q: Site + Send + Sync + 'static, S: StepsIn<Q> + Drop + Send + 'static>(
+    rt: &R,
+    alloc: Global,
+    pool: &Arc<PoolOver<S>>,
+) -> Result<Vec<JoinHandle<Result<u8, Fault>>>, AllocError> {
+    let left = Arc::new(alloc, Mutex::new(None))?;
+    let mut threads = Vec::with_capacity(alloc, COMERS)?;
+    for _ in 0..COMERS {
+        threads.push(start::<R, Q, S>(rt, pool, &left)?)?;
+    }
+    Ok(threads)
+}
+
+/// Hands an env back where one was attached.
+fn detach_any<S: Steps + Drop>(attached: Option<AttachedOver<'_, S>>) -> Result<(), Fault> {
+    match attached {
+        Some(attached) => detach(attached),
+        None => Ok(()),
+    }
+}
+
+/// More threads come to the pool than it has envs, while this one holds both. Then each of them finds one, whose thread has the number of one of two, and goes.
+fn all_come<R: Threads, Q: Site + Send + Sync + 'static, S: StepsIn<Q> + Drop + Send + 'static>(
+    rt: &R,
+    alloc: Global,
+    pool: &Arc<PoolOver<S>>,
+) -> Result<(), Fail> {
+    let first = pool.attach();
+    let second = pool.attach();
+    let threads = start_all::<R, Q, S>(rt, alloc, pool);
+    let (first, second) = (detach_any(first), detach_any(second));
+    for thread in threads? {
+        let number = thread.join(rt)?;
+        if number >= 2 {
+            return Err("a thread of another number")?;
+        }
+    }
+    first?;
+    second?;
+    Ok(())
+}
+
+/// More threads come to the pool of the site's room than it has envs. What stands behind them all.
 fn serves<R: Threads, Q: Site + Send + Sync + 'static>(
     rt: &R,
     alloc: Global,
@@ -106,18 +156,7 @@ fn serves<R: Threads, Q: Site + Send + Sync + 'static>(
     requires { IsRoomOfSite Q.room room }
 {
     let pool = Arc::new(alloc, EnvPool::<Q>::of(alloc, room)?)?;
-    let left = Arc::new(alloc, Mutex::new(None))?;
-    let mut threads = Vec::with_capacity(alloc, COMERS)?;
-    for _ in 0..COMERS {
-        let (pool, left) = (Arc::try_clone(&pool)?, Arc::try_clone(&left)?);
-        threads.push(thread::spawn(rt, move || { comes_and_goes::<Q>(&*pool, &*left) })?)?;
-    }
-    for thread in threads {
-        let number = thread.join(rt)?;
-        if number >= 2 {
-            return Err("a thread of another number")?;
-        }
-    }
+    all_come::<R, Q, OwnedStepsOf<Q>>(rt, alloc, &pool)?;
     let Some(pool) = Arc::into_inner(pool) else {
         return Err("a thread has the pool still")?;
     };
@@ -135,7 +174,7 @@ fn threads_come_and_go(rt: HostRuntime) -> Result<(), Fail> {
 }
 
 /// The env of a pool in which one is free: E21 where none is.
-fn attached<Q: Site>(pool: &EnvPool<Q>) -> Result<Attached<'_, Q>, Fault> {
+fn attached<S: Steps + Drop>(pool: &PoolOver<S>) -> Result<AttachedOver<'_, S>, Fault> {
     pool.attach().ok_or(Fault::NotFresh)
 }
 
@@ -146,7 +185,7 @@ fn makes_in_a_frame<S: Steps>(env: &mut Env<S>) -> Result<Handle, Fault> {
 }
 
 /// Makes a local reference in a frame of its own, and goes: a handle that was let go.
-fn leaves_a_local<Q: Site>(pool: &EnvPool<Q>) -> Result<Handle, Fault> {
+fn leaves_a_local<S: Steps + Drop>(pool: &PoolOver<S>) -> Result<Handle, Fault> {
     let mut attached = attached(pool)?;
     let local = makes_in_a_frame(&mut *attached.env);
     detach(attached)?;
@@ -183,7 +222,7 @@ fn stays_gone<S: Steps>(env: &mut Env<S>, word: Handle) -> Result<bool, Fault> {
 }
 
 /// Whether a handle of an earlier thread is no reference of the next one, also once that has made another at its place, and that has no frame to pop.
-fn finds_nothing<Q: Site>(pool: &EnvPool<Q>, local: Handle) -> Result<bool, Fault> {
+fn finds_nothing<S: Steps + Drop>(pool: &PoolOver<S>, local: Handle) -> Result<bool, Fault> {
     let mut attached = attached(pool)?;
     let found = stays_gone(&mut *attached.env, local);
     detach(attached)?;
@@ -191,10 +230,10 @@ fn finds_nothing<Q: Site>(pool: &EnvPool<Q>, local: Handle) -> Result<bool, Faul
 }
 
 /// Takes an env out of the pool while the other is held. E20 where a third is handed out.
-fn takes_one<Q: Site>(pool: &EnvPool<Q>) -> Result<Env<OwnedStepsOf<Q>>, Fault> {
+fn takes_one<S: Steps + Drop>(pool: &PoolOver<S>) -> Result<Env<S>, Fault> {
     let first = attached(pool)?;
     let second = pool.attach();
-    let third = pool.attach();
+    let third = pool.retry_attach(Patience::of(2));
     let detached = detach(first);
     let is_full = third.is_none();
     if let Some(third) = third {
@@ -208,6 +247,16 @@ fn takes_one<Q: Site>(pool: &EnvPool<Q>) -> Result<Env<OwnedStepsOf<Q>>, Fault> 
     if is_full { Ok(env) } else { Err(Fault::Turns) }
 }
 
+/// The env that is taken out of the pool behind two threads, of which the second finds nothing of the first. E20 where it does.
+fn serves_in_turn<S: Steps + Drop>(pool: &PoolOver<S>) -> Result<Env<S>, Fault> {
+    let local = leaves_a_local(pool)?;
+    if finds_nothing(pool, local)? {
+        takes_one(pool)
+    } else {
+        Err(Fault::Turns)
+    }
+}
+
 /// What the close of a pool says whose other env was taken out of it, and what that env's owner says behind it. E20 where the next thread finds what an earlier one left.
 fn serves_one_at_a_time<Q: Site>(
     alloc: Global,
@@ -216,14 +265,10 @@ fn serves_one_at_a_time<Q: Site>(
     requires { IsRoomOfSite Q.room room }
 {
     let pool = EnvPool::<Q>::of(alloc, room)?;
-    let local = leaves_a_local(&pool)?;
-    if !finds_nothing(&pool, local)? {
-        return Err(Fault::Turns);
-    }
-    let env = takes_one(&pool)?;
-    let others = pool.close().map_err(|left| left.fault)?;
-    let closed = close_owned(of_any_site(env.into_pass())).map_err(|left| left.fault)?;
-    Ok((others, closed))
+    let taken = serves_in_turn(&pool);
+    let others = pool.close().map_err(|left| left.fault);
+    let closed = close_owned(of_any_site(taken?.into_pass())).map_err(|left| left.fault)?;
+    Ok((others?, closed))
 }
 
 /// An env serves one thread at a time, and the next finds nothing of it. One that was taken out owns the room behind the close.

@@ -1,12 +1,9 @@
 -- A room that was opened for a pool, and a type that stands for it.
-use Rattle.std.specs.Prelude.{◌≡◌, Option, Some}
+use Rattle.std.specs.Prelude.{Option}
 use Rattle.atomic_table.specs.Seated.{TableId}
+use Rattle.jr_threads.specs.Sites.{IsSiteRoom}
 use Rattle.jr_owned.specs.declared.pool_room.PoolRoom.{PoolRoom}
 
--- what a type that stands for the room says it is
-abbrev pub site_of : PoolRoom → Option TableId
-site_of p = Some p.room.row.table.shared.table_id
-
--- THE ROOM IS THE SITE'S
+-- THE ROOM IS THE SITE'S, whatever its sizes
 abbrev pub IsRoomOfSite : Option TableId → PoolRoom → Type 0
-IsRoomOfSite site p = site_of p ≡ site
+IsRoomOfSite site p = IsSiteRoom site p.room.row.config p.room

@@ -19,6 +19,7 @@ use jr_steps::Steps;
 use jr_word::Fault;
 use std::alloc::{AllocError, Global};
 use std::sync::{Arc, Mutex, MutexGuard};
+use std::thread;
 
 /// An env that no thread holds.
 #[derive(Drop)]
@@ -128,6 +129,25 @@ impl<S: Steps + Drop> PoolOver<S> {
             }
         }
         None
+    }
+
+    /// An env as `attach` hands out, and again while others hold each, but no more often than there is patience for. The last answer is the answer. Between two tries it does nothing but yield, where the patience does.
+    ///
+    /// # Operations
+    ///
+    /// None.
+    pub fn retry_attach(&self, patience: Patience) -> Option<AttachedOver<'_, S>>
+        ensures { IfSome result (λ a. IsIdle a.env.value) }
+    {
+        for _ in 0..patience.more {
+            if let Some(attached) = self.attach() {
+                return Some(attached);
+            }
+            if patience.yields {
+                thread::yield_now();
+            }
+        }
+        self.attach()
     }
 }
 

@@ -3,7 +3,7 @@ ghost use Rattle.std.specs.Prelude.{All};
 ghost use Rattle.jr_rule.specs.Passes.{IsOpened};
 
 use jr_env::calls::{DeleteGlobalRef, DeleteLocalRef, GetObjectRefType, SetArrayRegion};
-use jr_env::{Env, NativeInterface, Patience, with_patience};
+use jr_env::{Env, NativeInterface, Patience, is_short_of_room, with_patience};
 use jr_fixtures::{LAST, NoPass, closed, collected, next_env, next_pass};
 use jr_model::Summary;
 use jr_rule::{Pass, Room};
@@ -78,18 +78,19 @@ fn collect<S: Steps>(alloc: Global, env: &mut Env<S>, how: How) -> Result<Collec
     }
 }
 
-/// A new array, as soon as nobody collects and there is room; where there is none the thread collects itself.
-fn make<S: Steps>(alloc: Global, env: &mut Env<S>, how: How) -> Result<Handle, Fault> {
-    for _ in 0..TRIES {
-        match env.new_array::<i64>(2) {
-            Ok(array) => return Ok(array),
-            Err(Fault::SpaceFull(_) | Fault::ObjectsFull) => {
-                let _ = collect(alloc, env, how);
-            }
-            Err(_) => thread::yield_now(),
-        }
+/// A new array, where there is room; where there is none the thread collects.
+fn make_once<S: Steps>(alloc: Global, env: &mut Env<S>, how: How) -> Result<Handle, Fault> {
+    let made = env.new_array::<i64>(2);
+    if is_short_of_room(&made) {
+        let _ = collect(alloc, env, how);
     }
-    Err(Fault::Turns)
+    made
+}
+
+/// A new array, as soon as nobody collects and there is room.
+fn make<S: Steps>(alloc: Global, env: &mut Env<S>, how: How) -> Result<Handle, Fault> {
+    let patience = Patience::LONG.waiting_for_room();
+    with_patience(env, patience, |env| make_once(alloc, env, how))
 }
 
 /// Deletes a reference, as soon as nobody collects.

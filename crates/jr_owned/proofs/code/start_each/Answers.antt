@@ -1,4 +1,4 @@
-use Rattle.std.proofs.Common.{◌≡◌, ◌≤◌, ◌++◌, ◌∷◌, [], ◌∙◌, ap, arith, length, map, rules, subst, sym}
+use Rattle.std.proofs.Common.{◌≡◌, ◌≤◌, ◌++◌, ◌∷◌, [], ◌∙◌, ap, arith, length, map, rules, subst, sym, Some}
 use Rattle.std.specs.Arc.{arc_value}
 use Rattle.std.specs.List.{All}
 use Rattle.std.proofs.lemmas.List.Elements.{All-head, All-nil, All-push, All-rest, All-same}
@@ -39,6 +39,11 @@ start-requires-clause-opened g c κs within =
     let more : c.loop-pass.pass-iterator.rest.items ≡ c.in-Some.pass ∷ c.next.new.self.rest.items = search rules in
     subst (λ (r : Room 4294967295). IsOpened r.row c.in-Some.pass) (sym c.loop-pass.invariant.0)
     (All-head opens c.in-Some.pass c.next.new.self.rest.items (subst (All opens) more c.loop-pass.invariant.1.1.0))
+
+pub start-requires-clause-site : goal.start-requires-clause-site
+start-requires-clause-site g c κs within =
+    subst (λ (r : Room 4294967295). Some r.row.table.shared.table_id ≡ g.Q.Site.room) (sym c.loop-pass.invariant.0)
+    c.requires.site
 
 pub push_reserved-requires : goal.push_reserved-requires
 push_reserved-requires g c =
