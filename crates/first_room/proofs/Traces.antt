@@ -1,44 +1,184 @@
--- What the two threads did, by which of it makes arrays of ints or writes.
-use Rattle.std.proofs.Common.{ℕ, List, [], ◌∷◌, ◌++◌}
+-- What the two threads did, by which of their acts make an array of ints, or write an element.
+use Rattle.std.proofs.Common.{◌≡◌, ◌∙◌, ◌++◌, ◌≤◌, inl, inr, ℕ, Option, List, [], ◌∷◌, Result, Ok, Err, ap, refl, subst}
+use Rattle.std.proofs.Common.{sym}
+use Rattle.std.proofs.lemmas.List.{append-nil}
+use Rattle.std.specs.Int.{w32}
+use mathlib.Core.List.{IsPrefix}
+use Rattle.jr_word.specs.declared.config.Config.{Config}
+use Rattle.jr_word.specs.declared.fault.Fault.{Fault}
+use Rattle.jr_word.specs.declared.fault.Fault.TheVariants.{Busy}
+use Rattle.jr_word.specs.declared.handle.RefKind.TheVariants.{Global, Weak}
+use Rattle.jr_word.specs.declared.kind.Kind.TheVariants.{Int, Long}
+use Rattle.jr_word.specs.Elem.{signed_of}
 use Rattle.jr_model.specs.declared.event.Act.{Act}
-use Rattle.jr_model.specs.declared.event.Act.TheVariants.{Gate, Read, Write}
+use Rattle.jr_model.specs.declared.event.Act.TheVariants.{Gate, New, Read}
 use Rattle.jr_model.specs.declared.event.GateAct.TheVariants.{Leave}
-use Rattle.jr_model.specs.History.{Did, PassView, state}
+use Rattle.jr_model.specs.Calls.{Call}
+use Rattle.jr_model.specs.Checks.{Word}
+use Rattle.jr_model.specs.History.{Did, History, PassView, state}
+use Rattle.jr_model.specs.Parts as parts
+use Rattle.jr_model.specs.AllCalls as calls
+use Rattle.jr_model.specs.Programs.{AnswerKind, Program, handed_none, handed_one, none_known}
+use Rattle.jr_model.specs.CallPrograms as programs
+use Rattle.jr_model.specs.RefusedCalls.{ChangesNothing}
+use Rattle.jr_model.proofs.EachCall.{refused_parts_change_nothing}
 use Rattle.jr_model.proofs.Stays.{did_then}
-use Rattle.first_room.proofs.Answered.{MakesOne}
-use Rattle.first_room.proofs.Ints.{HasInts}
-use Rattle.first_room.proofs.Sparing.{Untouching, append_none}
+use Rattle.jr_gate.specs.Performing.{IsMade, ThreadState}
+use Rattle.jr_weak.specs.declared.collecting.Collected.{Collected}
+use Rattle.jr_env.specs.Collections.{announced_collection}
+use Rattle.jr_env.specs.Deeds.{call_apart, whole}
+use Rattle.jr_env.specs.Remedies.{collection_in_turn, refused_once, served_now, tried_last}
+use Rattle.jr_env.specs.Requests.{Request, asks, for_delete_reference, for_get_object_ref_type, for_is_same_object}
+use Rattle.jr_env.specs.Requests.{for_new_array, for_new_object_array, for_new_plain, for_new_reference}
+use Rattle.jr_env.specs.Requests.{for_pop_local_frame, gives, named, on_word, on_words, told_by}
+use Rattle.first_room.specs.declared.TheConstants.{TRIES}
+use Rattle.first_room.specs.declared.message.Found.{Found}
+use Rattle.first_room.specs.declared.message.Found.TheVariants.{Shared, Visited}
+use Rattle.first_room.specs.Calls.{HasPrepared, preparing, sharing, visiting}
+use Rattle.first_room.proofs.Arrays.{filling}
+use Rattle.first_room.proofs.Touching.{Fills, Have, HasInts, None_of, One_of, ProgramTouches, Touches, collected_none}
+use Rattle.first_room.proofs.Touching.{fills_so, in_region, in_stay, program_so, refused_none, touching, touching_append}
 
--- NOTHING OF IT DOES, between two moments
-pub record IsQuiet (old new : PassView) : Type 0 where
+-- A THREAD DID, of these acts, just these
+pub record Did_so (l : List Act) (old new : PassView) : Type 0 where
   pub acts : List Act
   pub did : Did old new acts
-  pub none : Untouching acts
+  pub so : touching acts ≡ l
 
-pub quiet_then : {a b c : PassView} → IsQuiet a b → IsQuiet b c → IsQuiet a c
-quiet_then p q = record {
+pub so_then : {l m : List Act} {a b c : PassView} → Did_so l a b → Did_so m b c → Did_so (l ++ m) a c
+so_then {l} {m} p q = record {
   acts = p.acts ++ q.acts;
   did = did_then p.acts q.acts p.did q.did;
-  none = append_none p.acts q.acts p.none q.none;
+  so = touching_append p.acts q.acts ∙ (ap (λ x. x ++ touching q.acts) p.so ∙ ap (λ x. l ++ x) q.so);
 }
 
--- THE FIRST THREAD made an array of ints, and then wrote three elements of one, and nothing else of it does
+same_end : {l : List Act} {a : PassView} {b c : ThreadState} → c ≡ b → Did_so l a b.pass → Did_so l a c.pass
+same_end {l} {a} is = subst (λ (z : ThreadState). Did_so l a z.pass) (sym is)
+
+-- a call that was answered
+made_so : {A : Type 0} {P : List Act → Type 0} {silent : ℕ} {old new : ThreadState} {x : A} {call : Call A}
+    → Touches P call → IsMade silent old new call (Ok x) → (l : List Act) × Did_so l old.pass new.pass × P l
+made_so {old = old} {new = new} {x = x} t m =
+    let h = t.goes old.frames new.frames m.ran.acts x m.ran.is in
+    (touching m.ran.acts, record { acts = m.ran.acts; did = m.ran.did; so = refl }, h.so)
+
+-- and one that was refused
+refused_so : {A : Type 0} {silent : ℕ} {old new : ThreadState} {e : Fault} {call : Call A} → ChangesNothing call
+    → IsMade silent old new call (Err e) → Did_so [] old.pass new.pass
+refused_so {e = e} safe m = record { acts = m.ran.acts; did = m.ran.did; so = refused_none e safe m.ran.is }
+
+-- WHAT A WHOLE CALL does, by its request
+abbrev pub RequestTouches : {A : Type 0} → Request A → List Act → Type 0
+RequestTouches (asks silent words p) l = ProgramTouches p l
+RequestTouches (on_word w next) l = (a : Word) × RequestTouches (next a) l
+RequestTouches (on_words v w next) l = (a b : Word) × RequestTouches (next a b) l
+RequestTouches (gives form first) l = RequestTouches first l
+RequestTouches (told_by form first) l = RequestTouches first l
+RequestTouches (named name first) l = RequestTouches first l
+
+whole_so : {A : Type 0} (request : Request A) (old new : ThreadState) (x : A) → whole request old (Ok x) new
+    → (l : List Act) × Did_so l old.pass new.pass × RequestTouches request l
+whole_so (asks silent words p) old new x was =
+    let c = old.pass in
+    made_so (in_stay (program_so c.config c.last c.thread words (state new.pass.seen) p none_known 0)) was.0
+whole_so (on_word w next) old new x was = let z = whole_so (next was.0) old new x was.2 in (z.0, z.1, (was.0, z.2))
+whole_so (on_words v w next) old new x was =
+    let z = whole_so (next was.0 was.1) old new x was.4 in (z.0, z.1, (was.0, was.1, z.2))
+whole_so (gives form first) old new x (inl was) =
+    let z = whole_so first old was.1 was.0 was.2 in (z.0, same_end was.3.1 z.1, z.2)
+whole_so (gives form first) old new x (inr was) = absurd (let bad = was.1 in cc)
+whole_so (told_by form first) old new x was = whole_so first old new (form x) was
+whole_so (named name first) old new x was = whole_so first old new x was
+
+-- that it does nothing of the sort
+quiet : {A : Type 0} (request : Request A) → ((l : List Act) → RequestTouches request l → l ≡ [])
+    → {old new : ThreadState} {x : A} → whole request old (Ok x) new → Did_so [] old.pass new.pass
+quiet request none {old} {new} {x} was = let z = whole_so request old new x was in
+    subst (λ l. Did_so l old.pass new.pass) (none z.0 z.2) z.1
+
+-- nor a call that enters no gate
+pushed : (n : ℕ) {old new : ThreadState} → call_apart (programs.push_local_frame n) old (Ok tt) new
+    → Did_so [] old.pass new.pass
+pushed n {old} {new} was =
+    let c = old.pass in
+    let z = made_so (program_so c.config c.last c.thread handed_none (state new.pass.seen) (programs.push_local_frame n)
+    none_known 0) was.0 in
+    subst (λ l. Did_so l old.pass new.pass) z.2 z.1
+
+-- nor collections
+announced : (old new : ThreadState) (r : Result Collected Fault) → announced_collection TRIES old r new
+    → Did_so [] old.pass new.pass
+announced old new (Ok c) turn =
+    let ran = turn.done.ran in
+    record { acts = ran.acts; did = ran.did; so = ((collected_none TRIES).goes _ _ ran.acts _ ran.is).so }
+announced old new (Err e) turn = refused_so (refused_parts_change_nothing old.pass.config old.pass.last
+    old.pass.thread (state new.pass.seen) _ (calls.PartOf.collect_announced TRIES)) turn.made
+
+in_turn : {more : ℕ} {old new : ThreadState} {r : Result Collected Fault} → collection_in_turn TRIES more old r new
+    → Did_so [] old.pass new.pass
+in_turn (served_now {old = old} {new = new} {x = x} turn) = announced old new (Ok x) turn
+in_turn (refused_once {old = old} {mid = mid} {e = e} turn rest) = so_then (announced old mid (Err e) turn) (in_turn rest)
+in_turn (tried_last {old = old} {new = new} {answer = answer} turn) = announced old new answer turn
+
+-- THE FIRST THREAD HAD MADE AN ARRAY OF INTS, and then written into one, and done nothing else of the sort
 pub record IsTraced (start stop : PassView) : Type 0 where
   pub o : ℕ
-  pub acts : List Act
-  pub makes : MakesOne o acts
   pub p : ℕ
   pub filled : PassView
-  pub fills : Did start filled (acts ++ Write p 0 10 ∷ Write p 1 20 ∷ Write p 2 30 ∷ Gate Leave ∷ [])
+  pub fills : Did_so (filling o p) start filled
   pub ints : HasInts p (state filled.seen)
-  pub ends : IsQuiet filled stop
+  pub ends : Did_so [] filled stop
 
--- THE SECOND THREAD read the second element of an array of ints, and nothing of what it did does
-pub record HasRead (x : ℕ) (old new : PassView) : Type 0 where
+pub traced : (old new : ThreadState) (x : ℕ × ℕ) → preparing old (Ok x) new → IsTraced old.pass new.pass
+traced old new x (inr r) = absurd (let bad = r.1 in cc)
+traced old new x (inl (u, a, d1, inr r)) = absurd (let bad = r.1 in cc)
+traced old new x (inl (u, a, d1, inl (lost, b, d2, inr r))) = absurd (let bad = r.1 in cc)
+traced old new x (inl (u, a, d1, inl (lost, b, d2, inl (weak, c, d3, inr r)))) = absurd (let bad = r.1 in cc)
+traced old new x (inl (u, a, d1, inl (lost, b, d2, inl (weak, c, d3, inl (array, d, d4, inr r))))) =
+    absurd (let bad = r.1 in cc)
+traced old new x (inl (u, a, d1, inl (lost, b, d2, inl (weak, c, d3, inl (array, d, d4, inl (v, e, d5, inr r)))))) =
+    absurd (let bad = r.1 in cc)
+traced old new x (inl (u, a, d1, inl (lost, b, d2, inl (weak, c, d3, inl (array, d, d4, inl (v, e, d5, inl (global, f,
+    d6, inr r))))))) = absurd (let bad = r.1 in cc)
+traced old new x (inl (u, a, d1, inl (lost, b, d2, inl (weak, c, d3, inl (array, d, d4, inl (v, e, d5, inl (global, f,
+    d6, inl (popped, g, d7, end)))))))) =
+    let one = whole_so (for_new_array Int 3) c d array d4 in
+    let two = made_so (in_stay (fills_so d.pass.config d.pass.last d.pass.thread (state e.pass.seen) d5.0)) d5.2.0 in
+    let first = so_then (pushed 4 d1) (so_then (quiet (for_new_array Long 4) (λ l t. t.1) d2)
+    (quiet (for_new_reference Weak lost.0) (λ l t. t.1) d3)) in
+    record {
+      o = one.2.0;
+      p = two.2.0;
+      filled = e.pass;
+      fills = subst (λ l. Did_so l old.pass e.pass) (λ i. one.2.1 i ++ two.2.2 i) (so_then first (so_then one.1 two.1));
+      ints = two.2.1;
+      ends = same_end end.1 (so_then (quiet (for_new_reference Global array.0) (λ l t. t.1) d6)
+          (quiet (for_pop_local_frame 0) (λ l t. t.1) d7));
+    }
+
+-- ALL THAT IT DID: it prepared, and then nothing of the sort; and a collection of it was refused, by one at least
+pub record HasShared (y : Found) (start stop : PassView) : Type 0 where
+  pub inside : ℕ
+  pub is : (cleared : _) × (kind : ℕ) × (y ≡ Shared inside cleared kind)
+  pub some : 1 ≤ inside
+  pub mid : PassView
+  pub traced : IsTraced start mid
+  pub ends : Did_so [] mid stop
+
+-- THE SECOND THREAD was handed the word, and read the second element of an array of ints
+pub record HasVisited (y : Found) (sizes : Config) (start stop : PassView) : Type 0 where
+  pub word : ℕ
+  pub is : y ≡ Visited (signed_of w32 word)
+  pub global : ℕ
+  pub noted : History
+  pub mid : PassView
+  pub prepared : ∥ HasPrepared sizes global noted ∥₁
+  pub begins : IsPrefix noted mid.seen
+  pub learned : Did start mid []
   pub o : ℕ
   pub opened : PassView
   pub read : PassView
-  pub begins : IsQuiet old opened
-  pub reads : Did opened read (Read o 1 x ∷ [])
+  pub first : Did_so [] mid opened
+  pub reads : Did opened read (Read o 1 word ∷ [])
   pub ints : HasInts o (state read.seen)
-  pub ends : IsQuiet read new
+  pub last : Did_so [] read stop
