@@ -75,12 +75,13 @@ in_act s z t _ i p x = λ at ints. i p x at ints
 
 in_all : (s z : State) (es : History) → AreIn s z → AreIn (state_from s es) (left_by z (touched es))
 in_all s z [] i = i
-in_all s z (e ∷ es) i = go (touches e.act) (in_act s z e.thread e.act i)
+in_all s z (e ∷ es) i = go (touches e.act) (in_act s z e.thread e.act i) (λ u. in_all (after s e) u es)
   where
     go : (b : Bool) → AreIn (after s e) (cond b (act_after z 0 e.act) z)
+        → ((u : State) → AreIn (after s e) u → AreIn (state_from (after s e) es) (left_by u (touched es)))
         → AreIn (state_from s (e ∷ es)) (left_by z (cond b (e.act ∷ touched es) (touched es)))
-    go true next = in_all (after s e) (act_after z 0 e.act) es next
-    go false next = in_all (after s e) z es next
+    go true next rest = rest (act_after z 0 e.act) next
+    go false next rest = rest z next
 
 -- OF A HISTORY with these acts
 pub arrays_in : (es : History) (acts : List Act) → touched es ≡ acts → AreIn (state es) (left_by opening acts)
@@ -105,8 +106,11 @@ module _ (o p : ℕ) where
   nothing_else q ne = rw (eq_other o q ne) refl
 
   at_own : filled.objects p ≡ thrice (made.objects p)
-  at_own = at_number_self _ p _ ∙ ap (λ m. written m 2 30)
-      (at_number_self _ p _ ∙ ap (λ m. written m 1 20) (at_number_self made.objects p _))
+  at_own =
+      let one = act_after made 0 (Write p 0 10) in
+      let two = act_after one 0 (Write p 1 20) in
+      at_number_self two.objects p _ ∙ ap (λ m. written m 2 30)
+      (at_number_self one.objects p _ ∙ ap (λ m. written m 1 20) (at_number_self made.objects p _))
 
   at_other : (q : ℕ) → p ≢ q → filled.objects q ≡ made.objects q
   at_other q ne = rw (eq_other p q ne) refl

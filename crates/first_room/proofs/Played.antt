@@ -26,7 +26,8 @@ use Rattle.jr_threads.proofs.Coming.{does_replied}
 use Rattle.jr_threads.proofs.Stories.{outside_did}
 use Rattle.first_room.specs.declared.TheConstants.{TRIES}
 use Rattle.first_room.specs.declared.message.Found.{Found}
-use Rattle.first_room.specs.Calls.{collecting_in_turn, has_found, is_kept_out, reading_within, story, story_of, word_made}
+use Rattle.first_room.specs.Calls.{collecting_in_turn, has_found, is_kept_out, reading_within, sharing, story_of, visiting}
+use Rattle.first_room.specs.Calls.{word_made}
 
 module _ {S : Type 0} {facts : S → Facts} where
   -- the second thread's reading in a region, from its entry to its exit
@@ -107,19 +108,23 @@ module _ {S : Type 0} {facts : S → Facts} where
         → DoesOutside facts a b f g collecting_in_turn (Ok c)
     in_turn more c d = outside_did out (did_more (λ p q x. (more, x)) (d.does out))
 
-  -- a thread's story, where no call was refused
-  pub told : {a b : S} {f g : Frames} (t : ℕ) (r : Result Found Fault)
-      → IfOk r (λ x. DoesOutside facts a b f g (story t) (Ok x)) → has_found r ≡ true
-      → DoesOutside facts a b f g (story_of t) (Ok r)
-  told t (Ok x) d is = does_replied d
-  told t (Err e) d is = absurd cc
+  module _ {a b : S} {f g : Frames} where
+    -- a thread's story, where no call was refused
+    pub first_told : (t : ℕ) (r : Result Found Fault) → t ≡ 0
+        → IfOk r (λ x. DoesOutside facts a b f g sharing (Ok x)) → has_found r ≡ true
+        → DoesOutside facts a b f g (story_of t) (Ok r)
+    first_told zero (Ok x) is d told = does_replied d
+    first_told zero (Err e) is d told = absurd cc
+    first_told (suc t) r is d told = absurd (omega arith)
+
+    pub other_told : (t : ℕ) (r : Result Found Fault) → t ≢ 0
+        → IfOk r (λ x. DoesOutside facts a b f g visiting (Ok x)) → has_found r ≡ true
+        → DoesOutside facts a b f g (story_of t) (Ok r)
+    other_told zero r ne d told = absurd (ne refl)
+    other_told (suc t) (Ok x) ne d told = does_replied d
+    other_told (suc t) (Err e) ne d told = absurd cc
 
 -- the word that stands for a reference, or NULL
 pub word_or_null : (o : Option Handle) (h : Handle) → h ≡ unwrap_or o (record { 0 = 0 }) → h.0 ≡ word_made o
 word_or_null None h e = ap (λ (z : Handle). z.0) e
 word_or_null (Some w) h e = ap (λ (z : Handle). z.0) e
-
--- the story of each thread but the first
-pub other_story : (t : ℕ) → t ≢ 0 → (P : ℕ → Type 0) → ((n : ℕ) → P (suc n)) → P t
-other_story zero ne P p = absurd (ne refl)
-other_story (suc n) ne P p = p n

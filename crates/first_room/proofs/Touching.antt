@@ -1,5 +1,5 @@
 -- Which acts of an answered call make an array of ints, or write an element.
-use Rattle.std.proofs.Common.{◌≡◌, ⊎_elim, ◌∙◌, ◌++◌, ◌+◌, ◌<◌, ◌||◌, ◌==◌, ℕ, zero, suc, nat_le, nat_lt}
+use Rattle.std.proofs.Common.{◌≡◌, inl, inr, ◌∙◌, ◌++◌, ◌+◌, ◌<◌, ◌||◌, ◌==◌, ℕ, zero, suc, nat_le, nat_lt}
 use Rattle.std.proofs.Common.{Bool, true, false, not, cond, Err}
 use Rattle.std.proofs.Common.{Option, Some, None, List, [], ◌∷◌, length, map, replicate, Ok, ap, refl, subst, sym}
 use Rattle.std.proofs.lemmas.List.{append-nil}
@@ -21,19 +21,19 @@ use Rattle.jr_model.specs.declared.frames.LocalRef.{LocalRef}
 use Rattle.jr_model.specs.declared.frames.TheConstants.{FRAMES}
 use Rattle.jr_model.specs.State.{Contents, Handle, State}
 use Rattle.jr_model.specs.Frames.{Frames, drop_all, free_places, last_frame, popped}
-use Rattle.jr_model.specs.Calls.{Call, entered, opened, refuse_if, ◌>>=◌, ◌>>◌}
+use Rattle.jr_model.specs.Calls.{Call, entered, opened, refuse_if, some_act, ◌>>=◌, ◌>>◌}
 use Rattle.jr_model.specs.Checks.{Word, Malformed, Nothing, Parts, is_foreign, is_malformed, is_out_of_bounds}
 use Rattle.jr_model.specs.Checks.{same_element}
 use Rattle.jr_model.specs.Parts.{collect_announced, create, created, delete_at, delete_found, frame_left, frame_to_pop, new_frame, publish}
-use Rattle.jr_model.specs.Parts.{reserve, take_frame}
+use Rattle.jr_model.specs.Parts.{reserve, take_frame, write}
 use Rattle.jr_model.specs.References.{added, made, new_local, popping, removal, resolved, room_after, room_for, typing}
 use Rattle.jr_model.specs.CollectionCalls.{collection_acts}
 use Rattle.jr_model.specs.RefusedCalls.{ChangesNothing, is_harmless, may_precede}
 use Rattle.jr_model.specs.Programs.{AnswerKind, Ending, Program, Which, at_both, call_of, compares, creates, deletes, ended}
 use Rattle.jr_model.specs.Programs.{ends, fills, finds, gives_object, looks, makes, names, names_both, one, other, pops_to}
 use Rattle.jr_model.specs.Programs.{pushes, set_known, tests, types, wants}
-use Rattle.jr_model.specs.Programs.{handed_one, work_of}
-use Rattle.jr_model.specs.CallPrograms.{set_array_region}
+use Rattle.jr_model.specs.Programs.{at_object, handed_one, work_of}
+use Rattle.jr_model.specs.CallPrograms.{get_tests, part_tests, region_get, set_array_region}
 use Rattle.jr_model.specs.Tests.{Tests, tested}
 use Rattle.jr_model.proofs.Composed.{Gives, Refusing, act_gives, at_most_gives, bind_gives, cond_gives, done_gives}
 use Rattle.jr_model.proofs.Composed.{either_gives, entered_gives, framed_gives, object_gives, object_so, opened_gives}
@@ -318,22 +318,46 @@ is_int : (k : Kind) → not (same_element Int k) ≡ false → k ≡ Int
 is_int Int e = refl
 is_int _ e = absurd cc
 
--- a test that has to have passed
-passed_so : {A : Type 0} {P : List Act → Type 0} (b : Bool) (e : Fault) {next : Call A}
-    → (b ≡ false → Touches P next) → Touches P (refuse_if b e >> next)
-passed_so true e next = record {
-  goes = λ f g acts x r. absurd (⊎_elim (λ y. let bad = y.5.1 in cc) (λ y. let bad = y.1 in cc) r);
-  fails = λ f g acts e r. tt;
-}
-passed_so false e next = behind (done_gives tt (λ f. record { so = refl })) (λ x. next refl)
+-- a test passed, and then this was answered
+checked : {A : Type 0} (b : Bool) (e : Fault) (next : Call A) (f g : Frames) (acts : List Act) (y : A)
+    → (refuse_if b e >> next) f acts (Ok y) g → (b ≡ false) × next f acts (Ok y) g
+checked true e next f g acts y (inl r) = absurd (let bad = r.5.1 in cc)
+checked true e next f g acts y (inr r) = absurd (let bad = r.1 in cc)
+checked false e next f g acts y (inl r) = (
+  refl,
+  subst (λ (z : Frames × List Act). next z.0 z.1 (Ok y) g)
+      (λ i. (r.5.2 i, sym (r.4 ∙ ap (λ l. l ++ r.3) r.5.0) i)) r.6,
+)
+checked false e next f g acts y (inr r) = absurd (let bad = r.1 in cc)
+
+-- and so did tests
+tests_passed : {A : Type 0} (ts : Tests) (next : Call A) (f g : Frames) (acts : List Act) (y : A)
+    → tested ts next f acts (Ok y) g → AllByRecursion (λ t. t.0 ≡ false) ts × next f acts (Ok y) g
+tests_passed [] next f g acts y was = (tt, was)
+tests_passed ((b, e) ∷ ts) next f g acts y was =
+    let first = checked b e (tested ts next) f g acts y was in
+    let rest = tests_passed ts next f g acts y first.1 in
+    ((first.0, rest.0), rest.1)
 
 pub fills_so : (c : Config) (last thread : ℕ) (s : State) (a : Word)
     → Touches (Fills s) (work_of c last thread s (handed_one a) (set_array_region Int 0 (10 ∷ 20 ∷ 30 ∷ [])))
-fills_so c last thread s a = behind (resolved_none c last thread a) (λ x. behind (prelude_none (not_null_prelude x)) (λ p.
-    object_so s p _ (λ y is. behind (check _ _) (λ u. passed_so (not (same_element Int y.kind)) fault.WrongElement (λ ok.
-    behind (check _ _) (λ v. record {
-      goes = λ f g acts z r. record {
-        so = (p, record { contents = y; is = is; ints = is_int y.kind ok }, ap touching r.0);
-      };
+fills_so c last thread s a =
+    behind (resolved_none c last thread a) (λ x.
+    behind (prelude_none (not_null_prelude x)) (λ p.
+    object_so s p (λ k n. tested (part_tests Int 0 3 k n) (write p 0 (10 ∷ 20 ∷ 30 ∷ []))) (λ y is. record {
+      goes = λ f g acts z r.
+          let ts : Tests = part_tests Int 0 3 y.kind (length y.words) in
+          let t = tests_passed ts (write p 0 (10 ∷ 20 ∷ 30 ∷ [])) f g acts z r in
+          record { so = (p, record { contents = y; is = is; ints = is_int y.kind t.0.1.0 }, ap touching t.1.0) };
       fails = λ f g acts e r. tt;
-    })))))
+    })))
+
+-- WHAT READING AN ELEMENT in a region does, as one of an array of ints: it reads it there
+pub ints_read : (c : Config) (last thread : ℕ) (s : State) (o v : ℕ) (f g : Frames) (acts : List Act)
+    → at_object c last thread s o (region_get Int 1) f acts (Ok v) g → HasInts o s × (acts ≡ Read o 1 v ∷ [])
+ints_read c last thread s o v f g acts was =
+    let ts : Tests = get_tests Int 1 was.0.kind (length was.0.words) in
+    let t = tests_passed ts (some_act (Read o 1)) f g acts v was.2 in (
+      record { contents = was.0; is = was.1; ints = is_int was.0.kind t.0.0 },
+      t.1.1 ∙ ap (λ z. Read o 1 z ∷ []) (let q = t.1.2 in cc),
+    )

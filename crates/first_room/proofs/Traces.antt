@@ -1,5 +1,5 @@
 -- What the two threads did, by which of their acts make an array of ints, or write an element.
-use Rattle.std.proofs.Common.{◌≡◌, ◌∙◌, ◌++◌, ◌≤◌, inl, inr, ℕ, Option, List, [], ◌∷◌, Result, Ok, Err, ap, refl, subst}
+use Rattle.std.proofs.Common.{◌≡◌, ◌∙◌, ◌++◌, ◌≤◌, inl, inr, ℕ, Bool, List, [], ◌∷◌, Result, Ok, Err, ap, refl, subst}
 use Rattle.std.proofs.Common.{sym}
 use Rattle.std.proofs.lemmas.List.{append-nil}
 use Rattle.std.specs.Int.{w32}
@@ -33,11 +33,13 @@ use Rattle.jr_env.specs.Requests.{for_new_array, for_new_object_array, for_new_p
 use Rattle.jr_env.specs.Requests.{for_pop_local_frame, gives, named, on_word, on_words, told_by}
 use Rattle.first_room.specs.declared.TheConstants.{TRIES}
 use Rattle.first_room.specs.declared.message.Found.{Found}
+use Rattle.first_room.specs.declared.message.Handed.{Handed}
 use Rattle.first_room.specs.declared.message.Found.TheVariants.{Shared, Visited}
-use Rattle.first_room.specs.Calls.{HasPrepared, preparing, sharing, visiting}
+use Rattle.first_room.specs.Calls.{HasPrepared, clearing, collecting_twice, making_own, preparing, reading_within}
+use Rattle.first_room.specs.Calls.{says, sharing, visiting}
 use Rattle.first_room.proofs.Arrays.{filling}
 use Rattle.first_room.proofs.Touching.{Fills, Have, HasInts, None_of, One_of, ProgramTouches, Touches, collected_none}
-use Rattle.first_room.proofs.Touching.{fills_so, in_region, in_stay, program_so, refused_none, touching, touching_append}
+use Rattle.first_room.proofs.Touching.{fills_so, in_region, in_stay, ints_read, program_so, refused_none, touching, touching_append}
 
 -- A THREAD DID, of these acts, just these
 pub record Did_so (l : List Act) (old new : PassView) : Type 0 where
@@ -92,8 +94,8 @@ whole_so (named name first) old new x was = whole_so first old new x was
 
 -- that it does nothing of the sort
 quiet : {A : Type 0} (request : Request A) → ((l : List Act) → RequestTouches request l → l ≡ [])
-    → {old new : ThreadState} {x : A} → whole request old (Ok x) new → Did_so [] old.pass new.pass
-quiet request none {old} {new} {x} was = let z = whole_so request old new x was in
+    → (old new : ThreadState) (x : A) → whole request old (Ok x) new → Did_so [] old.pass new.pass
+quiet request none old new x was = let z = whole_so request old new x was in
     subst (λ l. Did_so l old.pass new.pass) (none z.0 z.2) z.1
 
 -- nor a call that enters no gate
@@ -144,22 +146,24 @@ traced old new x (inl (u, a, d1, inl (lost, b, d2, inl (weak, c, d3, inl (array,
     d6, inl (popped, g, d7, end)))))))) =
     let one = whole_so (for_new_array Int 3) c d array d4 in
     let two = made_so (in_stay (fills_so d.pass.config d.pass.last d.pass.thread (state e.pass.seen) d5.0)) d5.2.0 in
-    let first = so_then (pushed 4 d1) (so_then (quiet (for_new_array Long 4) (λ l t. t.1) d2)
-    (quiet (for_new_reference Weak lost.0) (λ l t. t.1) d3)) in
+    let first = so_then (pushed 4 d1) (so_then (quiet (for_new_array Long 4) (λ l t. t.1) a b lost d2)
+    (quiet (for_new_reference Weak lost.0) (λ l t. t.1) b c weak d3)) in
     record {
       o = one.2.0;
       p = two.2.0;
       filled = e.pass;
       fills = subst (λ l. Did_so l old.pass e.pass) (λ i. one.2.1 i ++ two.2.2 i) (so_then first (so_then one.1 two.1));
       ints = two.2.1;
-      ends = same_end end.1 (so_then (quiet (for_new_reference Global array.0) (λ l t. t.1) d6)
-          (quiet (for_pop_local_frame 0) (λ l t. t.1) d7));
+      ends = same_end end.1 (so_then (quiet (for_new_reference Global array.0) (λ l t. t.1) e f global d6)
+          (quiet (for_pop_local_frame 0) (λ l t. t.1) f g popped d7));
     }
 
 -- ALL THAT IT DID: it prepared, and then nothing of the sort; and a collection of it was refused, by one at least
 pub record HasShared (y : Found) (start stop : PassView) : Type 0 where
   pub inside : ℕ
-  pub is : (cleared : _) × (kind : ℕ) × (y ≡ Shared inside cleared kind)
+  pub cleared : Bool
+  pub kind : ℕ
+  pub is : y ≡ Shared inside cleared kind
   pub some : 1 ≤ inside
   pub mid : PassView
   pub traced : IsTraced start mid
@@ -182,3 +186,105 @@ pub record HasVisited (y : Found) (sizes : Config) (start stop : PassView) : Typ
   pub reads : Did opened read (Read o 1 word ∷ [])
   pub ints : HasInts o (state read.seen)
   pub last : Did_so [] read stop
+
+same_found : {y z : Found} → ◌≡◌ {A = Result Found Fault} (Ok y) (Ok z) → y ≡ z
+same_found e = cc
+
+pub has_shared : (old new : ThreadState) (y : Found) → sharing old (Ok y) new → HasShared y old.pass new.pass
+has_shared old new y (inr r) = absurd (let bad = r.1 in cc)
+has_shared old new y (inl (words, a, d1, inr r)) = absurd (let bad = r.1 in cc)
+has_shared old new y (inl (words, a, d1, inl (inside, b, d2, inr r))) = absurd (let bad = r.1 in cc)
+has_shared old new y (inl (words, a, d1, inl (inside, b, d2, inl (found, c, d3, end)))) =
+    let twice = collected a b inside d2 in
+    record {
+      inside = inside;
+      cleared = found.0;
+      kind = found.1;
+      is = same_found end.0;
+      some = twice.0;
+      mid = a.pass;
+      traced = traced old a words d1;
+      ends = same_end end.1 (so_then twice.1 (cleared b c words.0 words.1 found d3));
+    }
+  where
+    collected : (a b : ThreadState) (inside : ℕ) → collecting_twice a (Ok inside) b
+        → (1 ≤ inside) × Did_so [] a.pass b.pass
+    collected a b inside (inr r) = absurd (let bad = r.1 in cc)
+    collected a b inside (inl (n, m, kept, inr r)) = absurd (let bad = r.1 in cc)
+    collected a b inside (inl (n, m, kept, inl (c, e, turn, end))) =
+        let k = kept.2 in
+        let told : inside ≡ k.count = let x = end.0 in let y = kept.1 in let z = k.busy in cc in (
+          subst (λ i. 1 ≤ i) (sym told) k.some,
+          same_end end.1 (so_then (refused_so (refused_parts_change_nothing a.pass.config a.pass.last a.pass.thread
+              (state m.pass.seen) _ calls.PartOf.collect) k.made) (in_turn turn.1)),
+        )
+
+    cleared : (b c : ThreadState) (weak global : ℕ) (found : Bool × ℕ) → clearing weak global b (Ok found) c
+        → Did_so [] b.pass c.pass
+    cleared b c weak global found (inr r) = absurd (let bad = r.1 in cc)
+    cleared b c weak global found (inl (x, d, d1, inr r)) = absurd (let bad = r.1 in cc)
+    cleared b c weak global found (inl (x, d, d1, inl (u, e, d2, inr r))) = absurd (let bad = r.1 in cc)
+    cleared b c weak global found (inl (x, d, d1, inl (u, e, d2, inl (kind, f, d3, end)))) =
+        same_end end.1 (so_then (quiet (for_is_same_object weak 0) (λ l t. t.2) b d x d1)
+        (so_then (quiet (for_delete_reference Global global) (λ l t. t.1) d e u d2)
+        (quiet (for_get_object_ref_type global) (λ l t. t.1) e f kind d3)))
+
+pub has_visited : (old new : ThreadState) (y : Found) → visiting old (Ok y) new
+    → HasVisited y old.pass.config old.pass new.pass
+has_visited old new y (inr r) = absurd (let bad = r.1 in cc)
+has_visited old new y (inl (w, a, handed, inr r)) = absurd (let bad = r.1 in cc)
+has_visited old new y (inl (w, a, handed, inl (u, b, d1, inr r))) = absurd (let bad = r.1 in cc)
+has_visited old new y (inl (w, a, handed, inl (u, b, d1, inl (word, c, d2, end)))) =
+    reads b c word end d2 (own a b d1)
+  where
+    own : (a b : ThreadState) → making_own a (Ok tt) b → Did_so [] a.pass b.pass
+    own a b (inr r) = absurd (let bad = r.1 in cc)
+    own a b (inl (u, c, d1, inr r)) = absurd (let bad = r.1 in cc)
+    own a b (inl (u, c, d1, inl (object, d, d2, inr r))) = absurd (let bad = r.1 in cc)
+    own a b (inl (u, c, d1, inl (object, d, d2, inl (array, e, d3, inr r)))) = absurd (let bad = r.1 in cc)
+    own a b (inl (u, c, d1, inl (object, d, d2, inl (array, e, d3, inl (popped, f, d4, end))))) =
+        same_end end.1 (so_then (pushed 4 d1) (so_then (quiet for_new_plain (λ l t. t.1) c d object d2)
+        (so_then (quiet (for_new_object_array 2 object.0) (λ l t. t.1.1.1) d e array d3)
+        (quiet (for_pop_local_frame 0) (λ l t. t.1) e f popped d4))))
+
+    same_message : {m n : Handed} → ◌≡◌ {A = Result Handed Fault} (Ok m) (Ok n) → n ≡ m
+    same_message e = cc
+
+    same_word : (a b : ℕ) → ◌≡◌ {A = Result ℕ Fault} (Ok a) (Ok b) → a ≡ b
+    same_word a b e = cc
+
+    reads : (b c : ThreadState) (word : ℕ)
+        → (◌≡◌ {A = Result Found Fault} (Ok y) (Ok (Visited (signed_of w32 word)))) × (new ≡ c)
+        → reading_within w b (Ok word) c → Did_so [] a.pass b.pass → HasVisited y old.pass.config old.pass new.pass
+    reads b c word end (inr r) made = absurd (let bad = r.1 in cc)
+    reads b c word end (inl (o, d, opens, inr r)) made = absurd (let bad = r.1 in cc)
+    reads b c word end (inl (o, d, opens, inl (v, e, gets, inr r))) made = absurd (let bad = r.1 in cc)
+
+    reads b c word end (inl (o, d, opens, inl (v, e, gets, inl (u2, f, left, last)))) made =
+        let there = state d.pass.seen in
+        let first = made_so (in_region (program_so b.pass.config b.pass.last b.pass.thread (handed_one opens.0) there
+        (programs.get_array_critical 0) none_known 0)) opens.2 in
+        let quiet_open = subst (λ l. Did_so l b.pass d.pass) first.2.2 first.1 in
+        let value : v ≡ word = same_word v word (sym last.0) in
+        let got = ints_read d.pass.config d.pass.last d.pass.thread (state e.pass.seen) o v d.frames e.frames
+        gets.ran.acts gets.ran.is in
+        let taken = handed.2 in
+        record {
+          word = word;
+          is = same_found end.0;
+          global = w;
+          noted = taken.2;
+          mid = a.pass;
+          prepared = subst (λ h. ∥ HasPrepared old.pass.config h taken.2 ∥₁) (same_word _ _ (sym handed.1))
+              (subst (λ m. ∥ says m old.pass.config taken.2 ∥₁) (same_message taken.1) taken.3);
+          begins = taken.4;
+          learned = taken.5.did;
+          o = o;
+          opened = d.pass;
+          read = e.pass;
+          first = so_then made quiet_open;
+          reads = subst (λ x. Did d.pass e.pass (Read o 1 x ∷ [])) value
+              (subst (Did d.pass e.pass) got.1 gets.ran.did);
+          ints = got.0;
+          last = same_end (end.1 ∙ last.1) (record { acts = left.ran.acts; did = left.ran.did; so = ap touching left.ran.is.0 });
+        }

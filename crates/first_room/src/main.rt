@@ -56,6 +56,7 @@ pub enum Trouble {
 }
 
 /// What both threads run.
+#[derive(Drop)]
 struct Hour {
     alloc: Global,
 }
@@ -225,7 +226,8 @@ fn visit<Q: Site, S: StepsIn<Q>>(
     env: &mut Env<S>,
     queue: &mut QueueEnd<'_, Handed, Q>,
 ) -> Result<Found, Fault>
-    requires { IsAtStart Q.sizes 1 env.old }
+    requires outside { IsOutside env.old }
+    requires sizes { (S.facts env.old.held.steps).stands.config ≡ Q.sizes }
     ensures { IfOk result (λ x. Does env.old env.new visiting (Ok x)) }
 {
     queue.puts_no_more();

@@ -1,8 +1,9 @@
 -- The thread learned the note, and did its calls, one after the other.
-use Rattle.std.proofs.Common.{◌≡◌, FitsSigned, ap, refl, rules, sym}
+use Rattle.std.proofs.Common.{◌≡◌, ◌∙◌, FitsSigned, ap, of_z, refl, rules, subst, sym, to_z}
 use Rattle.std.specs.Int.{w32}
 use Rattle.jr_word.specs.Elem.{signed_of, signed_word}
 use Rattle.jr_word.specs.ElementLaws.{i32_laws}
+use Rattle.jr_rule.specs.Rooms.{seen_by_note}
 use Rattle.jr_frames.specs.Table.{Table}
 use Rattle.jr_env.specs.Deeds.{done, ◌>>=◌, ◌>>◌}
 use Rattle.jr_env.proofs.Carrying.{did_more}
@@ -14,16 +15,21 @@ use Rattle.first_room.proofs.visit.Goals as goal
 
 pub returns : goal.returns
 returns g c =
-    let w = c.in-Ok-Reference.field-0.0 in
-    let out = c.requires.steps.outside in
-    let taken = took_over g.met.S.Steps.fits says g.Q.Site.sizes _ _ _ _ (Reference c.in-Ok-Reference.field-0) _ out
-    c.requires.steps.config c.learn.ensures.step c.learn.ensures.learned
-    (ap (λ (t : Table). t.frames) c.learn.ensures.frames) c.retry_take.ensures in
-    let handed = outside_did out (did_more {two = is_handed} (λ p q d. (c.in-Ok-Reference.field-0, refl, d)) (taken.does out)) in
+    let w = c.in-Ok-Reference-default.global.0 in
+    let out = c.requires.outside in
+    let said = subst (λ m. ∥ says m g.Q.Site.sizes (seen_by_note c.in-Ok-Reference-default.note.note) ∥₁)
+    c.in-Ok-Reference-default.field-0-0-is c.in-Ok-Reference-default.ensures in
+    let taken = took_over {facts = g.S.Steps.facts} g.met.S.Steps.fits says g.Q.Site.sizes _ _ _ _ (Reference c.in-Ok-Reference-default.global)
+    c.in-Ok-Reference-default.note.note out
+    c.requires.sizes c.learn.ensures.step c.learn.ensures.learned
+    (ap (λ (t : Table). t.frames) c.learn.ensures.frames) said in
+    let handed = outside_did {facts = g.S.Steps.facts} out (did_more {two = is_handed} (λ p q d. (c.in-Ok-Reference-default.global, refl, d)) (taken.does out)) in
     let own = c.in_ok-make_own.ensures in
+    let same : to_z w32 (of_z w32 c.in_ok-read.read) ≡ c.in_ok-read.read = search rules in
     let fits : FitsSigned w32 c.in_ok-read.read = search rules in
-    call_then {one = is_handed} (λ v. making_own >> (reading_within v >>= (λ x. done (Visited (signed_of w32 x))))) out
+    call_then {facts = g.S.Steps.facts} {one = is_handed} (λ v. making_own >> (reading_within v >>= (λ x. done (Visited (signed_of w32 x))))) out
     handed (call_then {one = making_own} (λ _. reading_within w >>= (λ x. done (Visited (signed_of w32 x))))
     handed.outside own (call_told {one = reading_within w} (λ x. Visited (signed_of w32 x))
-    (signed_word w32 c.in_ok-read.read) (ap (λ z. Visited z) (sym (i32_laws.takes_back c.in_ok-read.read fits)))
+    (signed_word w32 c.in_ok-read.read) (ap (λ z. Visited z)
+    (same ∙ sym (i32_laws.takes_back c.in_ok-read.read fits)))
     own.outside c.in_ok-read.ensures))
