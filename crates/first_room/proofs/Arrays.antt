@@ -1,13 +1,12 @@
 -- Arrays of ints go by the acts that make and write them, in their order.
 use Rattle.std.proofs.Common.{◌≡◌, ◌≢◌, ◌∙◌, ℕ, Bool, true, false, cond, Option, Some, None, List, [], ◌∷◌, slice_get}
-use Rattle.std.proofs.Common.{slice_set, ap, refl, subst, sym}
+use Rattle.std.proofs.Common.{ap, refl, subst, sym}
 use mathlib.Core.Logic.{dite}
 use native.Mathlib.Decide.{ℕ_discrete}
 use Rattle.jr_word.specs.declared.kind.Kind.{Kind}
 use Rattle.jr_word.specs.declared.kind.Kind.TheVariants.{Int}
 use Rattle.jr_model.specs.declared.event.Act.{Act}
 use Rattle.jr_model.specs.declared.event.Act.TheVariants.{Drop, New, Write}
-use Rattle.jr_model.specs.declared.event.Event.{Event}
 use Rattle.jr_model.specs.Checks.{same_element}
 use Rattle.jr_model.specs.State.{Contents, State, opening}
 use Rattle.jr_model.specs.Steps.{act_after, after, written}

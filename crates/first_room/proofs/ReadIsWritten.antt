@@ -36,7 +36,7 @@ use Rattle.first_room.specs.Calls.{has_found, sharing, story_of, visiting}
 use Rattle.first_room.specs.Hour.{IsTrueReport}
 use Rattle.first_room.proofs.Arrays.{arrays_in, filling, second_is_twenty, touched}
 use Rattle.first_room.proofs.Touching.{HasInts, touches, touching, touching_append}
-use Rattle.first_room.proofs.Traces.{Did_so, HasShared, HasVisited, IsTraced, has_shared, has_visited, so_then, traced}
+use Rattle.first_room.proofs.Traces.{Did_so, HasShared, HasVisited, has_shared, has_visited, so_then, traced}
 
 -- which acts of a thread do
 abbrev own : History → ℕ → List Act
@@ -232,7 +232,7 @@ pub is_true : (answers : List (Result Found Fault)) (left : Summary) (inside : �
 is_true answers left inside cleared kind read ran first second =
     let x = Shared inside cleared kind in
     let part : (t : ℕ) (y : Found) → t < 2 → slice_index_or answers t (Ok y) ≡ Ok y
-        → IsThreadPart has_found story_of SIZES 4294967295 ran.whole t (Ok y) =
+    → IsThreadPart has_found story_of SIZES 4294967295 ran.whole t (Ok y) =
     λ t y below is. subst (IsThreadPart has_found story_of SIZES 4294967295 ran.whole t) is (ran.parts t (Ok y) below) in
     let one = part 0 x (omega arith) first in
     let d = one.did refl in

@@ -1,7 +1,7 @@
 -- Which acts of an answered call make an array of ints, or write an element.
 use Rattle.std.proofs.Common.{◌≡◌, inl, inr, ◌∙◌, ◌++◌, ◌+◌, ◌<◌, ◌||◌, ◌==◌, ℕ, zero, suc, nat_le, nat_lt}
 use Rattle.std.proofs.Common.{Bool, true, false, not, cond, Err}
-use Rattle.std.proofs.Common.{Option, Some, None, List, [], ◌∷◌, length, map, replicate, Ok, ap, refl, subst, sym}
+use Rattle.std.proofs.Common.{Option, Some, None, List, [], ◌∷◌, length, replicate, Ok, ap, refl, subst, sym}
 use Rattle.std.proofs.lemmas.List.{append-nil}
 use Rattle.std.specs.List.{AllByRecursion}
 use Rattle.jr_word.specs.declared.config.Config.{Config}
@@ -16,13 +16,13 @@ use Rattle.jr_model.specs.declared.event.Act.TheVariants.{Delete, DeleteStale, G
 use Rattle.jr_model.specs.declared.event.Act.TheVariants.{ReserveLost, ShutBusy, Write}
 use Rattle.jr_model.specs.declared.event.GateAct.TheVariants.{Cancel, Leave}
 use Rattle.jr_model.specs.declared.event.Found.{Found}
-use Rattle.jr_model.specs.declared.event.Found.TheVariants.{Cleared, Object, Stale}
+use Rattle.jr_model.specs.declared.event.Found.TheVariants.{Stale}
 use Rattle.jr_model.specs.declared.frames.LocalRef.{LocalRef}
 use Rattle.jr_model.specs.declared.frames.TheConstants.{FRAMES}
 use Rattle.jr_model.specs.State.{Contents, Handle, State}
 use Rattle.jr_model.specs.Frames.{Frames, drop_all, free_places, last_frame, popped}
 use Rattle.jr_model.specs.Calls.{Call, entered, opened, refuse_if, some_act, ◌>>=◌, ◌>>◌}
-use Rattle.jr_model.specs.Checks.{Word, Malformed, Nothing, Parts, is_foreign, is_malformed, is_out_of_bounds}
+use Rattle.jr_model.specs.Checks.{Word, Parts, is_foreign, is_malformed, is_out_of_bounds}
 use Rattle.jr_model.specs.Checks.{same_element}
 use Rattle.jr_model.specs.Parts.{collect_announced, create, created, delete_at, delete_found, frame_left, frame_to_pop, new_frame, publish}
 use Rattle.jr_model.specs.Parts.{reserve, take_frame, write}

@@ -1,24 +1,20 @@
 -- What the two threads did, by which of their acts make an array of ints, or write an element.
 use Rattle.std.proofs.Common.{◌≡◌, ◌∙◌, ◌++◌, ◌≤◌, inl, inr, ℕ, Bool, List, [], ◌∷◌, Result, Ok, Err, ap, refl, subst}
 use Rattle.std.proofs.Common.{sym}
-use Rattle.std.proofs.lemmas.List.{append-nil}
 use Rattle.std.specs.Int.{w32}
 use mathlib.Core.List.{IsPrefix}
 use Rattle.jr_word.specs.declared.config.Config.{Config}
 use Rattle.jr_word.specs.declared.fault.Fault.{Fault}
-use Rattle.jr_word.specs.declared.fault.Fault.TheVariants.{Busy}
 use Rattle.jr_word.specs.declared.handle.RefKind.TheVariants.{Global, Weak}
 use Rattle.jr_word.specs.declared.kind.Kind.TheVariants.{Int, Long}
 use Rattle.jr_word.specs.Elem.{signed_of}
 use Rattle.jr_model.specs.declared.event.Act.{Act}
-use Rattle.jr_model.specs.declared.event.Act.TheVariants.{Gate, New, Read}
-use Rattle.jr_model.specs.declared.event.GateAct.TheVariants.{Leave}
+use Rattle.jr_model.specs.declared.event.Act.TheVariants.{Read}
 use Rattle.jr_model.specs.Calls.{Call}
 use Rattle.jr_model.specs.Checks.{Word}
 use Rattle.jr_model.specs.History.{Did, History, PassView, state}
-use Rattle.jr_model.specs.Parts as parts
 use Rattle.jr_model.specs.AllCalls as calls
-use Rattle.jr_model.specs.Programs.{AnswerKind, Program, handed_none, handed_one, none_known}
+use Rattle.jr_model.specs.Programs.{handed_none, handed_one, none_known}
 use Rattle.jr_model.specs.CallPrograms as programs
 use Rattle.jr_model.specs.RefusedCalls.{ChangesNothing}
 use Rattle.jr_model.proofs.EachCall.{refused_parts_change_nothing}
@@ -38,7 +34,7 @@ use Rattle.first_room.specs.declared.message.Found.TheVariants.{Shared, Visited}
 use Rattle.first_room.specs.Calls.{HasPrepared, clearing, collecting_twice, making_own, preparing, reading_within}
 use Rattle.first_room.specs.Calls.{says, sharing, visiting}
 use Rattle.first_room.proofs.Arrays.{filling}
-use Rattle.first_room.proofs.Touching.{Fills, Have, HasInts, None_of, One_of, ProgramTouches, Touches, collected_none}
+use Rattle.first_room.proofs.Touching.{HasInts, ProgramTouches, Touches, collected_none}
 use Rattle.first_room.proofs.Touching.{fills_so, in_region, in_stay, ints_read, program_so, refused_none, touching, touching_append}
 
 -- A THREAD DID, of these acts, just these
@@ -140,10 +136,68 @@ traced old new x (inl (u, a, d1, inl (lost, b, d2, inl (weak, c, d3, inl (array,
     absurd (let bad = r.1 in cc)
 traced old new x (inl (u, a, d1, inl (lost, b, d2, inl (weak, c, d3, inl (array, d, d4, inl (v, e, d5, inr r)))))) =
     absurd (let bad = r.1 in cc)
-traced old new x (inl (u, a, d1, inl (lost, b, d2, inl (weak, c, d3, inl (array, d, d4, inl (v, e, d5, inl (global, f,
-    d6, inr r))))))) = absurd (let bad = r.1 in cc)
-traced old new x (inl (u, a, d1, inl (lost, b, d2, inl (weak, c, d3, inl (array, d, d4, inl (v, e, d5, inl (global, f,
-    d6, inl (popped, g, d7, end)))))))) =
+traced old new x (inl (
+  u,
+  a,
+  d1,
+  inl (
+    lost,
+    b,
+    d2,
+    inl (
+      weak,
+      c,
+      d3,
+      inl (
+        array,
+        d,
+        d4,
+        inl (
+          v,
+          e,
+          d5,
+          inl (
+            global,
+            f,
+            d6,
+            inr r,
+          ),
+        ),
+      ),
+    ),
+  ),
+)) = absurd (let bad = r.1 in cc)
+traced old new x (inl (
+  u,
+  a,
+  d1,
+  inl (
+    lost,
+    b,
+    d2,
+    inl (
+      weak,
+      c,
+      d3,
+      inl (
+        array,
+        d,
+        d4,
+        inl (
+          v,
+          e,
+          d5,
+          inl (
+            global,
+            f,
+            d6,
+            inl (popped, g, d7, end),
+          ),
+        ),
+      ),
+    ),
+  ),
+)) =
     let one = whole_so (for_new_array Int 3) c d array d4 in
     let two = made_so (in_stay (fills_so d.pass.config d.pass.last d.pass.thread (state e.pass.seen) d5.0)) d5.2.0 in
     let first = so_then (pushed 4 d1) (so_then (quiet (for_new_array Long 4) (λ l t. t.1) a b lost d2)
@@ -259,7 +313,6 @@ has_visited old new y (inl (w, a, handed, inl (u, b, d1, inl (word, c, d2, end))
     reads b c word end (inr r) made = absurd (let bad = r.1 in cc)
     reads b c word end (inl (o, d, opens, inr r)) made = absurd (let bad = r.1 in cc)
     reads b c word end (inl (o, d, opens, inl (v, e, gets, inr r))) made = absurd (let bad = r.1 in cc)
-
     reads b c word end (inl (o, d, opens, inl (v, e, gets, inl (u2, f, left, last)))) made =
         let there = state d.pass.seen in
         let first = made_so (in_region (program_so b.pass.config b.pass.last b.pass.thread (handed_one opens.0) there

@@ -43,9 +43,16 @@ pub(crate) fn give_turn<Q: Site, S: StepsIn<Q>>(
 }
 
 /// Takes a turn: E20 where none comes.
-pub(crate) fn take_turn<Q: Site>(queue: &QueueEnd<'_, Handed, Q>) -> Result<(), Fault> {
+fn take_turn<Q: Site>(queue: &QueueEnd<'_, Handed, Q>) -> Result<(), Fault> {
     match queue.retry_take(Patience::LONG) {
         Ok(_) => Ok(()),
         Err(_) => Err(Fault::Turns),
     }
+}
+
+/// Takes the three turns that the first thread hands over.
+pub(crate) fn take_turns<Q: Site>(queue: &QueueEnd<'_, Handed, Q>) -> Result<(), Fault> {
+    take_turn(queue)?;
+    take_turn(queue)?;
+    take_turn(queue)
 }

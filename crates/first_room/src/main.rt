@@ -17,7 +17,7 @@ ghost use Rattle.first_room.specs.Hour.{IsTrueReport, IsWritten, report_lines, r
 mod handing;
 mod message;
 
-use crate::handing::{give_turn, hand, take_turn};
+use crate::handing::{give_turn, hand, take_turns};
 use crate::message::{Found, Handed, Report};
 use jr_env::{Env, NativeInterface, Patience};
 use jr_rule::{Site, Steps, StepsIn, Summary};
@@ -267,11 +267,4 @@ fn read_within<Q: Site, S: Steps>(
     region.release_all();
     refused?;
     read
-}
-
-/// Takes the three turns.
-fn take_turns<Q: Site>(queue: &QueueEnd<'_, Handed, Q>) -> Result<(), Fault> {
-    take_turn(queue)?;
-    take_turn(queue)?;
-    take_turn(queue)
 }

@@ -1,5 +1,5 @@
 -- The answers are of the two threads.
-use Rattle.std.proofs.Common.{◌≡◌, Ok, Result, of_z, rules, slice_index_or, subst, sym, to_z}
+use Rattle.std.proofs.Common.{◌≡◌, Ok, of_z, rules, slice_index_or, subst, sym, to_z}
 use Rattle.std.specs.Int.{w32}
 use Rattle.first_room.specs.declared.message.Found.TheVariants.{Shared, Visited}
 use Rattle.first_room.specs.Hour.{IsTrueReport}
