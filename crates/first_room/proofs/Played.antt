@@ -26,8 +26,8 @@ use Rattle.jr_threads.proofs.Coming.{does_replied}
 use Rattle.jr_threads.proofs.Stories.{outside_did}
 use Rattle.first_room.specs.declared.TheConstants.{TRIES}
 use Rattle.first_room.specs.declared.message.Found.{Found}
-use Rattle.first_room.specs.Calls.{collecting_in_turn, has_found, is_kept_out, reading_within, sharing, story_of, visiting}
-use Rattle.first_room.specs.Calls.{word_made}
+use Rattle.first_room.specs.Calls.{collecting_in_turn, has_found, is_kept_out, reading_within, sharing}
+use Rattle.first_room.specs.Calls.{story_of, visiting, word_made}
 
 module _ {S : Type 0} {facts : S → Facts} where
   -- the second thread's reading in a region, from its entry to its exit

@@ -1,6 +1,7 @@
 -- The element that the second thread read is the one that the first wrote.
 use Rattle.std.proofs.Common.{◌≡◌, ◌≢◌, ◌<◌, ◌≤◌, ◌∙◌, ◌++◌, ◌==◌, ℕ, zero, suc, ℤ, pos, Bool, true, false, cond, Some}
-use Rattle.std.proofs.Common.{List, [], ◌∷◌, length, length-append, slice_get, slice_index_or, Result, Ok, append_assoc, arith}
+use Rattle.std.proofs.Common.{List, [], ◌∷◌, length, length-append, slice_get, slice_index_or, Result, Ok}
+use Rattle.std.proofs.Common.{append_assoc, arith}
 use Rattle.std.proofs.Common.{ap, refl, subst, sym}
 use Rattle.std.proofs.Math.Logic.{∥∥₁_elim}
 use Rattle.std.proofs.Props.{props}
@@ -36,7 +37,7 @@ use Rattle.first_room.specs.Calls.{has_found, sharing, story_of, visiting}
 use Rattle.first_room.specs.Hour.{IsTrueReport}
 use Rattle.first_room.proofs.Arrays.{arrays_in, filling, second_is_twenty, touched}
 use Rattle.first_room.proofs.Touching.{HasInts, touches, touching, touching_append}
-use Rattle.first_room.proofs.Traces.{Did_so, HasShared, HasVisited, has_shared, has_visited, so_then, traced}
+use Rattle.first_room.proofs.Traces.{DidJust, HasShared, HasVisited, has_shared, has_visited, so_then, traced}
 
 -- which acts of a thread do
 abbrev own : History → ℕ → List Act
@@ -92,8 +93,8 @@ module _ (c : Config) (last : ℕ) (two : c.threads ≡ 2) where
         (both_none (own es 1) (own p.0 1) (sym (own_append es p.0 1) ∙ (ap (λ l. own l 1) p.1 ∙ none))).0
 
     -- once the first has done all that it does, nothing more is done
-    touched_since : (noted es : History) (p : IsPrefix noted es) (q : IsPrefix es whole) → length (own noted 0) ≡ length (own whole 0)
-        → touched es ≡ own noted 0
+    touched_since : (noted es : History) (p : IsPrefix noted es) (q : IsPrefix es whole)
+        → length (own noted 0) ≡ length (own whole 0) → touched es ≡ own noted 0
     touched_since noted es p q long =
         let rest : own noted 0 ++ own (p.0 ++ q.0) 0 ≡ own whole 0 = sym (own_append noted (p.0 ++ q.0) 0)
         ∙ ap (λ l. own l 0) (sym (append_assoc noted p.0 q.0) ∙ (ap (λ l. l ++ q.0) p.1 ∙ q.1)) in
@@ -103,12 +104,12 @@ module _ (c : Config) (last : ℕ) (two : c.threads ≡ 2) where
         ∙ (own_append noted p.0 0 ∙ (ap (λ l. own noted 0 ++ l) between ∙ append-nil (own noted 0))))
 
 -- what a thread did from its first moment
-from_start : {l : List Act} {c : Config} {last t : ℕ} {v : PassView} → Did_so l (pass_that_saw c last t []) v
+from_start : {l : List Act} {c : Config} {last t : ℕ} {v : PassView} → DidJust l (pass_that_saw c last t []) v
     → own v.seen t ≡ l
 from_start d = ap touching d.did.own ∙ d.so
 
 did_own : {l : List Act} {c : Config} {last t : ℕ} {seen : History} {v : PassView} → v ≡ pass_that_saw c last t seen
-    → Did_so l (pass_that_saw c last t []) v → own seen t ≡ l
+    → DidJust l (pass_that_saw c last t []) v → own seen t ≡ l
 did_own {t = t} is d = ap (λ (z : PassView). own z.seen t) (sym is) ∙ from_start d
 
 pub served : {A : Type 0} (deed : Deed A) {old new : ThreadState} (x : A) → replied deed old (Ok (Ok x)) new
@@ -196,9 +197,9 @@ read_is_written whole y read legal one two = told ∙ ap (signed_of w32) twenty
 
     second_none : own whole 1 ≡ []
     second_none =
-        let learned : Did_so [] (pass_that_saw SIZES 4294967295 1 []) h.mid =
+        let learned : DidJust [] (pass_that_saw SIZES 4294967295 1 []) h.mid =
         record { acts = []; did = h.learned; so = refl } in
-        let reads : Did_so [] h.opened h.read = record { acts = Read h.o 1 h.word ∷ []; did = h.reads; so = refl } in
+        let reads : DidJust [] h.opened h.read = record { acts = Read h.o 1 h.word ∷ []; did = h.reads; so = refl } in
         ap touching (two.own ∙ append-nil (mine two.seen 1))
         ∙ did_own d.saw (so_then learned (so_then h.first (so_then reads h.last)))
 
@@ -208,7 +209,8 @@ read_is_written whole y read legal one two = told ∙ ap (signed_of w32) twenty
         let t = traced (start_moment SIZES 4294967295 0) d.left (z.0, h.global) d.does in
         let noted_own = did_own d.saw (so_then t.fills t.ends) in
         let filled_own = from_start t.fills in
-        let up : IsPrefix r.there whole = prefix_trans _ _ whole r.ends (prefix_trans _ _ whole h.last.did.begins ends) in
+        let up : IsPrefix r.there whole =
+        prefix_trans _ _ whole r.ends (prefix_trans _ _ whole h.last.did.begins ends) in
         let begins : IsPrefix h.noted r.there = prefix_trans h.noted _ r.there h.begins
         (prefix_trans _ _ r.there h.first.did.begins r.begins) in
         let long : length (own h.noted 0) ≡ length (own whole 0) =
@@ -216,11 +218,13 @@ read_is_written whole y read legal one two = told ∙ ap (signed_of w32) twenty
         let read_by = touched_since SIZES 4294967295 refl whole legal second_none h.noted r.there begins up long
         ∙ noted_own in
         let filled_up : IsPrefix t.filled.seen whole = prefix_trans _ _ whole
-        (subst (λ (v : PassView). IsPrefix t.filled.seen v.seen) d.saw t.ends.did.begins) (prefix_trans h.noted r.there whole begins up) in
+        (subst (λ (v : PassView). IsPrefix t.filled.seen v.seen) d.saw t.ends.did.begins)
+        (prefix_trans h.noted r.there whole begins up) in
         let filled_by = touched_by SIZES 4294967295 refl whole legal second_none t.filled.seen filled_up ∙ filled_own in
         let there = arrays_in t.filled.seen (filling t.o t.p) filled_by t.p t.ints.contents t.ints.is t.ints.ints in
         let found = arrays_in r.there (filling t.o t.p) read_by h.o r.contents r.is r.ints in
-        let both : Some h.word ≡ Some 20 = sym r.word_is ∙ second_is_twenty t.o t.p h.o t.ints.contents r.contents there found in
+        let both : Some h.word ≡ Some 20 = sym r.word_is
+        ∙ second_is_twenty t.o t.p h.o t.ints.contents r.contents there found in
         cc)
 
 -- THE REPORT IS TRUE of what the two threads answered
@@ -233,7 +237,8 @@ is_true answers left inside cleared kind read ran first second =
     let x = Shared inside cleared kind in
     let part : (t : ℕ) (y : Found) → t < 2 → slice_index_or answers t (Ok y) ≡ Ok y
     → IsThreadPart has_found story_of SIZES 4294967295 ran.whole t (Ok y) =
-    λ t y below is. subst (IsThreadPart has_found story_of SIZES 4294967295 ran.whole t) is (ran.parts t (Ok y) below) in
+    λ t y below is.
+    subst (IsThreadPart has_found story_of SIZES 4294967295 ran.whole t) is (ran.parts t (Ok y) below) in
     let one = part 0 x (omega arith) first in
     let d = one.did refl in
     let s = has_shared (start_moment SIZES 4294967295 0) d.left x (served sharing x d.does) in

@@ -24,13 +24,16 @@ use Rattle.jr_model.specs.Frames.{Frames, drop_all, free_places, last_frame, pop
 use Rattle.jr_model.specs.Calls.{Call, entered, opened, refuse_if, some_act, ◌>>=◌, ◌>>◌}
 use Rattle.jr_model.specs.Checks.{Word, Parts, is_foreign, is_malformed, is_out_of_bounds}
 use Rattle.jr_model.specs.Checks.{same_element}
-use Rattle.jr_model.specs.Parts.{collect_announced, create, created, delete_at, delete_found, frame_left, frame_to_pop, new_frame, publish}
+use Rattle.jr_model.specs.Parts.{collect_announced, create, created, delete_at, delete_found, frame_left}
+use Rattle.jr_model.specs.Parts.{frame_to_pop, new_frame, publish}
 use Rattle.jr_model.specs.Parts.{reserve, take_frame, write}
 use Rattle.jr_model.specs.References.{added, made, new_local, popping, removal, resolved, room_after, room_for, typing}
 use Rattle.jr_model.specs.CollectionCalls.{collection_acts}
 use Rattle.jr_model.specs.RefusedCalls.{ChangesNothing, is_harmless, may_precede}
-use Rattle.jr_model.specs.Programs.{AnswerKind, Ending, Program, Which, at_both, call_of, compares, creates, deletes, ended}
-use Rattle.jr_model.specs.Programs.{ends, fills, finds, gives_object, looks, makes, names, names_both, one, other, pops_to}
+use Rattle.jr_model.specs.Programs.{AnswerKind, Ending, Program, Which, at_both, call_of, compares, creates}
+use Rattle.jr_model.specs.Programs.{deletes, ended}
+use Rattle.jr_model.specs.Programs.{ends, fills, finds, gives_object, looks, makes, names, names_both, one, other}
+use Rattle.jr_model.specs.Programs.{pops_to}
 use Rattle.jr_model.specs.Programs.{pushes, set_known, tests, types, wants}
 use Rattle.jr_model.specs.Programs.{at_object, handed_one, work_of}
 use Rattle.jr_model.specs.CallPrograms.{get_tests, part_tests, region_get, set_array_region}
@@ -39,7 +42,8 @@ use Rattle.jr_model.proofs.Composed.{Gives, Refusing, act_gives, at_most_gives, 
 use Rattle.jr_model.proofs.Composed.{either_gives, entered_gives, framed_gives, object_gives, object_so, opened_gives}
 use Rattle.jr_model.proofs.Composed.{refuse_gives, refuse_if_gives, some_act_gives, weaker_gives}
 use Rattle.jr_model.proofs.Lawful.{AreHarmless, IsPrelude}
-use Rattle.jr_model.proofs.Preludes.{announce_prelude, both_prelude, look_prelude, not_null_prelude, probes_prelude, resolved_prelude}
+use Rattle.jr_model.proofs.Preludes.{announce_prelude, both_prelude, look_prelude, not_null_prelude}
+use Rattle.jr_model.proofs.Preludes.{probes_prelude, resolved_prelude}
 use Rattle.jr_model.proofs.Preludes.{room_prelude, shuts_prelude, type_prelude}
 use Rattle.jr_model.proofs.ShownRefusals.{Purpose}
 
@@ -88,23 +92,23 @@ abbrev pub Touches : {A : Type 0} → (List Act → Type 0) → Call A → Type 
 Touches P call = Gives (Have P) Any call
 
 -- none
-abbrev pub None_of : List Act → Type 0
-None_of l = l ≡ []
+abbrev pub HasNone : List Act → Type 0
+HasNone l = l ≡ []
 
 -- the making of one object, where that is an array of ints
-abbrev pub One_of : Kind → List ℕ → List Act → Type 0
-One_of k ws l = (o : ℕ) × (l ≡ touching (New o k ws ∷ []))
+abbrev pub MakesOne : Kind → List ℕ → List Act → Type 0
+MakesOne k ws l = (o : ℕ) × (l ≡ touching (New o k ws ∷ []))
 
 -- to announce is asked for too
 abbrev asked : Purpose
 asked = record { words = 0; announces = true }
 
-prelude_none : {A : Type 0} {call : Call A} → IsPrelude asked call → Touches None_of call
+prelude_none : {A : Type 0} {call : Call A} → IsPrelude asked call → Touches HasNone call
 prelude_none = weaker_gives (λ f g xs q. record { so = none_harmless xs q.harmless }) (λ f g xs e q. tt)
 
 module _ {P : List Act → Type 0} where
   -- behind a call of which none does
-  behind : {A B : Type 0} {first : Call A} {next : A → Call B} → Touches None_of first → ((x : A) → Touches P (next x))
+  behind : {A B : Type 0} {first : Call A} {next : A → Call B} → Touches HasNone first → ((x : A) → Touches P (next x))
       → Touches P (first >>= next)
   behind = bind_gives (record {
     joins = λ f g h xs ys p q.
@@ -113,7 +117,7 @@ module _ {P : List Act → Type 0} where
   })
 
   -- and before one
-  before : {A B : Type 0} {first : Call A} {next : A → Call B} → Touches P first → ((x : A) → Touches None_of (next x))
+  before : {A B : Type 0} {first : Call A} {next : A → Call B} → Touches P first → ((x : A) → Touches HasNone (next x))
       → Touches P (first >>= next)
   before = bind_gives (record {
     joins = λ f g h xs ys p q. record {
@@ -134,41 +138,44 @@ module _ {P : List Act → Type 0} where
 
   tested_so : {A : Type 0} (ts : Tests) {next : Call A} → Touches P next → Touches P (tested ts next)
   tested_so [] p = p
-  tested_so ((b, e) ∷ ts) p = behind (refuse_if_gives b e (λ f. record { so = refl }) (λ is f. tt)) (λ x. tested_so ts p)
+  tested_so ((b, e) ∷ ts) p =
+      behind (refuse_if_gives b e (λ f. record { so = refl }) (λ is f. tt)) (λ x. tested_so ts p)
 
-check : (b : Bool) (e : Fault) → Touches None_of (refuse_if b e)
+check : (b : Bool) (e : Fault) → Touches HasNone (refuse_if b e)
 check b e = refuse_if_gives b e (λ f. record { so = refl }) (λ is f. tt)
 
 -- a part that has just these acts
-just : {A : Type 0} {call : Call A} → ((f g : Frames) (acts : List Act) (x : A) → call f acts (Ok x) g → touching acts ≡ [])
-    → Touches None_of call
+just : {A : Type 0} {call : Call A}
+    → ((f g : Frames) (acts : List Act) (x : A) → call f acts (Ok x) g → touching acts ≡ []) → Touches HasNone call
 just is = record { goes = λ f g acts x r. record { so = is f g acts x r }; fails = λ f g acts e r. tt }
 
-reserve_none : (n : ℕ) → Touches None_of (reserve n)
+reserve_none : (n : ℕ) → Touches HasNone (reserve n)
 reserve_none zero = done_gives tt (λ f. record { so = refl })
 reserve_none (suc n) = either_gives (act_gives (Reserve (suc n)) (λ f. record { so = refl })) (either_gives
-    (behind (some_act_gives (ReserveFull (suc n)) (λ u f. record { so = refl })) (λ u. refuse_gives (fault.SpaceFull u) (λ f. tt)))
+    (behind (some_act_gives (ReserveFull (suc n)) (λ u f. record { so = refl })) (λ u.
+    refuse_gives (fault.SpaceFull u) (λ f. tt)))
     (behind (some_act_gives {X = ℕ × ℕ} (λ l. ReserveLost (suc n) l.0 l.1) (λ l f. record { so = refl })) (λ l.
     refuse_gives (fault.Raced l.0 l.1) (λ f. tt))))
 
-publish_one : (k : Kind) (ws : List ℕ) → Touches (One_of k ws) (publish k ws)
+publish_one : (k : Kind) (ws : List ℕ) → Touches (MakesOne k ws) (publish k ws)
 publish_one k ws =
-    either_gives (some_act_gives (λ o. New o k ws) (λ o f. record { so = (o, refl) })) (refuse_gives fault.ObjectsFull (λ f. tt))
+    either_gives (some_act_gives (λ o. New o k ws) (λ o f. record { so = (o, refl) }))
+    (refuse_gives fault.ObjectsFull (λ f. tt))
 
-create_none : (slots : ℕ) (k : RefKind) (o : ℕ) → Touches None_of (create slots k o)
+create_none : (slots : ℕ) (k : RefKind) (o : ℕ) → Touches HasNone (create slots k o)
 create_none slots k o = at_most_gives (slots + slots) (behind (prelude_none probes_prelude) (λ x. either_gives
     (just (λ f g acts h r. subst (λ l. touching l ≡ []) (sym r.2) refl)) (refuse_gives fault.RowFull (λ f. tt))))
 
-created_none : (slots : ℕ) (k : RefKind) (o : Option ℕ) → Touches None_of (created slots k o)
+created_none : (slots : ℕ) (k : RefKind) (o : Option ℕ) → Touches HasNone (created slots k o)
 created_none slots k None = done_gives None (λ f. record { so = refl })
 created_none slots k (Some o) = behind (create_none slots k o) (λ h. done_gives (Some h) (λ f. record { so = refl }))
 
-delete_found_none : (h : Handle) (r : Found) → Touches None_of (delete_found h r)
+delete_found_none : (h : Handle) (r : Found) → Touches HasNone (delete_found h r)
 delete_found_none h Stale = refuse_gives fault.Stale (λ f. tt)
 delete_found_none h _ = either_gives (act_gives (Delete h) (λ f. record { so = refl }))
     (behind (act_gives (DeleteStale h) (λ f. record { so = refl })) (λ x. refuse_gives fault.Stale (λ f. tt)))
 
-delete_none : (a : Word) → Touches None_of (delete_at a)
+delete_none : (a : Word) → Touches HasNone (delete_at a)
 delete_none (Parts h) = behind (prelude_none (look_prelude h)) (delete_found_none h)
 delete_none _ = done_gives tt (λ f. record { so = refl })
 
@@ -176,15 +183,16 @@ drops_none : (refs : List LocalRef) → touching (drop_all refs) ≡ []
 drops_none [] = refl
 drops_none (r ∷ refs) = drops_none refs
 
-take_none : Touches None_of take_frame
+take_none : Touches HasNone take_frame
 take_none = just (λ f g acts x r. subst (λ l. touching l ≡ []) (sym r.0) (drops_none (last_frame f.frames)))
 
-sweeps_none : (cleared : List Handle) (dropped : List ℕ) (used : ℕ) → touching (collection_acts cleared dropped used) ≡ []
+sweeps_none : (cleared : List Handle) (dropped : List ℕ) (used : ℕ)
+    → touching (collection_acts cleared dropped used) ≡ []
 sweeps_none (h ∷ cleared) dropped used = sweeps_none cleared dropped used
 sweeps_none [] (o ∷ dropped) used = sweeps_none [] dropped used
 sweeps_none [] [] used = refl
 
-pub collected_none : (tries : ℕ) → Touches None_of (collect_announced tries)
+pub collected_none : (tries : ℕ) → Touches HasNone (collect_announced tries)
 collected_none tries = behind (prelude_none (announce_prelude refl)) (λ x. either_gives
     (behind (prelude_none (shuts_prelude (λ n. n < tries))) (λ y.
     just (λ f g acts z r. subst (λ l. touching l ≡ []) (sym r.3) (sweeps_none r.0 r.1 r.2))))
@@ -207,45 +215,48 @@ refused_none {old = old} {new = new} {acts = acts} e safe was = none acts (safe.
     none (a ∷ acts) h = none_first a acts (one e a h.0) (none acts h.1)
 
 module _ (c : Config) (last thread : ℕ) where
-  room_none : (n : ℕ) → Touches None_of (room_for c last thread n)
+  room_none : (n : ℕ) → Touches HasNone (room_for c last thread n)
   room_none n = prelude_none (room_prelude c last thread n)
 
-  resolved_none : (a : Word) → Touches None_of (resolved c last thread a)
+  resolved_none : (a : Word) → Touches HasNone (resolved c last thread a)
   resolved_none a = prelude_none (resolved_prelude c last thread a)
 
-  added_none : (o : ℕ) → Touches None_of (added c last thread o)
+  added_none : (o : ℕ) → Touches HasNone (added c last thread o)
   added_none o = just (λ f g acts h r. subst (λ l. touching l ≡ []) (sym r.1) refl)
 
-  made_one : (k : Kind) (ws : List ℕ) → Touches (One_of k ws) (made c last thread k ws)
+  made_one : (k : Kind) (ws : List ℕ) → Touches (MakesOne k ws) (made c last thread k ws)
   made_one k ws = behind (room_none 1) (λ x. behind (reserve_none (length ws)) (λ y.
       before (publish_one k ws) added_none))
 
-  local_none : (o : Option ℕ) → Touches None_of (new_local c last thread o)
+  local_none : (o : Option ℕ) → Touches HasNone (new_local c last thread o)
   local_none None = done_gives None (λ f. record { so = refl })
-  local_none (Some o) = behind (room_none 1) (λ x. behind (added_none o) (λ h. done_gives (Some h) (λ f. record { so = refl })))
+  local_none (Some o) =
+      behind (room_none 1) (λ x. behind (added_none o) (λ h. done_gives (Some h) (λ f. record { so = refl })))
 
-  after_none : (o : Option ℕ) → Touches None_of (room_after c last thread o)
+  after_none : (o : Option ℕ) → Touches HasNone (room_after c last thread o)
   after_none None = done_gives tt (λ f. record { so = refl })
   after_none (Some o) =
       framed_gives (λ old. refuse_if (free_places last (popped old) == 0) fault.LocalsFull) (λ f. check _ _)
 
   popping_none : (a : Word)
-      → Touches None_of (frame_to_pop >> (resolved c last thread a >>= popping c last thread))
+      → Touches HasNone (frame_to_pop >> (resolved c last thread a >>= popping c last thread))
   popping_none a =
       behind (framed_gives (λ old. refuse_if (nat_lt (length old.frames) 2) fault.NoFrame) (λ f. check _ _)) (λ x.
       behind (resolved_none a) (λ y. behind (after_none y) (λ z. behind take_none (λ u. local_none y))))
 
-  pushing_none : (n : ℕ) → Touches None_of (frame_left >> (room_for c last thread n >> new_frame))
+  pushing_none : (n : ℕ) → Touches HasNone (frame_left >> (room_for c last thread n >> new_frame))
   pushing_none n =
-      behind (framed_gives (λ old. refuse_if (nat_le FRAMES (length old.frames)) fault.LocalsFull) (λ f. check _ _)) (λ x.
+      behind
+      (framed_gives (λ old. refuse_if (nat_le FRAMES (length old.frames)) fault.LocalsFull) (λ f. check _ _)) (λ x.
       behind (room_none n) (λ y. just (λ f g acts z r. subst (λ l. touching l ≡ []) (sym r.0) refl)))
 
-  removal_none : (k : RefKind) (a : Word) → Touches None_of (removal c k a)
+  removal_none : (k : RefKind) (a : Word) → Touches HasNone (removal c k a)
   removal_none k a =
       behind (check _ _) (λ x. behind (check _ _) (λ y. behind (check _ _) (λ z. delete_none a)))
 
-  typing_none : (a : Word) → Touches None_of (typing c thread a)
-  typing_none a = cond_gives (is_malformed a || is_out_of_bounds c a || is_foreign thread a) (done_gives 0 (λ f. record { so = refl }))
+  typing_none : (a : Word) → Touches HasNone (typing c thread a)
+  typing_none a = cond_gives (is_malformed a || is_out_of_bounds c a || is_foreign thread a)
+      (done_gives 0 (λ f. record { so = refl }))
       (prelude_none (type_prelude a))
 
 -- WHAT AN ENDING does, of those that the two threads come to
@@ -257,9 +268,9 @@ EndTouches (creates k w) l = l ≡ []
 EndTouches (deletes k w) l = l ≡ []
 EndTouches (pushes n) l = l ≡ []
 EndTouches (pops_to w) l = l ≡ []
-EndTouches (makes k ws) l = One_of k ws l
-EndTouches (fills k n None) l = One_of k (replicate n 0) l
-EndTouches (fills k n (Some w)) l = (v : ℕ) × One_of k (replicate n v) l
+EndTouches (makes k ws) l = MakesOne k ws l
+EndTouches (fills k n None) l = MakesOne k (replicate n 0) l
+EndTouches (fills k n (Some w)) l = (v : ℕ) × MakesOne k (replicate n v) l
 EndTouches _ l = Unit {0}
 
 -- and a program

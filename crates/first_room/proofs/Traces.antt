@@ -32,37 +32,38 @@ use Rattle.first_room.specs.declared.message.Found.{Found}
 use Rattle.first_room.specs.declared.message.Handed.{Handed}
 use Rattle.first_room.specs.declared.message.Found.TheVariants.{Shared, Visited}
 use Rattle.first_room.specs.Calls.{HasPrepared, clearing, collecting_twice, making_own, preparing, reading_within}
-use Rattle.first_room.specs.Calls.{says, sharing, visiting}
+use Rattle.first_room.specs.Calls.{message_says, sharing, visiting}
 use Rattle.first_room.proofs.Arrays.{filling}
 use Rattle.first_room.proofs.Touching.{HasInts, ProgramTouches, Touches, collected_none}
-use Rattle.first_room.proofs.Touching.{fills_so, in_region, in_stay, ints_read, program_so, refused_none, touching, touching_append}
+use Rattle.first_room.proofs.Touching.{fills_so, in_region, in_stay, ints_read, program_so, refused_none}
+use Rattle.first_room.proofs.Touching.{touching, touching_append}
 
 -- A THREAD DID, of these acts, just these
-pub record Did_so (l : List Act) (old new : PassView) : Type 0 where
+pub record DidJust (l : List Act) (old new : PassView) : Type 0 where
   pub acts : List Act
   pub did : Did old new acts
   pub so : touching acts ≡ l
 
-pub so_then : {l m : List Act} {a b c : PassView} → Did_so l a b → Did_so m b c → Did_so (l ++ m) a c
+pub so_then : {l m : List Act} {a b c : PassView} → DidJust l a b → DidJust m b c → DidJust (l ++ m) a c
 so_then {l} {m} p q = record {
   acts = p.acts ++ q.acts;
   did = did_then p.acts q.acts p.did q.did;
   so = touching_append p.acts q.acts ∙ (ap (λ x. x ++ touching q.acts) p.so ∙ ap (λ x. l ++ x) q.so);
 }
 
-same_end : {l : List Act} {a : PassView} {b c : ThreadState} → c ≡ b → Did_so l a b.pass → Did_so l a c.pass
-same_end {l} {a} is = subst (λ (z : ThreadState). Did_so l a z.pass) (sym is)
+same_end : {l : List Act} {a : PassView} {b c : ThreadState} → c ≡ b → DidJust l a b.pass → DidJust l a c.pass
+same_end {l} {a} is = subst (λ (z : ThreadState). DidJust l a z.pass) (sym is)
 
 -- a call that was answered
 made_so : {A : Type 0} {P : List Act → Type 0} {silent : ℕ} {old new : ThreadState} {x : A} {call : Call A}
-    → Touches P call → IsMade silent old new call (Ok x) → (l : List Act) × Did_so l old.pass new.pass × P l
+    → Touches P call → IsMade silent old new call (Ok x) → (l : List Act) × DidJust l old.pass new.pass × P l
 made_so {old = old} {new = new} {x = x} t m =
     let h = t.goes old.frames new.frames m.ran.acts x m.ran.is in
     (touching m.ran.acts, record { acts = m.ran.acts; did = m.ran.did; so = refl }, h.so)
 
 -- and one that was refused
 refused_so : {A : Type 0} {silent : ℕ} {old new : ThreadState} {e : Fault} {call : Call A} → ChangesNothing call
-    → IsMade silent old new call (Err e) → Did_so [] old.pass new.pass
+    → IsMade silent old new call (Err e) → DidJust [] old.pass new.pass
 refused_so {e = e} safe m = record { acts = m.ran.acts; did = m.ran.did; so = refused_none e safe m.ran.is }
 
 -- WHAT A WHOLE CALL does, by its request
@@ -75,7 +76,7 @@ RequestTouches (told_by form first) l = RequestTouches first l
 RequestTouches (named name first) l = RequestTouches first l
 
 whole_so : {A : Type 0} (request : Request A) (old new : ThreadState) (x : A) → whole request old (Ok x) new
-    → (l : List Act) × Did_so l old.pass new.pass × RequestTouches request l
+    → (l : List Act) × DidJust l old.pass new.pass × RequestTouches request l
 whole_so (asks silent words p) old new x was =
     let c = old.pass in
     made_so (in_stay (program_so c.config c.last c.thread words (state new.pass.seen) p none_known 0)) was.0
@@ -90,22 +91,22 @@ whole_so (named name first) old new x was = whole_so first old new x was
 
 -- that it does nothing of the sort
 quiet : {A : Type 0} (request : Request A) → ((l : List Act) → RequestTouches request l → l ≡ [])
-    → (old new : ThreadState) (x : A) → whole request old (Ok x) new → Did_so [] old.pass new.pass
+    → (old new : ThreadState) (x : A) → whole request old (Ok x) new → DidJust [] old.pass new.pass
 quiet request none old new x was = let z = whole_so request old new x was in
-    subst (λ l. Did_so l old.pass new.pass) (none z.0 z.2) z.1
+    subst (λ l. DidJust l old.pass new.pass) (none z.0 z.2) z.1
 
 -- nor a call that enters no gate
 pushed : (n : ℕ) {old new : ThreadState} → call_apart (programs.push_local_frame n) old (Ok tt) new
-    → Did_so [] old.pass new.pass
+    → DidJust [] old.pass new.pass
 pushed n {old} {new} was =
     let c = old.pass in
     let z = made_so (program_so c.config c.last c.thread handed_none (state new.pass.seen) (programs.push_local_frame n)
     none_known 0) was.0 in
-    subst (λ l. Did_so l old.pass new.pass) z.2 z.1
+    subst (λ l. DidJust l old.pass new.pass) z.2 z.1
 
 -- nor collections
 announced : (old new : ThreadState) (r : Result Collected Fault) → announced_collection TRIES old r new
-    → Did_so [] old.pass new.pass
+    → DidJust [] old.pass new.pass
 announced old new (Ok c) turn =
     let ran = turn.done.ran in
     record { acts = ran.acts; did = ran.did; so = ((collected_none TRIES).goes _ _ ran.acts _ ran.is).so }
@@ -113,9 +114,10 @@ announced old new (Err e) turn = refused_so (refused_parts_change_nothing old.pa
     old.pass.thread (state new.pass.seen) _ (calls.PartOf.collect_announced TRIES)) turn.made
 
 in_turn : {more : ℕ} {old new : ThreadState} {r : Result Collected Fault} → collection_in_turn TRIES more old r new
-    → Did_so [] old.pass new.pass
+    → DidJust [] old.pass new.pass
 in_turn (served_now {old = old} {new = new} {x = x} turn) = announced old new (Ok x) turn
-in_turn (refused_once {old = old} {mid = mid} {e = e} turn rest) = so_then (announced old mid (Err e) turn) (in_turn rest)
+in_turn (refused_once {old = old} {mid = mid} {e = e} turn rest) =
+    so_then (announced old mid (Err e) turn) (in_turn rest)
 in_turn (tried_last {old = old} {new = new} {answer = answer} turn) = announced old new answer turn
 
 -- THE FIRST THREAD HAD MADE AN ARRAY OF INTS, and then written into one, and done nothing else of the sort
@@ -123,9 +125,9 @@ pub record IsTraced (start stop : PassView) : Type 0 where
   pub o : ℕ
   pub p : ℕ
   pub filled : PassView
-  pub fills : Did_so (filling o p) start filled
+  pub fills : DidJust (filling o p) start filled
   pub ints : HasInts p (state filled.seen)
-  pub ends : Did_so [] filled stop
+  pub ends : DidJust [] filled stop
 
 pub traced : (old new : ThreadState) (x : ℕ × ℕ) → preparing old (Ok x) new → IsTraced old.pass new.pass
 traced old new x (inr r) = absurd (let bad = r.1 in cc)
@@ -206,7 +208,7 @@ traced old new x (inl (
       o = one.2.0;
       p = two.2.0;
       filled = e.pass;
-      fills = subst (λ l. Did_so l old.pass e.pass) (λ i. one.2.1 i ++ two.2.2 i) (so_then first (so_then one.1 two.1));
+      fills = subst (λ l. DidJust l old.pass e.pass) (λ i. one.2.1 i ++ two.2.2 i) (so_then first (so_then one.1 two.1));
       ints = two.2.1;
       ends = same_end end.1 (so_then (quiet (for_new_reference Global array.0) (λ l t. t.1) e f global d6)
           (quiet (for_pop_local_frame 0) (λ l t. t.1) f g popped d7));
@@ -221,7 +223,7 @@ pub record HasShared (y : Found) (start stop : PassView) : Type 0 where
   pub some : 1 ≤ inside
   pub mid : PassView
   pub traced : IsTraced start mid
-  pub ends : Did_so [] mid stop
+  pub ends : DidJust [] mid stop
 
 -- THE SECOND THREAD was handed the word, and read the second element of an array of ints
 pub record HasVisited (y : Found) (sizes : Config) (start stop : PassView) : Type 0 where
@@ -236,10 +238,10 @@ pub record HasVisited (y : Found) (sizes : Config) (start stop : PassView) : Typ
   pub o : ℕ
   pub opened : PassView
   pub read : PassView
-  pub first : Did_so [] mid opened
+  pub first : DidJust [] mid opened
   pub reads : Did opened read (Read o 1 word ∷ [])
   pub ints : HasInts o (state read.seen)
-  pub last : Did_so [] read stop
+  pub last : DidJust [] read stop
 
 same_found : {y z : Found} → ◌≡◌ {A = Result Found Fault} (Ok y) (Ok z) → y ≡ z
 same_found e = cc
@@ -262,7 +264,7 @@ has_shared old new y (inl (words, a, d1, inl (inside, b, d2, inl (found, c, d3, 
     }
   where
     collected : (a b : ThreadState) (inside : ℕ) → collecting_twice a (Ok inside) b
-        → (1 ≤ inside) × Did_so [] a.pass b.pass
+        → (1 ≤ inside) × DidJust [] a.pass b.pass
     collected a b inside (inr r) = absurd (let bad = r.1 in cc)
     collected a b inside (inl (n, m, kept, inr r)) = absurd (let bad = r.1 in cc)
     collected a b inside (inl (n, m, kept, inl (c, e, turn, end))) =
@@ -274,7 +276,7 @@ has_shared old new y (inl (words, a, d1, inl (inside, b, d2, inl (found, c, d3, 
         )
 
     cleared : (b c : ThreadState) (weak global : ℕ) (found : Bool × ℕ) → clearing weak global b (Ok found) c
-        → Did_so [] b.pass c.pass
+        → DidJust [] b.pass c.pass
     cleared b c weak global found (inr r) = absurd (let bad = r.1 in cc)
     cleared b c weak global found (inl (x, d, d1, inr r)) = absurd (let bad = r.1 in cc)
     cleared b c weak global found (inl (x, d, d1, inl (u, e, d2, inr r))) = absurd (let bad = r.1 in cc)
@@ -291,7 +293,7 @@ has_visited old new y (inl (w, a, handed, inl (u, b, d1, inr r))) = absurd (let 
 has_visited old new y (inl (w, a, handed, inl (u, b, d1, inl (word, c, d2, end)))) =
     reads b c word end d2 (own a b d1)
   where
-    own : (a b : ThreadState) → making_own a (Ok tt) b → Did_so [] a.pass b.pass
+    own : (a b : ThreadState) → making_own a (Ok tt) b → DidJust [] a.pass b.pass
     own a b (inr r) = absurd (let bad = r.1 in cc)
     own a b (inl (u, c, d1, inr r)) = absurd (let bad = r.1 in cc)
     own a b (inl (u, c, d1, inl (object, d, d2, inr r))) = absurd (let bad = r.1 in cc)
@@ -309,7 +311,7 @@ has_visited old new y (inl (w, a, handed, inl (u, b, d1, inl (word, c, d2, end))
 
     reads : (b c : ThreadState) (word : ℕ)
         → (◌≡◌ {A = Result Found Fault} (Ok y) (Ok (Visited (signed_of w32 word)))) × (new ≡ c)
-        → reading_within w b (Ok word) c → Did_so [] a.pass b.pass → HasVisited y old.pass.config old.pass new.pass
+        → reading_within w b (Ok word) c → DidJust [] a.pass b.pass → HasVisited y old.pass.config old.pass new.pass
     reads b c word end (inr r) made = absurd (let bad = r.1 in cc)
     reads b c word end (inl (o, d, opens, inr r)) made = absurd (let bad = r.1 in cc)
     reads b c word end (inl (o, d, opens, inl (v, e, gets, inr r))) made = absurd (let bad = r.1 in cc)
@@ -317,7 +319,7 @@ has_visited old new y (inl (w, a, handed, inl (u, b, d1, inl (word, c, d2, end))
         let there = state d.pass.seen in
         let first = made_so (in_region (program_so b.pass.config b.pass.last b.pass.thread (handed_one opens.0) there
         (programs.get_array_critical 0) none_known 0)) opens.2 in
-        let quiet_open = subst (λ l. Did_so l b.pass d.pass) first.2.2 first.1 in
+        let quiet_open = subst (λ l. DidJust l b.pass d.pass) first.2.2 first.1 in
         let value : v ≡ word = same_word v word (sym last.0) in
         let got = ints_read d.pass.config d.pass.last d.pass.thread (state e.pass.seen) o v d.frames e.frames
         gets.ran.acts gets.ran.is in
@@ -329,7 +331,7 @@ has_visited old new y (inl (w, a, handed, inl (u, b, d1, inl (word, c, d2, end))
           noted = taken.2;
           mid = a.pass;
           prepared = subst (λ h. ∥ HasPrepared old.pass.config h taken.2 ∥₁) (same_word _ _ (sym handed.1))
-              (subst (λ m. ∥ says m old.pass.config taken.2 ∥₁) (same_message taken.1) taken.3);
+              (subst (λ m. ∥ message_says m old.pass.config taken.2 ∥₁) (same_message taken.1) taken.3);
           begins = taken.4;
           learned = taken.5.did;
           o = o;
@@ -339,5 +341,6 @@ has_visited old new y (inl (w, a, handed, inl (u, b, d1, inl (word, c, d2, end))
           reads = subst (λ x. Did d.pass e.pass (Read o 1 x ∷ [])) value
               (subst (Did d.pass e.pass) got.1 gets.ran.did);
           ints = got.0;
-          last = same_end (end.1 ∙ last.1) (record { acts = left.ran.acts; did = left.ran.did; so = ap touching left.ran.is.0 });
+          last = same_end (end.1 ∙ last.1)
+              (record { acts = left.ran.acts; did = left.ran.did; so = ap touching left.ran.is.0 });
         }

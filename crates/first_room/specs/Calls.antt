@@ -83,14 +83,14 @@ abbrev pub HasPrepared : Config → ℕ → History → Type 0
 HasPrepared sizes global seen = (weak : ℕ) × ComesOfDeed sizes 4294967295 0 preparing (weak, global) seen
 
 -- WHAT A MESSAGE SAYS of what its thread had seen: that of the reference, that all this was done; and a turn nothing
-abbrev pub says : Handed → Config → History → Type 0
-says (Reference h) sizes seen = HasPrepared sizes h.0 seen
-says Turn sizes seen = Unit {0}
+abbrev pub message_says : Handed → Config → History → Type 0
+message_says (Reference h) sizes seen = HasPrepared sizes h.0 seen
+message_says Turn sizes seen = Unit {0}
 
 -- the word of the first thread's global reference was handed over with a note, and the note was learned:
 -- all that the first thread had seen by then is seen
 abbrev pub is_handed : Deed ℕ
-is_handed old answer new = (h : Handle) × (answer ≡ Ok h.0) × takes_over says old (Ok (Reference h)) new
+is_handed old answer new = (h : Handle) × (answer ≡ Ok h.0) × takes_over message_says old (Ok (Reference h)) new
 
 -- a critical region is opened over the array that a word names: its object
 abbrev pub opens_region : ℕ → Deed ℕ

@@ -2,7 +2,7 @@
 ghost use Rattle.std.specs.Prelude.{◌≡◌};
 ghost use Rattle.jr_rule.specs.Notes.{IsUnchanged};
 ghost use Rattle.jr_rule.specs.Rooms.{seen_by_note};
-ghost use Rattle.first_room.specs.Calls.{says};
+ghost use Rattle.first_room.specs.Calls.{message_says};
 
 use crate::message::Handed;
 use jr_env::{Env, Patience};
@@ -11,9 +11,9 @@ use jr_threads::{HandedOn, QueueEnd};
 use jr_word::Fault;
 
 impl HandedOn for Handed {
-    ghost use Rattle.first_room.specs.Calls.{says};
+    ghost use Rattle.first_room.specs.Calls.{message_says};
 
-    ghost says = { λ message sizes seen. says message sizes seen };
+    ghost says = { λ message sizes seen. message_says message sizes seen };
 }
 
 /// Hands a message over, as soon as the one before it was taken: E20 where that one lies there at each try.
@@ -22,7 +22,7 @@ pub(crate) fn hand<Q: Site>(
     message: Handed,
     note: NoteOf<Q>,
 ) -> Result<(), Fault>
-    requires { says message Q.sizes (seen_by_note note.note) }
+    requires { message_says message Q.sizes (seen_by_note note.note) }
 {
     match queue.retry_put(message, note, Patience::LONG) {
         Ok(()) => Ok(()),

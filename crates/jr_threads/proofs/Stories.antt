@@ -59,7 +59,8 @@ module _ {S : Type 0} {facts : S → Facts} where
   -- A MESSAGE WAS TAKEN, and its note was learned
   pub took_over : AreOf facts → {A : Type 0} (says : A → Config → History → Type 0) (sizes : Config) (a b : S)
       (f f' : Frames) (x : A) (n : Note) → (facts a).stands.role ≡ Outside → (facts a).stands.config ≡ sizes
-      → Took facts a b [] anything keeps → HasSeen facts b (seen_by_note n) → f' ≡ f → ∥ says x sizes (seen_by_note n) ∥₁
+      → Took facts a b [] anything keeps → HasSeen facts b (seen_by_note n) → f' ≡ f
+      → ∥ says x sizes (seen_by_note n) ∥₁
       → DoesOutside facts a b f f' (takes_over says) (Ok x)
   took_over fits says sizes a b f f' x n out room took learned same said =
       let stands = took.stands_is in

@@ -26,6 +26,7 @@ returns g c =
     >>= (λ n. clearing words.0 words.1 >>= (λ found. done (Shared n found.0 found.1)))) c.requires.steps.outside made
     (behind_note made.outside same.0 (ap (λ (t : Table). t.frames) same.1)
     (call_then {one = collecting_twice} (λ n. clearing c.in_ok-weak.weak.0 c.in_ok-weak.global.0
-    >>= (λ found. done (Shared n found.0 found.1))) (ap (λ (z : Standing). z.role) same.0.stands_is ∙ made.outside) twice
+    >>= (λ found. done (Shared n found.0 found.1)))
+    (ap (λ (z : Standing). z.role) same.0.stands_is ∙ made.outside) twice
     (call_told {one = clearing c.in_ok-weak.weak.0 c.in_ok-weak.global.0} (λ found. Shared inside found.0 found.1)
     (c.in_ok-cleared.cleared, c.in_ok-cleared.kind) refl twice.outside c.in_ok-cleared.ensures)))
