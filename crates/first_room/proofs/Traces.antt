@@ -208,7 +208,8 @@ traced old new x (inl (
       o = one.2.0;
       p = two.2.0;
       filled = e.pass;
-      fills = subst (λ l. DidJust l old.pass e.pass) (λ i. one.2.1 i ++ two.2.2 i) (so_then first (so_then one.1 two.1));
+      fills = subst (λ l. DidJust l old.pass e.pass) (λ i. one.2.1 i ++ two.2.2 i)
+          (so_then first (so_then one.1 two.1));
       ints = two.2.1;
       ends = same_end end.1 (so_then (quiet (for_new_reference Global array.0) (λ l t. t.1) e f global d6)
           (quiet (for_pop_local_frame 0) (λ l t. t.1) f g popped d7));
