@@ -27,6 +27,8 @@ MEMBER = re.compile(r"(?<![\w.])([A-Z]\w*)\.([A-Za-z]\w*)")
 ABOVE = re.compile(r"^(?:pub )?trait (\w+)(?:<[^{]*?>)?: (\w+)", re.M)
 # Traits whose members count for nothing beside the trait itself: what they are in a room is a claim of its own.
 TOLD_APART = ("Steps",)
+# Traits whose impls are an embedder's: what those say counts where the embedder says it, and not for a function that is handed any impl.
+OF_EMBEDDERS = ("NativeCode", "HandedOn", "OwnedCode")
 # Data that calls are values of: what reads them does so by cases, of which a call needs those of its own value.
 CASES = (("jr_model.specs.Programs", "Program"), ("jr_model.specs.Programs", "Ending"), ("jr_model.specs.AllCalls", "CallOf"))
 
@@ -361,7 +363,7 @@ class Repository:
         """Returns the names that a member of a trait stands for."""
         of = [it for it in self.items if it.kind == "ghost" and it.name == member]
         in_impls = [it for it in of if it.inside.startswith(f"{trait} for ")]
-        chosen = [it for it in in_impls if it.inside in impls] or in_impls
+        chosen = [it for it in in_impls if it.inside in impls] or ([] if trait in OF_EMBEDDERS else in_impls)
         return set().union(*(it.says for it in chosen), *(it.says for it in of if it.in_trait and it.inside == trait))
 
     def read_types(self):

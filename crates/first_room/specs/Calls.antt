@@ -1,11 +1,18 @@
 -- What each of the two threads does, call by call.
-use Rattle.std.specs.Prelude.{◌≡◌, ℕ, zero, suc, Bool, Option, Some, None, Ok, Err, [], ◌∷◌}
-use mathlib.Core.List.{IsPrefix}
-use Rattle.first_room.specs.declared.TheConstants.{LAST, SIZES, TRIES}
+use Rattle.std.specs.Prelude.{◌≡◌, ℕ, zero, suc, Bool, true, false, Option, Some, None, Result, Ok, Err, [], ◌∷◌}
+use Rattle.std.specs.Int.{w32}
+use Rattle.first_room.specs.declared.TheConstants.{TRIES}
+use Rattle.first_room.specs.declared.message.Found.{Found}
+use Rattle.first_room.specs.declared.message.Found.TheVariants.{Shared, Visited}
+use Rattle.first_room.specs.declared.message.Handed.{Handed}
+use Rattle.first_room.specs.declared.message.Handed.TheVariants.{Reference, Turn}
+use Rattle.jr_word.specs.declared.config.Config.{Config}
+use Rattle.jr_word.specs.declared.fault.Fault.{Fault}
 use Rattle.jr_word.specs.declared.fault.Fault.TheVariants.{Busy}
 use Rattle.jr_word.specs.declared.handle.Handle.{Handle}
 use Rattle.jr_word.specs.declared.handle.RefKind.TheVariants.{Global, Weak}
 use Rattle.jr_word.specs.declared.kind.Kind.TheVariants.{Int, Long}
+use Rattle.jr_word.specs.Elem.{signed_of}
 use Rattle.jr_model.specs.Checks.{Word}
 use Rattle.jr_model.specs.History.{History}
 use Rattle.jr_model.specs.Parts.{region_release}
@@ -13,20 +20,14 @@ use Rattle.jr_model.specs.Programs.{at_object}
 use Rattle.jr_model.specs.CallPrograms.{get_array_critical, region_get}
 use Rattle.jr_frames.specs.Reading.{IsReadAs}
 use Rattle.jr_critical.specs.Levels.{opened_by}
-use Rattle.jr_gate.specs.Performing.{HasLearned}
 use Rattle.jr_weak.specs.declared.collecting.Collected.{Collected}
 use Rattle.jr_env.specs.Collections.{collection}
 use Rattle.jr_env.specs.Deeds.{Deed, done, new_plain, new_array, new_object_array, new_reference}
 use Rattle.jr_env.specs.Deeds.{delete_reference, is_same_object, get_object_ref_type}
 use Rattle.jr_env.specs.Deeds.{push_local_frame, pop_local_frame, set_array_region, ◌>>=◌, ◌>>◌, within_by}
 use Rattle.jr_env.specs.Remedies.{collection_in_turn}
-use Rattle.jr_threads.specs.Parts.{ComesOfDeed}
-
--- what a thread found: the first, how many threads were inside as a collection was refused, whether its weak
--- reference is to null, and the type of its global one, once it is deleted; the second, the word of an element
-pub data Findings : Type 0 where
-  Shared : ℕ → Bool → ℕ → Findings
-  Visited : ℕ → Findings
+use Rattle.jr_threads.specs.Parts.{ComesOfDeed, replied}
+use Rattle.jr_threads.specs.Starting.{takes_over}
 
 -- the word of a reference that was made, 0 for NULL
 abbrev pub word_made : Option Handle → ℕ
@@ -70,7 +71,7 @@ clearing weak global = do
   done (cleared, kind)
 
 -- THE FIRST THREAD does this
-abbrev pub sharing : Deed Findings
+abbrev pub sharing : Deed Found
 sharing = do
   words ← preparing
   inside ← collecting_twice
@@ -78,14 +79,18 @@ sharing = do
   done (Shared inside found.0 found.1)
 
 -- THE FIRST THREAD HAS PREPARED, with this word of the global reference, and it had seen this by then
-abbrev pub HasPrepared : ℕ → History → Type 0
-HasPrepared global seen = (weak : ℕ) × ComesOfDeed SIZES LAST 0 preparing (weak, global) seen
+abbrev pub HasPrepared : Config → ℕ → History → Type 0
+HasPrepared sizes global seen = (weak : ℕ) × ComesOfDeed sizes 4294967295 0 preparing (weak, global) seen
+
+-- WHAT A MESSAGE SAYS of what its thread had seen: that of the reference, that all this was done; and a turn nothing
+abbrev pub message_says : Handed → Config → History → Type 0
+message_says (Reference h) sizes seen = HasPrepared sizes h.0 seen
+message_says Turn sizes seen = Unit {0}
 
 -- the word of the first thread's global reference was handed over with a note, and the note was learned:
 -- all that the first thread had seen by then is seen
 abbrev pub is_handed : Deed ℕ
-is_handed old answer new = (w : ℕ) × (answer ≡ Ok w) × (noted : History)
-    × ∥ HasPrepared w noted ∥₁ × IsPrefix noted new.pass.seen × HasLearned old new
+is_handed old answer new = (h : Handle) × (answer ≡ Ok h.0) × takes_over message_says old (Ok (Reference h)) new
 
 -- a critical region is opened over the array that a word names: its object
 abbrev pub opens_region : ℕ → Deed ℕ
@@ -112,14 +117,23 @@ making_own = do
 
 -- THE SECOND THREAD is handed the global reference's word, and makes two objects in a frame;
 -- and it reads an element of the array that the word names
-abbrev pub visiting : Deed Findings
+abbrev pub visiting : Deed Found
 visiting = do
   global ← is_handed
   making_own
   word ← reading_within global
-  done (Visited word)
+  done (Visited (signed_of w32 word))
 
 -- what the thread of a number does
-abbrev pub story : ℕ → Deed Findings
+abbrev pub story : ℕ → Deed Found
 story zero = sharing
 story (suc t) = visiting
+
+-- and answers, if no call was refused
+abbrev pub story_of : ℕ → Deed (Result Found Fault)
+story_of t = replied (story t)
+
+-- no call was refused
+abbrev pub has_found : Result Found Fault → Bool
+has_found (Ok x) = true
+has_found (Err e) = false

@@ -1,21 +1,12 @@
 -- What the program writes, and what is so of it.
-use Rattle.std.specs.Prelude.{◌≡◌, ◌≤◌, ℕ, ℤ, pos, Bool, true, if◌then◌else◌, Option, List, [], ◌∷◌, ◌++◌, codes}
+use Rattle.std.specs.Prelude.{◌≡◌, ◌≤◌, ℕ, pos, Bool, if◌then◌else◌, Option, Ok, List, [], ◌∷◌, ◌++◌, codes}
 use Rattle.std.specs.Fmt.{decimal, signed_decimal}
 use Rattle.std.specs.Io.KnownBytes.{Appends}
-use Rattle.std.specs.Int.{w32}
-use Rattle.first_room.specs.declared.TheConstants.{LAST, SIZES}
-use Rattle.jr_word.specs.Elem.{signed_word}
-use Rattle.jr_model.specs.declared.summary.Summary.{Summary}
+use Rattle.first_room.specs.declared.TheConstants.{SIZES}
+use Rattle.first_room.specs.declared.message.Found.TheVariants.{Shared, Visited}
+use Rattle.first_room.specs.declared.message.Report.{Report}
 use Rattle.jr_threads.specs.Parts.{RanTogether}
-use Rattle.first_room.specs.Calls.{Shared, Visited, story}
-
--- what the two threads found
-pub record Report : Type 0 where
-  pub read : ℤ  -- what the second thread read in the first one's array
-  pub inside : ℕ  -- how many threads were inside as a collection of the first was refused
-  pub cleared : Bool  -- whether its weak reference is to null after the next one
-  pub kind : ℕ  -- the type of its global reference, which it deleted
-  pub left : Summary  -- what stood in the room as it was closed
+use Rattle.first_room.specs.Calls.{has_found, story_of}
 
 -- a yes or no
 abbrev pub yes_or_no : Bool → List ℕ
@@ -47,8 +38,8 @@ report_text (l ∷ ls) = l ++ report_text ls
 -- the numbers are what the threads found, the element that was read is the one that was written,
 -- and what was left is what stands at the end
 pub record IsTrueReport (r : Report) : Type 0 where
-  pub ran : RanTogether (λ x. true) story SIZES LAST
-      (Shared r.inside r.cleared r.kind ∷ Visited (signed_word w32 r.read) ∷ []) r.left
+  pub ran : RanTogether has_found story_of SIZES 4294967295
+      (Ok (Shared r.inside r.cleared r.kind) ∷ Ok (Visited r.read) ∷ []) r.left
   pub is_read : r.read ≡ pos 20
   pub some : 1 ≤ r.inside
 

@@ -1,4 +1,3 @@
 -- What the program promises.
 pub mod Calls
 pub mod Hour
-pub mod Sites

@@ -1,68 +1,58 @@
-//! What one thread hands to the other, and how each waits for the other.
+//! What the first thread hands to the second, by the queue between them.
+ghost use Rattle.std.specs.Prelude.{◌≡◌};
+ghost use Rattle.jr_rule.specs.Notes.{IsUnchanged};
 ghost use Rattle.jr_rule.specs.Rooms.{seen_by_note};
-ghost use Rattle.first_room.specs.Calls.{HasPrepared};
+ghost use Rattle.first_room.specs.Calls.{message_says};
 
-use crate::TURNS;
-use jr_rule::{NoteOf, Site, ThreadNumber};
-use jr_word::{Fault, Handle};
-use std::sync::Mutex;
-use std::sync::atomic::{AtomicU64, Ordering};
-use std::thread;
+use crate::message::Handed;
+use jr_env::{Env, Patience};
+use jr_rule::{NoteOf, Site, StepsIn};
+use jr_threads::{HandedOn, QueueEnd};
+use jr_word::Fault;
 
-/// The thread that shares.
-pub(crate) struct First;
+impl HandedOn for Handed {
+    ghost use Rattle.first_room.specs.Calls.{message_says};
 
-impl ThreadNumber for First {
-    ghost number = { 0 };
+    ghost says = { λ message sizes seen. message_says message sizes seen };
 }
 
-/// The thread that visits.
-pub(crate) struct Second;
-
-impl ThreadNumber for Second {
-    ghost number = { 1 };
-}
-
-/// The first thread's global reference, with a note of all that it had seen once it had made it.
-#[derive(Drop)]
-pub(crate) struct Handed<Q: Site> {
-    pub(crate) global: Handle,
-    pub(crate) note: NoteOf<Q>,
-    ghost prepared: { ∥ HasPrepared global.0 (seen_by_note note.note) ∥₁ },
-}
-
-/// Puts a value where the other thread looks for one: E20 where that one is there at each turn.
-pub(crate) fn put<H: Drop>(place: &Mutex<Option<H>>, value: H) -> Result<(), Fault> {
-    for _ in 0..TURNS {
-        if let Some(mut there) = place.try_lock() {
-            *there = Some(value);
-            return Ok(());
-        }
-        thread::yield_now();
+/// Hands a message over, as soon as the one before it was taken: E20 where that one lies there at each try.
+pub(crate) fn hand<Q: Site>(
+    queue: &QueueEnd<'_, Handed, Q>,
+    message: Handed,
+    note: NoteOf<Q>,
+) -> Result<(), Fault>
+    requires { message_says message Q.sizes (seen_by_note note.note) }
+{
+    match queue.retry_put(message, note, Patience::LONG) {
+        Ok(()) => Ok(()),
+        Err(_) => Err(Fault::Turns),
     }
-    Err(Fault::Turns)
 }
 
-/// Takes the value that the other thread has put there: E20 where it puts none.
-pub(crate) fn take<H: Drop>(place: &Mutex<Option<H>>) -> Result<H, Fault> {
-    for _ in 0..TURNS {
-        if let Some(mut there) = place.try_lock() {
-            if let Some(value) = there.take() {
-                return Ok(value);
-            }
-        }
-        thread::yield_now();
-    }
-    Err(Fault::Turns)
+/// Hands a turn over.
+pub(crate) fn give_turn<Q: Site, S: StepsIn<Q>>(
+    env: &mut Env<S>,
+    queue: &QueueEnd<'_, Handed, Q>,
+) -> Result<(), Fault>
+    ensures same { IsUnchanged S.facts env.old.held.steps env.new.held.steps }
+    ensures frames { env.new.held.frames ≡ env.old.held.frames }
+{
+    let note = env.note();
+    hand(queue, Handed::Turn, note)
 }
 
-/// Waits until another word than the own stands there, and gives it: E20 where none comes.
-pub(crate) fn wait(baton: &AtomicU64, own: u64) -> Result<u64, Fault> {
-    for _ in 0..TURNS {
-        match baton.load(Ordering::SeqCst) {
-            word if word != own => return Ok(word),
-            _ => thread::yield_now(),
-        }
+/// Takes a turn: E20 where none comes.
+fn take_turn<Q: Site>(queue: &QueueEnd<'_, Handed, Q>) -> Result<(), Fault> {
+    match queue.retry_take(Patience::LONG) {
+        Ok(_) => Ok(()),
+        Err(_) => Err(Fault::Turns),
     }
-    Err(Fault::Turns)
+}
+
+/// Takes the three turns that the first thread hands over.
+pub(crate) fn take_turns<Q: Site>(queue: &QueueEnd<'_, Handed, Q>) -> Result<(), Fault> {
+    take_turn(queue)?;
+    take_turn(queue)?;
+    take_turn(queue)
 }

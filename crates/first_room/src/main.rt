@@ -3,31 +3,30 @@
 //! What stands behind `ghost`, `requires` and `ensures` is proved, and takes no time as the program runs. Skip it at first.
 #![tactic(auto)]
 
-ghost use Rattle.std.specs.Prelude.{◌≤◌, IfOk, OnOk, Ok};
+ghost use Rattle.std.specs.Prelude.{◌≡◌, IfOk, OnOk, Ok};
 ghost use Rattle.std.specs.Int.{w32};
 ghost use Rattle.std.specs.Io.KnownBytes.{Appends};
 ghost use Rattle.jr_word.specs.Elem.{signed_word};
-ghost use Rattle.jr_rule.specs.Passes.{AreOpened};
 ghost use Rattle.jr_env.specs.Envs.{Does, IsOutside};
-ghost use Rattle.first_room.specs.Calls.{Shared, Visited, clearing, collecting_twice};
-ghost use Rattle.first_room.specs.Calls.{making_own, preparing, reading_within};
+ghost use Rattle.jr_threads.specs.Parts.{RanTogether};
+ghost use Rattle.jr_threads.specs.Starting.{IsAtStart};
+ghost use Rattle.first_room.specs.Calls.{clearing, collecting_twice, has_found, making_own};
+ghost use Rattle.first_room.specs.Calls.{preparing, reading_within, sharing, story_of, visiting};
 ghost use Rattle.first_room.specs.Hour.{IsTrueReport, IsWritten, report_lines, report_text};
-ghost use Rattle.jr_threads.specs.Sites.{IsSiteRoom};
-ghost use Rattle.first_room.specs.Sites.{HasCome, IsPassOfThread};
 
 mod handing;
+mod message;
 
-use crate::handing::{First, Handed, Second, put, take, wait};
+use crate::handing::{give_turn, hand, take_turns};
+use crate::message::{Found, Handed, Report};
 use jr_env::{Env, NativeInterface, Patience};
-use jr_rule::{Pass, Room, Site, SiteSteps, Steps, Summary};
+use jr_rule::{Site, Steps, StepsIn, Summary};
+use jr_threads::{NativeCode, QueueEnd, run_native};
 use jr_word::{Config, Fault, Handle, LAST_SERIAL};
 use std::alloc::Global;
+use std::io;
 use std::io::Write;
-use std::marker::Brand;
-use std::sync::Mutex;
-use std::sync::atomic::{AtomicU64, Ordering};
 use std::thread::Threads;
-use std::{io, thread};
 use thiserror::Error;
 
 /// How often a slot gives a handle, one less.
@@ -35,9 +34,6 @@ const LAST: u32 = LAST_SERIAL;
 
 /// How often an announced collection tries to shut the gate.
 const TRIES: u32 = 1_000;
-
-/// How often a thread looks for the other's word.
-pub(crate) const TURNS: u32 = 1 << 26;
 
 /// The sizes of the room.
 const SIZES: Config = Config {
@@ -59,67 +55,93 @@ pub enum Trouble {
     Output(#[from] io::Error),
 }
 
+/// What both threads run.
+#[derive(Drop)]
+struct Hour {
+    alloc: Global,
+}
+
+impl NativeCode for Hour {
+    ghost use Rattle.first_room.specs.Calls.{has_found, story_of};
+
+    type Message = Handed;
+
+    type Answer = Result<Found, Fault>;
+
+    // A message goes in once the one before it was taken: so the first thread waits for the second.
+    const PLACES: usize = 1;
+
+    ghost tells = { λ answer. has_found answer };
+
+    ghost deed = { λ native thread. story_of thread };
+
+    fn run<Q: Site, S: StepsIn<Q> + Drop>(
+        &self,
+        thread: u8,
+        env: &mut Env<S>,
+        queue: &mut QueueEnd<'_, Handed, Q>,
+    ) -> Result<Found, Fault> {
+        match thread {
+            0 => share(self.alloc, env, queue),
+            _ => visit(env, queue),
+        }
+    }
+}
+
 fn main(rt: HostRuntime) -> Result<(), Trouble> {
     run(&rt, rt.alloc(), &mut io::writer(&rt))
 }
 
 /// Opens a room, runs two threads in it, closes it, and writes what they found.
-pub(crate) fn run<T: Threads, W: Write + Drop>(
+pub(crate) fn run<T: Threads + Sync, W: Write + Drop>(
     rt: &T,
     alloc: Global,
     out: &mut W,
 ) -> Result<(), Trouble>
     ensures { OnOk result (IsWritten (W.contents out.old) (W.contents out.new)) }
 {
-    let (room, passes) = Room::<LAST>::open(alloc, SIZES)?;
-    let (read, inside, cleared, kind, left) = run_in::<Brand, T>(rt, alloc, room, passes)?;
-    write_report(out, read, inside, cleared, kind, left)?;
+    let ran = run_native(rt, alloc, SIZES, &Hour { alloc })?;
+    let report = gathered(&ran.answers, ran.summary)?;
+    write_report(out, report)?;
     Ok(())
 }
 
-/// Gives each of two threads its pass, and closes the room once both have ended: what they found, and what stood as it was closed.
-fn run_in<Q: Site + Send + Sync, T: Threads>(
-    rt: &T,
-    alloc: Global,
-    room: Room<LAST>,
-    mut passes: Vec<Pass>,
-) -> Result<(i32, u32, bool, u8, Summary), Fault>
-    requires passes { AreOpened SIZES LAST room.row passes.items }
-    requires site { IsSiteRoom Q.room Q.sizes room }
-    ensures { IfOk result (λ r. IsTrueReport (record { read = r.0; inside = r.1; cleared = r.2; kind = r.3; left = r.4 })) }
+/// What both threads found, if no call of theirs was refused.
+fn gathered(answers: &[Result<Found, Fault>], left: Summary) -> Result<Report, Fault>
+    requires { RanTogether has_found story_of SIZES 4294967295 answers.now left }
+    ensures { IfOk result IsTrueReport }
 {
-    let (first, second) = (passes.remove(0), passes.remove(0));
-    let handed = Mutex::new(None);
-    let baton = AtomicU64::new(0);
-    let (shared, visited) = thread::join(
-        rt,
-        || -> Result<(Pass, u32, bool, u8), Fault>
-            requires { IsPassOfThread Q.room Q.sizes room 0 first }
-        { share::<Q>(alloc, &room, first, &handed, &baton) },
-        || -> Result<(Pass, i32), Fault>
-            requires { IsPassOfThread Q.room Q.sizes room 1 second }
-        { visit::<Q>(&room, second, &handed, &baton) },
-    );
-    let (first, inside, cleared, kind) = shared?;
-    let (second, read) = visited?;
-    passes.push(second).map_err(|_| Fault::Memory)?;
-    let left = room
-        .close_all(first, passes)
-        .map_err(|refused| refused.left.fault)?;
-    Ok((read, inside, cleared, kind, left))
+    let (first, second) = (answers[0]?, answers[1]?);
+    match (first, second) {
+        (
+            Found::Shared {
+                inside,
+                cleared,
+                kind,
+            },
+            Found::Visited { read },
+        ) => Ok(Report {
+            read,
+            inside,
+            cleared,
+            kind,
+            left,
+        }),
+        _ => unreachable!(),
+    }
 }
 
 /// Writes what the threads found, and what stood as the room was closed.
-fn write_report<W: Write + Drop>(
-    out: &mut W,
-    read: i32,
-    inside: u32,
-    cleared: bool,
-    kind: u8,
-    left: Summary,
-) -> io::Result<()>
-    ensures { IfOk result (λ u. Appends (W.contents out.old) (W.contents out.new) (report_text (report_lines (record { read = read; inside = inside; cleared = cleared; kind = kind; left = left })))) }
+fn write_report<W: Write + Drop>(out: &mut W, report: Report) -> io::Result<()>
+    ensures { IfOk result (λ u. Appends (W.contents out.old) (W.contents out.new) (report_text (report_lines report))) }
 {
+    let Report {
+        read,
+        inside,
+        cleared,
+        kind,
+        left,
+    } = report;
     writeln!(out, "a collection is refused: E14, inside: {inside}")?;
     writeln!(out, "the second thread reads {read}")?;
     writeln!(out, "the weak reference is to null: {cleared}")?;
@@ -132,26 +154,24 @@ fn write_report<W: Write + Drop>(
 }
 
 /// The first thread shares an array, and collects: in vain while the other has a critical region, and then in its turn, as soon as the other has none.
-fn share<Q: Site + Send + Sync>(
+fn share<Q: Site, S: StepsIn<Q>>(
     alloc: Global,
-    room: &Room<LAST>,
-    pass: Pass,
-    handed: &Mutex<Option<Handed<Q>>>,
-    baton: &AtomicU64,
-) -> Result<(Pass, u32, bool, u8), Fault>
-    requires { IsPassOfThread Q.room Q.sizes room.now 0 pass }
-    ensures { IfOk result (λ r. (1 ≤ r.1) × HasCome Q.room Q.sizes 0 pass r.0 (Shared r.1 r.2 r.3)) }
+    env: &mut Env<S>,
+    queue: &QueueEnd<'_, Handed, Q>,
+) -> Result<Found, Fault>
+    requires { IsAtStart Q.sizes 0 env.old }
+    ensures { IfOk result (λ x. Does env.old env.new sharing (Ok x)) }
 {
-    let Ok(mut env) = Env::new(SiteSteps::<LAST, Q, First>::new(room, pass)) else {
-        unreachable!();
-    };
-    let (weak, global) = prepare(&mut env)?;
+    let (weak, global) = prepare(env)?;
     let note = env.note();
-    put(handed, Handed { global, note })?;
-    wait(baton, 0)?;
-    let inside = collect_twice(alloc, &mut env, baton)?;
-    let (cleared, kind) = clear(&mut env, weak, global)?;
-    Ok((env.into_pass().into_pass(), inside, cleared, kind))
+    hand(queue, Handed::Reference(global), note)?;
+    let inside = collect_twice(alloc, env, queue)?;
+    let (cleared, kind) = clear(env, weak, global)?;
+    Ok(Found::Shared {
+        inside,
+        cleared,
+        kind,
+    })
 }
 
 /// Makes two arrays in a frame, and then a weak reference to the one and a global one to the other: the two references.
@@ -170,15 +190,22 @@ fn prepare<S: Steps>(env: &mut Env<S>) -> Result<(Handle, Handle), Fault>
 }
 
 /// Collects, in vain while the other thread is inside, tells it so, and collects in its turn: how many threads were inside.
-fn collect_twice<S: Steps>(alloc: Global, env: &mut Env<S>, baton: &AtomicU64) -> Result<u32, Fault>
+fn collect_twice<Q: Site, S: StepsIn<Q>>(
+    alloc: Global,
+    env: &mut Env<S>,
+    queue: &QueueEnd<'_, Handed, Q>,
+) -> Result<u32, Fault>
     requires { IsOutside env.old }
-    ensures { IfOk result (λ n. (1 ≤ n) × Does env.old env.new collecting_twice (Ok n)) }
+    ensures { IfOk result (λ n. Does env.old env.new collecting_twice (Ok n)) }
 {
     let mut marker = env.marker(alloc)?;
+    // The second of these turns goes in once the first was taken: the other thread takes it in its region.
+    give_turn(env, queue)?;
+    give_turn(env, queue)?;
     let Err(Fault::Busy(inside)) = env.collect(&mut marker) else {
         return Err(Fault::Turns);
     };
-    baton.store(2, Ordering::SeqCst);
+    give_turn(env, queue)?;
     env.collect_in_turn(&mut marker, TRIES, Patience::LONG)?;
     Ok(inside)
 }
@@ -195,23 +222,22 @@ fn clear<S: Steps>(env: &mut Env<S>, weak: Handle, global: Handle) -> Result<(bo
 }
 
 /// The second thread has objects of its own, and reads in the first one's array, in a critical region.
-fn visit<Q: Site + Send + Sync>(
-    room: &Room<LAST>,
-    pass: Pass,
-    handed: &Mutex<Option<Handed<Q>>>,
-    baton: &AtomicU64,
-) -> Result<(Pass, i32), Fault>
-    requires { IsPassOfThread Q.room Q.sizes room.now 1 pass }
-    ensures { IfOk result (λ r. HasCome Q.room Q.sizes 1 pass r.0 (Visited (signed_word w32 r.1))) }
+fn visit<Q: Site, S: StepsIn<Q>>(
+    env: &mut Env<S>,
+    queue: &mut QueueEnd<'_, Handed, Q>,
+) -> Result<Found, Fault>
+    requires outside { IsOutside env.old }
+    requires sizes { (S.facts env.old.held.steps).stands.config ≡ Q.sizes }
+    ensures { IfOk result (λ x. Does env.old env.new visiting (Ok x)) }
 {
-    let Ok(mut env) = Env::new(SiteSteps::<LAST, Q, Second>::new(room, pass)) else {
-        unreachable!();
+    queue.puts_no_more();
+    let Ok((Handed::Reference(global), note)) = queue.retry_take(Patience::LONG) else {
+        return Err(Fault::Turns);
     };
-    let Handed { global, note } = take(handed)?;
     env.learn(note);
-    make_own(&mut env)?;
-    let read = read_within(&mut env, global, baton)?;
-    Ok((env.into_pass().into_pass(), read))
+    make_own(env)?;
+    let read = read_within(env, global, queue)?;
+    Ok(Found::Visited { read })
 }
 
 /// Makes an object and an array in a frame of its own.
@@ -226,15 +252,18 @@ fn make_own<S: Steps>(env: &mut Env<S>) -> Result<(), Fault>
     Ok(())
 }
 
-/// Reads an element of an array in a critical region, and tells the other thread, which collects in vain as long as the region stands.
-fn read_within<S: Steps>(env: &mut Env<S>, array: Handle, baton: &AtomicU64) -> Result<i32, Fault>
+/// Reads an element of an array in a critical region, in which it takes three turns: by two the other thread sees that the region stands, and the third comes once that one has collected in vain.
+fn read_within<Q: Site, S: Steps>(
+    env: &mut Env<S>,
+    array: Handle,
+    queue: &QueueEnd<'_, Handed, Q>,
+) -> Result<i32, Fault>
     requires { IsOutside env.old }
     ensures { IfOk result (λ x. Does env.old env.new (reading_within array.0) (Ok (signed_word w32 x))) }
 {
     let mut region = env.get_array_critical(array)?;
     let read = region.get::<i32>(0, 1);
-    baton.store(1, Ordering::SeqCst);
-    let refused = wait(baton, 1);
+    let refused = take_turns(queue);
     region.release_all();
     refused?;
     read

@@ -5,6 +5,7 @@ ghost use Rattle.jr_rule.specs.Passes.{holder_of, IsOpened};
 ghost use Rattle.jr_rule.specs.Sites.{IsPassOf, IsSiteOf};
 ghost use Rattle.jr_threads.specs.Parts.{DidOver, DidWithPass};
 ghost use Rattle.jr_threads.specs.Sites.{ThreadRan, IsSiteRoom};
+ghost use Rattle.jr_threads.specs.Starting.{HaveDoneNothing};
 
 use crate::queue::{HandedOn, QueueEnd};
 use jr_env::Env;
@@ -20,9 +21,9 @@ pub(crate) const LAST: u32 = LAST_SERIAL;
 /// Where it wants to, it tells what it does: `tells` picks the answers that tell of a deed, by default none, and `deed` is what a run does in the thread of a number. `run_native` then says so of each thread.
 pub trait NativeCode {
     ghost use Rattle.std.specs.Prelude.{◌≡◌, ℕ, Bool, true, false, Ok};
-    ghost use Rattle.jr_model.specs.Frames.{fresh_frames};
     ghost use Rattle.jr_env.specs.Deeds.{Deed};
-    ghost use Rattle.jr_env.specs.Envs.{Does, IsOutside};
+    ghost use Rattle.jr_env.specs.Envs.{Does};
+    ghost use Rattle.jr_threads.specs.Starting.{IsAtStart};
 
     /// What a thread hands on to another, beside a note of what it had seen: `()` where none does.
     type Message: HandedOn + Send;
@@ -37,7 +38,7 @@ pub trait NativeCode {
 
     ghost deed: { Self → ℕ → Deed Self.Answer } = { λ native thread old answer new. Unit {0} };
 
-    /// Runs in the thread of this number, from 0 upward, with its env, which is that thread's, stands outside and has no local reference. What it leaves in the env's frames stays.
+    /// Runs in the thread of this number, from 0 upward, with its env, which is that thread's and stands at its start: it has seen nothing, stands outside, and has no local reference. What it leaves in the env's frames stays.
     ///
     /// `Q` stands for the room of all threads. So a note that comes by the queue, whose end the thread has, is one of this room.
     fn run<Q: Site, S: StepsIn<Q> + Drop>(
@@ -46,9 +47,7 @@ pub trait NativeCode {
         env: &mut Env<S>,
         queue: &mut QueueEnd<'_, Self::Message, Q>,
     ) -> Self::Answer
-        requires number { (S.facts env.old.held.steps).stands.thread ≡ thread }
-        requires outside { IsOutside env.old }
-        requires frames { env.old.held.frames.frames ≡ fresh_frames (S.facts env.old.held.steps).stands.config.locals }
+        requires { IsAtStart Q.sizes thread env.old }
         ensures deed { tells result ≡ true → Does env.old env.new (deed self.now thread) (Ok result) };
 }
 
@@ -66,13 +65,13 @@ pub(crate) struct Place<A: Drop> {
     pub(crate) ended: Option<Ended<A>>,
 }
 
-/// Runs the native code over an env of these steps, which are fresh and whose thread stands outside, and hands them back.
+/// Runs the native code over an env of these steps, which are fresh and have done nothing, and hands them back.
 fn run_over<Q: Site, S: StepsIn<Q> + Drop, N: NativeCode>(
     native: &N,
     steps: S,
     mut queue: QueueEnd<'_, N::Message, Q>,
 ) -> (N::Answer, S)
-    requires outside { (S.facts steps).stands.role ≡ Outside }
+    requires start { HaveDoneNothing S.facts Q.sizes 4294967295 (S.facts steps).stands.thread steps }
     requires fresh { (S.facts steps).stands.fresh ≡ true }
     ensures outside { (S.facts result.1).stands.role ≡ Outside }
     ensures came { N.tells result.0 ≡ true → DidOver S.facts (N.deed native.now (S.facts steps).stands.thread) steps result.1 result.0 }

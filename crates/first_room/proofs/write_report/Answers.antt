@@ -3,26 +3,20 @@ use Rattle.std.proofs.Common.{◌≡◌, rules, subst, to_z, of_z, w32}
 use Rattle.std.specs.Io.KnownBytes.{Appends}
 use Rattle.std.specs.Prelude.{codes}
 use Rattle.std.specs.Fmt.{decimal, signed_decimal}
-use Rattle.first_room.specs.Hour.{Report, told_line, yes_or_no}
+use Rattle.first_room.specs.Hour.{told_line, yes_or_no}
 use Rattle.first_room.proofs.Texts.{none, more, grown}
 use Rattle.first_room.proofs.write_report.Goals as goal
 
 pub returns : goal.returns
 returns g c =
-    let r : Report = record {
-      read = c.args.read;
-      inside = c.args.inside;
-      cleared = c.args.cleared;
-      kind = c.args.kind;
-      left = c.args.left;
-    } in
+    let r = c.args.report in
     let w = g.W.Write.contents in
     let a : Appends (w c.args.out.now) (w c.writeln.new.self)
     (told_line (codes "a collection is refused: E14, inside: ") (decimal r.inside)) =
     search (rules, c.in_ok-writeln.ensures.bytes) in
-    let own : to_z w32 (of_z w32 c.args.read) ≡ c.args.read = search rules in
+    let own : to_z w32 (of_z w32 c.args.report.read) ≡ c.args.report.read = search rules in
     let told : Appends (w c.writeln.new.self) (w c.writeln-2.new.self)
-    (told_line (codes "the second thread reads ") (signed_decimal (to_z w32 (of_z w32 c.args.read)))) =
+    (told_line (codes "the second thread reads ") (signed_decimal (to_z w32 (of_z w32 c.args.report.read)))) =
     search (rules, c.in_ok-writeln-2.ensures.bytes) in
     let b : Appends (w c.writeln.new.self) (w c.writeln-2.new.self)
     (told_line (codes "the second thread reads ") (signed_decimal r.read)) = subst (λ z. Appends (w c.writeln.new.self)

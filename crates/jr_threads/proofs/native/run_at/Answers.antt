@@ -4,7 +4,13 @@ use Rattle.jr_rule.specs.Passes.{Holder, facts_of, holder_of}
 use Rattle.jr_rule.specs.Rooms.{holder_over}
 use Rattle.jr_threads.specs.Parts.{DidWithPass}
 use Rattle.jr_threads.proofs.Coming.{come}
+use Rattle.jr_threads.proofs.Starting.{opened_steps}
 use Rattle.jr_threads.proofs.native.run_at.Goals as goal
+
+pub run_over-answer-requires-clause-start : goal.run_over-answer-requires-clause-start
+run_over-answer-requires-clause-start g c κs lives =
+    opened_steps holder_over c.args.room.now.row c.args.pass c.new-steps.result g.Q.Site.sizes 4294967295
+    c.requires.pass c.requires.site.sizes_are c.args.room.now.last c.new-steps.ensures.pass
 
 pub returns-clause-came : goal.returns-clause-came
 returns-clause-came g c tells =

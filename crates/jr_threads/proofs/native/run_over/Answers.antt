@@ -1,20 +1,16 @@
-use Rattle.std.proofs.Common.{◌∙◌, ap, subst, sym}
-use Rattle.jr_model.specs.Frames.{fresh_frames}
-use Rattle.jr_steps.specs.Knowing.{Standing}
+use Rattle.std.proofs.Common.{subst, sym}
 use Rattle.jr_threads.specs.Parts.{DidOver}
+use Rattle.jr_threads.specs.Starting.{HasBegun}
 use Rattle.jr_threads.proofs.Coming.{did_over}
+use Rattle.jr_threads.proofs.Starting.{has_begun}
 use Rattle.jr_threads.proofs.native.run_over.Goals as goal
 
-pub run-answer-requires-clause-number : goal.run-answer-requires-clause-number
-run-answer-requires-clause-number g c =
-    ap (λ (s : Standing). s.thread) c.in-Ok.ensures.steps.stands_is ∙ sym c.thread-thread.ensures
-
-pub run-answer-requires-clause-outside : goal.run-answer-requires-clause-outside
-run-answer-requires-clause-outside g c = c.in-Ok.ensures.outside
-
-pub run-answer-requires-clause-frames : goal.run-answer-requires-clause-frames
-run-answer-requires-clause-frames g c = c.in-Ok.ensures.frames
-    ∙ ap (λ (s : Standing). fresh_frames s.config.locals) (sym c.in-Ok.ensures.steps.stands_is)
+pub run-answer-requires : goal.run-answer-requires
+run-answer-requires g c =
+    subst (λ t. HasBegun g.S.Steps.facts g.Q.Site.sizes 4294967295 t c.in-Ok.env.held.steps
+    c.in-Ok.env.held.frames.frames) (sym c.thread-thread.ensures)
+    (has_begun g.Q.Site.sizes 4294967295 _ c.args.steps c.in-Ok.env.held.steps c.in-Ok.env.held.frames.frames
+    c.requires.start c.in-Ok.ensures.steps c.in-Ok.ensures.frames)
 
 pub returns-clause-came : goal.returns-clause-came
 returns-clause-came g c tells =
