@@ -71,8 +71,10 @@ pub(crate) fn act<
 
 /// Writes bytes, and lets them go on.
 fn write_out<W: Write + Drop>(writer: &mut W, bytes: &[u8]) -> Result<(), Trouble> {
-    writer.write_all(bytes).map_err(|_| Trouble::Output)?;
-    writer.flush().map_err(|_| Trouble::Output)
+    let (Ok(()), Ok(())) = (writer.write_all(bytes), writer.flush()) else {
+        return Err(Trouble::Output);
+    };
+    Ok(())
 }
 
 /// The help, the version, or what is wrong with the words.

@@ -8,8 +8,6 @@ mod mistake;
 mod request;
 mod rows;
 mod tell;
-#[cfg(test)]
-mod tests;
 mod trouble;
 mod watch;
 mod word;
@@ -36,7 +34,9 @@ fn act_on_arguments<T: Threads + Wait>(rt: &HostRuntime, threads: &T) -> Result<
     let arguments = arguments(rt)?;
     let mut words = Vec::new(rt.alloc());
     for argument in &arguments {
-        words.push(argument.as_str()).map_err(|_| Trouble::Memory)?;
+        let Ok(()) = words.push(argument.as_str()) else {
+            return Err(Trouble::Memory);
+        };
     }
     act::act(
         threads,
@@ -51,12 +51,11 @@ fn act_on_arguments<T: Threads + Wait>(rt: &HostRuntime, threads: &T) -> Result<
 
 /// The words of the command line, without the program's name.
 fn arguments(rt: &HostRuntime) -> Result<Vec<String>, Trouble> {
-    match env::args(rt) {
-        Ok(all) => all
-            .skip(1)
-            .collect::<Vec<String>>(rt.alloc())
-            .map_err(|_| Trouble::Memory),
-        Err(error) if error.kind() == ErrorKind::OutOfMemory => Err(Trouble::Memory),
-        Err(_) => Err(Trouble::Input),
-    }
+    let all = match env::args(rt) {
+        Ok(all) => all,
+        Err(error) if error.kind() == ErrorKind::OutOfMemory => return Err(Trouble::Memory),
+        Err(_) => return Err(Trouble::Input),
+    };
+    let arguments = all.skip(1).collect::<Vec<String>>(rt.alloc())?;
+    Ok(arguments)
 }

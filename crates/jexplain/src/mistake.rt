@@ -137,15 +137,30 @@ pub(crate) struct Mistake<'a> {
     pub(crate) place: Place<'a>,
 }
 
+/// Whether a byte ends a line.
+fn ends_line(byte: &u8) -> bool {
+    *byte == b'\n'
+}
+
+/// Whether a byte stands between two words.
+fn is_space(byte: &u8) -> bool {
+    *byte == b' '
+}
+
 /// The line with a number, and none past the last.
 fn line_at(text: &[u8], number: usize) -> &[u8] {
-    let lines = text.split(|byte| *byte == b'\n');
+    let lines = text.split(ends_line);
     lines.skip(number.saturating_sub(1)).next().unwrap_or(&[])
 }
 
-/// How many line feeds a text has.
-fn line_feeds(text: &[u8]) -> usize {
-    text.iter().filter(|byte| **byte == b'\n').count()
+/// The number of the first line that is the same as one, or 0.
+fn first_line(text: &[u8], line: &[u8]) -> usize {
+    for (at, it) in text.split(ends_line).enumerate() {
+        if it == line {
+            return at + 1;
+        }
+    }
+    0
 }
 
 /// The column at which a word of a line begins, counted from 0.
@@ -211,7 +226,7 @@ impl<'a> Place<'a> {
 
     /// The first place at which a line leaves a form in this way, or has too few or too many words for it.
     fn in_form(line: &'a [u8], form: Form, fault: Fit) -> Place<'a> {
-        for (at, word) in line.split(|byte| *byte == b' ').enumerate() {
+        for (at, word) in line.split(is_space).enumerate() {
             let Some(part) = form.part(at) else {
                 return Place::of_word(line, at, word, Wanted::End(form));
             };
@@ -219,7 +234,7 @@ impl<'a> Place<'a> {
                 return Place::of_word(line, at, word, Wanted::Part(form, part));
             }
         }
-        let words = line.iter().filter(|byte| **byte == b' ').count() + 1;
+        let words = line.split(is_space).count();
         let wanted = match form.part(words) {
             Some(part) => Wanted::Part(form, part),
             None => Wanted::End(form),
@@ -229,7 +244,7 @@ impl<'a> Place<'a> {
 
     /// The place at which a line is none of a command.
     fn in_command(alloc: Global, line: &'a [u8], fault: Fit) -> Result<Place<'a>, AllocError> {
-        let word = line.split(|byte| *byte == b' ').next().unwrap_or(&[]);
+        let word = line.split(is_space).next().unwrap_or(&[]);
         if word == b"thread".as_slice() {
             return Ok(Place::in_form(line, Form::Thread, fault));
         }
@@ -244,9 +259,8 @@ impl<'a> Place<'a> {
 
     /// The place of a name that an earlier line has, which is the same line.
     fn of_name(text: &[u8], line: &'a [u8]) -> Place<'a> {
-        let earlier = text.split(|byte| *byte == b'\n').position(|it| it == line);
-        let name = line.split(|byte| *byte == b' ').last().unwrap_or(&[]);
-        let wanted = Wanted::OtherName(earlier.unwrap_or(0).saturating_add(1));
+        let name = line.split(is_space).last().unwrap_or(&[]);
+        let wanted = Wanted::OtherName(first_line(text, line));
         Place::of_word(line, 1, name, wanted)
     }
 
@@ -290,7 +304,7 @@ impl<'a> Place<'a> {
 
     /// The place where a thread's line is missing.
     fn of_thread(text: &[u8], number: usize, line: &'a [u8]) -> Place<'a> {
-        if line_feeds(text) < number {
+        if text.split(ends_line).count() <= number {
             let wanted = Wanted::Part(Form::Thread, Part::Word(b"thread"));
             return Place::at_start(Found::EndOfText, wanted);
         }

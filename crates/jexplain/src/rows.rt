@@ -68,13 +68,10 @@ impl<'a> Run<'a> {
         watch: &Watch<'_, H>,
         printed: &'a [u8],
     ) -> Result<Run<'a>, AllocError> {
-        let mut said = printed.split(|byte| *byte == b'\n').map(text_of);
+        let mut said = text_of(printed).lines();
         let mut rows = Vec::new(alloc);
-        let lines = text.split(|byte| *byte == b'\n').map(text_of);
-        for (number, text) in lines.enumerate().map(|(at, line)| (at + 1, line)) {
-            if text.is_empty() {
-                break;
-            }
+        for (at, text) in text_of(text).lines().enumerate() {
+            let number = at + 1;
             let kind = kind_of(number, watch.answer(number));
             let printed = if kind.is_printed() {
                 said.next().unwrap_or("")

@@ -113,6 +113,16 @@ impl<'a, H: Eprint + Clock> Watch<'a, H> {
         self.lines.get(line)?.answer.get().copied()
     }
 
+    /// The line that posts a name, if one does.
+    fn posting(&self, name: &Name) -> Option<usize> {
+        for (number, line) in self.lines.iter().enumerate() {
+            if line.posts(name) {
+                return Some(number);
+            }
+        }
+        None
+    }
+
     /// Waits a little until the command of a line was answered, and gives whether it was.
     fn is_answered_soon(&self, line: usize) -> bool {
         for _ in 0..LOOKS {
@@ -141,7 +151,7 @@ impl<H: Eprint + Clock> Hold for Watch<'_, H> {
         let Some(name) = self.lines.get(line).and_then(Line::awaited) else {
             return;
         };
-        let posting = self.lines.iter().position(|it| it.posts(name));
+        let posting = self.posting(name);
         match posting {
             Some(posting) if self.is_answered_soon(posting) => {}
             _ => self.sign(line, name, posting),
