@@ -7,7 +7,7 @@ use Rattle.jr_word.specs.declared.kind.Kind.TheVariants.{Objects}
 use Rattle.jr_alive.specs.declared.dump.Dump.{Dump}
 use Rattle.jr_alive.specs.declared.search.Entry.{Entry}
 use Rattle.jr_alive.specs.declared.search.Origin.TheVariants as origin
-use Rattle.jr_alive.specs.Ways.{IsThere, Names, header_of, word_of}
+use Rattle.jr_alive.specs.Graph.{IsThere, Names, header_of, word_of}
 use Rattle.jr_alive.specs.Searching.{AreWithin, ComesFrom, Grows, IsFound, Stands, depth_of, entry_at}
 use Rattle.jr_alive.proofs.Found.{depth_is, depth_kept, found_kept, grows_self, grows_then, some_is, there_inside}
 
@@ -71,7 +71,7 @@ module _ {d : Dump} {x a n most : ℕ} {old : List (Option Entry)} {before : Lis
         subst (IsFound es') same (found (subst (IsThere d x) (sym same) m.named)));
   }
 
-  -- an array that was found, by so many steps, names it
+  -- an array that was found, by so many edges, names it
   pub element_comes : (depth : ℕ) → IsFound old a → depth ≡ depth_of old a → h.kind ≡ Objects → n < h.length
       → (o : ℕ) → o ≡ word_of d h n → IsThere d x o → ComesFrom d x es o (depth + 1) (origin.Element a n)
   element_comes depth found deep kind inside o names there =

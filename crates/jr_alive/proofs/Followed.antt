@@ -4,13 +4,13 @@ use Rattle.std.proofs.lemmas.List.Sums.{count_by-le-length}
 use mathlib.Core.Logic.{dite}
 use native.Mathlib.Decide.{dec_lt}
 use Rattle.jr_alive.specs.declared.dump.Dump.{Dump}
-use Rattle.jr_alive.specs.declared.paths.Step.{Step}
+use Rattle.jr_alive.specs.declared.paths.Edge.{Edge}
 use Rattle.jr_alive.specs.declared.search.Entry.{Entry}
-use Rattle.jr_alive.specs.Ways.{IsWay, Lead, Names}
+use Rattle.jr_alive.specs.Graph.{IsPath, Lead, Names}
 use Rattle.jr_alive.specs.Searching.{AreWithin, Grows, HasElements, HasRoots, IsDone, IsFound, Stands, depth_of}
 use Rattle.jr_alive.proofs.Found.{depth_kept, found_kept}
 
--- what is named by each array of the queue before the next is found, and all are at most one step behind that
+-- what is named by each array of the queue before the next is found, and all are at most one edge behind that
 pub record Following (d : Dump) (x next : ℕ) (es : List (Option Entry)) (q : List ℕ) : Type 0 where
   pub stands : Stands d x es q
   pub roots : HasRoots d x es
@@ -80,13 +80,13 @@ module _ (d : Dump) (x next : ℕ) (es : List (Option Entry)) (q : List ℕ) (f 
         let l = z.1 in
         subst (λ n. HasElements d x n es) z.2 (f.past z.0 (omega arith))
 
-    lead_on : (steps : List Step) (a o n : ℕ) → IsFound es a → depth_of es a ≤ n → Lead d x a steps o
-        → IsFound es o × (depth_of es o ≤ n + length steps)
+    lead_on : (edges : List Edge) (a o n : ℕ) → IsFound es a → depth_of es a ≤ n → Lead d x a edges o
+        → IsFound es o × (depth_of es o ≤ n + length edges)
     lead_on [] a o n found most same = (subst (IsFound es) same found, let z : depth_of es o ≤ n = subst (λ m. depth_of es m ≤ n) same most in omega arith)
-    lead_on (s ∷ steps) a o n found most lead =
+    lead_on (s ∷ edges) a o n found most lead =
         let z = elements a found s.index s.object lead.0 in
         let m = z.1 in
-        let w = lead_on steps s.object o (n + 1) z.0 (omega arith) lead.1 in
+        let w = lead_on edges s.object o (n + 1) z.0 (omega arith) lead.1 in
         let k = w.1 in
         (w.0, omega arith)
 
@@ -94,9 +94,9 @@ module _ (d : Dump) (x next : ℕ) (es : List (Option Entry)) (q : List ℕ) (f 
     following_ends = record {
       wide = f.stands.wide;
       sound = f.stands.sound;
-      nearest = λ r a steps o way.
-          let z = f.roots r a way.root way.there in
-          let w = lead_on steps a o 0 z.0 z.1 way.lead in
+      nearest = λ r a edges o path.
+          let z = f.roots r a path.root path.there in
+          let w = lead_on edges a o 0 z.0 z.1 path.lead in
           let k = w.1 in
           (w.0, omega arith);
     }

@@ -7,7 +7,7 @@ use Rattle.jr_alive.specs.declared.dump.Dump.{Dump}
 use Rattle.jr_alive.specs.declared.search.Entry.{Entry}
 use Rattle.jr_alive.specs.declared.search.Origin.{Origin}
 use Rattle.jr_alive.specs.declared.search.Origin.TheVariants as origin
-use Rattle.jr_alive.specs.Ways.{IsThere, header_of}
+use Rattle.jr_alive.specs.Graph.{IsThere, header_of}
 use Rattle.jr_alive.specs.Searching.{ComesFrom, Grows, IsFound, depth_in, depth_of, entry_at}
 
 -- what is there stands within the list

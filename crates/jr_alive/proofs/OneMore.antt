@@ -7,7 +7,7 @@ use mathlib.Core.Logic.{dite}
 use native.Mathlib.Decide.{ℕ_discrete, dec_lt}
 use Rattle.jr_alive.specs.declared.dump.Dump.{Dump}
 use Rattle.jr_alive.specs.declared.search.Entry.{Entry}
-use Rattle.jr_alive.specs.Ways.{IsThere}
+use Rattle.jr_alive.specs.Graph.{IsThere}
 use Rattle.jr_alive.specs.Searching.{AreWithin, ComesFrom, Grows, IsFound, Stands, depth_in, depth_of, entry_at}
 use Rattle.jr_alive.proofs.Found.{comes_kept, is_some_of, some_is, there_inside}
 

@@ -10,7 +10,7 @@ use Rattle.jr_alive.specs.declared.dump.Dump.{Dump}
 use Rattle.jr_alive.specs.declared.search.Root.{Root}
 use Rattle.jr_alive.specs.declared.search.Root.TheVariants as root
 use Rattle.jr_alive.specs.declared.search.Entry.{Entry}
-use Rattle.jr_alive.specs.Ways.{IsRoot, IsThere}
+use Rattle.jr_alive.specs.Graph.{IsRoot, IsThere}
 use Rattle.jr_alive.specs.Searching.{AreWithin, Grows, HasRoots, IsFound, Stands}
 use Rattle.jr_alive.proofs.Found.{found_kept, grows_self, grows_then}
 

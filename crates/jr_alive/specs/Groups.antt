@@ -9,7 +9,7 @@ use Rattle.jr_word.specs.Kind.{kind_code}
 use Rattle.jr_alive.specs.declared.dump.Dump.{Dump}
 use Rattle.jr_alive.specs.declared.groups.Group.{Group}
 use Rattle.jr_alive.specs.Retained.{noted_words}
-use Rattle.jr_alive.specs.Ways.{header_of}
+use Rattle.jr_alive.specs.Graph.{header_of}
 
 -- each kind
 abbrev pub all_kinds : List Kind

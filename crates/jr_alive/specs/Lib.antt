@@ -1,4 +1,4 @@
-pub mod Ways
+pub mod Graph
 pub mod Searching
 pub mod Retained
 pub mod Groups

@@ -3,7 +3,7 @@ use Rattle.std.specs.Prelude.{◌≡◌, ◌↔◌, ◌+◌, ℕ, Bool, true, if
 use Rattle.jr_word.specs.declared.header.HeaderParts.{HeaderParts}
 use Rattle.jr_model.specs.Maps.{sum_below}
 use Rattle.jr_alive.specs.declared.dump.Dump.{Dump}
-use Rattle.jr_alive.specs.Ways.{IsReached}
+use Rattle.jr_alive.specs.Graph.{IsAlive}
 
 -- how many words an object has, by its header, 0 where there is none
 abbrev pub noted_words : Option HeaderParts → ℕ
@@ -18,5 +18,5 @@ words_of d test = sum_below (length d.headers.items) (λ j.
 -- SO MANY WORDS AN OBJECT RETAINS: those of the objects that are reached, but not once it is taken out
 pub record IsRetained (d : Dump) (x n : ℕ) : Type 0 where
   pub retains : ℕ → Bool
-  pub exactly : (o : ℕ) → (retains o ≡ true) ↔ (IsReached d 0 o × ¬ (IsReached d x o))
+  pub exactly : (o : ℕ) → (retains o ≡ true) ↔ (IsAlive d 0 o × ¬ (IsAlive d x o))
   pub words : n ≡ words_of d retains

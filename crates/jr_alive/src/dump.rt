@@ -89,7 +89,7 @@ impl Dump {
     ghost use Rattle.jr_word.specs.declared.handle.HandleParts.{HandleParts};
     ghost use Rattle.jr_word.specs.Handle.{IsHandle, handle_word};
     ghost use Rattle.jr_alive.specs.Handles.{local_at, named_by, slot_at};
-    ghost use Rattle.jr_alive.specs.Ways.{HasRoomFor, header_of, word_of};
+    ghost use Rattle.jr_alive.specs.Graph.{HasRoomFor, header_of, word_of};
 
     /// Room for a dump of a room of these sizes, in which nothing stands yet.
     ///

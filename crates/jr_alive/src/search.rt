@@ -35,7 +35,7 @@ impl Root {
     }
 }
 
-/// What names an object on its way from a root.
+/// What names an object on its path from a root.
 #[derive(Clone, Copy, Debug, PartialEq, Eq)]
 pub(crate) enum Origin {
     /// A root.
@@ -44,7 +44,7 @@ pub(crate) enum Origin {
     Element { array: u16, index: u32 },
 }
 
-/// What is found of an object: what names it on a way from a root with so many steps.
+/// What is found of an object: what names it on a path from a root with so many edges.
 #[derive(Clone, Copy, Debug, PartialEq, Eq)]
 pub(crate) struct Entry {
     pub(crate) origin: Origin,
@@ -60,7 +60,7 @@ pub(crate) struct Search {
 
 impl Search {
     ghost use Rattle.std.specs.Prelude.{◌≡◌, ◌≤◌, ◌<◌, ◌+◌, OnOk, IfOk, ℕ, is_some};
-    ghost use Rattle.jr_alive.specs.Ways.{IsRoot, IsThere, Names};
+    ghost use Rattle.jr_alive.specs.Graph.{IsRoot, IsThere, Names};
     ghost use Rattle.jr_alive.specs.declared.search.Root.{Root};
     ghost use Rattle.jr_alive.specs.declared.search.Root.TheVariants as root;
     ghost use Rattle.jr_alive.specs.Searching.{AreWithin, ComesFrom, Grows, HasElements, HasRoots, IsDone, IsFound, Stands, depth_of, entry_at};
@@ -215,7 +215,7 @@ impl Search {
         self.entry(object).is_some()
     }
 
-    /// How many steps an object is from its root, 0 where it isn't found.
+    /// How many edges an object is from its root, 0 where it isn't found.
     fn depth(&self, object: u16) -> usize
         ensures { result ≡ depth_of self.now.entries.items object }
     {

@@ -1,5 +1,5 @@
 use Rattle.std.proofs.Common.{◌≡◌, Some, None, IsSome, slice_set, not, ap, subst, sym, ◌∙◌}
-use Rattle.jr_alive.specs.Ways.{IsThere}
+use Rattle.jr_alive.specs.Graph.{IsThere}
 use Rattle.jr_alive.specs.Searching.{Stands, entry_at}
 use Rattle.jr_alive.proofs.Found.{none_from}
 use Rattle.jr_alive.proofs.OneMore.{stands}

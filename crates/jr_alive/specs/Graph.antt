@@ -7,7 +7,7 @@ use Rattle.jr_word.specs.declared.kind.Kind.TheVariants.{Objects}
 use Rattle.jr_word.specs.declared.local.LocalParts.TheVariants as local
 use Rattle.jr_word.specs.declared.slot.SlotParts.TheVariants as slot
 use Rattle.jr_alive.specs.declared.dump.Dump.{Dump}
-use Rattle.jr_alive.specs.declared.paths.Step.{Step}
+use Rattle.jr_alive.specs.declared.paths.Edge.{Edge}
 use Rattle.jr_alive.specs.declared.search.Root.{Root}
 use Rattle.jr_alive.specs.declared.search.Root.TheVariants.{Global, Local}
 
@@ -45,21 +45,21 @@ abbrev pub IsRoot : Dump → Root → ℕ → Type 0
 IsRoot d (Global i serial) o = slice_index_or d.slots.items i (slot.Free 0) ≡ slot.Global serial o
 IsRoot d (Local t p) o = (p < d.places) × (slice_index_or d.locals.items (t * d.places + p) local.Free ≡ local.Object o)
 
--- the steps lead from an object to another, each by the element of its index in the object before it
-abbrev pub Lead : Dump → ℕ → ℕ → List Step → ℕ → Type 0
+-- the edges lead from an object to another, each by the element of its index in the object before it
+abbrev pub Lead : Dump → ℕ → ℕ → List Edge → ℕ → Type 0
 Lead d x a [] o = a ≡ o
-Lead d x a (s ∷ steps) o = Names d x a s.index s.object × Lead d x s.object steps o
+Lead d x a (s ∷ edges) o = Names d x a s.index s.object × Lead d x s.object edges o
 
--- A WAY FROM A ROOT TO AN OBJECT: the root names the first, and the steps lead on from it
-pub record IsWay (d : Dump) (x : ℕ) (r : Root) (a : ℕ) (steps : List Step) (o : ℕ) : Type 0 where
+-- A PATH FROM A ROOT TO AN OBJECT: the root names the first, and the edges lead on from it
+pub record IsPath (d : Dump) (x : ℕ) (r : Root) (a : ℕ) (edges : List Edge) (o : ℕ) : Type 0 where
   pub root : IsRoot d r a
   pub there : IsThere d x a
-  pub lead : Lead d x a steps o
+  pub lead : Lead d x a edges o
 
--- no way to the object has fewer steps
-abbrev pub AreFewest : Dump → ℕ → List Step → ℕ → Type 0
-AreFewest d x steps o = (r : Root) (a : ℕ) (others : List Step) → IsWay d x r a others o → length steps ≤ length others
+-- no path to the object has fewer edges
+abbrev pub IsShortest : Dump → ℕ → List Edge → ℕ → Type 0
+IsShortest d x edges o = (r : Root) (a : ℕ) (others : List Edge) → IsPath d x r a others o → length edges ≤ length others
 
--- THE OBJECT IS REACHED, once x is taken out
-abbrev pub IsReached : Dump → ℕ → ℕ → Type 0
-IsReached d x o = (r : Root) × (a : ℕ) × (steps : List Step) × IsWay d x r a steps o
+-- THE OBJECT IS ALIVE, reached from a root, once x is taken out
+abbrev pub IsAlive : Dump → ℕ → ℕ → Type 0
+IsAlive d x o = (r : Root) × (a : ℕ) × (edges : List Edge) × IsPath d x r a edges o
