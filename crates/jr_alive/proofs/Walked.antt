@@ -1,5 +1,6 @@
 -- The path back from an object to its root.
-use Rattle.std.proofs.Common.{◌≡◌, ◌≤◌, ◌+◌, ℕ, Option, Some, None, is_some, List, [], ◌∷◌, ◌++◌, length, refl, sym, ap, subst, ◌∙◌, arith}
+use Rattle.std.proofs.Common.{◌≡◌, ◌+◌, ℕ, Option, Some, None, is_some, List, [], ◌∷◌, ◌++◌, length, refl}
+use Rattle.std.proofs.Common.{sym, ap, subst, ◌∙◌, arith}
 use Rattle.std.proofs.lemmas.List.{reverse-append, length-reverse, length_push}
 use mathlib.Core.List.{reverse}
 use Rattle.jr_alive.specs.declared.dump.Dump.{Dump}
@@ -8,19 +9,19 @@ use Rattle.jr_alive.specs.declared.search.Root.{Root}
 use Rattle.jr_alive.specs.declared.search.Entry.{Entry}
 use Rattle.jr_alive.specs.declared.search.Origin.TheVariants as origin
 use Rattle.jr_alive.specs.Graph.{IsShortest, IsAlive, IsPath, Lead}
-use Rattle.jr_alive.specs.Searching.{ComesFrom, IsDone, IsFound, depth_of, entry_at}
+use Rattle.jr_alive.specs.Searching.{ComesFrom, IsSearched, IsEntered, depth_of, entry_at}
 use Rattle.jr_alive.proofs.Found.{depth_is, is_some_of}
 
 -- the edges lead back from the object to the one that the walk is at, and no other path is shorter
 pub record Walking (d : Dump) (x : ℕ) (es : List (Option Entry)) (o at : ℕ) (edges : List Edge) : Type 0 where
   pub lead : Lead d x at (reverse edges) o
   pub long : length edges + depth_of es at ≡ depth_of es o
-  pub found : IsFound es o → IsFound es at
+  pub found : IsEntered es o → IsEntered es at
 
 pub walk_begins : (d : Dump) (x : ℕ) (es : List (Option Entry)) (o : ℕ) → Walking d x es o o []
 walk_begins d x es o = record { lead = refl; long = omega arith; found = λ f. f }
 
-module _ (d : Dump) (x : ℕ) (es : List (Option Entry)) (o at : ℕ) (edges : List Edge) (done : IsDone d x es)
+module _ (d : Dump) (x : ℕ) (es : List (Option Entry)) (o at : ℕ) (edges : List Edge) (done : IsSearched d x es)
     (w : Walking d x es o at edges) where
   -- nothing is found there
   pub walk_fails : entry_at es at ≡ None → ¬ (IsAlive d x o)
@@ -35,7 +36,8 @@ module _ (d : Dump) (x : ℕ) (es : List (Option Entry)) (o at : ℕ) (edges : L
       named = subst (λ z. ComesFrom d x es at e.depth z) from (done.sound at e is)
 
       pub walk_nearer : depth_of es at ≡ depth_of es a + 1
-      walk_nearer = let n = named in let m = n.3 in let k = depth_is es a n.0 n.1 in let j = depth_is es at e is in omega arith
+      walk_nearer = let n = named in let m = n.3 in let k = depth_is es a n.0 n.1 in
+          let j = depth_is es at e is in omega arith
 
       abbrev edge : Edge
       edge = record { index = i; object = at }

@@ -20,45 +20,48 @@ pub record HasRoomFor (c : Config) (d : Dump) : Type 0 where
   pub words : vec_len d.words ≡ c.words
 
 -- the header of the object of a number, from 1 on, once the object x is taken out: x = 0 takes none out
-abbrev pub header_of : Dump → ℕ → ℕ → Option HeaderParts
-header_of d x o = if (o == 0) || (o == x) then None else slice_index_or d.headers.items (o - 1) None
+abbrev pub noted_header : Dump → ℕ → ℕ → Option HeaderParts
+noted_header d x o = if (o == 0) || (o == x) then None else slice_index_or d.headers.items (o - 1) None
 
 -- the dump has the object, and it isn't the one that is taken out
-abbrev pub IsThere : Dump → ℕ → ℕ → Type 0
-IsThere d x o = IsSome (header_of d x o)
+abbrev pub IsInDump : Dump → ℕ → ℕ → Type 0
+IsInDump d x o = IsSome (noted_header d x o)
 
 -- the word of an element
-abbrev pub word_of : Dump → HeaderParts → ℕ → ℕ
-word_of d h i = slice_index_or d.words.items (h.place + i) 0
+abbrev pub noted_word : Dump → HeaderParts → ℕ → ℕ
+noted_word d h i = slice_index_or d.words.items (h.place + i) 0
 
 -- AN ELEMENT NAMES AN OBJECT: that of the object array a at the index i names o
-pub record Names (d : Dump) (x a i o : ℕ) : Type 0 where
+pub record IsEdge (d : Dump) (x a i o : ℕ) : Type 0 where
   pub header : HeaderParts
-  pub array : header_of d x a ≡ Some header
+  pub array : noted_header d x a ≡ Some header
   pub kind : header.kind ≡ Objects
   pub inside : i < header.length
-  pub word : word_of d header i ≡ o
-  pub named : IsThere d x o
+  pub word : noted_word d header i ≡ o
+  pub named : IsInDump d x o
 
--- A ROOT NAMES AN OBJECT: a global reference of a slot, or the local reference of a thread's place. A weak one is no root
+-- A ROOT NAMES AN OBJECT: a global reference of a slot, or the local reference of a thread's place.
+-- A weak one is no root
 abbrev pub IsRoot : Dump → Root → ℕ → Type 0
 IsRoot d (Global i serial) o = slice_index_or d.slots.items i (slot.Free 0) ≡ slot.Global serial o
-IsRoot d (Local t p) o = (p < d.places) × (slice_index_or d.locals.items (t * d.places + p) local.Free ≡ local.Object o)
+IsRoot d (Local t p) o =
+    (p < d.places) × (slice_index_or d.locals.items (t * d.places + p) local.Free ≡ local.Object o)
 
 -- the edges lead from an object to another, each by the element of its index in the object before it
 abbrev pub Lead : Dump → ℕ → ℕ → List Edge → ℕ → Type 0
 Lead d x a [] o = a ≡ o
-Lead d x a (s ∷ edges) o = Names d x a s.index s.object × Lead d x s.object edges o
+Lead d x a (s ∷ edges) o = IsEdge d x a s.index s.object × Lead d x s.object edges o
 
 -- A PATH FROM A ROOT TO AN OBJECT: the root names the first, and the edges lead on from it
 pub record IsPath (d : Dump) (x : ℕ) (r : Root) (a : ℕ) (edges : List Edge) (o : ℕ) : Type 0 where
   pub root : IsRoot d r a
-  pub there : IsThere d x a
+  pub there : IsInDump d x a
   pub lead : Lead d x a edges o
 
 -- no path to the object has fewer edges
 abbrev pub IsShortest : Dump → ℕ → List Edge → ℕ → Type 0
-IsShortest d x edges o = (r : Root) (a : ℕ) (others : List Edge) → IsPath d x r a others o → length edges ≤ length others
+IsShortest d x edges o = (r : Root) (a : ℕ) (others : List Edge)
+    → IsPath d x r a others o → length edges ≤ length others
 
 -- THE OBJECT IS ALIVE, reached from a root, once x is taken out
 abbrev pub IsAlive : Dump → ℕ → ℕ → Type 0

@@ -1,4 +1,4 @@
-use Rattle.std.proofs.Common.{◌≡◌, None, sym, subst, ◌∙◌}
+use Rattle.std.proofs.Common.{◌≡◌, sym, subst, ◌∙◌}
 use Rattle.jr_alive.specs.declared.search.Origin.TheVariants as origin
 use Rattle.jr_alive.proofs.Walked.{Walking, walk_fails, walk_goes}
 use Rattle.jr_alive.proofs.dump.Dump.path_to.Goals as goal

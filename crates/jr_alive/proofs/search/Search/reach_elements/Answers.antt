@@ -1,4 +1,4 @@
-use Rattle.std.proofs.Common.{◌≡◌, ◌≤◌, ◌+◌, Some, length, sym, ap, ◌∙◌, subst, arith}
+use Rattle.std.proofs.Common.{◌≡◌, ◌≤◌, ◌+◌, Some, length, sym, ◌∙◌, subst, arith}
 use Rattle.jr_alive.specs.declared.search.Search.{Search}
 use Rattle.jr_alive.proofs.Elements.{ElementsTo, elements_all, elements_skip, elements_take}
 use Rattle.jr_alive.proofs.search.Search.reach_elements.Goals as goal
