@@ -1,4 +1,4 @@
--- What a search has found, for the crate's own functions.
+-- For the crate's own functions: what a search has found.
 use Rattle.std.specs.Prelude.{◌≡◌, ◌≤◌, ◌<◌, ◌+◌, ◌&&◌, ℕ, Bool, not}
 use Rattle.std.specs.Prelude.{Option, Some, None, IsSome, is_some, List, length, slice_index_or, count_by}
 use Rattle.jr_alive.specs.declared.dump.Dump.{Dump}
