@@ -1,6 +1,7 @@
 //! What an embedder names, from one crate: the room, its passes and steps, the env with its calls, and what these answer.
 #![tactic(auto)]
 
+pub use jr_alive::{Dump, Edge, Group, NotDrawn, Path, Root};
 pub use jr_census::{Census, KindCounts, Objects, Slots, WordCounts};
 pub use jr_elements::{Elements, discard_left, text_of, utf16_of};
 pub use jr_env::{

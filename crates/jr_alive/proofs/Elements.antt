@@ -1,5 +1,6 @@
 -- The objects that an array names are found.
-use Rattle.std.proofs.Common.{◌≡◌, ◌≢◌, ◌≤◌, ◌<◌, ◌+◌, ℕ, Option, Some, None, IsSome, is_some, List, length, slice_index_or, refl, sym, ap, subst, ◌∙◌, arith}
+use Rattle.std.proofs.Common.{◌≡◌, ◌≤◌, ◌<◌, ◌+◌, ℕ, Option, Some, None, List, length}
+use Rattle.std.proofs.Common.{sym, ap, subst, ◌∙◌, arith}
 use mathlib.Core.Logic.{dite}
 use native.Mathlib.Decide.{dec_lt}
 use Rattle.jr_word.specs.declared.header.HeaderParts.{HeaderParts}
@@ -7,19 +8,19 @@ use Rattle.jr_word.specs.declared.kind.Kind.TheVariants.{Objects}
 use Rattle.jr_alive.specs.declared.dump.Dump.{Dump}
 use Rattle.jr_alive.specs.declared.search.Entry.{Entry}
 use Rattle.jr_alive.specs.declared.search.Origin.TheVariants as origin
-use Rattle.jr_alive.specs.Ways.{IsThere, Names, header_of, word_of}
-use Rattle.jr_alive.specs.Searching.{AreWithin, ComesFrom, Grows, IsFound, Stands, depth_of, entry_at}
-use Rattle.jr_alive.proofs.Found.{depth_is, depth_kept, found_kept, grows_self, grows_then, some_is, there_inside}
+use Rattle.jr_alive.specs.Graph.{IsInDump, IsEdge, noted_header, noted_word}
+use Rattle.jr_alive.specs.Searching.{AreWithin, ComesFrom, Grows, IsEntered, IsSearching, depth_of, entry_at}
+use Rattle.jr_alive.proofs.Found.{depth_is, found_kept, grows_self, grows_then, some_is, there_inside}
 
 -- the objects that the first n elements of an array name are found, since there was this
 pub record ElementsTo (d : Dump) (x a n most : ℕ) (old : List (Option Entry)) (before : List ℕ)
     (es : List (Option Entry)) (q : List ℕ) : Type 0 where
-  pub stands : Stands d x es q
+  pub stands : IsSearching d x es q
   pub far : AreWithin most es
   pub grows : Grows old before es q
-  pub found : (i o : ℕ) → i < n → Names d x a i o → IsFound es o
+  pub found : (i o : ℕ) → i < n → IsEdge d x a i o → IsEntered es o
 
-pub elements_none : (d : Dump) (x a most : ℕ) (es : List (Option Entry)) (q : List ℕ) → Stands d x es q
+pub elements_none : (d : Dump) (x a most : ℕ) (es : List (Option Entry)) (q : List ℕ) → IsSearching d x es q
     → AreWithin most es → ElementsTo d x a 0 most es q es q
 elements_none d x a most es q st far = record {
   stands = st;
@@ -29,18 +30,20 @@ elements_none d x a most es q st far = record {
 }
 
 -- there are no elements that name objects
-pub no_header : {d : Dump} {x a i o : ℕ} → header_of d x a ≡ None → ¬ (Names d x a i o)
+pub no_header : {d : Dump} {x a i o : ℕ} → noted_header d x a ≡ None → ¬ (IsEdge d x a i o)
 no_header none n = let z = sym none ∙ n.array in cc
 
-pub one_header : {d : Dump} {x a i o : ℕ} (h : HeaderParts) → header_of d x a ≡ Some h → (n : Names d x a i o)
+pub one_header : {d : Dump} {x a i o : ℕ} (h : HeaderParts) → noted_header d x a ≡ Some h → (n : IsEdge d x a i o)
     → n.header ≡ h
 one_header h is n = let z = sym n.array ∙ is in cc
 
-module _ {d : Dump} {x a n most : ℕ} {old : List (Option Entry)} {before : List ℕ} {es : List (Option Entry)} {q : List ℕ}
-    (g : ElementsTo d x a n most old before es q) (h : HeaderParts) (is : header_of d x a ≡ Some h) where
+module _ {d : Dump} {x a n most : ℕ} {old : List (Option Entry)} {before : List ℕ} {es : List
+    (Option Entry)} {q : List ℕ}
+    (g : ElementsTo d x a n most old before es q) (h : HeaderParts) (is : noted_header d x a ≡ Some h) where
   -- the element there names no object
   pub elements_skip : length d.headers.items ≤ 65535
-      → (named : Option ℕ) → (1 ≤ word_of d h n → word_of d h n ≤ 65535 → named ≡ Some (word_of d h n)) → named ≡ None
+      → (named : Option ℕ) → (1 ≤ noted_word d h n → noted_word d h n ≤ 65535 → named ≡ Some (noted_word d h n))
+      → named ≡ None
       → ElementsTo d x a (n + 1) most old before es q
   elements_skip few named all none = record {
     stands = g.stands;
@@ -49,7 +52,8 @@ module _ {d : Dump} {x a n most : ℕ} {old : List (Option Entry)} {before : Lis
     found = λ i o l m. dite (dec_lt i n) (λ less. g.found i o less m) (λ not.
         let same = one_header h is m in
         let at : i ≡ n = omega arith in
-        let word : word_of d h n ≡ o = ap (λ k. word_of d k n) (sym same) ∙ (ap (word_of d m.header) (sym at) ∙ m.word) in
+        let word : noted_word d h n ≡ o = ap (λ k. noted_word d k n) (sym same)
+        ∙ (ap (noted_word d m.header) (sym at) ∙ m.word) in
         let t = there_inside d x o m.named in
         let some = t.0 in
         let most = t.1 in
@@ -57,8 +61,9 @@ module _ {d : Dump} {x a n most : ℕ} {old : List (Option Entry)} {before : Lis
   }
 
   -- the object that it names is found
-  pub elements_take : (o : ℕ) → o ≡ word_of d h n → (es' : List (Option Entry)) (q' : List ℕ) → Stands d x es' q'
-      → AreWithin most es' → Grows es q es' q' → (IsThere d x o → IsFound es' o)
+  pub elements_take : (o : ℕ) → o ≡ noted_word d h n → (es' : List (Option Entry)) (q' : List ℕ)
+      → IsSearching d x es' q'
+      → AreWithin most es' → Grows es q es' q' → (IsInDump d x o → IsEntered es' o)
       → ElementsTo d x a (n + 1) most old before es' q'
   elements_take o names es' q' st far grows found = record {
     stands = st;
@@ -67,13 +72,14 @@ module _ {d : Dump} {x a n most : ℕ} {old : List (Option Entry)} {before : Lis
     found = λ i r l m. dite (dec_lt i n) (λ less. found_kept grows r (g.found i r less m)) (λ not.
         let here = one_header h is m in
         let at : i ≡ n = omega arith in
-        let same : o ≡ r = names ∙ (ap (λ k. word_of d k n) (sym here) ∙ (ap (word_of d m.header) (sym at) ∙ m.word)) in
-        subst (IsFound es') same (found (subst (IsThere d x) (sym same) m.named)));
+        let same : o ≡ r = names ∙ (ap (λ k. noted_word d k n) (sym here) ∙ (ap (noted_word d m.header) (sym at)
+        ∙ m.word)) in
+        subst (IsEntered es') same (found (subst (IsInDump d x) (sym same) m.named)));
   }
 
-  -- an array that was found, by so many steps, names it
-  pub element_comes : (depth : ℕ) → IsFound old a → depth ≡ depth_of old a → h.kind ≡ Objects → n < h.length
-      → (o : ℕ) → o ≡ word_of d h n → IsThere d x o → ComesFrom d x es o (depth + 1) (origin.Element a n)
+  -- an array that was found, by so many edges, names it
+  pub element_comes : (depth : ℕ) → IsEntered old a → depth ≡ depth_of old a → h.kind ≡ Objects → n < h.length
+      → (o : ℕ) → o ≡ noted_word d h n → IsInDump d x o → ComesFrom d x es o (depth + 1) (origin.Element a n)
   element_comes depth found deep kind inside o names there =
       let z = some_is (entry_at old a) found in
       let e = z.0 in (
@@ -91,7 +97,7 @@ module _ {d : Dump} {x a n most : ℕ} {old : List (Option Entry)} {before : Lis
       )
 
   -- all are found
-  pub elements_all : h.length ≤ n → (i o : ℕ) → Names d x a i o → IsFound es o
+  pub elements_all : h.length ≤ n → (i o : ℕ) → IsEdge d x a i o → IsEntered es o
   elements_all all i o m =
       let same = ap (λ (k : HeaderParts). k.length) (one_header h is m) in
       let l = m.inside in g.found i o (omega arith) m

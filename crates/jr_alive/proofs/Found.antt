@@ -1,14 +1,14 @@
 -- What lists of entries say, and what an object's header says of its number.
-use Rattle.std.proofs.Common.{◌≡◌, ◌≢◌, ◌≤◌, ◌<◌, ◌+◌, ◌-◌, ◌||◌, ◌==◌, ℕ, zero, suc, Bool, true, false, if◌then◌else◌}
-use Rattle.std.proofs.Common.{Option, Some, None, IsSome, is_some, List, [], ◌∷◌, length, slice_index_or, refl, sym, ap, ◌∙◌, arith}
+use Rattle.std.proofs.Common.{◌≡◌, ◌≢◌, ◌≤◌, ◌<◌, ◌-◌, ◌||◌, ◌==◌, ℕ, zero, suc, Bool, true, false, if◌then◌else◌}
+use Rattle.std.proofs.Common.{Option, Some, None, IsSome, is_some, List, [], ◌∷◌, length, slice_index_or, refl}
+use Rattle.std.proofs.Common.{sym, ap, ◌∙◌, arith}
 use Rattle.std.proofs.lemmas.Bool.Decides.{nat_tests}
-use Rattle.jr_word.specs.declared.header.HeaderParts.{HeaderParts}
 use Rattle.jr_alive.specs.declared.dump.Dump.{Dump}
 use Rattle.jr_alive.specs.declared.search.Entry.{Entry}
 use Rattle.jr_alive.specs.declared.search.Origin.{Origin}
 use Rattle.jr_alive.specs.declared.search.Origin.TheVariants as origin
-use Rattle.jr_alive.specs.Ways.{IsThere, header_of}
-use Rattle.jr_alive.specs.Searching.{ComesFrom, Grows, IsFound, depth_in, depth_of, entry_at}
+use Rattle.jr_alive.specs.Graph.{IsInDump}
+use Rattle.jr_alive.specs.Searching.{ComesFrom, Grows, IsEntered, depth_in, depth_of, entry_at}
 
 -- what is there stands within the list
 pub some_inside : {A : Type 0} (xs : List (Option A)) (i : ℕ) → IsSome (slice_index_or xs i None) → i < length xs
@@ -33,7 +33,7 @@ unless_none true v t = absurd cc
 unless_none false v t = (refl, t)
 
 -- an object that is there has a number from 1 on, within the headers, and isn't the one that is taken out
-pub there_inside : (d : Dump) (x o : ℕ) → IsThere d x o → (1 ≤ o) × (o ≤ length d.headers.items) × (o ≢ x)
+pub there_inside : (d : Dump) (x o : ℕ) → IsInDump d x o → (1 ≤ o) × (o ≤ length d.headers.items) × (o ≢ x)
 there_inside d x o t =
     let z = unless_none ((o == 0) || (o == x)) (slice_index_or d.headers.items (o - 1) None) t in
     let e = z.0 in
@@ -54,11 +54,12 @@ comes_kept d x es es' kept o n (origin.Root r) c = c
 comes_kept d x es es' kept o n (origin.Element a i) c = (c.0, kept a c.0 c.1, c.2, c.3)
 
 -- what was found stays
-pub found_kept : {es es' : List (Option Entry)} {q q' : List ℕ} → Grows es q es' q' → (o : ℕ) → IsFound es o → IsFound es' o
+pub found_kept : {es es' : List (Option Entry)} {q q' : List ℕ} → Grows es q es' q' → (o : ℕ) → IsEntered es o
+    → IsEntered es' o
 found_kept {es} {es'} g o f =
     let z = some_is (entry_at es o) f in is_some_of (entry_at es' o) z.0 (g.kept o z.0 z.1)
 
-pub depth_kept : {es es' : List (Option Entry)} {q q' : List ℕ} → Grows es q es' q' → (o : ℕ) → IsFound es o
+pub depth_kept : {es es' : List (Option Entry)} {q q' : List ℕ} → Grows es q es' q' → (o : ℕ) → IsEntered es o
     → depth_of es' o ≡ depth_of es o
 depth_kept {es} {es'} g o f =
     let z = some_is (entry_at es o) f in ap depth_in (g.kept o z.0 z.1) ∙ sym (ap depth_in z.1)

@@ -1,23 +1,23 @@
 -- What is found is what is reached, and what an object retains.
-use Rattle.std.proofs.Common.{◌≡◌, ◌↔◌, ◌≤◌, ◌<◌, ◌+◌, ◌*◌, ◌&&◌, ℕ, zero, suc, Bool, true, false, not, if◌then◌else◌}
-use Rattle.std.proofs.Common.{Option, Some, is_some, List, [], ◌∷◌, ◌++◌, refl, sym, ap, subst, ◌∙◌, add-one, arith}
+use Rattle.std.proofs.Common.{◌≡◌, ◌↔◌, ◌+◌, ◌&&◌, ℕ, zero, suc, Bool, true, false, not}
+use Rattle.std.proofs.Common.{Option, is_some, List, [], ◌∷◌, ◌++◌, refl, sym, subst, add-one, arith}
 use Rattle.jr_model.specs.Maps.{sum_below}
 use Rattle.jr_alive.specs.declared.dump.Dump.{Dump}
-use Rattle.jr_alive.specs.declared.paths.Step.{Step}
+use Rattle.jr_alive.specs.declared.paths.Edge.{Edge}
 use Rattle.jr_alive.specs.declared.search.Entry.{Entry}
 use Rattle.jr_alive.specs.declared.search.Origin.{Origin}
 use Rattle.jr_alive.specs.declared.search.Origin.TheVariants as origin
-use Rattle.jr_alive.specs.Ways.{IsReached, Lead, Names}
-use Rattle.jr_alive.specs.Searching.{ComesFrom, IsDone, IsFound, entry_at, is_lost}
+use Rattle.jr_alive.specs.Graph.{IsAlive, Lead, IsEdge}
+use Rattle.jr_alive.specs.Searching.{ComesFrom, IsSearched, IsEntered, entry_at, goes_with}
 use Rattle.jr_alive.proofs.Found.{some_is}
 
-lead_snoc : (d : Dump) (x : ℕ) (steps : List Step) (a b : ℕ) (s : Step) → Lead d x a steps b
-    → Names d x b s.index s.object → Lead d x a (steps ++ s ∷ []) s.object
-lead_snoc d x [] a b s same n = (subst (λ m. Names d x m s.index s.object) (sym same) n, refl)
-lead_snoc d x (t ∷ steps) a b s lead n = (lead.0, lead_snoc d x steps t.object b s lead.1 n)
+lead_snoc : (d : Dump) (x : ℕ) (edges : List Edge) (a b : ℕ) (s : Edge) → Lead d x a edges b
+    → IsEdge d x b s.index s.object → Lead d x a (edges ++ s ∷ []) s.object
+lead_snoc d x [] a b s same n = (subst (λ m. IsEdge d x m s.index s.object) (sym same) n, refl)
+lead_snoc d x (t ∷ edges) a b s lead n = (lead.0, lead_snoc d x edges t.object b s lead.1 n)
 
-module _ (d : Dump) (x : ℕ) (es : List (Option Entry)) (done : IsDone d x es) where
-  reached_from : (n o depth : ℕ) (from : Origin) → depth ≡ n → ComesFrom d x es o depth from → IsReached d x o
+module _ (d : Dump) (x : ℕ) (es : List (Option Entry)) (done : IsSearched d x es) where
+  reached_from : (n o depth : ℕ) (from : Origin) → depth ≡ n → ComesFrom d x es o depth from → IsAlive d x o
   reached_from n o depth (origin.Root r) is c =
       (r, o, [], record { root = c.0; there = c.1; lead = refl })
   reached_from zero o depth (origin.Element a i) is c = absurd (let k = c.3 in omega arith)
@@ -25,19 +25,19 @@ module _ (d : Dump) (x : ℕ) (es : List (Option Entry)) (done : IsDone d x es) 
       let e = c.0 in
       let k = c.3 in
       let z = reached_from n a e.depth e.origin (omega arith) (done.sound a e c.1) in
-      let s : Step = record { index = i; object = o } in
-      let way = z.3 in (
+      let s : Edge = record { index = i; object = o } in
+      let path = z.3 in (
         z.0,
         z.1,
         z.2 ++ s ∷ [],
         record {
-          root = way.root;
-          there = way.there;
-          lead = lead_snoc d x z.2 z.1 a s way.lead c.2;
+          root = path.root;
+          there = path.there;
+          lead = lead_snoc d x z.2 z.1 a s path.lead c.2;
         },
       )
 
-  pub reached_found : (o : ℕ) → IsFound es o ↔ IsReached d x o
+  pub reached_found : (o : ℕ) → IsEntered es o ↔ IsAlive d x o
   reached_found o = (
     λ f. let z = some_is (entry_at es o) f in
         let e = z.0 in reached_from e.depth o e.depth e.origin refl (done.sound o e z.1),
@@ -50,8 +50,8 @@ and_not true false = (λ e. (refl, λ f. absurd cc), λ z. refl)
 and_not false b = (λ e. absurd cc, λ z. absurd (let e = z.0 in cc))
 
 -- both searches are done: what the first found and not the second is what is retained
-pub retained_exactly : (d : Dump) (x : ℕ) (all rest : List (Option Entry)) → IsDone d 0 all → IsDone d x rest
-    → (o : ℕ) → (is_lost all rest o ≡ true) ↔ (IsReached d 0 o × ¬ (IsReached d x o))
+pub retained_exactly : (d : Dump) (x : ℕ) (all rest : List (Option Entry)) → IsSearched d 0 all → IsSearched d x rest
+    → (o : ℕ) → (goes_with all rest o ≡ true) ↔ (IsAlive d 0 o × ¬ (IsAlive d x o))
 retained_exactly d x all rest first second o =
     let a = reached_found d 0 all first o in
     let b = reached_found d x rest second o in

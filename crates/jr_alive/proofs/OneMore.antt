@@ -1,18 +1,20 @@
 -- One object more is found.
-use Rattle.std.proofs.Common.{◌≡◌, ◌≢◌, ◌≤◌, ◌<◌, ◌+◌, ℕ, Option, Some, None, IsSome, is_some, List, [], ◌∷◌, ◌++◌, length}
+use Rattle.std.proofs.Common.{◌≡◌, ◌≢◌, ◌≤◌, ◌<◌, ◌+◌, ℕ, Option, Some, None, IsSome, is_some, List, [], ◌∷◌}
+use Rattle.std.proofs.Common.{◌++◌, length}
 use Rattle.std.proofs.Common.{slice_index_or, slice_set, cond, count_by, refl, sym, ap, subst, ◌∙◌, add-zero, arith}
-use Rattle.std.proofs.lemmas.List.{length-set, get_or-set_same, get_or-set_other, get_or_append_left, get_or_push, length_push}
+use Rattle.std.proofs.lemmas.List.{length-set, get_or-set_same, get_or-set_other, get_or_append_left}
+use Rattle.std.proofs.lemmas.List.{get_or_push, length_push}
 use Rattle.std.proofs.lemmas.List.Sums.{sum_by-set}
 use mathlib.Core.Logic.{dite}
 use native.Mathlib.Decide.{ℕ_discrete, dec_lt}
 use Rattle.jr_alive.specs.declared.dump.Dump.{Dump}
 use Rattle.jr_alive.specs.declared.search.Entry.{Entry}
-use Rattle.jr_alive.specs.Ways.{IsThere}
-use Rattle.jr_alive.specs.Searching.{AreWithin, ComesFrom, Grows, IsFound, Stands, depth_in, depth_of, entry_at}
+use Rattle.jr_alive.specs.Graph.{IsInDump}
+use Rattle.jr_alive.specs.Searching.{AreWithin, ComesFrom, Grows, IsEntered, IsSearching, depth_in, depth_of, entry_at}
 use Rattle.jr_alive.proofs.Found.{comes_kept, is_some_of, some_is, there_inside}
 
-module _ (d : Dump) (x : ℕ) (es : List (Option Entry)) (q : List ℕ) (st : Stands d x es q) (o : ℕ) (e : Entry)
-    (there : IsThere d x o) (new : entry_at es o ≡ None) (far : AreWithin e.depth es)
+module _ (d : Dump) (x : ℕ) (es : List (Option Entry)) (q : List ℕ) (st : IsSearching d x es q) (o : ℕ) (e : Entry)
+    (there : IsInDump d x o) (new : entry_at es o ≡ None) (far : AreWithin e.depth es)
     (from : ComesFrom d x es o e.depth e.origin) where
   abbrev now : List (Option Entry)
   now = slice_set es o (Some e)
@@ -29,7 +31,7 @@ module _ (d : Dump) (x : ℕ) (es : List (Option Entry)) (q : List ℕ) (st : St
   other : (r : ℕ) → r ≢ o → entry_at now r ≡ entry_at es r
   other r ne = get_or-set_other es o r (Some e) None ne
 
-  apart : (r : ℕ) → IsFound es r → r ≢ o
+  apart : (r : ℕ) → IsEntered es r → r ≢ o
   apart r f is = let z = sym f ∙ ap (λ n. is_some (entry_at es n)) is ∙ ap is_some new in cc
 
   kept : (r : ℕ) (f : Entry) → entry_at es r ≡ Some f → entry_at now r ≡ Some f
@@ -38,15 +40,16 @@ module _ (d : Dump) (x : ℕ) (es : List (Option Entry)) (q : List ℕ) (st : St
   depth_here : depth_of now o ≡ e.depth
   depth_here = ap depth_in here
 
-  depth_other : (r : ℕ) → IsFound es r → depth_of now r ≡ depth_of es r
+  depth_other : (r : ℕ) → IsEntered es r → depth_of now r ≡ depth_of es r
   depth_other r f = ap depth_in (other r (apart r f))
 
   -- the new one is the farthest
   pub within : AreWithin e.depth now
-  within r = dite (ℕ_discrete r o) (λ is. let z : depth_of now r ≡ e.depth = ap (depth_of now) is ∙ depth_here in omega arith)
+  within r = dite (ℕ_discrete r o) (λ is. let z : depth_of now r ≡ e.depth = ap (depth_of now) is
+      ∙ depth_here in omega arith)
       (λ ne. let z : depth_of now r ≡ depth_of es r = ap depth_in (other r ne) in let f = far r in omega arith)
 
-  pub found_here : IsFound now o
+  pub found_here : IsEntered now o
   found_here = is_some_of (entry_at now o) e here
 
   long : length queue ≡ length q + 1
@@ -73,14 +76,15 @@ module _ (d : Dump) (x : ℕ) (es : List (Option Entry)) (q : List ℕ) (st : St
   pub grows : Grows es q now queue
   grows = record { more = let l = long in omega arith; kept = kept; same = front }
 
-  found_at : (i : ℕ) → i < length queue → IsFound now (slice_index_or queue i 0)
+  found_at : (i : ℕ) → i < length queue → IsEntered now (slice_index_or queue i 0)
   found_at i l = let n = long in dite (dec_lt i (length q))
       (λ less.
       let f = some_is (entry_at es (slice_index_or q i 0)) (st.found i less) in
-      subst (IsFound now) (sym (front i less)) (is_some_of (entry_at now (slice_index_or q i 0)) f.0 (kept (slice_index_or q i 0) f.0 f.1)))
-      (λ not. subst (IsFound now) (sym (back i (omega arith))) found_here)
+      subst (IsEntered now) (sym (front i less)) (is_some_of (entry_at now (slice_index_or q i 0)) f.0 (kept
+      (slice_index_or q i 0) f.0 f.1)))
+      (λ not. subst (IsEntered now) (sym (back i (omega arith))) found_here)
 
-  queued : (r : ℕ) → IsFound now r → (i : ℕ) × (i < length queue) × (slice_index_or queue i 0 ≡ r)
+  queued : (r : ℕ) → IsEntered now r → (i : ℕ) × (i < length queue) × (slice_index_or queue i 0 ≡ r)
   queued r f = let n = long in dite (ℕ_discrete r o)
       (λ is. (length q, omega arith, back (length q) refl ∙ sym is))
       (λ ne. let z = st.queued r (subst IsSome (other r ne) f) in let l = z.1 in (z.0, omega arith, front z.0 l ∙ z.2))
@@ -100,12 +104,14 @@ module _ (d : Dump) (x : ℕ) (es : List (Option Entry)) (q : List ℕ) (st : St
   sorted : (i j : ℕ) → i ≤ j → j < length queue
       → depth_of now (slice_index_or queue i 0) ≤ depth_of now (slice_index_or queue j 0)
   sorted i j le l = let n = long in dite (dec_lt j (length q))
-      (λ less. let a = depth_front i (omega arith) in let b = depth_front j less in let s = st.sorted i j le less in omega arith)
+      (λ less. let a = depth_front i (omega arith) in let b = depth_front j less in
+      let s = st.sorted i j le less in omega arith)
       (λ not.
-      let b : depth_of now (slice_index_or queue j 0) ≡ e.depth = ap (depth_of now) (back j (omega arith)) ∙ depth_here in
+      let b : depth_of now (slice_index_or queue j 0) ≡ e.depth = ap (depth_of now) (back j (omega arith))
+      ∙ depth_here in
       let w = within (slice_index_or queue i 0) in omega arith)
 
-  pub stands : Stands d x now queue
+  pub stands : IsSearching d x now queue
   stands = record {
     wide = length-set es o (Some e) ∙ st.wide;
     counted = counted;

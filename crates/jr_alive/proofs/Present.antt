@@ -1,5 +1,6 @@
 -- The numbers of the objects that a dump has, one number more.
-use Rattle.std.proofs.Common.{◌≡◌, ◌+◌, ℕ, true, false, if◌then◌else◌, None, is_some, List, [], ◌∷◌, ◌++◌, slice_index_or, refl, sym, ap, ◌∙◌, add-one}
+use Rattle.std.proofs.Common.{◌≡◌, ◌+◌, ℕ, true, false, if◌then◌else◌, None, is_some, List, [], ◌∷◌, ◌++◌}
+use Rattle.std.proofs.Common.{slice_index_or, refl, sym, ap, ◌∙◌, add-one}
 use Rattle.std.proofs.lemmas.List.{append-nil}
 use Rattle.jr_alive.specs.declared.dump.Dump.{Dump}
 use Rattle.jr_alive.specs.Groups.{present_to}
@@ -9,7 +10,8 @@ unfolding present_to
 present_none d = refl
 
 present_more : (d : Dump) (n : ℕ)
-    → present_to d (n + 1) ≡ present_to d n ++ (if is_some (slice_index_or d.headers.items n None) then (n + 1) ∷ [] else [])
+    → present_to d (n + 1) ≡ present_to d n ++ (if is_some (slice_index_or d.headers.items n None)
+    then (n + 1) ∷ [] else [])
 unfolding present_to
 present_more d n = ap (present_to d) (add-one n)
 

@@ -1,5 +1,6 @@
 -- The objects of roots are found.
-use Rattle.std.proofs.Common.{◌≡◌, ◌≢◌, ◌≤◌, ◌<◌, ◌+◌, ◌*◌, ◌/◌, ◌%◌, ℕ, Option, Some, List, length, slice_index_or, refl, sym, ap, subst, ◌∙◌, arith}
+use Rattle.std.proofs.Common.{◌≡◌, ◌≢◌, ◌≤◌, ◌<◌, ◌+◌, ◌*◌, ◌/◌, ◌%◌, ℕ, Option, List}
+use Rattle.std.proofs.Common.{slice_index_or, sym, ap, subst, ◌∙◌, arith}
 use mathlib.Core.Logic.{dite}
 use native.Mathlib.Decide.{dec_lt}
 use Rattle.jr_word.specs.declared.local.LocalParts.{LocalParts}
@@ -7,20 +8,19 @@ use Rattle.jr_word.specs.declared.local.LocalParts.TheVariants as local
 use Rattle.jr_word.specs.declared.slot.SlotParts.{SlotParts}
 use Rattle.jr_word.specs.declared.slot.SlotParts.TheVariants as slot
 use Rattle.jr_alive.specs.declared.dump.Dump.{Dump}
-use Rattle.jr_alive.specs.declared.search.Root.{Root}
 use Rattle.jr_alive.specs.declared.search.Root.TheVariants as root
 use Rattle.jr_alive.specs.declared.search.Entry.{Entry}
-use Rattle.jr_alive.specs.Ways.{IsRoot, IsThere}
-use Rattle.jr_alive.specs.Searching.{AreWithin, Grows, HasRoots, IsFound, Stands}
+use Rattle.jr_alive.specs.Graph.{IsRoot, IsInDump}
+use Rattle.jr_alive.specs.Searching.{AreWithin, Grows, HasRoots, IsEntered, IsSearching}
 use Rattle.jr_alive.proofs.Found.{found_kept, grows_self, grows_then}
 
 -- the objects of the global references of the first n slots are found
 pub record GlobalsTo (d : Dump) (x n : ℕ) (es : List (Option Entry)) (q : List ℕ) : Type 0 where
-  pub stands : Stands d x es q
+  pub stands : IsSearching d x es q
   pub near : AreWithin 0 es
-  pub found : (i serial o : ℕ) → i < n → IsRoot d (root.Global i serial) o → IsThere d x o → IsFound es o
+  pub found : (i serial o : ℕ) → i < n → IsRoot d (root.Global i serial) o → IsInDump d x o → IsEntered es o
 
-pub globals_none : (d : Dump) (x : ℕ) (es : List (Option Entry)) (q : List ℕ) → Stands d x es q → AreWithin 0 es
+pub globals_none : (d : Dump) (x : ℕ) (es : List (Option Entry)) (q : List ℕ) → IsSearching d x es q → AreWithin 0 es
     → GlobalsTo d x 0 es q
 globals_none d x es q st near = record { stands = st; near = near; found = λ i n o l is there. absurd (omega arith) }
 
@@ -36,7 +36,7 @@ module _ {d : Dump} {x n : ℕ} {es : List (Option Entry)} {q : List ℕ} (g : G
   }
 
   pub globals_take : (serial o : ℕ) → parts ≡ slot.Global serial o → (es' : List (Option Entry)) (q' : List ℕ)
-      → Stands d x es' q' → AreWithin 0 es' → Grows es q es' q' → (IsThere d x o → IsFound es' o)
+      → IsSearching d x es' q' → AreWithin 0 es' → Grows es q es' q' → (IsInDump d x o → IsEntered es' o)
       → GlobalsTo d x (n + 1) es' q'
   globals_take serial o names es' q' st near grows found = record {
     stands = st;
@@ -45,18 +45,18 @@ module _ {d : Dump} {x n : ℕ} {es : List (Option Entry)} {q : List ℕ} (g : G
         let same : o ≡ r =
         let z = sym names ∙ (is ∙ (ap (λ j. slice_index_or d.slots.items j (slot.Free 0))
         (let e : n ≡ i = omega arith in e) ∙ root)) in cc in
-        subst (IsFound es') same (found (subst (IsThere d x) (sym same) there)));
+        subst (IsEntered es') same (found (subst (IsInDump d x) (sym same) there)));
   }
 
 -- the objects of the local references of the first n places are found, since there was this
 pub record LocalsTo (d : Dump) (x n : ℕ) (old : List (Option Entry)) (before : List ℕ) (es : List (Option Entry))
     (q : List ℕ) : Type 0 where
-  pub stands : Stands d x es q
+  pub stands : IsSearching d x es q
   pub near : AreWithin 0 es
   pub grows : Grows old before es q
-  pub found : (t p o : ℕ) → t * d.places + p < n → IsRoot d (root.Local t p) o → IsThere d x o → IsFound es o
+  pub found : (t p o : ℕ) → t * d.places + p < n → IsRoot d (root.Local t p) o → IsInDump d x o → IsEntered es o
 
-pub locals_none : (d : Dump) (x : ℕ) (es : List (Option Entry)) (q : List ℕ) → Stands d x es q → AreWithin 0 es
+pub locals_none : (d : Dump) (x : ℕ) (es : List (Option Entry)) (q : List ℕ) → IsSearching d x es q → AreWithin 0 es
     → LocalsTo d x 0 es q es q
 locals_none d x es q st near = record {
   stands = st;
@@ -79,7 +79,7 @@ module _ {d : Dump} {x n : ℕ} {old : List (Option Entry)} {before : List ℕ} 
   }
 
   pub locals_take : (o : ℕ) → parts ≡ local.Object o → (es' : List (Option Entry)) (q' : List ℕ)
-      → Stands d x es' q' → AreWithin 0 es' → Grows es q es' q' → (IsThere d x o → IsFound es' o)
+      → IsSearching d x es' q' → AreWithin 0 es' → Grows es q es' q' → (IsInDump d x o → IsEntered es' o)
       → LocalsTo d x (n + 1) old before es' q'
   locals_take o names es' q' st near grows found = record {
     stands = st;
@@ -90,7 +90,7 @@ module _ {d : Dump} {x n : ℕ} {old : List (Option Entry)} {before : List ℕ} 
         let same : o ≡ r =
         let z = sym names ∙ (is ∙ (ap (λ j. slice_index_or d.locals.items j local.Free)
         (let e : n ≡ t * d.places + p = omega arith in e) ∙ root.1)) in cc in
-        subst (IsFound es') same (found (subst (IsThere d x) (sym same) there)));
+        subst (IsEntered es') same (found (subst (IsInDump d x) (sym same) there)));
   }
 
   -- the reference of the place is a root
@@ -104,7 +104,7 @@ module _ {d : Dump} {x n : ℕ} {old : List (Option Entry)} {before : List ℕ} 
 
 -- both kinds of roots
 pub roots_all : (d : Dump) (x : ℕ) (es : List (Option Entry)) → AreWithin 0 es
-    → ((i serial o : ℕ) → IsRoot d (root.Global i serial) o → IsThere d x o → IsFound es o)
-    → ((t p o : ℕ) → IsRoot d (root.Local t p) o → IsThere d x o → IsFound es o) → HasRoots d x es
+    → ((i serial o : ℕ) → IsRoot d (root.Global i serial) o → IsInDump d x o → IsEntered es o)
+    → ((t p o : ℕ) → IsRoot d (root.Local t p) o → IsInDump d x o → IsEntered es o) → HasRoots d x es
 roots_all d x es near globals locals (root.Global i serial) o is there = (globals i serial o is there, near o)
 roots_all d x es near globals locals (root.Local t p) o is there = (locals t p o is there, near o)

@@ -1,29 +1,30 @@
--- The way back from an object to its root.
-use Rattle.std.proofs.Common.{◌≡◌, ◌≤◌, ◌+◌, ℕ, Option, Some, None, is_some, List, [], ◌∷◌, ◌++◌, length, refl, sym, ap, subst, ◌∙◌, arith}
+-- The path back from an object to its root.
+use Rattle.std.proofs.Common.{◌≡◌, ◌+◌, ℕ, Option, Some, None, is_some, List, [], ◌∷◌, ◌++◌, length, refl}
+use Rattle.std.proofs.Common.{sym, ap, subst, ◌∙◌, arith}
 use Rattle.std.proofs.lemmas.List.{reverse-append, length-reverse, length_push}
 use mathlib.Core.List.{reverse}
 use Rattle.jr_alive.specs.declared.dump.Dump.{Dump}
-use Rattle.jr_alive.specs.declared.paths.Step.{Step}
+use Rattle.jr_alive.specs.declared.paths.Edge.{Edge}
 use Rattle.jr_alive.specs.declared.search.Root.{Root}
 use Rattle.jr_alive.specs.declared.search.Entry.{Entry}
 use Rattle.jr_alive.specs.declared.search.Origin.TheVariants as origin
-use Rattle.jr_alive.specs.Ways.{AreFewest, IsReached, IsWay, Lead}
-use Rattle.jr_alive.specs.Searching.{ComesFrom, IsDone, IsFound, depth_of, entry_at}
+use Rattle.jr_alive.specs.Graph.{IsShortest, IsAlive, IsPath, Lead}
+use Rattle.jr_alive.specs.Searching.{ComesFrom, IsSearched, IsEntered, depth_of, entry_at}
 use Rattle.jr_alive.proofs.Found.{depth_is, is_some_of}
 
--- the steps lead back from the object to the one that the walk is at, and no other way is shorter
-pub record Walking (d : Dump) (x : ℕ) (es : List (Option Entry)) (o at : ℕ) (steps : List Step) : Type 0 where
-  pub lead : Lead d x at (reverse steps) o
-  pub long : length steps + depth_of es at ≡ depth_of es o
-  pub found : IsFound es o → IsFound es at
+-- the edges lead back from the object to the one that the walk is at, and no other path is shorter
+pub record Walking (d : Dump) (x : ℕ) (es : List (Option Entry)) (o at : ℕ) (edges : List Edge) : Type 0 where
+  pub lead : Lead d x at (reverse edges) o
+  pub long : length edges + depth_of es at ≡ depth_of es o
+  pub found : IsEntered es o → IsEntered es at
 
 pub walk_begins : (d : Dump) (x : ℕ) (es : List (Option Entry)) (o : ℕ) → Walking d x es o o []
 walk_begins d x es o = record { lead = refl; long = omega arith; found = λ f. f }
 
-module _ (d : Dump) (x : ℕ) (es : List (Option Entry)) (o at : ℕ) (steps : List Step) (done : IsDone d x es)
-    (w : Walking d x es o at steps) where
+module _ (d : Dump) (x : ℕ) (es : List (Option Entry)) (o at : ℕ) (edges : List Edge) (done : IsSearched d x es)
+    (w : Walking d x es o at edges) where
   -- nothing is found there
-  pub walk_fails : entry_at es at ≡ None → ¬ (IsReached d x o)
+  pub walk_fails : entry_at es at ≡ None → ¬ (IsAlive d x o)
   walk_fails none reached =
       let f = (done.nearest reached.0 reached.1 reached.2 o reached.3).0 in
       let z = sym (w.found f) ∙ ap is_some none in cc
@@ -35,15 +36,16 @@ module _ (d : Dump) (x : ℕ) (es : List (Option Entry)) (o at : ℕ) (steps : L
       named = subst (λ z. ComesFrom d x es at e.depth z) from (done.sound at e is)
 
       pub walk_nearer : depth_of es at ≡ depth_of es a + 1
-      walk_nearer = let n = named in let m = n.3 in let k = depth_is es a n.0 n.1 in let j = depth_is es at e is in omega arith
+      walk_nearer = let n = named in let m = n.3 in let k = depth_is es a n.0 n.1 in
+          let j = depth_is es at e is in omega arith
 
-      abbrev step : Step
-      step = record { index = i; object = at }
+      abbrev edge : Edge
+      edge = record { index = i; object = at }
 
-      pub walk_goes : Walking d x es o a (steps ++ step ∷ [])
+      pub walk_goes : Walking d x es o a (edges ++ edge ∷ [])
       walk_goes = record {
-        lead = subst (λ ss. Lead d x a ss o) (sym (reverse-append steps (step ∷ []))) (named.2, w.lead);
-        long = let l = length_push steps step in let n = walk_nearer in let m = w.long in omega arith;
+        lead = subst (λ ss. Lead d x a ss o) (sym (reverse-append edges (edge ∷ []))) (named.2, w.lead);
+        long = let l = length_push edges edge in let n = walk_nearer in let m = w.long in omega arith;
         found = λ f. let n = named in is_some_of (entry_at es a) n.0 n.1;
       }
 
@@ -52,13 +54,13 @@ module _ (d : Dump) (x : ℕ) (es : List (Option Entry)) (o at : ℕ) (steps : L
       rooted : ComesFrom d x es at e.depth (origin.Root r)
       rooted = subst (λ z. ComesFrom d x es at e.depth z) from (done.sound at e is)
 
-      pub walk_ends : IsWay d x r at (reverse steps) o × AreFewest d x (reverse steps) o
+      pub walk_ends : IsPath d x r at (reverse edges) o × IsShortest d x (reverse edges) o
       walk_ends = (
         record { root = rooted.0; there = rooted.1; lead = w.lead },
-        λ other first others way.
-            let near = (done.nearest other first others o way).1 in
+        λ other first others path.
+            let near = (done.nearest other first others o path).1 in
             let none = rooted.2 in
             let k = depth_is es at e is in
             let m = w.long in
-            let l = length-reverse steps in omega arith,
+            let l = length-reverse edges in omega arith,
       )

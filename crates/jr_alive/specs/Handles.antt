@@ -15,24 +15,25 @@ use Rattle.jr_alive.specs.declared.search.Root.TheVariants.{Global, Local}
 use Rattle.jr_alive.specs.Places.{in_place, in_slot}
 
 -- what a slot has
-abbrev pub slot_at : Dump → ℕ → SlotParts
-slot_at d i = slice_index_or d.slots.items i (slot.Free 0)
+abbrev pub noted_slot : Dump → ℕ → SlotParts
+noted_slot d i = slice_index_or d.slots.items i (slot.Free 0)
 
 -- what a thread's place has
-abbrev pub local_at : Dump → ℕ → ℕ → LocalParts
-local_at d t p = if nat_lt p d.places then slice_index_or d.locals.items (t * d.places + p) local.Free else local.Free
+abbrev pub noted_local : Dump → ℕ → ℕ → LocalParts
+noted_local d t p = if nat_lt p d.places then slice_index_or d.locals.items (t * d.places + p) local.Free
+    else local.Free
 
 -- the object that a handle names, by its kind
 abbrev pub named_as : RefKind → Dump → HandleParts → Option ℕ
-named_as kind.Local d p = in_place (local_at d p.owner p.index)
-named_as k d p = in_slot k p.serial (slot_at d p.index)
+named_as kind.Local d p = in_place (noted_local d p.owner p.index)
+named_as k d p = in_slot k p.serial (noted_slot d p.index)
 
 -- THE OBJECT THAT A HANDLE NAMES in the dump
-abbrev pub named_by : Dump → HandleParts → Option ℕ
-named_by d p = named_as p.kind d p
+abbrev pub object_named : Dump → HandleParts → Option ℕ
+object_named d p = named_as p.kind d p
 
 -- the handle of a global reference that is a root
-abbrev pub handle_of : Root → Option Handle
-handle_of (Global i serial) =
+abbrev pub root_handle : Root → Option Handle
+root_handle (Global i serial) =
     Some (record { 0 = handle_word (record { kind = kind.Global; serial = serial; index = i; owner = 0 }) })
-handle_of (Local t p) = None
+root_handle (Local t p) = None

@@ -1,6 +1,6 @@
-pub mod Ways
-pub mod Searching
-pub mod Retained
-pub mod Groups
+pub mod Graph
 pub mod Places
 pub mod Handles
+pub mod Retained
+pub mod Groups
+pub mod Searching

@@ -88,8 +88,8 @@ impl Dump {
     ghost use Rattle.jr_word.specs.Config.{in_limits};
     ghost use Rattle.jr_word.specs.declared.handle.HandleParts.{HandleParts};
     ghost use Rattle.jr_word.specs.Handle.{IsHandle, handle_word};
-    ghost use Rattle.jr_alive.specs.Handles.{local_at, named_by, slot_at};
-    ghost use Rattle.jr_alive.specs.Ways.{HasRoomFor, header_of, word_of};
+    ghost use Rattle.jr_alive.specs.Handles.{noted_local, object_named, noted_slot};
+    ghost use Rattle.jr_alive.specs.Graph.{HasRoomFor, noted_header, noted_word};
 
     /// Room for a dump of a room of these sizes, in which nothing stands yet.
     ///
@@ -123,7 +123,7 @@ impl Dump {
 
     /// The number of the object that a handle named at the dump's step. None where its reference was deleted or cleared, or the word is no handle. A local handle is looked up by its thread and its place alone: no note has its serial.
     pub fn object_of(&self, handle: Handle) -> Option<u16>
-        ensures named { (p : HandleParts) → IsHandle p → handle.0 ≡ handle_word p → result ≡ named_by self.now p }
+        ensures named { (p : HandleParts) → IsHandle p → handle.0 ≡ handle_word p → result ≡ object_named self.now p }
         ensures none { ((p : HandleParts) → IsHandle p → handle.0 ≢ handle_word p) → result ≡ None }
     {
         let parts = Handle::parts(handle.0)?;
@@ -136,7 +136,7 @@ impl Dump {
 
     /// What a slot has, as a free one beyond the slots.
     fn slot(&self, index: usize) -> SlotParts
-        ensures { result ≡ slot_at self.now index }
+        ensures { result ≡ noted_slot self.now index }
     {
         if index < self.slots.len() {
             self.slots[index]
@@ -148,7 +148,7 @@ impl Dump {
     /// What a local place of a thread has, as a free one beyond the places.
     fn local(&self, thread: usize, place: usize) -> LocalParts
         requires { thread < 256 }
-        ensures { result ≡ local_at self.now thread place }
+        ensures { result ≡ noted_local self.now thread place }
     {
         let places = self.places as usize;
         if place >= places {
@@ -164,7 +164,7 @@ impl Dump {
 
     /// The header of an object, if the dump has it and it isn't the one that is taken out, 0 for none.
     pub(crate) fn header(&self, object: u16, without: u16) -> Option<HeaderParts>
-        ensures { result ≡ header_of self.now without object }
+        ensures { result ≡ noted_header self.now without object }
     {
         let index = usize::from(object).wrapping_sub(1);
         if object == 0 || object == without || index >= self.headers.len() {
@@ -175,7 +175,7 @@ impl Dump {
 
     /// The word of an element, 0 beyond the words.
     pub(crate) fn word(&self, header: HeaderParts, index: u32) -> u64
-        ensures { result ≡ word_of self.now header index }
+        ensures { result ≡ noted_word self.now header index }
     {
         let at = header.place as usize + index as usize;
         if at < self.words.len() {

@@ -1,6 +1,6 @@
 //! The objects of a dump by kind, and the largest.
 ghost use Rattle.std.specs.Prelude.{◌≡◌};
-ghost use Rattle.jr_alive.specs.Groups.{is_of};
+ghost use Rattle.jr_alive.specs.Groups.{is_noted_as};
 
 use crate::dump::Dump;
 use crate::retaining::length_in;
@@ -19,8 +19,8 @@ pub struct Group {
 }
 
 /// Whether an object of the kind has the header.
-fn is_of(header: Option<HeaderParts>, kind: Kind) -> bool
-    ensures { result ≡ is_of kind header }
+fn is_noted_as(header: Option<HeaderParts>, kind: Kind) -> bool
+    ensures { result ≡ is_noted_as kind header }
 {
     match header {
         None => false,
@@ -31,7 +31,8 @@ fn is_of(header: Option<HeaderParts>, kind: Kind) -> bool
 impl Dump {
     ghost use Rattle.std.specs.Prelude.{◌≡◌, IfOk, length, map};
     ghost use Rattle.std.specs.List.Sorted.{IsPermutation};
-    ghost use Rattle.jr_alive.specs.Groups.{AreLargest, FallsBy, all_kinds, group_of, present_to, size_of};
+    ghost use Rattle.jr_census.specs.Printed.{all_kinds};
+    ghost use Rattle.jr_alive.specs.Groups.{AreLargest, FallsBy, group_of, present_to, noted_size};
 
     /// The objects of each kind, those with the most words first.
     ///
@@ -65,7 +66,7 @@ impl Dump {
         let mut count = 0;
         let mut words = 0;
         for header in &self.headers {
-            if is_of(*header, kind) {
+            if is_noted_as(*header, kind) {
                 count += 1;
                 words += u64::from(length_in(*header));
             }
@@ -107,7 +108,7 @@ impl Dump {
 
     /// How many words an object has, by its number.
     pub(crate) fn size(&self, object: u16) -> u32
-        ensures { result ≡ size_of self.now object }
+        ensures { result ≡ noted_size self.now object }
     {
         length_in(self.header(object, 0))
     }

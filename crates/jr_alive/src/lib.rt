@@ -11,5 +11,5 @@ mod search;
 pub use drawing::NotDrawn;
 pub use dump::Dump;
 pub use groups::Group;
-pub use paths::{Path, Step};
+pub use paths::{Edge, Path};
 pub use search::Root;

@@ -1,7 +1,7 @@
 //! What an object keeps alive.
 ghost use Rattle.std.specs.Prelude.{◌≡◌, if◌then◌else◌};
-ghost use Rattle.jr_alive.specs.Retained.{noted_words};
-ghost use Rattle.jr_alive.specs.Searching.{is_lost};
+ghost use Rattle.jr_census.specs.Dumps.{noted_length};
+ghost use Rattle.jr_alive.specs.Searching.{goes_with};
 
 use crate::dump::Dump;
 use crate::search::{Search, reach_all};
@@ -10,7 +10,7 @@ use std::alloc::{AllocError, Global};
 
 /// How many words an object has, by its header.
 pub(crate) fn length_in(header: Option<HeaderParts>) -> u32
-    ensures { result ≡ noted_words header }
+    ensures { result ≡ noted_length header }
 {
     match header {
         None => 0,
@@ -20,7 +20,7 @@ pub(crate) fn length_in(header: Option<HeaderParts>) -> u32
 
 /// How many words an object has that is found in the first search and not in the second, 0 for any other.
 fn words_lost(all: &Search, rest: &Search, object: u16, header: Option<HeaderParts>) -> u32
-    ensures { result ≡ (if is_lost all.now.entries.items rest.now.entries.items object then noted_words header else 0) }
+    ensures { result ≡ (if goes_with all.now.entries.items rest.now.entries.items object then noted_length header else 0) }
 {
     if all.has(object) && !rest.has(object) {
         length_in(header)

@@ -1,6 +1,6 @@
 //! A search through a dump, the nearest objects first.
 ghost use Rattle.std.specs.Prelude.{◌≡◌, IfOk};
-ghost use Rattle.jr_alive.specs.Searching.{IsDone};
+ghost use Rattle.jr_alive.specs.Searching.{IsSearched};
 
 use crate::dump::{Dump, has_references, object_of};
 use jr_word::{Handle, HandleParts, LocalParts, RefKind, SlotParts};
@@ -17,11 +17,11 @@ pub enum Root {
 
 impl Root {
     ghost use Rattle.std.specs.Prelude.{◌≡◌};
-    ghost use Rattle.jr_alive.specs.Handles.{handle_of};
+    ghost use Rattle.jr_alive.specs.Handles.{root_handle};
 
     /// The handle of a global reference. None of a local one, whose serial is its thread's own: no dump has it.
     pub fn handle(self) -> Option<Handle>
-        ensures { result ≡ handle_of self }
+        ensures { result ≡ root_handle self }
     {
         match self {
             Root::Global { slot, serial } => Some(Handle::pack(HandleParts {
@@ -35,7 +35,7 @@ impl Root {
     }
 }
 
-/// What names an object on its way from a root.
+/// What names an object on its path from a root.
 #[derive(Clone, Copy, Debug, PartialEq, Eq)]
 pub(crate) enum Origin {
     /// A root.
@@ -44,7 +44,7 @@ pub(crate) enum Origin {
     Element { array: u16, index: u32 },
 }
 
-/// What is found of an object: what names it on a way from a root with so many steps.
+/// What is found of an object: what names it on a path from a root with so many edges.
 #[derive(Clone, Copy, Debug, PartialEq, Eq)]
 pub(crate) struct Entry {
     pub(crate) origin: Origin,
@@ -60,14 +60,14 @@ pub(crate) struct Search {
 
 impl Search {
     ghost use Rattle.std.specs.Prelude.{◌≡◌, ◌≤◌, ◌<◌, ◌+◌, OnOk, IfOk, ℕ, is_some};
-    ghost use Rattle.jr_alive.specs.Ways.{IsRoot, IsThere, Names};
+    ghost use Rattle.jr_alive.specs.Graph.{IsRoot, IsInDump, IsEdge};
     ghost use Rattle.jr_alive.specs.declared.search.Root.{Root};
     ghost use Rattle.jr_alive.specs.declared.search.Root.TheVariants as root;
-    ghost use Rattle.jr_alive.specs.Searching.{AreWithin, ComesFrom, Grows, HasElements, HasRoots, IsDone, IsFound, Stands, depth_of, entry_at};
+    ghost use Rattle.jr_alive.specs.Searching.{AreWithin, ComesFrom, Grows, HasArrayElements, HasRoots, IsSearched, IsEntered, IsSearching, depth_of, entry_at};
 
     /// A search in which nothing is found.
     fn new(alloc: Global, dump: &Dump) -> Result<Self, AllocError>
-        ensures stands { IfOk result (λ s. (x : ℕ) → Stands dump.now x s.entries.items s.queue.items) }
+        ensures stands { IfOk result (λ s. (x : ℕ) → IsSearching dump.now x s.entries.items s.queue.items) }
         ensures roots { IfOk result (λ s. AreWithin 0 s.entries.items) }
     {
         let entries = vec![in alloc; None; dump.headers.len() + 1]?;
@@ -95,13 +95,13 @@ impl Search {
         object: u16,
         entry: Entry,
     ) -> Result<(), AllocError>
-        requires stands { Stands dump.now without self.old.entries.items self.old.queue.items }
+        requires stands { IsSearching dump.now without self.old.entries.items self.old.queue.items }
         requires farthest { AreWithin entry.depth self.old.entries.items }
-        requires named { IsThere dump.now without object → ComesFrom dump.now without self.old.entries.items object entry.depth entry.origin }
-        ensures stands { OnOk result (Stands dump.now without self.new.entries.items self.new.queue.items) }
+        requires named { IsInDump dump.now without object → ComesFrom dump.now without self.old.entries.items object entry.depth entry.origin }
+        ensures stands { OnOk result (IsSearching dump.now without self.new.entries.items self.new.queue.items) }
         ensures farthest { OnOk result (AreWithin entry.depth self.new.entries.items) }
         ensures grows { OnOk result (Grows self.old.entries.items self.old.queue.items self.new.entries.items self.new.queue.items) }
-        ensures found { OnOk result (IsThere dump.now without object → IsFound self.new.entries.items object) }
+        ensures found { OnOk result (IsInDump dump.now without object → IsEntered self.new.entries.items object) }
     {
         if dump.header(object, without).is_none() || self.entry(object).is_some() {
             return Ok(());
@@ -113,11 +113,11 @@ impl Search {
 
     /// Reaches the objects of global references.
     fn reach_globals(&mut self, dump: &Dump, without: u16) -> Result<(), AllocError>
-        requires stands { Stands dump.now without self.old.entries.items self.old.queue.items }
+        requires stands { IsSearching dump.now without self.old.entries.items self.old.queue.items }
         requires nearest { AreWithin 0 self.old.entries.items }
-        ensures stands { OnOk result (Stands dump.now without self.new.entries.items self.new.queue.items) }
+        ensures stands { OnOk result (IsSearching dump.now without self.new.entries.items self.new.queue.items) }
         ensures nearest { OnOk result (AreWithin 0 self.new.entries.items) }
-        ensures found { OnOk result ((i n o : ℕ) → IsRoot dump.now (root.Global i n) o → IsThere dump.now without o → IsFound self.new.entries.items o) }
+        ensures found { OnOk result ((i n o : ℕ) → IsRoot dump.now (root.Global i n) o → IsInDump dump.now without o → IsEntered self.new.entries.items o) }
     {
         for (index, parts) in dump.slots.iter().enumerate() {
             if let SlotParts::Global { serial, object } = *parts {
@@ -131,12 +131,12 @@ impl Search {
 
     /// Reaches the objects of local references.
     fn reach_locals(&mut self, dump: &Dump, without: u16) -> Result<(), AllocError>
-        requires stands { Stands dump.now without self.old.entries.items self.old.queue.items }
+        requires stands { IsSearching dump.now without self.old.entries.items self.old.queue.items }
         requires nearest { AreWithin 0 self.old.entries.items }
-        ensures stands { OnOk result (Stands dump.now without self.new.entries.items self.new.queue.items) }
+        ensures stands { OnOk result (IsSearching dump.now without self.new.entries.items self.new.queue.items) }
         ensures nearest { OnOk result (AreWithin 0 self.new.entries.items) }
         ensures grows { OnOk result (Grows self.old.entries.items self.old.queue.items self.new.entries.items self.new.queue.items) }
-        ensures found { OnOk result ((t p o : ℕ) → IsRoot dump.now (root.Local t p) o → IsThere dump.now without o → IsFound self.new.entries.items o) }
+        ensures found { OnOk result ((t p o : ℕ) → IsRoot dump.now (root.Local t p) o → IsInDump dump.now without o → IsEntered self.new.entries.items o) }
     {
         let places = dump.places as usize;
         for (index, parts) in dump.locals.iter().enumerate() {
@@ -157,15 +157,15 @@ impl Search {
         array: u16,
         depth: usize,
     ) -> Result<(), AllocError>
-        requires stands { Stands dump.now without self.old.entries.items self.old.queue.items }
-        requires array { IsFound self.old.entries.items array }
+        requires stands { IsSearching dump.now without self.old.entries.items self.old.queue.items }
+        requires array { IsEntered self.old.entries.items array }
         requires depth { depth ≡ depth_of self.old.entries.items array }
         requires few { depth + 1 < 18446744073709551616 }
         requires farthest { AreWithin (depth + 1) self.old.entries.items }
-        ensures stands { OnOk result (Stands dump.now without self.new.entries.items self.new.queue.items) }
+        ensures stands { OnOk result (IsSearching dump.now without self.new.entries.items self.new.queue.items) }
         ensures farthest { OnOk result (AreWithin (depth + 1) self.new.entries.items) }
         ensures grows { OnOk result (Grows self.old.entries.items self.old.queue.items self.new.entries.items self.new.queue.items) }
-        ensures found { OnOk result ((i o : ℕ) → Names dump.now without array i o → IsFound self.new.entries.items o) }
+        ensures found { OnOk result ((i o : ℕ) → IsEdge dump.now without array i o → IsEntered self.new.entries.items o) }
     {
         let Some(header) = dump.header(array, without) else {
             return Ok(());
@@ -192,10 +192,10 @@ impl Search {
 
     /// Reaches what the arrays name that are found, and so on.
     fn follow(&mut self, dump: &Dump, without: u16) -> Result<(), AllocError>
-        requires stands { Stands dump.now without self.old.entries.items self.old.queue.items }
+        requires stands { IsSearching dump.now without self.old.entries.items self.old.queue.items }
         requires nearest { AreWithin 0 self.old.entries.items }
         requires roots { HasRoots dump.now without self.old.entries.items }
-        ensures done { OnOk result (IsDone dump.now without self.new.entries.items) }
+        ensures done { OnOk result (IsSearched dump.now without self.new.entries.items) }
     {
         for next in 0..self.entries.len() {
             if next >= self.queue.len() {
@@ -215,7 +215,7 @@ impl Search {
         self.entry(object).is_some()
     }
 
-    /// How many steps an object is from its root, 0 where it isn't found.
+    /// How many edges an object is from its root, 0 where it isn't found.
     fn depth(&self, object: u16) -> usize
         ensures { result ≡ depth_of self.now.entries.items object }
     {
@@ -228,7 +228,7 @@ impl Search {
 
 /// Searches a dump from its roots, once an object is taken out, 0 for none. It takes memory for each object, and looks at each reference once.
 pub(crate) fn reach_all(alloc: Global, dump: &Dump, without: u16) -> Result<Search, AllocError>
-    ensures { IfOk result (λ s. IsDone dump.now without s.entries.items) }
+    ensures { IfOk result (λ s. IsSearched dump.now without s.entries.items) }
 {
     let mut reached = Search::new(alloc, dump)?;
     reached.reach_globals(dump, without)?;

@@ -16,7 +16,7 @@ fn header(kind: Kind, place: u32, length: u32) -> Option<HeaderParts> {
 
 /// Slot 0 has a weak reference to object 4, and slot 1 a global one to object 1, with serial 5. Place 1 of thread 1 names object 5.
 ///
-/// - Object 1 names 2 and 3, and 2 names 3 and, last, 6. So 3 is one step from 1, and 6 two.
+/// - Object 1 names 2 and 3, and 2 names 3 and, last, 6. So 3 is one edge from 1, and 6 two.
 /// - Object 5 names itself and 6.
 /// - Object 4 is a string, which the weak reference alone names, and 3 and 6 are arrays of integers.
 fn six_objects(alloc: Global) -> Result<Dump, AllocError> {
@@ -52,15 +52,15 @@ fn six_objects(alloc: Global) -> Result<Dump, AllocError> {
     })
 }
 
-/// How many steps a way has, and the handle that it begins with; none where there is none.
+/// How many edges a path has, and the handle that it begins with; none where there is none.
 fn told(path: &Option<Path>) -> Option<(usize, Option<Handle>)> {
     match path {
         None => None,
-        Some(path) => Some((path.steps.len(), path.root.handle())),
+        Some(path) => Some((path.edges.len(), path.root.handle())),
     }
 }
 
-/// Object 3 is at one step from the global reference, 6 at one from the local one, and 4 at none. Object 7 isn't there.
+/// Object 3 is at one edge from the global reference, 6 at one from the local one, and 4 at none. Object 7 isn't there.
 fn tells_paths(rt: &impl Abort, alloc: Global, dump: &Dump) -> Result<(), AllocError> {
     let (third, sixth) = (dump.path_to(alloc, 3)?, dump.path_to(alloc, 6)?);
     let (fourth, seventh) = (dump.path_to(alloc, 4)?, dump.path_to(alloc, 7)?);

@@ -7,7 +7,7 @@ use std::alloc::Global;
 use std::io;
 use std::io::Write;
 
-/// Tells the kind with the most words, which object a handle names, and of each object from 6 on how many words it retains, with a shortest way to it.
+/// Tells the kind with the most words, which object a handle names, and of each object from 6 on how many words it retains, with a shortest path to it.
 pub(crate) fn tell_why<W: Write>(
     alloc: Global,
     dump: &Dump,
@@ -31,15 +31,15 @@ pub(crate) fn tell_why<W: Write>(
     Ok(())
 }
 
-/// Writes a way from its root on.
+/// Writes a path from its root on.
 fn write_path<W: Write>(out: &mut W, path: &Path) -> io::Result<()> {
     match path.root {
         Root::Global { slot, serial: _ } => write!(out, "global {slot}")?,
         Root::Local { thread, place } => write!(out, "local {place} of thread {thread}")?,
     }
     write!(out, " -> {}", path.first)?;
-    for step in &path.steps {
-        write!(out, "[{}] -> {}", step.index, step.object)?;
+    for edge in &path.edges {
+        write!(out, "[{}] -> {}", edge.index, edge.object)?;
     }
     writeln!(out)
 }

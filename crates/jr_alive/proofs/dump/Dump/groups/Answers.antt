@@ -2,7 +2,8 @@ use Rattle.std.proofs.Common.{◌≡◌, ℕ, List, [], ◌∷◌, map, subst, r
 use Rattle.std.proofs.lemmas.List.Sorted.{IsNonDecreasingBy-from_sort_by_key, IsPermutation-trans}
 use Rattle.std.specs.List.Sorted.{IsPermutation}
 use Rattle.jr_alive.specs.declared.groups.Group.{Group}
-use Rattle.jr_alive.specs.Groups.{all_kinds, group_of}
+use Rattle.jr_census.specs.Printed.{all_kinds}
+use Rattle.jr_alive.specs.Groups.{group_of}
 use Rattle.jr_alive.proofs.Falling.{falls_reversed}
 use Rattle.jr_alive.proofs.dump.Dump.groups.Goals as goal
 

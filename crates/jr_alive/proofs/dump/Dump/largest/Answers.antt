@@ -1,7 +1,7 @@
 use Rattle.std.proofs.Common.{◌≡◌, ◌<◌, ◌-◌, ℕ, length, slice_index_or, vec_len, subst, rules, arith}
 use Rattle.std.proofs.lemmas.List.Sorted.{IsNonDecreasingBy-from_sort_by_key, IsPermutation-trans}
 use Rattle.std.specs.List.Sorted.{IsPermutation}
-use Rattle.jr_alive.specs.Groups.{size_of}
+use Rattle.jr_alive.specs.Groups.{noted_size}
 use Rattle.jr_alive.proofs.Falling.{falls_reversed}
 use Rattle.jr_alive.proofs.dump.Dump.largest.Goals as goal
 
@@ -17,8 +17,9 @@ returns c =
       all = all.items;
       each = IsPermutation-trans _ _ _ (subst (λ xs. IsPermutation xs sorted.items) c.in_ok-numbers.ensures
           c.sort_unstable_by_key.ensures.permutation) c.reverse.ensures.permutation;
-      falls = falls_reversed (size_of d) sorted.items all.items
-          (IsNonDecreasingBy-from_sort_by_key (size_of d) _ c.sort_unstable_by_key.ensures.sorted (λ a r q k. search rules))
+      falls = falls_reversed (noted_size d) sorted.items all.items
+          (IsNonDecreasingBy-from_sort_by_key (noted_size d) _ c.sort_unstable_by_key.ensures.sorted
+          (λ a r q k. search rules))
           long (subst (λ n. (k d : ℕ) → k < n
           → slice_index_or all.items k d ≡ slice_index_or sorted.items (n - 1 - k) d) same c.reverse.ensures.by_index);
       first = c.truncate.ensures.items;

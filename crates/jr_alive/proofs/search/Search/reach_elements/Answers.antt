@@ -1,4 +1,4 @@
-use Rattle.std.proofs.Common.{◌≡◌, ◌≤◌, ◌+◌, Some, length, sym, ap, ◌∙◌, subst, arith}
+use Rattle.std.proofs.Common.{◌≡◌, ◌≤◌, ◌+◌, ℕ, Some, length, sym, ◌∙◌, subst, arith}
 use Rattle.jr_alive.specs.declared.search.Search.{Search}
 use Rattle.jr_alive.proofs.Elements.{ElementsTo, elements_all, elements_skip, elements_take}
 use Rattle.jr_alive.proofs.search.Search.reach_elements.Goals as goal
@@ -13,6 +13,7 @@ loop-index-preserved c =
     let long = d.headers.ok.0 in
     let most = d.few in
     let few : length d.headers.items ≤ 65535 = omega arith in
+    let named : ℕ → Type 0 = λ word. 1 ≤ word → word ≤ 65535 → c.object_of.result ≡ Some word in
     elim c.match-object_of.branch [
       | in-Some-object_of+in_ok-reach w ↦
           subst (λ (s : Search). ElementsTo d c.args.without c.args.array (n + 1) (c.args.depth + 1) old.entries.items
@@ -25,7 +26,7 @@ loop-index-preserved c =
           subst (λ (s : Search). ElementsTo d c.args.without c.args.array (n + 1) (c.args.depth + 1) old.entries.items
           old.queue.items s.entries.items s.queue.items) (sym w.self-is)
           (elements_skip c.loop-index.invariant c.in-Some.header is few c.object_of.result
-          (subst (λ word. 1 ≤ word → word ≤ 65535 → c.object_of.result ≡ Some word) c.word.ensures c.object_of.ensures.complete)
+          (subst named c.word.ensures c.object_of.ensures.complete)
           w.in_default-object_of.is)
     ]
 

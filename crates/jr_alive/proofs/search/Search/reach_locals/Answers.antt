@@ -1,4 +1,4 @@
-use Rattle.std.proofs.Common.{◌≡◌, ◌+◌, slice_index_or, refl, sym, ap, ◌∙◌, subst}
+use Rattle.std.proofs.Common.{◌+◌, slice_index_or, refl, sym, ap, ◌∙◌, subst}
 use Rattle.jr_word.specs.declared.local.LocalParts.TheVariants as local
 use Rattle.jr_alive.specs.declared.search.Search.{Search}
 use Rattle.jr_alive.proofs.Rooted.{LocalsTo, locals_skip, locals_take}
@@ -10,16 +10,19 @@ loop-index-preserved c =
     let d = c.args.dump.now in
     let old = c.args.self.now in
     let n = c.loop-index.index in
+    let so : Search → Type 0 =
+    λ s. LocalsTo d c.args.without (n + 1) old.entries.items old.queue.items s.entries.items s.queue.items in
     let is = ap (λ xs. slice_index_or xs n local.Free) c.deref-parts-items.ensures.value in
     elim c.match-parts.branch [
       | in-Object+in_ok-reach w ↦
-          subst (λ (s : Search). LocalsTo d c.args.without (n + 1) old.entries.items old.queue.items s.entries.items s.queue.items)
+          subst so
           (sym w.self-is)
-          (locals_take c.loop-index.invariant (local.Object w.in-Object.object) (sym w.in-Object.is ∙ is) w.in-Object.object
+          (locals_take c.loop-index.invariant (local.Object w.in-Object.object) (sym w.in-Object.is
+          ∙ is) w.in-Object.object
           refl w.reach.new.self.entries.items w.reach.new.self.queue.items w.in_ok-reach.ensures.stands
           w.in_ok-reach.ensures.farthest w.in_ok-reach.ensures.grows w.in_ok-reach.ensures.found)
       | in_default w ↦
-          subst (λ (s : Search). LocalsTo d c.args.without (n + 1) old.entries.items old.queue.items s.entries.items s.queue.items)
+          subst so
           (sym w.self-is)
           (locals_skip c.loop-index.invariant (slice_index_or d.locals.items n local.Free) refl (λ o e.
           w.in_default.not-Object o (is ∙ e)))
