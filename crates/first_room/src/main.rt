@@ -22,15 +22,12 @@ use crate::message::{Found, Handed, Report};
 use jr_env::{Env, NativeInterface, Patience};
 use jr_rule::{Site, Steps, StepsIn, Summary};
 use jr_threads::{NativeCode, QueueEnd, run_native};
-use jr_word::{Config, Fault, Handle, LAST_SERIAL};
+use jr_word::{Config, Fault, Handle};
 use std::alloc::Global;
 use std::io;
 use std::io::Write;
 use std::thread::Threads;
 use thiserror::Error;
-
-/// How often a slot gives a handle, one less.
-const LAST: u32 = LAST_SERIAL;
 
 /// How often an announced collection tries to shut the gate.
 const TRIES: u32 = 1_000;

@@ -1,6 +1,6 @@
 -- What all threads of a room did, in one history.
-use Rattle.std.proofs.Common.{◌≡◌, ◌<◌, ◌∙◌, ℕ, zero, suc, Bool, true, false, List, [], ◌∷◌}
-use Rattle.std.proofs.Common.{◌++◌, length, map, Ok, get_or, ap, subst, sym, refl, arith}
+use Rattle.std.proofs.Common.{◌≡◌, ◌<◌, ◌∙◌, ℕ, zero, suc, Bool, true, List, [], ◌∷◌}
+use Rattle.std.proofs.Common.{◌++◌, length, map, get_or, ap, subst, sym, refl, arith}
 use Rattle.std.proofs.lemmas.List.{append-nil, get_or_append_left, get_or_push, length-map}
 use Rattle.std.proofs.lemmas.List.Elements.{recursion_from_All}
 use Rattle.std.proofs.lemmas.Slice.Zip.{AllZip-long}
@@ -13,61 +13,36 @@ use Rattle.jr_model.specs.declared.summary.Summary.{Summary}
 use Rattle.jr_model.specs.State.{not_outside, summary}
 use Rattle.jr_model.specs.History.{History, Did, IsLegal, mine, state}
 use Rattle.jr_model.specs.Frames.{fresh_frames}
-use Rattle.jr_model.proofs.Agreement.{fresh_agree}
 use Rattle.jr_model.proofs.Moments.{prefix_trans}
 use Rattle.jr_steps.specs.declared.known.Known.{Known}
-use Rattle.jr_steps.specs.Holdings.{empty}
-use Rattle.jr_steps.specs.Knowing.{Standing, Holds, view}
+use Rattle.jr_steps.specs.Knowing.{view}
 use Rattle.jr_steps.proofs.StepFacts.{goes_did}
-use Rattle.jr_gate.specs.Performing.{ThreadState, thread_state, thread_state_with}
 use Rattle.jr_rule.specs.declared.pass.Pass.{Pass}
 use Rattle.jr_rule.specs.declared.row.Row.{Row}
-use Rattle.jr_rule.specs.Rule.{known, stepping_pass}
+use Rattle.jr_rule.specs.Rule.{stepping_pass}
 use Rattle.jr_rule.specs.Passes.{Holder, facts_of, holder_of, known_of, numbers_below}
 use Rattle.jr_rule.specs.Passes.{standing_of, AreOpened, ClosesAll, EndsAll, IsOpened, IsSeenIn}
-use Rattle.jr_rule.proofs.PassOver.{opened_knows}
-use Rattle.jr_env.specs.Deeds.{Deed, DoesDeed}
+use Rattle.jr_env.specs.Deeds.{Deed}
 use Rattle.jr_threads.specs.declared.native.Ended.{Ended}
-use Rattle.jr_threads.specs.Parts.{closing, start_moment, DidWithPass, IsThreadPart, RanTogether, ComesOfDeed}
+use Rattle.jr_threads.specs.Parts.{closing, DidWithPass, IsThreadPart, RanTogether, ComesOfDeed}
 use Rattle.jr_threads.specs.Sites.{answers_in, passes_in, ThreadRan, ThreadsRan, IsBack}
+use Rattle.jr_threads.specs.Starting.{HaveDoneNothing}
 use Rattle.jr_threads.proofs.Passes.{numbers_long, passes_long}
+use Rattle.jr_threads.proofs.Starting.{comes_of, has_begun, opened_steps}
+use Rattle.jr_threads.proofs.Stories.{outside_did}
 
 -- what a thread did since its pass was opened
 pub since : {A : Type 0} (deed : Deed A) (r : Row) (p : Pass) (now : Holder) (x : A) → IsOpened r p
     → DidWithPass deed p now x → ComesOfDeed r.config r.last p.thread deed x (stepping_pass now.seat.me).seen
 since deed r p now x o h =
     let t = p.thread in
-    let known_now = stepping_pass now.seat.me in
-    let k0 : Known = known r.config r.last t [] empty 0 in
-    let knows0 : known_of p ≡ k0 = o.knows in
-    let fresh : fresh_frames (standing_of p).config.locals ≡ fresh_frames r.config.locals =
-    ap (λ (k : Known). fresh_frames k.config.locals) knows0 in
-    let spent : (facts_of h.spent).stands ≡ record (standing_of p) { fresh = false } = (h.spends).stands_is in
-    let did : DoesDeed facts_of h.spent now (fresh_frames r.config.locals) h.frames deed (Ok x) =
-    subst (λ f. DoesDeed facts_of h.spent now f h.frames deed (Ok x)) fresh h.did in
-    let holds0 : Holds (fresh_frames r.config.locals) k0 = fresh_agree r.config.locals t [] (λ place. refl) in
-    let y = did.did (known_of p) (((h.spends).same (known_of p)).0 (opened_knows r p o)).0
-    (subst (Holds (fresh_frames r.config.locals)) (sym knows0) holds0) in
-    let is : y.0 ≡ known_now = y.1.0 in
-    let s = did.stands_is in
-    let same_config : known_now.config ≡ r.config =
-    s.config ∙ (ap (λ (z : Standing). z.config) spent ∙ ap (λ (k : Known). k.config) knows0) in
-    let same_last : known_now.last ≡ r.last =
-    s.last ∙ (ap (λ (z : Standing). z.last) spent ∙ ap (λ (k : Known). k.last) knows0) in
-    let is_of : known_now.thread ≡ t = s.thread ∙ (ap (λ (z : Standing). z.thread) spent ∙ p.held.thread_is) in
-    let first_hint : (h.spent).hint ≡ 0 = (h.spends).hint_is ∙ o.hint in
-    let end : Known → ThreadState = λ k. thread_state (facts_of now) k h.frames in
-    let from : deed (start_moment r.config r.last t) (Ok x) (end y.0)
-    = subst (λ i. deed (thread_state_with false i k0 (fresh_frames r.config.locals)) (Ok x) (end y.0)) first_hint
-    (subst (λ b. deed (thread_state_with b (h.spent).hint k0 (fresh_frames r.config.locals)) (Ok x) (end y.0))
-    (ap (λ (z : Standing). z.fresh) spent)
-    (subst (λ (k : Known). deed (thread_state (facts_of h.spent) k (fresh_frames r.config.locals)) (Ok x) (end y.0))
-    knows0 y.3)) in
-    record {
-      left = end known_now;
-      does = subst (λ (k : Known). deed (start_moment r.config r.last t) (Ok x) (end k)) is from;
-      saw = λ i. record { config = same_config i; last = same_last i; thread = is_of i; seen = known_now.seen };
-    }
+    let nothing = subst (λ u. HaveDoneNothing facts_of r.config r.last u (holder_of p)) p.held.thread_is
+    (opened_steps (λ z. z) r p (holder_of p) r.config r.last o refl refl refl) in
+    let start = has_begun r.config r.last t (holder_of p) h.spent (fresh_frames (standing_of p).config.locals) nothing
+    h.spends refl in
+    comes_of (λ z k n. n.1) r.config r.last t deed h.spent now (fresh_frames (standing_of p).config.locals) h.frames x
+    (stepping_pass now.seat.me).seen start (outside_did start.steps.outside h.did)
+    (λ k n. ap (λ (z : Known). z.seen) (sym n.0))
 
 module _ {A : Type 0} (tells : A → Bool) (deed : ℕ → Deed A) (whole : History) where
   -- the part of a thread that only made its calls

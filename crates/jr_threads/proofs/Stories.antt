@@ -6,7 +6,6 @@ use Rattle.jr_model.specs.declared.event.Role.TheVariants.{Outside}
 use Rattle.jr_model.specs.Frames.{Frames}
 use Rattle.jr_model.specs.History.{History}
 use Rattle.jr_model.proofs.Agreement.{agree_spared}
-use Rattle.jr_steps.specs.declared.known.Known.{Known}
 use Rattle.jr_steps.specs.Knowing.{AreOf, Facts, Holds, Standing, Took, anything, keeps}
 use Rattle.jr_steps.proofs.StepFacts.{goes_did}
 use Rattle.jr_gate.specs.Performing.{IsAsBefore, thread_state, thread_state_with}
