@@ -37,13 +37,13 @@ FILES = {"crates.txt": "jr_word:\njr_env: jr_word\n", "README.md": PAGE, "crates
 WRONG = {
     "crates.txt": "jr_word:\njr_env: jr_word\n", "HANDLES": "Handles allowed: none.\n", "README.md": "a" * 12_289, ".ci/run": "true\n",
     "crates/jr_word/src/lib.rt": "pub fn one() {}\n", "crates/jr_env/src/lib.rt": "#![tactic(auto)]\npub fn two() {}\n",
-    "crates/jr_env/must-fail/it.edit": "", ".ci/edits/jr_none/it.edit": "", "crates/jr_word/README.md": "# A word\n", "crates/jr_word/out/it": "",
+    "crates/jr_env/must-fail/it.edit": "", ".ci/edits/jr_none/src/lib.rt.edit": "", "crates/jr_word/README.md": "# A word\n", "crates/jr_word/out/it": "",
     "crates/jr_rule/src/row.rt": "struct Row {\n    pub table: Table,\n}\n// .peek\nlet found = table.peek(0);\n", "crates/jr_rule/src/over.rt": "use atomic_table::Table;\n",
     "crates/jr_word/specs/One.antt": "abbrev pub same : Type 0\nsame = Unit\n", "crates/jr_word/specs/Two.antt": "-- two\nabbrev pub same : Type 0\nsame = Unit\n",
 }
 FOUND = {
     "basics": ("HANDLES: must be", "docs/DECISIONS.md: missing", "docs/ARCHITECTURE.md: missing", ".ci/run: does not call rt ci", "crates/jr_word/out/it: is not"),
-    "edits": (".ci/edits/jr_none/it.edit: crates.txt has no", "crates/jr_word/src/lib.rt: lacks the line", "crates/jr_word: 1 public", "crates/jr_env: 1 public", "crates/jr_env/must-fail: an edit"),
+    "edits": (".ci/edits/jr_none/src/lib.rt.edit: crates.txt has no", "crates/jr_env/must-fail/it.edit: is to be a line", "crates/jr_word/src/lib.rt: lacks the line", "crates/jr_word: 1 public", "crates/jr_env: 1 public", "crates/jr_env/must-fail: an edit"),
     "table": ("crates/jr_rule/src/row.rt:2: the field", "crates/jr_rule/src/row.rt:5: an operation that takes no seat", "crates/jr_rule/src/over.rt:1: names `Table`"),
     "pages": ("README.md: 12289 bytes", "crates/jr_word/README.md: 1 lines", "crates/jr_word/README.md: has not", "crates/jr_env/README.md: missing"),
 }
@@ -124,7 +124,7 @@ class Habits(unittest.TestCase):
             self.assertEqual(len([*self.habits.unreached(found, definitions)]), 2)
 
     def test_folders_with_too_many_files(self):
-        many = [f"{folder}/{number}" for folder in ("proofs", ".ci/edits/low") for number in range(41)]
+        many = [f"{folder}/{number}" for folder, last in (("proofs", 41), ("specs", 40)) for number in range(last)]
         self.assertEqual([*self.habits.folders(many)], ["proofs: 41 files (40 at the most)"])
 
     def test_labels_of_papers(self):
