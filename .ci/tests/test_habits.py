@@ -100,14 +100,7 @@ class Habits(unittest.TestCase):
             found = [*self.habits.links([*pages])]
         self.assertEqual([it.split(": ")[1] for it in found], ["a link to 'two' of README.md, which has no such heading", "a link to two.md, which is no file here"])
 
-    def test_cases_have_lines_by_a_link_or_in_the_table_of_their_folder(self):
-        page = "# Cases\n\n| Case of `refs/` | Shows |\n|---|---|\n| `one` | it |\n\n| Script | Shows |\n|---|---|\n| `two` | of no folder |\n| [`three`](three.script) | it |\n"
-        files = ("refs/one.script", "refs/one.out", "refs/two.script", "refs/two.out", "three.script", "three.out")
-        with repository({"scripts/README.md": page, "examples/README.md": "", **{f"scripts/{it}": "" for it in files}}):
-            cases = script("cases.py")
-            self.assertEqual(cases.listed(), ["scripts/refs/one", "scripts/three"])
-            self.assertEqual([*cases.problems()], ["scripts/refs/two: has 0 lines in scripts/README.md, and not one"])
-
+    def test_what_is_wrong_in_many_places(self):
         with repository(WRONG):
             for part, wanted in FOUND.items():
                 found = [*getattr(self.habits, part)([*WRONG])]
