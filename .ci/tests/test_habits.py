@@ -95,10 +95,18 @@ class Habits(unittest.TestCase):
         self.assertEqual(found, ["crates/jr_word/src/lib.rt:3: .ci/rattle.py can't read on from here: macro! {}"])
 
     def test_links_that_lead_nowhere(self):
-        pages = {"README.md": "# One\n\n[a](#one) [b](#two) [c](two.md) [d](https://example.org) `[e](gone)`\n"}
+        pages = {"README.md": "# One\n\n[a](#one) [b](#two) [c](two.md) [d](https://example.org) `[e](gone)` <a id=\"three\"></a> [f](#three)\n"}
         with repository(pages):
             found = [*self.habits.links([*pages])]
         self.assertEqual([it.split(": ")[1] for it in found], ["a link to 'two' of README.md, which has no such heading", "a link to two.md, which is no file here"])
+
+    def test_the_page_of_calls_is_looked_at_where_it_was_made_and_not_linked_to(self):
+        pages = {"README.md": "# One\n\n[a](docs/REFERENCE.md) `docs/REFERENCE.md`\n", "docs/REFERENCE.md": "# Calls\n\n[a](#calls) `gone_now`\n"}
+        with repository(pages):
+            paths = self.habits.files()
+            self.assertEqual(sorted(paths), sorted(pages))
+            self.assertEqual([*self.habits.links(paths)], ["README.md:3: a link to docs/REFERENCE.md, which is no file here"])
+            self.assertEqual([*self.habits.names(paths)], ["docs/REFERENCE.md:3: `gone_now` is the name of nothing here"])
 
     def test_what_is_wrong_in_many_places(self):
         with repository(WRONG):

@@ -4,7 +4,7 @@ import unittest
 
 from shared import repository, script
 
-from pages import anchor, loose_links
+from pages import anchor
 from reading import Repository, Specs
 
 SPECS = """-- what is
@@ -253,4 +253,3 @@ class Pages(unittest.TestCase):
 
     def test_links(self):
         self.assertEqual(anchor("By `law`, and call"), "by-law-and-call")
-        self.assertEqual(loose_links("# One\n[a](#one) [b](#two) <a id=\"three\"></a> [c](#three)"), ["two"])
