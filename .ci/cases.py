@@ -1,11 +1,14 @@
-"""The cases of examples/ and scripts/: texts for `jrefs run`, each beside what the program answers, for the scripts beside this file.
+"""The cases of examples/ and scripts/: texts for `jrefs run`, each with what the program answers, for the scripts beside this file.
 
-A case is two files of one name and a line in the README.md of its folder at the top:
+A case is a file: a line '# WHAT IT SHOWS', the text, a line of three dashes, and the answer.
 
-    NAME.script and NAME.out      a script and what it prints: status 0, and nothing on standard error
-    NAME.script and NAME.fault    a text that is no script and the line of its first fault: status 1, and nothing on standard output
-    NAME.lines  and NAME.fault    many of the latter: each line of NAME.lines stands alone as the line that NAME.fault names, behind as
-                                  many lines of HEAD as come before it
+    NAME.case     a script and what it prints: status 0, and nothing on standard error; or a text that is no script and the line of its first
+                  fault: status 1, and nothing on standard output
+    NAME.lines    many of the latter: each line of the text stands alone as the line that the fault names, behind as many lines of HEAD as
+                  come before it
+
+Behind the dashes of a text without a line feed at its end stands ' no line feed'. The README.md of examples/ and that of scripts/ have a
+table of the cases of each folder, which `.ci/run-scripts --list` makes.
 """
 
 import os
@@ -14,14 +17,16 @@ from typing import NamedTuple
 
 FOLDERS = ("examples", "scripts")
 HEAD = (b"vm threads 1 slots 4 objects 8 words 16 locals 16\n", b"thread a\n")
-PAIRS = ({".script", ".out"}, {".script", ".fault"}, {".lines", ".fault"})
+FORM = re.compile(rb"# ([^\s|][^|\n]*)\n((?:[^\n]*\n)*?)---( no line feed)?\n(.*)", re.S)
 FAULT = re.compile(rb"script fault at line ([0-9]+): [a-zA-Z ]+\n")
+# The head of the table of a folder, and a row of it.
+TABLE, ROW = re.compile(r"\| Case of `(\w+)/` \|"), re.compile(r"\| (?:\[`(\w+)`\]\([\w.]+\)|`(\w+)`) \|")
 
 
 class Case(NamedTuple):
     """A text, and what the program answers to it."""
 
-    # The path of its files without an ending, and of one of several lines its number behind a colon.
+    # The path of its file without an ending, and of one of several lines its number behind a colon.
     name: str
     text: bytes
     output: bytes
@@ -48,69 +53,108 @@ def read(path):
         return file.read()
 
 
-def endings():
-    """Returns the path of each case without an ending, with the endings that its files have."""
-    found = {}
-    for top in FOLDERS:
-        for folder, _, files in os.walk(top):
-            for file in files:
-                if (folder, file) != (top, "README.md"):
-                    name, ending = os.path.splitext(f"{folder}/{file}")
-                    found.setdefault(name, set()).add(ending)
-    return dict(sorted(found.items()))
+class Kept(NamedTuple):
+    """A case as its file has it: what it shows, its text, and its answer."""
+
+    shows: str
+    text: bytes
+    answer: bytes
 
 
-def listed():
-    """Returns the path of each case that the README.md of its folder at the top has a line for, once for each line. A line has a link, or stands in a table whose head names the folder."""
-    found = []
-    for top in FOLDERS:
-        folder = None
-        for line in read(f"{top}/README.md").decode().split("\n"):
-            head = re.match(r"\| Case of `(\w+)/` \|", line)
-            folder = head[1] if head else folder if line.startswith("|") else None
-            row = re.match(r"\| \[`(\w+)`\]\(((?:\w+/)*\1)\.(?:script|lines)\) \| \S", line)
-            plain = re.match(r"\| `(\w+)` \| \S", line) if folder else None
-            path = f"{top}/{row[2]}" if row else f"{top}/{folder}/{plain[1]}" if plain else ""
-            if path and any(os.path.isfile(f"{path}.{it}") for it in ("script", "lines")):
-                found.append(path)
-    return found
+def kept_in(path):
+    """Returns the case of a file, or None where that has another form."""
+    found = FORM.fullmatch(read(path))
+    return Kept(found[1].decode(errors="replace"), found[2].removesuffix(b"\n") if found[3] else found[2], found[4]) if found else None
+
+
+def kept():
+    """Returns each file of a case, by its path, with the case."""
+    paths = [(folder, file) for top in FOLDERS for folder, _, files in os.walk(top) for file in files if (folder, file) != (top, "README.md")]
+    return {path: kept_in(path) for path in sorted(f"{folder}/{file}" for folder, file in paths)}
+
+
+def wrong_with(path, it):
+    """Returns what is wrong with a file that is to be a case, or None."""
+    if not path.endswith((".case", ".lines")):
+        return "is no case, NAME.case or NAME.lines"
+    if not it:
+        return "is to be a line '# WHAT IT SHOWS', a text, a line of three dashes, and an answer"
+    fault = FAULT.fullmatch(it.answer)
+    if path.endswith(".lines") and not (fault and 1 <= int(fault[1]) <= len(HEAD) + 1):
+        return f"is to have the fault of a line behind {len(HEAD)} lines at the most: of line 1 to {len(HEAD) + 1}"
+    if path.endswith(".lines") and not it.text.endswith(b"\n"):
+        return "is to have a line feed behind each line"
+    if not fault and not it.answer.startswith(b"["):
+        return "has an answer that is no text of threads, and no line 'script fault at line N: TEXT'"
+    return None
 
 
 def problems():
-    """Finds files that are missing or too many, cases without a line, and lines without a case."""
-    found, lines = endings(), listed()
-    for name, its in found.items():
-        if its not in PAIRS:
-            yield f"{name}: has {', '.join(sorted(its))}; a case is .script and .out, .script and .fault, or .lines and .fault"
-        elif lines.count(name) != 1:
-            yield f"{name}: has {lines.count(name)} lines in {name.split('/')[0]}/README.md, and not one"
-    for name in sorted(set(lines) - set(found)):
-        yield f"{name}: has a line in {name.split('/')[0]}/README.md, and no files"
-    for name in (it for it in found if found[it] in PAIRS[1:]):
-        fault = FAULT.fullmatch(read(f"{name}.fault"))
-        if not fault:
-            yield f"{name}.fault: is to be one line, 'script fault at line N: TEXT'"
-        elif ".lines" in found[name] and not 1 <= int(fault[1]) <= len(HEAD) + 1:
-            yield f"{name}.fault: the fault of a line behind {len(HEAD)} lines at the most is in line 1 to {len(HEAD) + 1}"
-        elif ".lines" in found[name] and not read(f"{name}.lines").endswith(b"\n"):
-            yield f"{name}.lines: each line ends with a line feed"
+    """Finds files that are no cases, names that stand twice, and pages that don't list the cases as they are."""
+    found = kept()
+    for path, it in found.items():
+        wrong = wrong_with(path, it)
+        if wrong:
+            yield f"{path}: {wrong}"
+        elif path.endswith(".lines") and f"{os.path.splitext(path)[0]}.case" in found:
+            yield f"{path}: a case of another form has its name"
+    for top in FOLDERS:
+        if page(top) != read(f"{top}/README.md").decode():
+            yield f"{top}/README.md: does not list the cases as they are: run .ci/run-scripts --list"
 
 
-def of_lines(name, fault):
+def row_of(name, shows):
+    """Returns the row of a case, with a link where the page stands beside the case."""
+    folder, base = os.path.split(name)
+    return f"| {f'[`{base}`]({base}.case)' if folder in FOLDERS else f'`{base}`'} | {shows} |"
+
+
+def page(top):
+    """Returns the page of a folder at the top with the rows of its cases: in their order where the page has it, and new ones behind it, in a table at the end where their folder has none."""
+    left = {os.path.splitext(path)[0]: it.shows for path, it in kept().items() if it and path.startswith(f"{top}/")}
+    lines, folder = [], ""
+
+    def rest(folder):
+        """Returns the rows of a folder that have no place yet."""
+        return [row_of(it, left.pop(it)) for it in [*left] if os.path.dirname(it) == folder]
+
+    for line in read(f"{top}/README.md").decode().split("\n"):
+        head, row = TABLE.match(line), ROW.match(line)
+        if folder and not line.startswith("|"):
+            lines, folder = lines + rest(folder), ""
+        if head:
+            folder = f"{top}/{head[1]}" if head[1] != top else top
+        name = f"{folder}/{row[1] or row[2]}" if folder and row else ""
+        if name in left:
+            lines.append(row_of(name, left.pop(name)))
+        elif not name:
+            lines.append(line)
+    for folder in sorted({os.path.dirname(it) for it in left}):
+        lines += [f"| Case of `{os.path.basename(folder)}/` | Shows |", "|---|---|", *rest(folder), ""]
+    return "\n".join(lines)
+
+
+def of_lines(name, text, fault):
     """Returns the cases of NAME.lines."""
     before = b"".join(HEAD[: int(FAULT.fullmatch(fault)[1]) - 1])
-    lines = read(f"{name}.lines").split(b"\n")[:-1]
+    lines = text.split(b"\n")[:-1]
     return [Case(f"{name}:{number}", before + line + b"\n", b"", fault) for number, line in enumerate(lines, 1)]
 
 
 def cases():
     """Returns all cases, where there are no problems."""
     found = []
-    for name, its in endings().items():
-        if ".out" in its:
-            found.append(Case(name, read(f"{name}.script"), read(f"{name}.out"), b""))
-        elif ".script" in its:
-            found.append(Case(name, read(f"{name}.script"), b"", read(f"{name}.fault")))
+    for path, it in kept().items():
+        name, ending = os.path.splitext(path)
+        if ending == ".lines":
+            found += of_lines(name, it.text, it.answer)
+        elif FAULT.fullmatch(it.answer):
+            found.append(Case(name, it.text, b"", it.answer))
         else:
-            found += of_lines(name, read(f"{name}.fault"))
+            found.append(Case(name, it.text, it.answer, b""))
     return found
+
+
+def script_and_output(name):
+    """Returns the script of a case, and what it prints."""
+    return next((it.text, it.output) for it in cases() if it.name == name)

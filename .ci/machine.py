@@ -1,6 +1,6 @@
 """What a script prints, as docs/SCRIPTS.md says it, for the scripts beside this file. It is written from that page, with the order of
-refusals from docs/REFERENCE.md, and knows nothing of the program: a room has lists and sets where the program has a row of words, and
-its threads take turns.
+refusals from the page of .ci/reference, and knows nothing of the program: a room has lists and sets where the program has a row of words,
+and its threads take turns.
 
 Of a script of several threads it gives one outcome that the page allows: each thread goes on until it waits for what nobody posted yet,
 and then the next one does. Where no race decides, that is the only one."""

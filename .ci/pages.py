@@ -40,9 +40,3 @@ def write(path, text):
     """Writes a text to a file."""
     with open(path, "w", encoding="utf-8") as file:
         file.write(text)
-
-
-def loose_links(text):
-    """Returns the links of a page that lead to no heading and no mark of it."""
-    known = {anchor(it) for it in re.findall(r"^#+ (.*)$", text, re.M)} | set(re.findall(r'<a id="([\w-]+)">', text))
-    return sorted(set(re.findall(r"\]\(#([^)]+)\)", text)) - known)

@@ -1,5 +1,5 @@
-//! What the functions of the library answer one thread after the other, as docs/REFERENCE.md says it: with lists and maps in the place of
-//! a row of words. It is for the fuzz target beside it, and knows nothing of the library's text.
+//! What the functions of the library answer one thread after the other, as the page of .ci/reference says it: with lists and maps in the
+//! place of a row of words. It is for the fuzz target beside it, and knows nothing of the library's text.
 use luthrady::{Answer, Counts, Fault, Sizes, Stood};
 use std::collections::{BTreeMap, BTreeSet, HashMap, HashSet};
 

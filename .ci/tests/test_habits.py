@@ -37,13 +37,13 @@ FILES = {"crates.txt": "jr_word:\njr_env: jr_word\n", "README.md": PAGE, "crates
 WRONG = {
     "crates.txt": "jr_word:\njr_env: jr_word\n", "HANDLES": "Handles allowed: none.\n", "README.md": "a" * 12_289, ".ci/run": "true\n",
     "crates/jr_word/src/lib.rt": "pub fn one() {}\n", "crates/jr_env/src/lib.rt": "#![tactic(auto)]\npub fn two() {}\n",
-    "crates/jr_env/must-fail/it.edit": "", ".ci/edits/jr_none/it.edit": "", "crates/jr_word/README.md": "# A word\n", "crates/jr_word/out/it": "",
+    "crates/jr_env/must-fail/it.edit": "", ".ci/edits/jr_none/src/lib.rt.edit": "", "crates/jr_word/README.md": "# A word\n", "crates/jr_word/out/it": "",
     "crates/jr_rule/src/row.rt": "struct Row {\n    pub table: Table,\n}\n// .peek\nlet found = table.peek(0);\n", "crates/jr_rule/src/over.rt": "use atomic_table::Table;\n",
     "crates/jr_word/specs/One.antt": "abbrev pub same : Type 0\nsame = Unit\n", "crates/jr_word/specs/Two.antt": "-- two\nabbrev pub same : Type 0\nsame = Unit\n",
 }
 FOUND = {
     "basics": ("HANDLES: must be", "docs/DECISIONS.md: missing", "docs/ARCHITECTURE.md: missing", ".ci/run: does not call rt ci", "crates/jr_word/out/it: is not"),
-    "edits": (".ci/edits/jr_none/it.edit: crates.txt has no", "crates/jr_word/src/lib.rt: lacks the line", "crates/jr_word: 1 public", "crates/jr_env: 1 public", "crates/jr_env/must-fail: an edit"),
+    "edits": (".ci/edits/jr_none/src/lib.rt.edit: crates.txt has no", "crates/jr_env/must-fail/it.edit: is to be a line", "crates/jr_word/src/lib.rt: lacks the line", "crates/jr_word: 1 public", "crates/jr_env: 1 public", "crates/jr_env/must-fail: an edit"),
     "table": ("crates/jr_rule/src/row.rt:2: the field", "crates/jr_rule/src/row.rt:5: an operation that takes no seat", "crates/jr_rule/src/over.rt:1: names `Table`"),
     "pages": ("README.md: 12289 bytes", "crates/jr_word/README.md: 1 lines", "crates/jr_word/README.md: has not", "crates/jr_env/README.md: missing"),
 }
@@ -95,19 +95,20 @@ class Habits(unittest.TestCase):
         self.assertEqual(found, ["crates/jr_word/src/lib.rt:3: .ci/rattle.py can't read on from here: macro! {}"])
 
     def test_links_that_lead_nowhere(self):
-        pages = {"README.md": "# One\n\n[a](#one) [b](#two) [c](two.md) [d](https://example.org) `[e](gone)`\n"}
+        pages = {"README.md": "# One\n\n[a](#one) [b](#two) [c](two.md) [d](https://example.org) `[e](gone)` <a id=\"three\"></a> [f](#three)\n"}
         with repository(pages):
             found = [*self.habits.links([*pages])]
         self.assertEqual([it.split(": ")[1] for it in found], ["a link to 'two' of README.md, which has no such heading", "a link to two.md, which is no file here"])
 
-    def test_cases_have_lines_by_a_link_or_in_the_table_of_their_folder(self):
-        page = "# Cases\n\n| Case of `refs/` | Shows |\n|---|---|\n| `one` | it |\n\n| Script | Shows |\n|---|---|\n| `two` | of no folder |\n| [`three`](three.script) | it |\n"
-        files = ("refs/one.script", "refs/one.out", "refs/two.script", "refs/two.out", "three.script", "three.out")
-        with repository({"scripts/README.md": page, "examples/README.md": "", **{f"scripts/{it}": "" for it in files}}):
-            cases = script("cases.py")
-            self.assertEqual(cases.listed(), ["scripts/refs/one", "scripts/three"])
-            self.assertEqual([*cases.problems()], ["scripts/refs/two: has 0 lines in scripts/README.md, and not one"])
+    def test_the_page_of_calls_is_looked_at_where_it_was_made_and_not_linked_to(self):
+        pages = {"README.md": "# One\n\n[a](docs/REFERENCE.md) `docs/REFERENCE.md`\n", "docs/REFERENCE.md": "# Calls\n\n[a](#calls) `gone_now`\n"}
+        with repository(pages):
+            paths = self.habits.files()
+            self.assertEqual(sorted(paths), sorted(pages))
+            self.assertEqual([*self.habits.links(paths)], ["README.md:3: a link to docs/REFERENCE.md, which is no file here"])
+            self.assertEqual([*self.habits.names(paths)], ["docs/REFERENCE.md:3: `gone_now` is the name of nothing here"])
 
+    def test_what_is_wrong_in_many_places(self):
         with repository(WRONG):
             for part, wanted in FOUND.items():
                 found = [*getattr(self.habits, part)([*WRONG])]
@@ -124,7 +125,7 @@ class Habits(unittest.TestCase):
             self.assertEqual(len([*self.habits.unreached(found, definitions)]), 2)
 
     def test_folders_with_too_many_files(self):
-        many = [f"{folder}/{number}" for folder in ("proofs", ".ci/edits/low") for number in range(41)]
+        many = [f"{folder}/{number}" for folder, last in (("proofs", 41), ("specs", 40)) for number in range(last)]
         self.assertEqual([*self.habits.folders(many)], ["proofs: 41 files (40 at the most)"])
 
     def test_labels_of_papers(self):

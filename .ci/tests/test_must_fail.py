@@ -12,6 +12,7 @@ from unittest import mock
 from shared import repository, script
 
 import rattle
+from edits import edits_of, wrong_with
 
 # More checks than any of the cases needs.
 MOST_CHECKS = 12
@@ -24,10 +25,24 @@ REFUSED, PROVED, CALLS = "`search` did not prove the clause", "no holes", "no pr
 
 
 def edit(function, number):
-    """Returns the path and the text of an edit, named after the function and the number that it puts there."""
+    """Returns the file of an edit, and the text of the edit, named after the function and the number that it puts there."""
     old = f"    {10 + FUNCTIONS.index(function)}" if function in FUNCTIONS else "bits = 16"
     file, new = ("src/lib.rt", f"    {number}") if function in FUNCTIONS else ("specs/Word.antt", f"bits = {number}")
-    return f".ci/edits/low/{function}_{number}.edit", f"file: {file}\nold: {old}\nnew: {new}\n"
+    return f".ci/edits/low/{file}.edit", f"edit: {function}_{number}\nold: {old}\nnew: {new}\n"
+
+
+def with_edits(*edits):
+    """Returns the files of the repository with those of these edits, each of which has its edits one behind the other."""
+    found = dict(FILES)
+    for path, text in edits:
+        found[path] = f"{found[path]}\n{text}" if path in found else text
+    return found
+
+
+def named(function):
+    """Returns an edit of a definition that names the function whose proof it makes fail."""
+    path, text = edit("Word", 3)
+    return path, text.replace("\n", f"\nproof: {function}\n", 1)
 
 
 class StandIn:
@@ -39,7 +54,7 @@ class StandIn:
 
     def said_of(self, edit):
         """Returns what is said of an edit: of several answers the next one."""
-        said = self.says.get(edit.label.partition("/")[2].removesuffix(".edit"), REFUSED)
+        said = self.says.get(edit.label.partition("/")[2], REFUSED)
         return said if not isinstance(said, list) else said.pop(0) if len(said) > 1 else said[0]
 
     def checked(self, known, listed, edits, kept, unknown=frozenset()):
@@ -71,12 +86,12 @@ def trials(module, stand_in, is_anew=True, is_proved=True):
 def tried(edits, more=(), is_proved=True, **prover):
     """Returns what is told of the edits of a crate, and the stand-in."""
     stand_in, printed = StandIn(**prover), io.StringIO()
-    with repository({**FILES, **dict(edit(*it) for it in edits), **dict(more)}), contextlib.redirect_stdout(printed):
+    with repository(with_edits(*(edit(*it) for it in edits), *more)), contextlib.redirect_stdout(printed):
         module = script("must-fail")
-        for crate, paths in module.chosen(["low"], rattle.libraries()).items():
-            trials(module, stand_in, is_proved=is_proved).try_crate(crate, paths)
-    told = re.findall(r"^low/(\w+)\.edit: (.*)", printed.getvalue(), re.M)
-    wanted = sorted([f"{function}_{number}" for function, number in edits] + [os.path.basename(it)[:-5] for it, _ in more])
+        for crate, its in module.chosen(["low"], rattle.libraries()).items():
+            trials(module, stand_in, is_proved=is_proved).try_crate(crate, [*map(module.Edit, its)])
+    told = re.findall(r"^low/(\w+): (.*)", printed.getvalue(), re.M)
+    wanted = sorted(re.findall(r"^edit: (\w+)$", "".join(text for _, text in [*(edit(*it) for it in edits), *more]), re.M))
     assert sorted(name for name, _ in told) == wanted, f"not told once each: {told}"
     return dict(told), stand_in
 
@@ -131,7 +146,7 @@ class Checks(unittest.TestCase):
         self.assertEqual(prover.sizes, [3, 1, 2, 1, 1])
 
     def test_an_edit_of_two_functions_is_a_check_of_the_whole_crate(self):
-        told, prover = tried([("Word", 3)], [(".ci/edits/low/import.edit", "file: src/lib.rt\nold:     10\nnew:     4\nold:     11\nnew:     5\n")])
+        told, prover = tried([("Word", 3)], [(".ci/edits/low/src/lib.rt.edit", "edit: both\nold:     10\nnew:     4\nold:     11\nnew:     5\n")])
         self.refused(told)
         self.assertEqual(prover.sizes, [1, 1])
 
@@ -146,12 +161,12 @@ class Checks(unittest.TestCase):
         self.assertIn(set(), prover.left_open)
 
     def test_an_edit_of_a_definition_is_a_check_of_the_proof_that_it_names(self):
-        told, prover = tried([], [(".ci/edits/low/named.edit", f"proof: two\n{edit('Word', 3)[1]}")])
+        told, prover = tried([], [named("two")])
         self.refused(told)
         self.assertEqual((prover.sizes, prover.left_open), ([1], [{"low::one", "low::three"}]))
 
     def test_a_proof_that_no_function_has_is_a_check_of_the_whole_crate(self):
-        told, prover = tried([], [(".ci/edits/low/named.edit", f"proof: four\n{edit('Word', 3)[1]}")], unknown=("four",))
+        told, prover = tried([], [named("four")], unknown=("four",))
         self.refused(told)
         self.assertEqual(prover.left_open[-1], set())
 
@@ -159,13 +174,45 @@ class Checks(unittest.TestCase):
         told, prover = tried([("one", 1)], is_proved=False)
         self.assertEqual((told, prover.sizes), ({"one_1": "NOT REFUSED: the crate itself is not proved"}, []))
 
-    def test_an_edit_that_cannot_be_applied_is_told(self):
-        texts = {"none": "file: src/lib.rt\n", "no_file": "file: src/two.rt\nold: a\nnew: b\n", "twice": "file: src/lib.rt\nold: u8\nnew: u16\n"}
-        texts["over"] = "file: src/lib.rt\nold: one()\nnew: two()\nold: fn one\nnew: fn two\n"
-        told, _ = tried([("one", 1)], [(f".ci/edits/low/{name}.edit", text) for name, text in texts.items()])
-        self.assertEqual(told.pop("one_1"), "refused")
-        for name, why in (("none", "it has no 'old:'"), ("no_file", "there is no file"), ("twice", "stands 3 times"), ("over", "overlap")):
-            self.assertIn(why, told[name])
+
+class Written(unittest.TestCase):
+    """Edits as they are written."""
+
+    def wrong(self, texts, more=()):
+        """Returns what is wrong with the edits of files of the crate, without where it stands."""
+        with repository({**FILES, **{f".ci/edits/low/{path}.edit": text for path, text in texts.items()}, **dict(more)}):
+            return [it.partition(": ")[2] for it in wrong_with(edits_of("low"))]
+
+    def test_what_an_edit_says(self):
+        text = "edit: one\nproof: two\nold:   10\nnew:\nfile: specs/Word.antt\nold: 16\nnew:  8\n\nedit: two\nold: a\nnew: b: c\n"
+        with repository({**FILES, ".ci/edits/low/src/lib.rt.edit": text, "crates/low/must-fail/three.edit": "file: src/lib.rt\nold: a\nnew: b\n"}):
+            first, second, third = edits_of("low")
+            self.assertEqual(edits_of("low", with_rt=False), [first, second])
+        self.assertEqual(first, ("low", ".ci/edits/low/src/lib.rt.edit:1", "one", "two", [("src/lib.rt", "  10", ""), ("specs/Word.antt", "16", " 8")]))
+        self.assertEqual(second, ("low", ".ci/edits/low/src/lib.rt.edit:9", "two", "", [("src/lib.rt", "a", "b: c")]))
+        self.assertEqual(third, ("low", "crates/low/must-fail/three.edit", "three", "", [("src/lib.rt", "a", "b")]))
+
+    def test_a_name_that_stands_twice_is_told(self):
+        path, text = edit("one", 1)
+        told = f"an edit of this name stands in {path}:1 too: one_1"
+        self.assertEqual(self.wrong({"src/lib.rt": f"{text}\n{text}"}), [told])
+        self.assertEqual(self.wrong({"src/lib.rt": text, "specs/Word.antt": edit("Word", 3)[1].replace("Word_3", "one_1")})[0][:45], told[:45])
+        self.assertEqual(self.wrong({"src/lib.rt": text}, {"crates/low/must-fail/one_1.edit": "file: src/lib.rt\nold:     10\nnew:     1\n"}), [told])
+
+    def test_an_old_text_that_does_not_stand_once_is_told(self):
+        for old, told in (("u16", "0 times"), ("u8", "3 times")):
+            self.assertIn(told, "".join(self.wrong({"src/lib.rt": f"edit: it\nold: {old}\nnew: b\n"})))
+        self.assertIn("0 times in crates/low/src/two.rt", "".join(self.wrong({"src/two.rt": "edit: it\nold: a\nnew: b\n"})))
+        self.assertEqual(self.wrong({"src/lib.rt": "edit: it\nold: one()\nnew: two()\nold: fn one\nnew: fn two\n"}), ["it: two of its 'old:' texts overlap in crates/low/src/lib.rt"])
+
+    def test_a_part_that_is_missing_or_too_much_is_told(self):
+        whole = "edit: it\nproof: one\nold: 10\nnew: 1\n"
+        self.assertEqual(self.wrong({"src/lib.rt": whole}), [])
+        lines = whole.splitlines(keepends=True)
+        texts = ["".join(lines[:at] + lines[at + 1 :]) for at in (0, 2, 3)] + ["", whole + "old: 11\n", whole + "what: 11\n", "edit: it\n" + whole, whole.replace("old: ", "old:"), whole.replace("old: 10", "old: "), whole + "new:old: 11\nnew: 2\n"]
+        for text in texts:
+            with self.subTest(text):
+                self.assertEqual([it[:34] for it in self.wrong({"src/lib.rt": text})], ["is to be a line 'edit: NAME', one "])
 
 
 class Verdicts(unittest.TestCase):
@@ -173,9 +220,9 @@ class Verdicts(unittest.TestCase):
 
     def verdict(self, said, status=1, function="one"):
         """Returns why an edit of a function in the first three lines is not refused, or None."""
-        with repository({**FILES, **dict([edit(function, 1)])}):
+        with repository(with_edits(edit(function, 1))):
             module, known = script("must-fail"), rattle.Functions("low")
-            it = module.Edit(edit(function, 1)[0], "low")
+            it = module.Edit(*edits_of("low"))
             it.find_function(known)
             it.place = it.home
             return module.why_not_refused(it, status, said)
@@ -200,10 +247,9 @@ class Verdicts(unittest.TestCase):
         self.assertEqual(self.verdict("holes=0\n", 0, "Word"), "all is still proved")
 
     def test_a_lemma_or_the_named_proof_counts_for_an_edit_that_names_one(self):
-        path, text = edit("Word", 1)
-        with repository({**FILES, path: f"proof: two\n{text}"}):
+        with repository(with_edits(named("two"))):
             module = script("must-fail")
-            verdict = lambda said: module.why_not_refused(module.Edit(path, "low"), 1, said)
+            verdict = lambda said: module.why_not_refused(module.Edit(*edits_of("low")), 1, said)
             self.assertIsNone(verdict("proofs/Lemmas.antt:3:4: error: `shows`: it has another type\nonly=1\n"))
             self.assertIsNone(verdict(f"fn low::two: {REFUSED}\nonly=1\n"))
             self.assertEqual(verdict(f"fn low::one: {REFUSED}\nonly=1\n"), "all is still proved")
@@ -213,25 +259,29 @@ class Kept(unittest.TestCase):
     """What a run leaves to later ones, and what a landing owes."""
 
     def test_a_refused_edit_is_found_until_something_changes(self):
-        with repository({**FILES, **dict([edit("one", 1)])}), contextlib.redirect_stdout(io.StringIO()):
+        with repository(with_edits(edit("one", 1))), contextlib.redirect_stdout(io.StringIO()):
             module, prover = script("must-fail"), StandIn()
-            paths = [edit("one", 1)[0]]
+            tried = lambda is_anew=False: trials(module, prover, is_anew=is_anew).try_crate("low", [*map(module.Edit, edits_of("low"))][:1])
             for checks in (1, 1):
-                trials(module, prover, is_anew=False).try_crate("low", paths)
+                tried()
                 self.assertEqual(len(prover.sizes), checks)
-            trials(module, prover, is_anew=True).try_crate("low", paths)
+            tried(is_anew=True)
+            with open(edit("one", 1)[0], "a", encoding="utf-8") as file:
+                file.write("\n" + edit("one", 2)[1])
+            tried()
+            self.assertEqual(len(prover.sizes), 2)
             with open("crates/low/specs/Word.antt", "a", encoding="utf-8") as file:
                 file.write("-- a word more\n")
-            trials(module, prover, is_anew=False).try_crate("low", paths)
+            tried()
             self.assertEqual(len(prover.sizes), 3)
 
     def test_copies_are_tried_with_nothing_changed(self):
         edits = [edit("one", 1), edit("one", 2), edit("two", 3)]
         for says, sums in ((PROVED, (1, 0)), (REFUSED, (0, 1))):
-            with repository({**FILES, **dict(edits)}), contextlib.redirect_stdout(io.StringIO()):
+            with repository(with_edits(*edits)), contextlib.redirect_stdout(io.StringIO()):
                 module = script("must-fail")
                 its = trials(module, StandIn(says={"one_2": says}))
-                its.try_copies("low", [path for path, _ in edits])
+                its.try_copies("low", [*map(module.Edit, edits_of("low"))])
                 self.assertEqual((its.refused, its.failed), sums)
 
     def test_a_landing_owes_what_it_touches_and_a_turn(self):
@@ -284,7 +334,7 @@ class Kept(unittest.TestCase):
             git("add", "-A")
             git("commit", "-qm", path)
 
-        with repository({**FILES, "crates/high/src/lib.rt": "", **dict([edit("one", 1)])}):
+        with repository({**with_edits(edit("one", 1)), "crates/high/src/lib.rt": ""}):
             module = script("must-fail")
             self.assertIsNone(module.touched())
             git("init", "-q")
@@ -292,7 +342,7 @@ class Kept(unittest.TestCase):
             write(".ci/landing", "6 kit\n")
             self.assertEqual(module.touched(), set())
             write("crates/high/src/lib.rt", "fn four() {}\n")
-            write(".ci/edits/low/one_2.edit", "")
+            write(".ci/edits/low/src/lib.rt.edit", "")
             write("README.md", "")
             self.assertEqual(module.touched(), {"high", "low"})
             write(".ci/landing", "7 other\n")
@@ -305,7 +355,7 @@ class Words(unittest.TestCase):
     def ended(self, *words, owed=("low",)):
         """Returns the status of the script, called with these words, and what it prints."""
         printed = io.StringIO()
-        with repository({**FILES, **dict([edit("one", 1), edit("two", 2)])}) as room, contextlib.redirect_stdout(printed):
+        with repository(with_edits(edit("one", 1), edit("two", 2))) as room, contextlib.redirect_stdout(printed):
             module, prover = script("must-fail"), StandIn(says={"two_2": PROVED})
             trials(module, prover)
             module.__file__, module.owed = f"{room}/.ci/must-fail", lambda crates, listed: [it for it in crates if it in owed]
@@ -322,8 +372,13 @@ class Words(unittest.TestCase):
         self.assertEqual((status, "2 edits of crates that the landing does not touch" in said), (1, True))
 
     def test_one_edit_with_what_the_prover_says(self):
-        status, said = self.ended("low", "one_1.edit")
+        status, said = self.ended("low", "one_1")
         self.assertEqual((status, f"fn low::one: {REFUSED}" in said, "1 edits refused, 0 not" in said), (0, True, True))
+
+    def test_edits_by_their_names(self):
+        status, said = self.ended("low", "one_1", "two_2")
+        self.assertEqual((status, REFUSED in said, "1 edits refused, 1 not" in said), (1, False, True))
+        self.assertEqual(self.ended("low", "one_1", "two_3"), (1, "low has no edit two_3\n"))
 
     def test_copies_and_words_that_there_are_not(self):
         self.assertIn("0 functions proved in a copy, 0 not", self.ended("--copies", "--all")[1])
@@ -335,7 +390,7 @@ class Copies(unittest.TestCase):
 
     def test_the_prover_is_handed_the_edits_and_open_proofs(self):
         edits = [edit("one", 1), edit("one", 2), edit("two", 3)]
-        with repository({**FILES, **dict(edits), "kept/word": "kept", "crates/low/proofs/one/Answers.antt": "use Rattle.low.proofs.one.Goal\n"}):
+        with repository({**with_edits(*edits), "kept/word": "kept", "crates/low/proofs/one/Answers.antt": "use Rattle.low.proofs.one.Goal\n"}):
             module, known, handed = script("must-fail"), rattle.Functions("low"), {}
 
             def timed(room, *words):
@@ -344,7 +399,7 @@ class Copies(unittest.TestCase):
                 handed.update({os.path.relpath(it, room): rattle.text_of(it) for it in paths})
                 return 0, " ".join(words), 0.0
 
-            module.timed, its = timed, [module.Edit(path, "low") for path, _ in edits]
+            module.timed, its = timed, [*map(module.Edit, edits_of("low"))]
             for it in its:
                 it.find_function(known)
             ((batch,), (_, said, _)) = module.batches(its), module.checked(known, rattle.libraries(), its, "kept")
@@ -366,10 +421,10 @@ class Copies(unittest.TestCase):
 
     def test_a_copy_of_a_method_stands_in_an_impl_with_its_imports(self):
         text = "use core::one;\nimpl It {\n    ghost use Rattle.low.specs.It.{it};\n\n    fn one() { 1 }\n}\n"
-        pair = "file: src/lib.rt\nold: { 1 }\nnew: { 2 }\nold: use core::one\nnew: use core::two\n"
-        with repository({**FILES, "crates/low/src/lib.rt": text, ".ci/edits/low/it.edit": pair}):
+        pair = "edit: it\nold: { 1 }\nnew: { 2 }\nold: use core::one\nnew: use core::two\n"
+        with repository({**FILES, "crates/low/src/lib.rt": text, ".ci/edits/low/src/lib.rt.edit": pair}):
             module, known = script("must-fail"), rattle.Functions("low")
-            it = module.Edit(".ci/edits/low/it.edit", "low")
+            it = module.Edit(*edits_of("low"))
             it.find_function(known)
             it.copy = 1
             self.assertEqual((it.function, it.source.copied("crates/low", it)), ("low::It::one", ("src/lib.rt", 8, 11)))
@@ -378,7 +433,7 @@ class Copies(unittest.TestCase):
     def test_what_can_be_copied(self):
         bodies = {"fn one() { 1 }": True, "fn one() { one() }": False, "impl It {\n fn one() { 1 }\n}": True, "impl Go for It {\n fn one() { 1 }\n}": False, "impl It {\n fn one() { self.one() }\n}": False}
         for text, can_copy in bodies.items():
-            with self.subTest(text), repository({**FILES, "crates/low/src/lib.rt": f"{text}\n", ".ci/edits/low/it.edit": "file: src/lib.rt\nold: { 1 }\nnew: { 2 }\n"}):
+            with self.subTest(text), repository({**FILES, "crates/low/src/lib.rt": f"{text}\n"}):
                 module = script("must-fail")
                 (name, (file, way)), = rattle.Functions("low").places.items()
                 self.assertEqual(module.Source(file, way, name).can_copy(), can_copy)

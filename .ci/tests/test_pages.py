@@ -7,7 +7,7 @@ from unittest import mock
 from shared import CI, repository, script
 
 from layers import layers
-from pages import anchor, loose_links
+from pages import anchor
 from rattle import libraries
 from reading import Repository, Specs
 
@@ -257,7 +257,6 @@ class Pages(unittest.TestCase):
 
     def test_links(self):
         self.assertEqual(anchor("By `law`, and call"), "by-law-and-call")
-        self.assertEqual(loose_links("# One\n[a](#one) [b](#two) <a id=\"three\"></a> [c](#three)"), ["two"])
 
 
 class Layers(unittest.TestCase):
