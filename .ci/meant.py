@@ -1,12 +1,11 @@
 """What the definitions say of texts, run by `.ci/antt.py`, for the scripts beside this file: which fault a text has, and what a script may
-print: of one thread by `Meaning.antt`, of several by `Together.antt` and `.ci/schedules.py`, by `OneRow.antt` and `.ci/rows.py`, and by
+print: of one thread by `Meaning.antt`, of several by `Together.antt` and `.ci/schedules.py`, by `OneRow.antt` and `.ci/schedules.py`, and by
 `Apart.antt`."""
 
 from functools import cached_property
 
 from antt import Definitions
-from rows import in_turns, rows_of
-from schedules import DOING, TEXT, TOGETHER, TURNS, Schedules
+from schedules import DOING, TEXT, TOGETHER, TURNS, Schedules, in_turns, rows_of
 
 WORLD, SWEEPS, MEANING, ONE_ROW = "jr_world.specs.World", "jr_scripts.specs.Sweeps", "jr_scripts.specs.Meaning", "jr_scripts.specs.OneRow"
 APART = "jr_scripts.specs.Apart"

@@ -1,4 +1,5 @@
-"""Libraries that the built program is started with before the C library, for the scripts beside this file that refuse it something."""
+"""Libraries that the built program is started with before the C library, for the scripts beside this file that refuse it something, or interrupt
+its threads."""
 
 import os
 import struct
@@ -62,3 +63,18 @@ def are_built(paths):
     if lacking:
         print(f"there is no {lacking[0]}: rt ci builds it")
     return not lacking
+
+
+class Straying:
+    """A library that interrupts each thread that the program starts at random times, between any two instructions, and lets others run then. So
+    threads meet within their calls, on however few processors."""
+
+    said = ", interrupted"
+
+    def __init__(self, folder):
+        """Compiles the library in a folder."""
+        self.path = compiled(folder, "interrupting")
+
+    def variables(self, number):
+        """Returns what the environment has to say so that a program's threads are interrupted, at times drawn from a number."""
+        return {"LD_PRELOAD": self.path, "STRAYS": str(number)}

@@ -1,5 +1,5 @@
 """What a script of several threads may print, for the scripts beside this file: by the programs of steps of `Together.antt`, which
-`.ci/antt.py` runs, over all their schedules or in one order. A state is what is shared and each thread's program; equal ones are one.
+`.ci/antt.py` runs, over all their schedules or in one order, and rows of its commands. A state is what is shared and each thread's program; equal ones are one.
 
 No call is made again so often that it is E20. A `wait` for a word that a line posts is not in vain while any thread can go on. A step that
 no other thread can see is taken at once, before all others: it touches what its thread alone has; looks at what never changes; posts; or
@@ -10,6 +10,9 @@ TOGETHER, DOING, SCHEDULES = "jr_scripts.specs.Together", "jr_world.specs.Doing"
 TEXT = "jr_scripts.specs.Text"
 COLLECTING, MAKING, LOCAL, WITHIN = ("OfRoom", "WithTries"), ("MakeSized", "MakeFilled"), ("Local",), ("Within",)
 NOTHING_NOTED = {"standing": 0, "made": 0, "used": 0}
+# So many threads are tried as the first; and by chance the row goes on in any thread behind one command of so many.
+MOST_FIRST, ONE_OF = 3, 5
+POST, WAIT = ("OnName", ("Post",)), ("Make", ("Wait",))
 # Who may see a step: the least of them comes first.
 NOBODY, COLLECTIONS, ALL = range(3)
 SEEN_BY = {"is_foreign_to": NOBODY, "finds_memory": NOBODY, "go_out": COLLECTIONS}
@@ -285,3 +288,54 @@ class Schedules:
                 thread, idle = (thread + 1) % len(state.programs), idle + 1
         return self.text(script, state)
 
+
+def the_same(going, _):
+    """Chooses the thread of the last command, or else the next one that can go on."""
+    return going[0]
+
+
+def speaking(going, left):
+    """Chooses a thread that posts or waits, where one does."""
+    return next((it for it in going if left[it][0][:2] in (POST, WAIT)), going[0])
+
+
+def row_from(thread, commands, chosen):
+    """Returns a row of the commands of each thread up to where all wait, by what chooses among the threads that can go on."""
+    left, posted, row = [list(it) for it in commands], set(), []
+    while True:
+        cycle = [*range(thread, len(left)), *range(thread)]
+        going = [it for it in cycle if left[it] and (left[it][0][:2] != WAIT or left[it][0][2] in posted)]
+        if not going:
+            return tuple(row)
+        thread = chosen(going, left)
+        command = left[thread].pop(0)
+        posted.update([command[2]] if command[:2] == POST else [])
+        row.append((thread, command))
+
+
+def commands_of(script):
+    """Returns the commands of each thread of a script."""
+    return [it["commands"] for it in script["threads"]]
+
+
+def rows_of(script):
+    """Returns some rows of all commands of a script: none where a thread waits in vain."""
+    commands = commands_of(script)
+    ways = [(first, chosen) for chosen in (speaking, the_same) for first in range(min(len(commands), MOST_FIRST))]
+    rows = dict.fromkeys(row_from(first, commands, chosen) for first, chosen in ways)
+    return [it for it in rows if len(it) == sum(map(len, commands))]
+
+
+def in_turns(script, draw):
+    """Returns a script with a row by chance in which its commands must stand: a thread that goes on behind another waits for what that posts,
+    and at the end all hear of the last."""
+    row = row_from(0, commands_of(script), lambda going, _: draw.choice(going) if draw.randrange(ONE_OF) == 0 else going[0])
+    parts, before = [[] for _ in script["threads"]], row[0][0]
+    for number, (thread, *command) in enumerate([*row, *((it,) for it, _ in enumerate(parts))]):
+        if thread != before:
+            name = tuple(b"turn%d" % number)
+            parts[before].append((*POST, name))
+            parts[thread].append((*WAIT, name))
+        parts[thread] += command
+        before = thread
+    return {**script, "threads": tuple({**it, "commands": tuple(part)} for it, part in zip(script["threads"], parts))}
