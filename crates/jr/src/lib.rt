@@ -11,19 +11,21 @@ pub use jr_env::{
     with_local_frame, with_local_frame_returning, with_patience,
 };
 pub use jr_model::{Mode, Summary};
-pub use jr_owned::{
-    Attached, AttachedOver, EnvPool, OwnedCells, OwnedCode, OwnedEnv, OwnedSteps, OwnedStepsOf,
-    OwnedThreads, PoolOver, PoolRoom, RunsCode, close_owned, end_owner, last_owner, of_any_site,
-    of_site, open_envs, open_owned, owned_steps, spawn_owned,
-};
 pub use jr_rule::{
     AllLeft, Left, Note, NoteOf, Pass, PinnedNote, PinnedNoteOf, PlainSteps, Role, Room, RoomSteps,
     Site, SiteSteps, StepsIn, ThreadNumber,
 };
 pub use jr_steps::Steps;
-pub use jr_threads::{HandedOn, NativeCode, NoMessage, QueueEnd, Ran, run_native};
 pub use jr_weak::{Collected, Marker};
 pub use jr_word::{
     Config, Elem, Fault, FaultReport, Handle, HandleParts, HeaderParts, Kind, LAST_SERIAL,
     LocalParts, RefKind, SlotParts,
 };
+
+// Native threads in a room.
+pub use jr_owned::{
+    Attached, AttachedOver, EnvPool, OwnedCells, OwnedCode, OwnedEnv, OwnedSteps, OwnedStepsOf,
+    OwnedThreads, PoolOver, PoolRoom, RunsCode, close_owned, end_owner, last_owner, of_any_site,
+    of_site, open_envs, open_owned, owned_steps, spawn_owned,
+};
+pub use jr_threads::{HandedOn, NativeCode, NoMessage, QueueEnd, Ran, run_native};
