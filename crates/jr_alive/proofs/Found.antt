@@ -28,7 +28,7 @@ pub none_from : {A : Type 0} (o : Option A) (b : Bool) → b ≡ is_some o → b
 none_from None b is not = refl
 none_from (Some x) b is not = absurd (let z = sym is ∙ not in cc)
 
-unless_none : {A : Type 0} (b : Bool) (v : Option A) → IsSome (if b then None else v) → (b ≡ false) × IsSome v
+pub unless_none : {A : Type 0} (b : Bool) (v : Option A) → IsSome (if b then None else v) → (b ≡ false) × IsSome v
 unless_none true v t = absurd cc
 unless_none false v t = (refl, t)
 

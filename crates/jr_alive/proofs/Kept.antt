@@ -11,7 +11,7 @@ use Rattle.jr_alive.specs.Graph.{IsAlive, Lead, IsEdge}
 use Rattle.jr_alive.specs.Searching.{ComesFrom, IsSearched, IsEntered, entry_at, goes_with}
 use Rattle.jr_alive.proofs.Found.{some_is}
 
-lead_snoc : (d : Dump) (x : ℕ) (edges : List Edge) (a b : ℕ) (s : Edge) → Lead d x a edges b
+pub lead_snoc : (d : Dump) (x : ℕ) (edges : List Edge) (a b : ℕ) (s : Edge) → Lead d x a edges b
     → IsEdge d x b s.index s.object → Lead d x a (edges ++ s ∷ []) s.object
 lead_snoc d x [] a b s same n = (subst (λ m. IsEdge d x m s.index s.object) (sym same) n, refl)
 lead_snoc d x (t ∷ edges) a b s lead n = (lead.0, lead_snoc d x edges t.object b s lead.1 n)

@@ -7,3 +7,4 @@ pub mod Rooted
 pub mod Elements
 pub mod Present
 pub mod Falling
+pub mod Told

@@ -4,6 +4,7 @@
 mod drawing;
 mod dump;
 mod groups;
+mod laws;
 mod paths;
 mod retaining;
 mod search;
@@ -11,5 +12,6 @@ mod search;
 pub use drawing::NotDrawn;
 pub use dump::Dump;
 pub use groups::Group;
+pub use laws::dumps_tell_what_is_reached;
 pub use paths::{Edge, Path};
 pub use search::Root;
