@@ -5,7 +5,7 @@ import unittest
 from shared import script
 
 PROVE = script("prove")
-PAGE = "| Crate | functions | with tests | edits | proof | tests | must-fail | edits |\n| `low` | 2 |  | 3 | 60 |  | 9 | 9 |\n| `high` | 4 | 7 |  | 100 | 20 |  |  |\n"
+PAGE = "| Crate | functions | with tests | edits | proof | tests | must-fail | edits |\n| `low` | 2 |  | 3 | 360 |  | 9 | 9 |\n| `high` | 4 | 7 |  | 600 | 120 |  |  |\n"
 
 
 class Followed(unittest.TestCase):
@@ -20,7 +20,7 @@ class Followed(unittest.TestCase):
         return [it for it in map(self.follower.taken, lines) if it is not None]
 
     def test_seconds_are_those_of_the_page(self):
-        self.assertEqual(PROVE.seconds_told(PAGE), {("low", "proof"): 60, ("high", "proof"): 100, ("high", "tests"): 20})
+        self.assertEqual(PROVE.seconds_told(PAGE), {("low", "proof"): 360, ("high", "proof"): 600, ("high", "tests"): 120})
 
     def test_a_proved_crate_is_one_line(self):
         self.assertEqual(self.told("== low", "fn low::one: proved", "logic=proved", "rt: low proved"), ["1:00 1 of 2, some 3 minutes left: low proved"])
@@ -33,8 +33,8 @@ class Followed(unittest.TestCase):
         )
 
     def test_what_is_kept_took_no_time(self):
-        self.assertEqual(self.told("rt: low is kept: an earlier run"), ["1:00 1 of 2: low is kept"])
-        self.assertEqual(self.told("== high: its tests", "rt: high: its tests are proved"), ["2:00 1 of 2, some 11 minutes left: high: its tests proved"])
+        self.assertEqual(self.told("rt: low is kept: an earlier run"), ["1:00 1 of 2, some 7 minutes left: low is kept"])
+        self.assertEqual(self.told("== high: its tests", "rt: high: its tests are proved"), ["2:00 1 of 2, some 6 minutes left: high: its tests proved"])
 
     def test_the_last_line_comes_through(self):
         self.assertEqual(self.told("2 passed, 0 failed"), ["2 passed, 0 failed"])
