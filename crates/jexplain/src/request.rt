@@ -77,7 +77,7 @@ fn command<'a>(alloc: Global) -> Result<Command<'a>, AllocError> {
         "Reads the script on standard input, and tells its first fault",
     )?;
     Command::new(alloc, "jexplain")
-        .version("unreleased")
+        .version("0.1.0")
         .about("Runs scripts of JNI calls, and explains faults, refusals and words")
         .bin_name("jexplain")?
         .no_binary_name(true)
