@@ -167,8 +167,10 @@ class Made(unittest.TestCase):
 
     def test_a_crate_of_another_version_is_told(self):
         first, second = self.header.CARGO
-        with repository({**FILES, first: '[package]\nversion = "3.4.5"\n', second: '[package]\nversion = "3.4.6"\n'}):
-            self.assertEqual([*self.header.other_versions()], [f"{second} has another version than {self.header.VERSION}"])
+        for other in (second, self.header.PROGRAM):
+            files = {first: '[package]\nversion = "3.4.5"\n', second: '[package]\nversion = "3.4.5"\n', self.header.PROGRAM: '.version("3.4.5")\n'}
+            with repository({**FILES, **files, other: files[other].replace("5", "6")}):
+                self.assertEqual([*self.header.other_versions()], [f"{other} has another version than {self.header.VERSION}"])
 
     def test_what_has_no_form_is_told(self):
         for old, new in (("array: u64", "array: Option<u64>"), ("`NativeInterface::look`", "`NativeInterface::gone`")):
