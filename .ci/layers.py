@@ -26,6 +26,7 @@ LAYERS = (
     ("the room", "jr_rule", (("jr_rule", "keeps the waist's contract, by RoomSteps, PlainSteps:|the words are the image of the history's state"),)),
     ("the calls", "jr", (
         ("jr", "all names of the calls"),
+        ("jr_alive", "a dump tells why an object is alive"),
         ("jr_owned", "a room is closed by the last who owns it"),
         ("jr_threads", "a room is closed with a pass of each thread"),
         ("jr_env", "each call has the events, the answer and the|refusals of the machine's call"),
@@ -38,6 +39,7 @@ LAYERS = (
     )),
     ("programs|and tests", "", (
         ("jrefs", "bytes in, bytes out"),
+        ("jexplain", "the same scripts, told to people"),
         ("luthrady", "the calls, for Rust and C"),
         ("small_vm  first_room", "what an embedder's program has to have, and its|first hour"),
     )),

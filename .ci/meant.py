@@ -1,6 +1,5 @@
 """What the definitions say of texts, run by `.ci/antt.py`, for the scripts beside this file: which fault a text has, and what a script may
-print: of one thread by `Meaning.antt`, of several by `Together.antt` and `.ci/schedules.py`, by `OneRow.antt` and `.ci/schedules.py`, and by
-`Apart.antt`."""
+print: of one thread by `Meaning.antt`, of several by `Together.antt`, `OneRow.antt` and `.ci/schedules.py`, and by `Apart.antt`."""
 
 from functools import cached_property
 

@@ -42,7 +42,7 @@ WRONG = {
     "crates/jr_word/specs/One.antt": "abbrev pub same : Type 0\nsame = Unit\n", "crates/jr_word/specs/Two.antt": "-- two\nabbrev pub same : Type 0\nsame = Unit\n",
 }
 FOUND = {
-    "basics": ("HANDLES: must be", "docs/DECISIONS.md: missing", "docs/ARCHITECTURE.md: missing", ".ci/run: does not call rt ci", "crates/jr_word/out/it: is not"),
+    "basics": ("HANDLES: must be", "docs/DECISIONS.md: missing", "docs/ARCHITECTURE.md: missing", ".ci/run: does not call .ci/prove", "crates/jr_word/out/it: is not"),
     "edits": (".ci/edits/jr_none/src/lib.rt.edit: crates.txt has no", "crates/jr_env/must-fail/it.edit: is to be a line", "crates/jr_word/src/lib.rt: lacks the line", "crates/jr_word: 1 public", "crates/jr_env: 1 public", "crates/jr_env/must-fail: an edit"),
     "table": ("crates/jr_rule/src/row.rt:2: the field", "crates/jr_rule/src/row.rt:5: an operation that takes no seat", "crates/jr_rule/src/over.rt:1: names `Table`"),
     "pages": ("README.md: 12289 bytes", "crates/jr_word/README.md: 1 lines", "crates/jr_word/README.md: has not", "crates/jr_env/README.md: missing"),

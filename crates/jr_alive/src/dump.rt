@@ -91,7 +91,7 @@ impl Dump {
     ghost use Rattle.jr_alive.specs.Handles.{noted_local, object_named, noted_slot};
     ghost use Rattle.jr_alive.specs.Graph.{HasRoomFor, noted_header, noted_word};
 
-    /// Room for a dump of a room of these sizes, in which nothing stands yet.
+    /// Room for a dump of a room of these sizes.
     ///
     /// # Errors
     ///

@@ -105,10 +105,12 @@ fn tells_largest(rt: &impl Abort, alloc: Global, dump: &Dump) -> Result<(), Allo
 
 /// A weak and a global reference are looked up with their serial, and a local one by its place.
 fn tells_objects(rt: &impl Abort, dump: &Dump) {
-    // serial 7, index 0, kind 3; then serial 5, index 1, kind 2; then another serial; and NULL
+    // serial 7, index 0, kind 3; then serial 5, index 1, kind 2; then another serial; then owner 1, index 1, kind 1, and owner 0; and NULL
     assert!(rt; dump.object_of(Handle(31)) == Some(4));
     assert!(rt; dump.object_of(Handle(17_179_869_206)) == Some(1));
     assert!(rt; dump.object_of(Handle(17_179_869_202)).is_none());
+    assert!(rt; dump.object_of(Handle(1_125_917_086_711_809)) == Some(5));
+    assert!(rt; dump.object_of(Handle(17_179_869_185)).is_none());
     assert!(rt; dump.object_of(Handle::NULL).is_none());
 }
 

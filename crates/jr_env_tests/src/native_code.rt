@@ -4,8 +4,8 @@ ghost use Rattle.jr_env.specs.Deeds.{new_plain};
 ghost use Rattle.jr_threads.specs.Parts.{replied, RanTogether};
 
 use jr::{
-    Config, Env, Fault, Handle, NativeCode, NativeInterface, NoMessage, QueueEnd, Ran, Site,
-    StepsIn, run_native,
+    Config, Env, Fault, HandedOn, Handle, NativeCode, NativeInterface, NoMessage, QueueEnd, Ran,
+    Site, StepsIn, run_native,
 };
 use std::alloc::Global;
 use std::test::Fail;
@@ -69,7 +69,7 @@ fn each_thread_made_an_object(rt: HostRuntime) -> Result<(), Fail> {
     Ok(())
 }
 
-/// A thread fills the queue, and empties it to its end.
+/// A thread fills the queue, hands a message on, and empties the queue to its end.
 struct Fills;
 
 /// What the queue answered to it.
@@ -77,6 +77,8 @@ struct Fills;
 struct Queued {
     /// Of each message that was put, what came back.
     back: [Option<Handle>; 4],
+    /// Whether a message was taken and put again.
+    handed_on: Result<(), NoMessage>,
     /// What was taken, or why nothing was.
     taken: [Result<Handle, NoMessage>; 4],
 }
@@ -101,6 +103,15 @@ fn taken<Q: Site>(queue: &QueueEnd<'_, Handle, Q>) -> Result<Handle, NoMessage> 
     }
 }
 
+/// Takes a message and puts it again, whatever it says of its thread: whoever took it knows that.
+fn handed_on<M: HandedOn, Q: Site>(queue: &QueueEnd<'_, M, Q>) -> Result<(), NoMessage> {
+    let (message, note) = queue.take()?;
+    match queue.put(message, note) {
+        Ok(()) => Ok(()),
+        Err(_) => Err(NoMessage::Yet),
+    }
+}
+
 impl NativeCode for Fills {
     type Message = Handle;
 
@@ -118,18 +129,20 @@ impl NativeCode for Fills {
         let first = back(env, queue, Handle(1));
         let second = back(env, queue, Handle(2));
         let too_many = back(env, queue, Handle(3));
+        let handed_on = handed_on(queue);
         let oldest = taken(queue);
         let next = taken(queue);
         queue.puts_no_more();
         let too_late = back(env, queue, Handle(4));
         Queued {
             back: [first, second, too_many, too_late],
+            handed_on,
             taken: [empty, oldest, next, taken(queue)],
         }
     }
 }
 
-/// A queue of two places takes no third message, hands them out in their order, and is over once nobody puts.
+/// A queue of two places takes no third message, hands them out in their order, the one that was put again last, and is over once nobody puts.
 #[test]
 fn a_queue_is_full_and_comes_to_its_end(rt: HostRuntime) -> Result<(), Fail> {
     let one = Config {
@@ -139,10 +152,11 @@ fn a_queue_is_full_and_comes_to_its_end(rt: HostRuntime) -> Result<(), Fail> {
     let ran = run_native(&rt, rt.alloc(), one, &Fills)?;
     let queued = Queued {
         back: [None, None, Some(Handle(3)), Some(Handle(4))],
+        handed_on: Ok(()),
         taken: [
             Err(NoMessage::Yet),
-            Ok(Handle(1)),
             Ok(Handle(2)),
+            Ok(Handle(1)),
             Err(NoMessage::More),
         ],
     };

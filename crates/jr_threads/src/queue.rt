@@ -94,7 +94,7 @@ impl<'q, M: HandedOn, Q: Site> QueueEnd<'q, M, Q> {
     ///
     /// Both come back where the queue is full, another thread is in the way, or this one puts no more. Only the last stays so.
     pub fn put(&self, message: M, note: NoteOf<Q>) -> Result<(), (M, NoteOf<Q>)>
-        requires says { M.says message Q.sizes (seen_by_note note.note) }
+        requires says { ∥ M.says message Q.sizes (seen_by_note note.note) ∥₁ }
         ensures back { IfErr result (λ back. back ≡ (message, note)) }
         ensures over { self.now.puts ≡ false → result ≡ Err (message, note) }
     {
@@ -142,8 +142,9 @@ impl<'q, M: HandedOn, Q: Site> QueueEnd<'q, M, Q> {
         note: NoteOf<Q>,
         patience: Patience,
     ) -> Result<(), (M, NoteOf<Q>)>
-        requires says { M.says message Q.sizes (seen_by_note note.note) }
+        requires says { ∥ M.says message Q.sizes (seen_by_note note.note) ∥₁ }
         ensures back { IfErr result (λ back. back ≡ (message, note)) }
+        ensures over { self.now.puts ≡ false → result ≡ Err (message, note) }
     {
         let (mut message, mut note) = (message, note);
         for _ in 0..patience.more {

@@ -1,16 +1,22 @@
 -- Calls of a batch that are made one after the other.
-use Rattle.std.proofs.Common.{◌≡◌, ◌<◌, ◌+◌, ◌++◌, ◌∙◌, ℕ, List, [], ◌∷◌, Option, Some, Result}
+use Rattle.std.proofs.Common.{◌≡◌, ◌<◌, ◌+◌, ◌++◌, ◌∙◌, ℕ, true, List, [], ◌∷◌, Option, None, Some, Result, Err}
 use Rattle.std.proofs.Common.{ap, refl, subst, sym, drop, get_or, length, length-set, set, take}
 use Rattle.std.proofs.lemmas.List.{append_assoc, append-nil, drop_more, drop-set, take_more_set}
 use Rattle.std.proofs.Math.Seq.{drop-length, take-length}
 use Rattle.std.specs.Global.{Box}
 use Rattle.jr_word.specs.declared.fault.Fault.{Fault}
+use Rattle.jr_word.specs.declared.fault.Fault.TheVariants.{NotFresh}
 use Rattle.jr_steps.specs.declared.steps.Steps.{Ghosts}
 use Rattle.jr_env.specs.declared.stay.Stay.{Stay}
 use Rattle.luthrady.specs.declared.batches.Call.{Call}
+use Rattle.luthrady.specs.declared.handles.EnvHandle.{EnvHandle}
+use Rattle.luthrady.specs.declared.held.Attached.{Attached}
 use Rattle.luthrady.specs.declared.held.Native.{Native}
 use Rattle.luthrady.specs.declared.reply.Reply.{Reply}
+use Rattle.luthrady.specs.Behind.{with_env_of}
+use Rattle.luthrady.specs.Places.{is_env, native_behind}
 use Rattle.luthrady.specs.Batches.{AreMade, ByThreadInStay, WasMadeInStay, WasStayed}
+use Rattle.luthrady.proofs.ThroughPointers.{as_it_was, empty}
 
 -- the call with this answer
 abbrev pub told : Call → Reply → Call
@@ -65,12 +71,22 @@ module _ {S : Type 0} {G : Ghosts S} where
       subst (λ l. AreMade first last calls l) (append-nil (take i after) ∙ whole) all
 
 -- what the env did in one stay that stood behind the pointer is the thread's
-pub by_thread_in_stay : (cs calls : List Call) (answer : Result (Unit {0}) Fault) (o after : Option (Box Native))
-    (n m : Box Native) (k : Native)
-    → o ≡ Some n → after ≡ Some m → k ≡ n.value → WasStayed k.env m.value.env cs calls answer
-    → m.value.marker ≡ k.marker → ByThreadInStay o after cs calls answer
-by_thread_in_stay cs calls answer o after n m k is left same stayed marker =
+pub by_thread_in_stay : (cs calls : List Call) (answer : Result (Unit {0}) Fault) (old new : EnvHandle)
+    (o : Option (Box Native)) (n m : Box Native) (k : Native)
+    → o ≡ Some n → native_behind new ≡ Some m → k ≡ n.value → WasStayed k.env m.value.env cs calls answer
+    → m.value.marker ≡ k.marker → ByThreadInStay old new o cs calls answer
+by_thread_in_stay cs calls answer old new o n m k is left same stayed marker =
     let there = subst (λ (x : Native). WasStayed x.env m.value.env cs calls answer × (m.value.marker ≡ x.marker)) same
     (stayed, marker) in
-    subst (λ (x : Option (Box Native)). ByThreadInStay x after cs calls answer) (sym is)
+    subst (λ (x : Option (Box Native)). ByThreadInStay old new x cs calls answer) (sym is)
     (m, left, there.0, there.1)
+
+-- where no env stands, the batch is refused, and nothing has changed
+pub batches_nobody : (cs : List Call) (h h' : EnvHandle) (a : Attached) → is_env h ≡ true → h' ≡ h → a ≡ h'.value
+    → a.native ≡ None
+    → (h'.at ≡ h.at) × ByThreadInStay h (with_env_of h' a) (native_behind h) cs cs (Err NotFresh)
+batches_nobody cs h h' a is same lent none = (
+  ap (λ (x : EnvHandle). x.at) same,
+  subst (λ (o : Option (Box Native)). ByThreadInStay h (with_env_of h' a) o cs cs (Err NotFresh))
+      (sym (empty h h' a is same lent none)) (refl, as_it_was h h' a same lent, refl),
+)

@@ -95,17 +95,17 @@ module _ {S : Type 0} {G : Ghosts S} where
   WasStayed old new cs after (Err e) = WasBarred old new e × (after ≡ cs)
 
 -- the env that stood there did, and still stands, with the marker as it was;
--- where none stood, it is E21, and no call is made
-abbrev pub ByThreadInStay : Option (Box Native) → Option (Box Native) → List Call → List Call
+-- where none stood, it is E21, no call is made, and nothing has changed
+abbrev pub ByThreadInStay : EnvHandle → EnvHandle → Option (Box Native) → List Call → List Call
     → Result (Unit {0}) Fault → Type 0
-ByThreadInStay None new cs after answer = (answer ≡ Err NotFresh) × (new ≡ None) × (after ≡ cs)
-ByThreadInStay (Some n) new cs after answer = (m : Box Native) × (new ≡ Some m)
+ByThreadInStay old new None cs after answer = (answer ≡ Err NotFresh) × (new ≡ old) × (after ≡ cs)
+ByThreadInStay old new (Some n) cs after answer = (m : Box Native) × (native_behind new ≡ Some m)
     × WasStayed n.value.env m.value.env cs after answer × (m.value.marker ≡ n.value.marker)
 
 -- the batch was made by the env behind the handle, with this answer; the handle points where it did
 abbrev pub WasBatched : EnvHandle → EnvHandle → List Call → List Call → Result (Unit {0}) Fault → Type 0
 WasBatched old new cs after answer =
-    (new.at ≡ old.at) × ByThreadInStay (native_behind old) (native_behind new) cs after answer
+    (new.at ≡ old.at) × ByThreadInStay old new (native_behind old) cs after answer
 
 -- THE BATCH WAS MADE, with an answer that the reply tells
 abbrev pub BatchReplied : EnvHandle → EnvHandle → List Call → List Call → Reply → Type 0

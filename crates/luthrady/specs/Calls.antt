@@ -18,15 +18,17 @@ abbrev pub for_so_many : FrameCall → ℕ → Deed (Unit {0})
 for_so_many Ensure n = ensure_local_capacity n
 for_so_many Push n = push_local_frame n
 
--- the env that stood there did the deed, and still stands, with the marker as it was; where none stood, it is E21
-abbrev pub ByThread : {A : Type 0} → Option (Box Native) → Option (Box Native) → Deed A → Result A Fault → Type 0
-ByThread None after deed answer = (answer ≡ Err NotFresh) × (after ≡ None)
-ByThread (Some n) after deed answer =
-    (m : Box Native) × (after ≡ Some m) × Does n.value.env m.value.env deed answer × (m.value.marker ≡ n.value.marker)
+-- the env that stood there did the deed, and still stands, with the marker as it was;
+-- where none stood, it is E21, and nothing has changed
+abbrev pub ByThread : {A : Type 0} → EnvHandle → EnvHandle → Option (Box Native) → Deed A → Result A Fault → Type 0
+ByThread old new None deed answer = (answer ≡ Err NotFresh) × (new ≡ old)
+ByThread old new (Some n) deed answer =
+    (m : Box Native) × (native_behind new ≡ Some m) × Does n.value.env m.value.env deed answer
+    × (m.value.marker ≡ n.value.marker)
 
 -- THE CALL WAS MADE by the env behind the handle, with this answer; the handle points where it did
 abbrev pub WasMade : {A : Type 0} → EnvHandle → EnvHandle → Deed A → Result A Fault → Type 0
-WasMade old new deed answer = (new.at ≡ old.at) × ByThread (native_behind old) (native_behind new) deed answer
+WasMade old new deed answer = (new.at ≡ old.at) × ByThread old new (native_behind old) deed answer
 
 -- THE CALL WAS MADE, with an answer that the reply tells, in numbers
 abbrev pub Replied : {A : Type 0} → (A → ℕ) → EnvHandle → EnvHandle → Deed A → Reply → Type 0

@@ -20,16 +20,16 @@ abbrev pub at_least_one : ℕ → ℕ
 at_least_one n = if n == 0 then 1 else n
 
 -- the env that stood there made the collection, where its marker fits the room, as it does from the attaching on;
--- the marker stays one of a room of so many objects; where no env stood, it is E21
-abbrev pub ByCollector : Option (Box Native) → Option (Box Native) → Deed Collected → Result Collected Fault → Type 0
-ByCollector None after deed answer = (answer ≡ Err NotFresh) × (after ≡ None)
-ByCollector (Some n) after deed answer = (m : Box Native) × (after ≡ Some m)
+-- the marker stays one of a room of so many objects; where no env stood, it is E21, and nothing has changed
+abbrev pub ByCollector : EnvHandle → EnvHandle → Option (Box Native) → Deed Collected → Result Collected Fault → Type 0
+ByCollector old new None deed answer = (answer ≡ Err NotFresh) × (new ≡ old)
+ByCollector old new (Some n) deed answer = (m : Box Native) × (native_behind new ≡ Some m)
     × (FitsRoom n.value.marker n.value.env → Does n.value.env m.value.env deed answer)
     × (room_of m.value.marker ≡ room_of n.value.marker)
 
 -- THE COLLECTION WAS MADE by the env behind the handle, with this answer; the handle points where it did
 abbrev pub WasCollected : EnvHandle → EnvHandle → Deed Collected → Result Collected Fault → Type 0
-WasCollected old new deed answer = (new.at ≡ old.at) × ByCollector (native_behind old) (native_behind new) deed answer
+WasCollected old new deed answer = (new.at ≡ old.at) × ByCollector old new (native_behind old) deed answer
 
 -- what is told of an answer: what the collection did; of a refusal, nothing
 abbrev pub counts_of : Result Collected Fault → Counts → Counts

@@ -95,7 +95,12 @@ ByLeaver (Some n) reply before after =
     (closed : Result (Option Summary) Fault) × (reply ≡ reply_of the_number (leaving_answer closed))
     × (after ≡ stood_of closed before) × WasClosedBy n.value closed × IfErr closed LeavesSome
 
--- THE THREAD WAS DETACHED, and the handle has no env any more
+-- where an env stood none does any more, in a place that keeps its mark; where none stood, nothing has changed
+abbrev pub IsVacated : Option (Box Native) → EnvHandle → EnvHandle → Type 0
+IsVacated None old new = new ≡ old
+IsVacated (Some n) old new = (new.value.native ≡ None) × (new.value.mark ≡ old.value.mark)
+
+-- THE THREAD WAS DETACHED, and the place has no env any more, or it was refused, as the reply tells
 abbrev pub DetachReplied : EnvHandle → EnvHandle → Reply → Stood → Stood → Type 0
-DetachReplied old new reply before after =
-    (new.at ≡ old.at) × (native_behind new ≡ None) × ByLeaver (native_behind old) reply before after
+DetachReplied old new reply before after = (new.at ≡ old.at) × IsVacated (native_behind old) old new
+    × ByLeaver (native_behind old) reply before after

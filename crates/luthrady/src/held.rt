@@ -23,6 +23,7 @@ pub(crate) const ROOM_MARK: u64 = 0x6c75_7468_726f_6f6d;
 pub(crate) const ENV_MARK: u64 = 0x6c75_7468_7265_6e76;
 
 /// The place of a room: its mark, and the envs of those of its threads that are not attached.
+#[repr(C)]
 #[derive(Drop)]
 pub struct Opened {
     pub(crate) mark: u64,
@@ -37,6 +38,7 @@ pub struct Native {
 }
 
 /// The place of a thread's env: its mark, and the env, none once the thread was detached.
+#[repr(C)]
 #[derive(Drop)]
 pub struct Attached {
     pub(crate) mark: u64,
