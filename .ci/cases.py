@@ -7,8 +7,8 @@ A case is a file: a line '# WHAT IT SHOWS', the text, a line of three dashes, an
     NAME.lines    many of the latter: each line of the text stands alone as the line that the fault names, behind as many lines of HEAD as
                   come before it
 
-Behind the dashes of a text without a line feed at its end stands ' no line feed'. The README.md of examples/ and that of scripts/ have a
-table of the cases of each folder, which `.ci/run-scripts --list` makes.
+Behind the dashes of a text without a line feed at its end stands ' no line feed'. `.ci/run-scripts --list` tells what each shows. The
+README.md of examples/ has that in a table, which it makes too.
 """
 
 import os
@@ -19,8 +19,8 @@ FOLDERS = ("examples", "scripts")
 HEAD = (b"vm threads 1 slots 4 objects 8 words 16 locals 16\n", b"thread a\n")
 FORM = re.compile(rb"# ([^\s|][^|\n]*)\n((?:[^\n]*\n)*?)---( no line feed)?\n(.*)", re.S)
 FAULT = re.compile(rb"script fault at line ([0-9]+): [a-zA-Z ]+\n")
-# The head of the table of a folder, and a row of it.
-TABLE, ROW = re.compile(r"\| Case of `(\w+)/` \|"), re.compile(r"\| (?:\[`(\w+)`\]\([\w.]+\)|`(\w+)`) \|")
+# The page with a table of cases, and a row of that.
+PAGE, ROW = "examples/README.md", re.compile(r"\| \[`(\w+)`\]\([\w.]+\) \|")
 
 
 class Case(NamedTuple):
@@ -90,7 +90,7 @@ def wrong_with(path, it):
 
 
 def problems():
-    """Finds files that are no cases, names that stand twice, and pages that don't list the cases as they are."""
+    """Finds files that are no cases, names that stand twice, and a page that doesn't list the cases as they are."""
     found = kept()
     for path, it in found.items():
         wrong = wrong_with(path, it)
@@ -98,40 +98,26 @@ def problems():
             yield f"{path}: {wrong}"
         elif path.endswith(".lines") and f"{os.path.splitext(path)[0]}.case" in found:
             yield f"{path}: a case of another form has its name"
-    for top in FOLDERS:
-        if page(top) != read(f"{top}/README.md").decode():
-            yield f"{top}/README.md: does not list the cases as they are: run .ci/run-scripts --list"
+    if page() != read(PAGE).decode():
+        yield f"{PAGE}: does not list the cases as they are: run .ci/run-scripts --list"
+
+
+def page():
+    """Returns the page of examples/ with the rows of its cases: in their order where the page has them, and new ones at its end."""
+    left = {os.path.basename(path).removesuffix(".case"): it.shows for path, it in kept().items() if it and path.startswith("examples/")}
+    lines = []
+    for line in read(PAGE).decode().rstrip("\n").split("\n"):
+        row = ROW.match(line)
+        if not row:
+            lines.append(line)
+        elif row[1] in left:
+            lines.append(row_of(row[1], left.pop(row[1])))
+    return "\n".join([*lines, *(row_of(*it) for it in left.items()), ""])
 
 
 def row_of(name, shows):
-    """Returns the row of a case, with a link where the page stands beside the case."""
-    folder, base = os.path.split(name)
-    return f"| {f'[`{base}`]({base}.case)' if folder in FOLDERS else f'`{base}`'} | {shows} |"
-
-
-def page(top):
-    """Returns the page of a folder at the top with the rows of its cases: in their order where the page has it, and new ones behind it, in a table at the end where their folder has none."""
-    left = {os.path.splitext(path)[0]: it.shows for path, it in kept().items() if it and path.startswith(f"{top}/")}
-    lines, folder = [], ""
-
-    def rest(folder):
-        """Returns the rows of a folder that have no place yet."""
-        return [row_of(it, left.pop(it)) for it in [*left] if os.path.dirname(it) == folder]
-
-    for line in read(f"{top}/README.md").decode().split("\n"):
-        head, row = TABLE.match(line), ROW.match(line)
-        if folder and not line.startswith("|"):
-            lines, folder = lines + rest(folder), ""
-        if head:
-            folder = f"{top}/{head[1]}" if head[1] != top else top
-        name = f"{folder}/{row[1] or row[2]}" if folder and row else ""
-        if name in left:
-            lines.append(row_of(name, left.pop(name)))
-        elif not name:
-            lines.append(line)
-    for folder in sorted({os.path.dirname(it) for it in left}):
-        lines += [f"| Case of `{os.path.basename(folder)}/` | Shows |", "|---|---|", *rest(folder), ""]
-    return "\n".join(lines)
+    """Returns the row of a case."""
+    return f"| [`{name}`]({name}.case) | {shows} |"
 
 
 def of_lines(name, text, fault):

@@ -27,6 +27,7 @@ LAYERS = (
     ("the calls", "jr", (
         ("jr", "all names of the calls"),
         ("jr_alive", "a dump tells why an object is alive"),
+        ("jr_stressed", "each answer is the env's, or a refusal that the machine lists"),
         ("jr_owned", "a room is closed by the last who owns it"),
         ("jr_threads", "a room is closed with a pass of each thread"),
         ("jr_env", "each call has the events, the answer and the|refusals of the machine's call"),

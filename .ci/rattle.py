@@ -13,6 +13,7 @@ HEAD = re.compile(r"(?P<public>pub(?:\((?P<within>\w+)\))? )?(?:const (?=fn)|ext
 CLAUSE = re.compile(r"\b(requires|ensures)\*?(?:\s+(\w+))?\s*\Z")
 # Items whose braces are no body, and those whose bodies have items.
 WITHOUT_BODY, WITH_ITEMS = ("ghost use", "use", "const", "type"), ("impl", "trait", "mod")
+TRAIT = re.compile(r"(?:pub(?:\(\w+\))? )?trait\b")
 TEST_MODULE = re.compile(r"#\[cfg\(test\)\]\s*mod (\w+);")
 # The names of a crate's functions in what checks of it leave: in its library, and in the names of files.
 BUILT, CHECKED = "crates/{0}/out/rlib/{0}.rlib/toolchain/mir.json", "crates/{0}/out/incremental/*/Rattle-{0}-proofs.*.Statement.oantt"
@@ -229,11 +230,13 @@ class Functions:
         return max(fitting, key=len, default=None)
 
     def fits(self, name, modules, head):
-        """Tells whether a name may be that of a function in these modules, in an impl with this head. A type's own methods stand in the module of the type."""
+        """Tells whether a name may be that of a function in these modules, in an impl or a trait with this head. A type's own methods stand in the module of the type, and a method with its body in a trait is the trait's, also where impls have it."""
         if not head:
             return name[1:-1] == modules
         within, owner = name[1:-2], name[-2]
         trait, of = words_of(head)
+        if TRAIT.match(head):
+            return within == modules and owner == of[0]
         return (within == modules or not trait and owner == of[0]) and is_spelled(owner, head)
 
     def at(self, path, start, end):

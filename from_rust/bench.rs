@@ -192,7 +192,7 @@ fn calls_of(case: usize) -> u32 {
 
 /// The nanoseconds of a call of the library, in a room of its own.
 fn time_of_library(case: usize) -> f64 {
-    let mut room = Room::open(SIZES).unwrap();
+    let room = Room::open(SIZES).unwrap();
     let mut env = room.attach().unwrap();
     room.release();
     let handed = handed(case, &mut env, calls_of(case)).unwrap();

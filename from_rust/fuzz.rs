@@ -124,7 +124,8 @@ struct Case<'a> {
     is_released: bool,
     model: Model,
     words: Vec<u64>,
-    threads: usize,
+    /// The threads whose envs lie in the room, the next to be attached last.
+    free: Vec<usize>,
     /// How many calls were made, and how many were refused with each number.
     calls: u64,
     refusals: [u64; 24],
@@ -410,30 +411,36 @@ impl Case<'_> {
 
     // ---- threads
 
+    /// A room hands out the env that came back last.
     fn attach(&mut self) {
         let found = self.room.attach();
-        let has_place = !self.is_released && self.envs.len() < self.threads;
-        match found {
-            Ok(env) if has_place => {
-                self.envs.push(env);
-                self.is_attached.push(true);
+        match (found, self.free.pop()) {
+            (Ok(env), Some(thread)) => {
+                self.envs[thread] = env;
+                self.is_attached[thread] = true;
             }
-            Err(Fault { number: 21, .. }) if !has_place => (),
-            it => panic!("an attach answered {:?}", it.err()),
+            (Err(Fault { number: 21, .. }), None) => (),
+            (it, _) => panic!("an attach answered {:?}", it.err()),
         }
     }
 
     fn release(&mut self) {
         self.room.release();
         self.is_released = true;
+        self.free.clear();
     }
 
-    /// Only the last env of a room whose threads are all gone or let go closes it.
+    /// A thread's local references go with it. Only the last one of a room that was released closes it.
     fn detach(&mut self, env: usize) {
         let found = self.envs[env].detach();
         let was_attached = std::mem::replace(&mut self.is_attached[env], false);
-        let is_last = !self.is_attached.contains(&true)
-            && (self.is_released || self.envs.len() == self.threads);
+        if was_attached {
+            self.model.free_locals(env);
+        }
+        if was_attached && !self.is_released {
+            self.free.push(env);
+        }
+        let is_last = self.is_released && !self.is_attached.contains(&true);
         let wanted = match was_attached {
             true => Ok(is_last.then(|| self.model.stood())),
             false => Err(Fault::new(21, 0)),
@@ -495,19 +502,23 @@ fn run(bytes: &[u8]) -> Met {
         Err(Fault { number: 17, .. }) if !is_in_limits => return Met::default(),
         it => panic!("an open answered {:?}", it.err()),
     };
+    let mut envs: Vec<Env> = (0..sizes.threads)
+        .map(|_| room.attach().unwrap())
+        .collect();
+    // A room hands the env of its last thread out first.
+    envs.reverse();
     let mut case = Case {
         input,
         room,
-        envs: vec![],
-        is_attached: vec![],
+        is_attached: vec![true; envs.len()],
+        envs,
         is_released: false,
         model: Model::new(sizes),
         words: vec![],
-        threads: sizes.threads as usize,
+        free: vec![],
         calls: 0,
         refusals: [0; 24],
     };
-    case.attach();
     while !case.input.0.is_empty() {
         case.step();
     }

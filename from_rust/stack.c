@@ -19,7 +19,7 @@ static void *open_room(void *given) { luthrady_open(sizes, &room.at); return giv
 static void *attach(void *given) { luthrady_attach(&room, &env.at); return given; }
 static void *array(void *given) { luthrady_new_int_array(&env, 2); return given; }
 static void *collect(void *given) { luthrady_collect(&env, &counts); return given; }
-static void *detach(void *given) { luthrady_detach(&env, &stood); return given; }
+static void *detach(void *given) { luthrady_detach(&room, &env, &stood); return given; }
 static void *release(void *given) { luthrady_release(&room); return given; }
 
 // The bytes of a thread's stack that a call wrote to, with those of the thread itself.

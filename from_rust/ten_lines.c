@@ -21,7 +21,8 @@ int main(void) {
     printf("type %u\n", (unsigned)luthrady_get_object_ref_type(&env, global).value);
     printf("length of a deleted one: E%u\n", luthrady_get_array_length(&env, global).fault);
     printf("length of a cleared one: E%u\n", luthrady_get_array_length(&env, weak).fault);
-    unsigned closed = (unsigned)luthrady_detach(&env, &stood).value;
+    unsigned closed = (unsigned)luthrady_detach(&room, &env, &stood).value;
     printf("closed %u: globals %u weaks %u live %u used %u\n", closed, stood.globals, stood.weaks, stood.live, stood.used);
-    printf("and again: E%u\n", luthrady_detach(&env, &stood).fault);
+    printf("and again: E%u\n", luthrady_detach(&room, &env, &stood).fault);
+    printf("freed: E%u E%u\n", luthrady_free_env(&env).fault, luthrady_free_room(&room).fault);
 }

@@ -147,9 +147,11 @@ fn run(number: u32, env: Env, to: &Mail, from: &Mail, rounds: i32) -> Tally {
     for round in 0..rounds {
         native.round(number as i32 * 1_000_000 + round, round, to, from);
     }
-    let Native { mut env, mut tally } = native;
-    tally.closed = env.detach().unwrap();
-    tally
+    let closed = native.again(Env::detach);
+    Tally {
+        closed,
+        ..native.tally
+    }
 }
 
 fn opened() -> Vec<Env> {
@@ -168,7 +170,7 @@ fn opened() -> Vec<Env> {
         .err(),
         Some(Fault::new(17, 0))
     );
-    let mut room = Room::open(sizes).unwrap();
+    let room = Room::open(sizes).unwrap();
     let envs = (0..THREADS).map(|_| room.attach().unwrap()).collect();
     assert_eq!(room.attach().err(), Some(Fault::new(21, 0)));
     room.release();

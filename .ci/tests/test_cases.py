@@ -1,4 +1,4 @@
-"""Tries .ci/cases.py: what a file of a case says, what is wrong with one, and the pages that list them."""
+"""Tries .ci/cases.py: what a file of a case says, what is wrong with one, and the page that lists those of examples/."""
 
 import subprocess
 import unittest
@@ -6,16 +6,15 @@ import unittest
 from shared import CI, repository, script
 
 FAULT = "script fault at line 2: thread line expected\n"
-PAGE = """# Cases
+PAGE = """# Examples
 
-| Case of `references/` | Shows |
+| Case of `examples/` | Shows |
 |---|---|
-| `two` | what it showed |
-| `gone` | nothing |
-
-Behind it.
+| **First ones** | |
+| [`two`](two.case) | what it showed |
+| [`gone`](gone.case) | nothing |
 """
-PAGES = {"scripts/README.md": PAGE, "examples/README.md": "| Case of `examples/` | Shows |\n|---|---|\n"}
+PAGES = {"examples/README.md": "| Case of `examples/` | Shows |\n|---|---|\n"}
 
 
 class Cases(unittest.TestCase):
@@ -61,16 +60,19 @@ class Cases(unittest.TestCase):
             with self.subTest(text):
                 self.assertIn(told, self.wrong(path, text))
 
-    def test_pages_list_each_case_as_it_says(self):
-        files = {"scripts/references/one.case": "# one thing\n---\n[a]\n", "scripts/references/two.case": "# another\n---\n[a]\n", "scripts/new/three.lines": f"# more\none\n---\n{FAULT}", "examples/four.case": "# to begin with\n---\n[a]\n"}
-        with repository({**PAGES, **files}):
-            scripts, examples = map(self.cases.page, self.cases.FOLDERS[::-1])
-            told = ["examples/README.md: does not list", "scripts/README.md: does not list"]
-            self.assertEqual([it[: len(wanted)] for it, wanted in zip(self.cases.problems(), told)], told)
-        self.assertEqual(scripts, PAGE.replace("| `two` | what it showed |\n| `gone` | nothing |", "| `two` | another |\n| `one` | one thing |") + "\n| Case of `new/` | Shows |\n|---|---|\n| `three` | more |\n")
-        self.assertEqual(examples, PAGES["examples/README.md"] + "| [`four`](four.case) | to begin with |\n")
-        with repository({"scripts/README.md": scripts, "examples/README.md": examples, **files}):
+    def test_the_page_of_examples_lists_each_as_it_says(self):
+        files = {"examples/one.case": "# one thing\n---\n[a]\n", "examples/two.case": "# another\n---\n[a]\n", "scripts/new/three.lines": f"# more\none\n---\n{FAULT}"}
+        with repository({"examples/README.md": PAGE, **files}):
+            found = self.cases.page()
+            self.assertEqual([it.split(":")[1][:14] for it in self.cases.problems()], [" does not list"])
+        rows = "| [`two`](two.case) | another |\n| [`one`](one.case) | one thing |\n"
+        self.assertEqual(found, PAGE[: PAGE.index("| [`two`")] + rows)
+        with repository({"examples/README.md": found, **files}):
             self.assertEqual([*self.cases.problems()], [])
+
+    def test_what_cases_show_is_listed(self):
+        done = subprocess.run([f"{CI}/run-scripts", "--list", "examples/dro"], stdout=subprocess.PIPE, check=False, text=True)
+        self.assertEqual((done.returncode, done.stdout.count("\n"), done.stdout[:20]), (0, 1, "examples/drop.case: "))
 
     def test_a_name_that_stands_twice_is_told(self):
         files = {"scripts/it.case": "# one\n---\n[a]\n", "scripts/it.lines": f"# two\none\n---\n{FAULT}"}

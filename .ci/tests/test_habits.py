@@ -76,6 +76,12 @@ class Habits(unittest.TestCase):
             found = [*self.habits.long_lines(path)]
         self.assertEqual([it.partition(" (")[0] for it in found], [f"{path}:2: a line has 121 characters", f"{path}:3: a line has 131 characters"])
 
+    def test_long_lines_of_sources(self):
+        path = "crates/jr_word/src/one.rt"
+        with repository({path: "/// " + "a" * 196 + "\n/// " + "a" * 197 + '\n    b"' + "a" * 200 + '",\n'}):
+            found = [*self.habits.long_lines(path)]
+        self.assertEqual([it.partition(" (")[0] for it in found], [f"{path}:2: a line has 201 characters"])
+
     def test_functions_that_take_memory(self):
         found = self.found(self.habits.takers, self.paths)
         self.assertEqual(len(found), 1)

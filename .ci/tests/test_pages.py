@@ -237,6 +237,7 @@ class Pages(unittest.TestCase):
             claims = trusted.each_function(repo, "jr_word", lambda it: True)
             rows = trusted.table(repo, [*claims, *claims], "Call", "Where")[2:]
             self.assertEqual(rows, ["| `kind_of` | [kind](../crates/jr_word/src/kind.rt) | 3 | 6 | 1 | 2 |", "| `kind_of` | kind | 3 | 6 | 1 | 2 |"])
+            self.assertIn("6 lines (`kind_of`) to 6 (`kind_of`), and in the middle 6.", trusted.span(repo, claims))
             wanted = ["  crates/jr_word/specs/Words.antt: Pair 2, same 2, held 2", "  Rust types of jr_word: Fault, Kind"]
             self.assertEqual([*trusted.listed(repo, claims[0][2])], wanted)
 

@@ -25,6 +25,7 @@ HEADS = {
     "impl Number for i64": "place::I64Number",
     "impl Words for Vec<u64>": "place::VecU64Words",
     "pub trait Cells<P>": "place::Cells",
+    "pub trait NativeInterface<S: Steps>: NativeCaller<S>": "place::NativeInterface",
 }
 # Those that are told where the prover's names are not at hand.
 PLAIN = ("impl Env", "impl Steps for Plain", "impl From<Reason> for Trouble", "impl fmt::Display for Trouble", "impl Number for i64", "pub trait Cells<P>")

@@ -13,6 +13,7 @@ use Rattle.jr_word.specs.declared.config.Config.{Config}
 use Rattle.jr_word.specs.declared.fault.Fault.{Fault}
 use Rattle.jr_word.specs.declared.kind.Kind.TheVariants.{Int}
 use Rattle.jr_word.specs.Elem.{signed_of}
+use Rattle.jr_model.specs.CollectionCalls.{collection_acts}
 use Rattle.jr_model.specs.declared.event.Act.{Act}
 use Rattle.jr_model.specs.declared.event.Act.TheVariants.{Gate, Meet, Read}
 use Rattle.jr_model.specs.declared.event.Event.{Event}
@@ -36,7 +37,7 @@ use Rattle.first_room.specs.declared.message.Found.TheVariants.{Shared, Visited}
 use Rattle.first_room.specs.Calls.{has_found, sharing, story_of, visiting}
 use Rattle.first_room.specs.Hour.{IsTrueReport}
 use Rattle.first_room.proofs.Arrays.{arrays_in, filling, second_is_twenty, touched}
-use Rattle.first_room.proofs.Touching.{HasInts, touches, touching, touching_append}
+use Rattle.first_room.proofs.Touching.{HasInts, sweeps_none, touches, touching, touching_append}
 use Rattle.first_room.proofs.Traces.{DidJust, HasShared, HasVisited, has_shared, has_visited, so_then, traced}
 
 -- which acts of a thread do
@@ -165,10 +166,10 @@ read_there opened read o word d ints =
     others_stay t (e ∷ es) h = ((λ is. h.0 (ap (λ (z : Event). z.thread) is)), others_stay t es h.1)
 
 -- THE ELEMENT THAT WAS READ IS THE ONE THAT WAS WRITTEN
-pub read_is_written : (whole : History) (y : Found) (read : ℤ) → IsLegal SIZES 4294967295 whole
-    → IsThreadPart has_found story_of SIZES 4294967295 whole 0 (Ok y)
-    → IsThreadPart has_found story_of SIZES 4294967295 whole 1 (Ok (Visited read)) → read ≡ pos 20
-read_is_written whole y read legal one two = told ∙ ap (signed_of w32) twenty
+pub read_is_written : (sweep : List Act) (whole : History) (y : Found) (read : ℤ) → IsLegal SIZES 4294967295 whole
+    → touching sweep ≡ [] → IsThreadPart has_found story_of SIZES 4294967295 sweep whole 0 (Ok y)
+    → IsThreadPart has_found story_of SIZES 4294967295 sweep whole 1 (Ok (Visited read)) → read ≡ pos 20
+read_is_written sweep whole y read legal no_touch one two = told ∙ ap (signed_of w32) twenty
   where
     e : ComesOfDeed SIZES 4294967295 0 (story_of 0) (Ok y) one.seen
     e = one.did refl
@@ -192,8 +193,9 @@ read_is_written whole y read legal one two = told ∙ ap (signed_of w32) twenty
     ends = subst (λ (v : PassView). IsPrefix v.seen whole) (sym d.saw) two.begins
 
     first_own : own whole 0 ≡ filling (s.traced).o (s.traced).p
-    first_own = ap touching one.own ∙ (touching_append (mine one.seen 0) (Meet ∷ [])
-        ∙ (append-nil (own one.seen 0) ∙ did_own e.saw (so_then (s.traced).fills (so_then (s.traced).ends s.ends))))
+    first_own = ap touching one.own ∙ (touching_append (mine one.seen 0) (sweep ++ Meet ∷ [])
+        ∙ (ap (λ l. own one.seen 0 ++ l) (touching_append sweep (Meet ∷ []) ∙ ap (λ l. l ++ []) no_touch)
+        ∙ (append-nil (own one.seen 0) ∙ did_own e.saw (so_then (s.traced).fills (so_then (s.traced).ends s.ends)))))
 
     second_none : own whole 1 ≡ []
     second_none =
@@ -236,16 +238,18 @@ pub is_true : (answers : List (Result Found Fault)) (left : Summary) (inside : �
 is_true answers left inside cleared kind read ran first second =
     let x = Shared inside cleared kind in
     let part : (t : ℕ) (y : Found) → t < 2 → slice_index_or answers t (Ok y) ≡ Ok y
-    → IsThreadPart has_found story_of SIZES 4294967295 ran.whole t (Ok y) =
-    λ t y below is.
-    subst (IsThreadPart has_found story_of SIZES 4294967295 ran.whole t) is (ran.parts t (Ok y) below) in
+    → IsThreadPart has_found story_of SIZES 4294967295 (collection_acts ran.cleared ran.dropped ran.used) ran.whole t
+    (Ok y) =
+    λ t y below is. subst (IsThreadPart has_found story_of SIZES 4294967295
+    (collection_acts ran.cleared ran.dropped ran.used) ran.whole t) is (ran.parts t (Ok y) below) in
     let one = part 0 x (omega arith) first in
     let d = one.did refl in
     let s = has_shared (start_moment SIZES 4294967295 0) d.left x (served sharing x d.does) in
     let same : s.inside ≡ inside = let is = s.is in cc in record {
       ran = subst (λ l. RanTogether has_found story_of SIZES 4294967295 l left)
           (both answers (Ok x) (Ok (Visited read)) ran.count first second) ran;
-      is_read = read_is_written ran.whole x read ran.legal one (part 1 (Visited read) (omega arith) second);
+      is_read = read_is_written (collection_acts ran.cleared ran.dropped ran.used) ran.whole x read ran.legal
+          (sweeps_none ran.cleared ran.dropped ran.used) one (part 1 (Visited read) (omega arith) second);
       some = subst (λ n. 1 ≤ n) same s.some;
     }
   where

@@ -186,7 +186,7 @@ drops_none (r ∷ refs) = drops_none refs
 take_none : Touches HasNone take_frame
 take_none = just (λ f g acts x r. subst (λ l. touching l ≡ []) (sym r.0) (drops_none (last_frame f.frames)))
 
-sweeps_none : (cleared : List Handle) (dropped : List ℕ) (used : ℕ)
+pub sweeps_none : (cleared : List Handle) (dropped : List ℕ) (used : ℕ)
     → touching (collection_acts cleared dropped used) ≡ []
 sweeps_none (h ∷ cleared) dropped used = sweeps_none cleared dropped used
 sweeps_none [] (o ∷ dropped) used = sweeps_none [] dropped used

@@ -9,6 +9,6 @@ fn each_array_is_added_once(rt: HostRuntime) -> Result<(), Fail> {
     let (sum, left) = run(&rt, rt.alloc())?;
     assert!(rt; sum == 1_045);
     assert!(rt; left.globals == 0);
-    assert!(rt; left.live == 10);
+    assert!(rt; left.live == 0);
     Ok(())
 }

@@ -4,13 +4,11 @@ use Rattle.std.proofs.Common.{sym, ap, subst, ◌∙◌, arith}
 use mathlib.Core.Logic.{dite}
 use native.Mathlib.Decide.{dec_lt}
 use Rattle.jr_word.specs.declared.header.HeaderParts.{HeaderParts}
-use Rattle.jr_word.specs.declared.kind.Kind.TheVariants.{Objects}
 use Rattle.jr_alive.specs.declared.dump.Dump.{Dump}
 use Rattle.jr_alive.specs.declared.search.Entry.{Entry}
-use Rattle.jr_alive.specs.declared.search.Origin.TheVariants as origin
 use Rattle.jr_alive.specs.Graph.{IsInDump, IsEdge, noted_header, noted_word}
-use Rattle.jr_alive.specs.Searching.{AreWithin, ComesFrom, Grows, IsEntered, IsSearching, depth_of, entry_at}
-use Rattle.jr_alive.proofs.Found.{depth_is, found_kept, grows_self, grows_then, some_is, there_inside}
+use Rattle.jr_alive.specs.Searching.{AreWithin, Grows, IsEntered, IsSearching}
+use Rattle.jr_alive.proofs.Found.{found_kept, grows_then, there_inside}
 
 -- the objects that the first n elements of an array name are found, since there was this
 pub record ElementsTo (d : Dump) (x a n most : ℕ) (old : List (Option Entry)) (before : List ℕ)
@@ -19,19 +17,6 @@ pub record ElementsTo (d : Dump) (x a n most : ℕ) (old : List (Option Entry)) 
   pub far : AreWithin most es
   pub grows : Grows old before es q
   pub found : (i o : ℕ) → i < n → IsEdge d x a i o → IsEntered es o
-
-pub elements_none : (d : Dump) (x a most : ℕ) (es : List (Option Entry)) (q : List ℕ) → IsSearching d x es q
-    → AreWithin most es → ElementsTo d x a 0 most es q es q
-elements_none d x a most es q st far = record {
-  stands = st;
-  far = far;
-  grows = grows_self es q;
-  found = λ i o l n. absurd (omega arith);
-}
-
--- there are no elements that name objects
-pub no_header : {d : Dump} {x a i o : ℕ} → noted_header d x a ≡ None → ¬ (IsEdge d x a i o)
-no_header none n = let z = sym none ∙ n.array in cc
 
 pub one_header : {d : Dump} {x a i o : ℕ} (h : HeaderParts) → noted_header d x a ≡ Some h → (n : IsEdge d x a i o)
     → n.header ≡ h
@@ -76,25 +61,6 @@ module _ {d : Dump} {x a n most : ℕ} {old : List (Option Entry)} {before : Lis
         ∙ m.word)) in
         subst (IsEntered es') same (found (subst (IsInDump d x) (sym same) m.named)));
   }
-
-  -- an array that was found, by so many edges, names it
-  pub element_comes : (depth : ℕ) → IsEntered old a → depth ≡ depth_of old a → h.kind ≡ Objects → n < h.length
-      → (o : ℕ) → o ≡ noted_word d h n → IsInDump d x o → ComesFrom d x es o (depth + 1) (origin.Element a n)
-  element_comes depth found deep kind inside o names there =
-      let z = some_is (entry_at old a) found in
-      let e = z.0 in (
-        e,
-        g.grows.kept a e z.1,
-        record {
-          header = h;
-          array = is;
-          kind = kind;
-          inside = inside;
-          word = sym names;
-          named = there;
-        },
-        ap (λ k. k + 1) (deep ∙ depth_is old a e z.1),
-      )
 
   -- all are found
   pub elements_all : h.length ≤ n → (i o : ℕ) → IsEdge d x a i o → IsEntered es o

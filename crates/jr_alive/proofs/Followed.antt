@@ -20,25 +20,11 @@ pub record Following (d : Dump) (x next : ℕ) (es : List (Option Entry)) (q : L
   pub near : next < length q → AreWithin (depth_of es (slice_index_or q next 0) + 1) es
   pub few : AreWithin next es
 
-pub following_begins : (d : Dump) (x : ℕ) (es : List (Option Entry)) (q : List ℕ) → IsSearching d x es q
-    → AreWithin 0 es
-    → HasRoots d x es → Following d x 0 es q
-following_begins d x es q st none roots = record {
-  stands = st;
-  roots = roots;
-  past = λ j l. absurd (omega arith);
-  near = λ l o. let n = none o in omega arith;
-  few = none;
-}
-
 module _ (d : Dump) (x next : ℕ) (es : List (Option Entry)) (q : List ℕ) (f : Following d x next es q) where
   -- there is an array next
   module _ (l : next < length q) (array : ℕ) (is : array ≡ slice_index_or q next 0) where
     pub array_found : IsEntered es array
     array_found = subst (IsEntered es) (sym is) (f.stands.found next l)
-
-    pub array_near : AreWithin (depth_of es array + 1) es
-    array_near = subst (λ n. AreWithin (depth_of es n + 1) es) (sym is) (f.near l)
 
     module _ (es' : List (Option Entry)) (q' : List ℕ) (st : IsSearching d x es' q')
         (far : AreWithin (depth_of es array + 1) es') (g : Grows es q es' q')

@@ -64,9 +64,6 @@ pub depth_kept : {es es' : List (Option Entry)} {q q' : List ℕ} → Grows es q
 depth_kept {es} {es'} g o f =
     let z = some_is (entry_at es o) f in ap depth_in (g.kept o z.0 z.1) ∙ sym (ap depth_in z.1)
 
-pub grows_self : (es : List (Option Entry)) (q : List ℕ) → Grows es q es q
-grows_self es q = record { more = omega arith; kept = λ o e is. is; same = λ i l. refl }
-
 pub grows_then : {es es' es'' : List (Option Entry)} {q q' q'' : List ℕ} → Grows es q es' q' → Grows es' q' es'' q''
     → Grows es q es'' q''
 grows_then g h = record {

@@ -1,52 +1,22 @@
 -- The objects of roots are found.
-use Rattle.std.proofs.Common.{◌≡◌, ◌≢◌, ◌≤◌, ◌<◌, ◌+◌, ◌*◌, ◌/◌, ◌%◌, ℕ, Option, List}
+use Rattle.std.proofs.Common.{◌≡◌, ◌≢◌, ◌<◌, ◌+◌, ◌*◌, ℕ, Option, List}
 use Rattle.std.proofs.Common.{slice_index_or, sym, ap, subst, ◌∙◌, arith}
 use mathlib.Core.Logic.{dite}
 use native.Mathlib.Decide.{dec_lt}
 use Rattle.jr_word.specs.declared.local.LocalParts.{LocalParts}
 use Rattle.jr_word.specs.declared.local.LocalParts.TheVariants as local
-use Rattle.jr_word.specs.declared.slot.SlotParts.{SlotParts}
-use Rattle.jr_word.specs.declared.slot.SlotParts.TheVariants as slot
 use Rattle.jr_alive.specs.declared.dump.Dump.{Dump}
 use Rattle.jr_alive.specs.declared.search.Root.TheVariants as root
 use Rattle.jr_alive.specs.declared.search.Entry.{Entry}
 use Rattle.jr_alive.specs.Graph.{IsRoot, IsInDump}
 use Rattle.jr_alive.specs.Searching.{AreWithin, Grows, HasRoots, IsEntered, IsSearching}
-use Rattle.jr_alive.proofs.Found.{found_kept, grows_self, grows_then}
+use Rattle.jr_alive.proofs.Found.{found_kept, grows_then}
 
 -- the objects of the global references of the first n slots are found
 pub record GlobalsTo (d : Dump) (x n : ℕ) (es : List (Option Entry)) (q : List ℕ) : Type 0 where
   pub stands : IsSearching d x es q
   pub near : AreWithin 0 es
   pub found : (i serial o : ℕ) → i < n → IsRoot d (root.Global i serial) o → IsInDump d x o → IsEntered es o
-
-pub globals_none : (d : Dump) (x : ℕ) (es : List (Option Entry)) (q : List ℕ) → IsSearching d x es q → AreWithin 0 es
-    → GlobalsTo d x 0 es q
-globals_none d x es q st near = record { stands = st; near = near; found = λ i n o l is there. absurd (omega arith) }
-
-module _ {d : Dump} {x n : ℕ} {es : List (Option Entry)} {q : List ℕ} (g : GlobalsTo d x n es q) (parts : SlotParts)
-    (is : parts ≡ slice_index_or d.slots.items n (slot.Free 0)) where
-  pub globals_skip : ((serial o : ℕ) → parts ≢ slot.Global serial o) → GlobalsTo d x (n + 1) es q
-  globals_skip none = record {
-    stands = g.stands;
-    near = g.near;
-    found = λ i serial o l root there. dite (dec_lt i n) (λ less. g.found i serial o less root there)
-        (λ not. absurd (none serial o (is ∙ (ap (λ j. slice_index_or d.slots.items j (slot.Free 0))
-        (let e : n ≡ i = omega arith in e) ∙ root))));
-  }
-
-  pub globals_take : (serial o : ℕ) → parts ≡ slot.Global serial o → (es' : List (Option Entry)) (q' : List ℕ)
-      → IsSearching d x es' q' → AreWithin 0 es' → Grows es q es' q' → (IsInDump d x o → IsEntered es' o)
-      → GlobalsTo d x (n + 1) es' q'
-  globals_take serial o names es' q' st near grows found = record {
-    stands = st;
-    near = near;
-    found = λ i m r l root there. dite (dec_lt i n) (λ less. found_kept grows r (g.found i m r less root there)) (λ not.
-        let same : o ≡ r =
-        let z = sym names ∙ (is ∙ (ap (λ j. slice_index_or d.slots.items j (slot.Free 0))
-        (let e : n ≡ i = omega arith in e) ∙ root)) in cc in
-        subst (IsEntered es') same (found (subst (IsInDump d x) (sym same) there)));
-  }
 
 -- the objects of the local references of the first n places are found, since there was this
 pub record LocalsTo (d : Dump) (x n : ℕ) (old : List (Option Entry)) (before : List ℕ) (es : List (Option Entry))
@@ -55,15 +25,6 @@ pub record LocalsTo (d : Dump) (x n : ℕ) (old : List (Option Entry)) (before :
   pub near : AreWithin 0 es
   pub grows : Grows old before es q
   pub found : (t p o : ℕ) → t * d.places + p < n → IsRoot d (root.Local t p) o → IsInDump d x o → IsEntered es o
-
-pub locals_none : (d : Dump) (x : ℕ) (es : List (Option Entry)) (q : List ℕ) → IsSearching d x es q → AreWithin 0 es
-    → LocalsTo d x 0 es q es q
-locals_none d x es q st near = record {
-  stands = st;
-  near = near;
-  grows = grows_self es q;
-  found = λ t p o l is there. absurd (omega arith);
-}
 
 module _ {d : Dump} {x n : ℕ} {old : List (Option Entry)} {before : List ℕ} {es : List (Option Entry)} {q : List ℕ}
     (g : LocalsTo d x n old before es q) (parts : LocalParts)
@@ -92,15 +53,6 @@ module _ {d : Dump} {x n : ℕ} {old : List (Option Entry)} {before : List ℕ} 
         (let e : n ≡ t * d.places + p = omega arith in e) ∙ root.1)) in cc in
         subst (IsEntered es') same (found (subst (IsInDump d x) (sym same) there)));
   }
-
-  -- the reference of the place is a root
-  pub local_root : 1 ≤ d.places → (o : ℕ) → parts ≡ local.Object o
-      → IsRoot d (root.Local (n / d.places) (n % d.places)) o
-  local_root some o names = (
-    omega arith,
-    ap (λ j. slice_index_or d.locals.items j local.Free)
-        (let e : (n / d.places) * d.places + n % d.places ≡ n = omega arith in e) ∙ (sym is ∙ names),
-  )
 
 -- both kinds of roots
 pub roots_all : (d : Dump) (x : ℕ) (es : List (Option Entry)) → AreWithin 0 es

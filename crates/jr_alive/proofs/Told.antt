@@ -1,6 +1,6 @@
 -- What is alive in a dump is what the machine says is reached.
-use Rattle.std.proofs.Common.{◌≡◌, ◌≢◌, ◌↔◌, ◌≤◌, ◌<◌, ◌+◌, ◌-◌, ◌*◌, ◌||◌, ◌==◌, ℕ, zero, suc, Bool, true, false}
-use Rattle.std.proofs.Common.{if◌then◌else◌, Option, Some, None, IsSome, is_some, List, [], ◌∷◌, ◌++◌, length}
+use Rattle.std.proofs.Common.{◌≡◌, ◌↔◌, ◌≤◌, ◌<◌, ◌+◌, ◌-◌, ◌*◌, ◌||◌, ◌==◌, ℕ, zero, suc, false}
+use Rattle.std.proofs.Common.{if◌then◌else◌, Option, Some, None, is_some, List, [], ◌∷◌, ◌++◌, length}
 use Rattle.std.proofs.Common.{slice_index_or, slice_get, refl, sym, ap, subst, ◌∙◌, mul-le-mul_right, arith}
 use Rattle.std.proofs.lemmas.Bool.Decides.{nat_tests}
 use Rattle.std.proofs.lemmas.Option.{slice_get_within}
@@ -14,8 +14,8 @@ use Rattle.jr_word.specs.declared.local.LocalParts.{LocalParts}
 use Rattle.jr_word.specs.declared.local.LocalParts.TheVariants as local
 use Rattle.jr_word.specs.declared.slot.SlotParts.{SlotParts}
 use Rattle.jr_word.specs.declared.slot.SlotParts.TheVariants as slot
-use Rattle.jr_model.specs.declared.event.Found.TheVariants.{Object, Stale}
-use Rattle.jr_model.specs.State.{Contents, Handle, State, IsPresent, IsReached, from_global, from_local, from_element}
+use Rattle.jr_model.specs.declared.event.Found.TheVariants.{Object}
+use Rattle.jr_model.specs.State.{Contents, Handle, IsPresent, IsReached, from_global, from_local, from_element}
 use Rattle.jr_model.specs.History.{History, IsLegal, state}
 use Rattle.jr_model.proofs.InRoom.{in_room}
 use Rattle.jr_model.proofs.References.{kept_state}

@@ -1,14 +1,13 @@
 -- The path back from an object to its root.
-use Rattle.std.proofs.Common.{◌≡◌, ◌+◌, ℕ, Option, Some, None, is_some, List, [], ◌∷◌, ◌++◌, length, refl}
+use Rattle.std.proofs.Common.{◌≡◌, ◌+◌, ℕ, Option, Some, None, is_some, List, [], ◌∷◌, ◌++◌, length}
 use Rattle.std.proofs.Common.{sym, ap, subst, ◌∙◌, arith}
-use Rattle.std.proofs.lemmas.List.{reverse-append, length-reverse, length_push}
+use Rattle.std.proofs.lemmas.List.{reverse-append, length_push}
 use mathlib.Core.List.{reverse}
 use Rattle.jr_alive.specs.declared.dump.Dump.{Dump}
 use Rattle.jr_alive.specs.declared.paths.Edge.{Edge}
-use Rattle.jr_alive.specs.declared.search.Root.{Root}
 use Rattle.jr_alive.specs.declared.search.Entry.{Entry}
 use Rattle.jr_alive.specs.declared.search.Origin.TheVariants as origin
-use Rattle.jr_alive.specs.Graph.{IsShortest, IsAlive, IsPath, Lead}
+use Rattle.jr_alive.specs.Graph.{IsAlive, Lead}
 use Rattle.jr_alive.specs.Searching.{ComesFrom, IsSearched, IsEntered, depth_of, entry_at}
 use Rattle.jr_alive.proofs.Found.{depth_is, is_some_of}
 
@@ -17,9 +16,6 @@ pub record Walking (d : Dump) (x : ℕ) (es : List (Option Entry)) (o at : ℕ) 
   pub lead : Lead d x at (reverse edges) o
   pub long : length edges + depth_of es at ≡ depth_of es o
   pub found : IsEntered es o → IsEntered es at
-
-pub walk_begins : (d : Dump) (x : ℕ) (es : List (Option Entry)) (o : ℕ) → Walking d x es o o []
-walk_begins d x es o = record { lead = refl; long = omega arith; found = λ f. f }
 
 module _ (d : Dump) (x : ℕ) (es : List (Option Entry)) (o at : ℕ) (edges : List Edge) (done : IsSearched d x es)
     (w : Walking d x es o at edges) where
@@ -48,19 +44,3 @@ module _ (d : Dump) (x : ℕ) (es : List (Option Entry)) (o at : ℕ) (edges : L
         long = let l = length_push edges edge in let n = walk_nearer in let m = w.long in omega arith;
         found = λ f. let n = named in is_some_of (entry_at es a) n.0 n.1;
       }
-
-    -- a root names it
-    module _ (r : Root) (from : e.origin ≡ origin.Root r) where
-      rooted : ComesFrom d x es at e.depth (origin.Root r)
-      rooted = subst (λ z. ComesFrom d x es at e.depth z) from (done.sound at e is)
-
-      pub walk_ends : IsPath d x r at (reverse edges) o × IsShortest d x (reverse edges) o
-      walk_ends = (
-        record { root = rooted.0; there = rooted.1; lead = w.lead },
-        λ other first others path.
-            let near = (done.nearest other first others o path).1 in
-            let none = rooted.2 in
-            let k = depth_is es at e is in
-            let m = w.long in
-            let l = length-reverse edges in omega arith,
-      )

@@ -41,7 +41,9 @@ struct Drawing<'d> {
 }
 
 impl Dump {
-    /// Writes a drawing for Graphviz's `dot`: so many of the largest objects at the most, each with its kind and words, grey where nothing reaches it; the references that name them, and their elements that do. What is left out is counted in a note, and so are the words that were lost, of which a census tells. A global or weak reference has the word of its handle. A local one has it where its handle is handed in, since no dump has its serial.
+    /// Writes a drawing for Graphviz's `dot`: so many of the largest objects at the most, each with its kind and words, grey where nothing reaches it;
+    /// the references that name them, and their elements that do. What is left out is counted in a note, and so are the words that were lost, of which a census tells.
+    /// A global or weak reference has the word of its handle. A local one has it where its handle is handed in, since no dump has its serial.
     ///
     /// # Errors
     ///

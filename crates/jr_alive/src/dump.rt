@@ -121,7 +121,8 @@ impl Dump {
         })
     }
 
-    /// The number of the object that a handle named at the dump's step. None where its reference was deleted or cleared, or the word is no handle. A local handle is looked up by its thread and its place alone: no note has its serial.
+    /// The number of the object that a handle named at the dump's step. None where its reference was deleted or cleared, or the word is no handle.
+    /// A local handle is looked up by its thread and its place alone: no note has its serial.
     pub fn object_of(&self, handle: Handle) -> Option<u16>
         ensures named { (p : HandleParts) → IsHandle p → handle.0 ≡ handle_word p → result ≡ object_named self.now p }
         ensures none { ((p : HandleParts) → IsHandle p → handle.0 ≢ handle_word p) → result ≡ None }

@@ -27,7 +27,8 @@ impl Dump {
     ghost use Rattle.std.specs.Prelude.{IfOk, MatchOption};
     ghost use Rattle.jr_alive.specs.Graph.{IsShortest, IsAlive, IsPath};
 
-    /// A path from a root to an object, by its number, with as few edges as any: why the object is alive. None exactly where no global or local reference leads to it, through any object arrays. A weak reference keeps nothing alive.
+    /// A path from a root to an object, by its number, with as few edges as any: why the object is alive. None exactly where no global or local reference leads to it, through any object arrays.
+    /// A weak reference keeps nothing alive.
     ///
     /// # Errors
     ///

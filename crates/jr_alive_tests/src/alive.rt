@@ -1,4 +1,5 @@
 //! A dump of six objects, and what it says, worked out by hand.
+use assertions::assert_same;
 use jr_alive::{Dump, Path};
 use jr_word::{Handle, HeaderParts, Kind, LocalParts, SlotParts};
 use std::alloc::{AllocError, Global};
@@ -66,10 +67,10 @@ fn tells_paths(rt: &impl Abort, alloc: Global, dump: &Dump) -> Result<(), AllocE
     let (fourth, seventh) = (dump.path_to(alloc, 4)?, dump.path_to(alloc, 7)?);
     // serial 5, index 1, kind 2
     let global = Handle(17_179_869_206);
-    assert!(rt; told(&third) == Some((1, Some(global))));
-    assert!(rt; told(&sixth) == Some((1, None)));
-    assert!(rt; told(&fourth).is_none());
-    assert!(rt; told(&seventh).is_none());
+    assert_same!(rt; told(&third), Some((1, Some(global))));
+    assert_same!(rt; told(&sixth), Some((1, None)));
+    assert_same!(rt; told(&fourth), None);
+    assert_same!(rt; told(&seventh), None);
     Ok(())
 }
 
@@ -83,10 +84,10 @@ fn tells_retained(rt: &impl Abort, alloc: Global, dump: &Dump) -> Result<(), All
         dump.retained_words(alloc, 5)?,
         dump.retained_words(alloc, 4)?,
     );
-    assert!(rt; first == 9);
-    assert!(rt; second == 3);
-    assert!(rt; fifth == 2);
-    assert!(rt; fourth == 0);
+    assert_same!(rt; first, 9);
+    assert_same!(rt; second, 3);
+    assert_same!(rt; fifth, 2);
+    assert_same!(rt; fourth, 0);
     Ok(())
 }
 
@@ -95,23 +96,23 @@ fn tells_largest(rt: &impl Abort, alloc: Global, dump: &Dump) -> Result<(), Allo
     let largest = dump.largest(alloc, 1)?;
     let all = dump.largest(alloc, 100)?;
     let [first, second, third, ..] = dump.groups();
-    assert!(rt; largest.as_slice() == [4].as_slice());
-    assert!(rt; all.len() == 6);
-    assert!(rt; first.words == 7 && second.words == 7);
-    assert!(rt; first.count.checked_add(second.count) == Some(5));
-    assert!(rt; third.words == 6 && third.count == 1);
+    assert_same!(rt; largest.as_slice(), [4].as_slice());
+    assert_same!(rt; all.len(), 6);
+    assert_same!(rt; [first.words, second.words], [7, 7]);
+    assert_same!(rt; first.count.checked_add(second.count), Some(5));
+    assert_same!(rt; (third.words, third.count), (6, 1));
     Ok(())
 }
 
 /// A weak and a global reference are looked up with their serial, and a local one by its place.
 fn tells_objects(rt: &impl Abort, dump: &Dump) {
     // serial 7, index 0, kind 3; then serial 5, index 1, kind 2; then another serial; then owner 1, index 1, kind 1, and owner 0; and NULL
-    assert!(rt; dump.object_of(Handle(31)) == Some(4));
-    assert!(rt; dump.object_of(Handle(17_179_869_206)) == Some(1));
-    assert!(rt; dump.object_of(Handle(17_179_869_202)).is_none());
-    assert!(rt; dump.object_of(Handle(1_125_917_086_711_809)) == Some(5));
-    assert!(rt; dump.object_of(Handle(17_179_869_185)).is_none());
-    assert!(rt; dump.object_of(Handle::NULL).is_none());
+    assert_same!(rt; dump.object_of(Handle(31)), Some(4));
+    assert_same!(rt; dump.object_of(Handle(17_179_869_206)), Some(1));
+    assert_same!(rt; dump.object_of(Handle(17_179_869_202)), None);
+    assert_same!(rt; dump.object_of(Handle(1_125_917_086_711_809)), Some(5));
+    assert_same!(rt; dump.object_of(Handle(17_179_869_185)), None);
+    assert_same!(rt; dump.object_of(Handle::NULL), None);
 }
 
 /// All that is tried.

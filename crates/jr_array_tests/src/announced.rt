@@ -7,6 +7,7 @@ use crate::courses::{By, Shown, overtakes};
 use crate::envs::refuses;
 use crate::overtaken::{Before, Overtaken};
 use crate::plans::{Neighbour, PLANS, Plan};
+use assertions::assert_same;
 use jr_env::{Env, NativeInterface};
 use jr_model::Summary;
 use jr_rule::{Parts, StepsOver};
@@ -47,7 +48,7 @@ fn fill<S: Steps>(env: &mut Env<S>) -> Result<Handle, Fail>
 fn is_as_filled<S: Steps>(rt: &impl Abort, env: &mut Env<S>, weak: Handle)
     ensures { IsOutside env.new }
 {
-    assert!(rt; env.get_array_length(weak) == Ok(3));
+    assert_same!(rt; env.get_array_length(weak), Ok(3));
     refuses(rt, env.new_array::<i32>(1), Fault::SpaceFull(3));
 }
 
@@ -65,10 +66,11 @@ fn collects<S: Steps>(
     ensures room { FitsRoom marker.new env.new }
     ensures outside { IsOutside env.new }
 {
-    assert!(rt; env.collect_announced(marker, tries) == wanted);
+    assert_same!(rt; env.collect_announced(marker, tries), wanted);
 }
 
-/// Another thread came in, and then went out, between a look at the gate and an announcement: each time it is refused with what was looked at and what was found then, in however many tries, and nothing has changed. Once nobody comes in between the collection is made.
+/// Another thread came in, and then went out, between a look at the gate and an announcement:
+/// each time it is refused with what was looked at and what was found then, in however many tries, and nothing has changed. Once nobody comes in between the collection is made.
 pub(crate) fn is_moved<S: Steps>(
     rt: &impl Abort,
     alloc: Global,
@@ -81,7 +83,7 @@ pub(crate) fn is_moved<S: Steps>(
     let mut marker = Marker::new(alloc, env.held.steps.config())?;
     collects(rt, env, &mut marker, 1000, Err(Fault::Moved(1, 0)));
     collects(rt, env, &mut marker, 1, Ok(ALL));
-    assert!(rt; env.is_same_object(weak, Handle::NULL) == Ok(true));
+    assert_same!(rt; env.is_same_object(weak, Handle::NULL), Ok(true));
     Ok(())
 }
 

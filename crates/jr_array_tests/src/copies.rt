@@ -1,20 +1,26 @@
 //! Copies of elements and of units: words that are no array, and long ones, over plain words and over a room.
 
-use crate::cases::{Case, alone, in_a_room};
+use crate::cases::{EnvTest, alone, in_a_room};
 use crate::envs::{TWO, has_elements, refuses};
 use crate::parts::no_arrays_of_chars;
+use assertions::assert_same;
 use jr_elements::{Elements, discard_left, elements_of};
 use jr_env::{Env, NativeInterface};
 use jr_model::Mode;
 use jr_steps::Steps;
 use jr_word::{Config, Elem, Fault, Handle};
 use std::alloc::Global;
+use std::fmt::Debug;
 use std::process::Abort;
 use std::test::Fail;
 
 /// Checks that copied elements are these.
-pub(crate) fn are<E: Elem + PartialEq>(rt: &impl Abort, elements: &Elements<E>, wanted: &[E]) {
-    assert!(rt; elements.as_slice() == wanted);
+pub(crate) fn are<E: Elem + PartialEq + Debug>(
+    rt: &impl Abort,
+    elements: &Elements<E>,
+    wanted: &[E],
+) {
+    assert_same!(rt; elements.as_slice(), wanted);
 }
 
 /// Checks that a release was not refused, and kept no elements.
@@ -44,21 +50,22 @@ fn is_no_such_array<S: Steps>(
 }
 
 /// None of these words names such an array.
-pub(crate) fn have_no_copies<S: Steps>(
-    rt: &impl Abort,
-    env: &mut Env<S>,
-    alloc: Global,
-) -> Result<(), Fail> {
-    let rows = no_arrays_of_chars(env)?;
-    for (word, fault) in rows {
-        is_no_such_array(rt, env, alloc, word, fault)?;
+#[derive(Drop)]
+struct HaveNoCopies;
+
+impl EnvTest for HaveNoCopies {
+    fn run<S: Steps, R: Abort>(self, rt: &R, alloc: Global, env: &mut Env<S>) -> Result<(), Fail> {
+        let rows = no_arrays_of_chars(env)?;
+        for (word, fault) in rows {
+            is_no_such_array(rt, env, alloc, word, fault)?;
+        }
+        Ok(())
     }
-    Ok(())
 }
 
 #[test]
-fn what_is_no_array_of_the_kind(rt: HostRuntime) -> Result<(), Fail> {
-    alone(&rt, rt.alloc(), TWO, Case::HaveNoCopies)
+fn nothing_is_copied_of_what_is_no_array_of_the_kind(rt: HostRuntime) -> Result<(), Fail> {
+    alone(&rt, rt.alloc(), TWO, HaveNoCopies)
 }
 
 /// The elements that a commit keeps.
@@ -74,54 +81,56 @@ fn committed<E: Elem>(
 }
 
 /// The elements of one array are written to another, by a commit and then by a copy, which keeps none.
-pub(crate) fn goes_to_another<S: Steps>(
-    rt: &impl Abort,
-    env: &mut Env<S>,
-    alloc: Global,
-) -> Result<(), Fail> {
-    let array = env.new_array::<i64>(2)?;
-    env.set_array_region(array, 0, &[10i64, -20])?;
-    let other = env.new_array::<i64>(2)?;
-    let mut elements = env.get_array_elements::<i64>(alloc, array)?;
-    assert!(rt; elements.set(0, i64::MIN).is_ok());
-    let elements = committed(
-        rt,
-        env.release_array_elements(other, elements, Mode::Commit),
-    );
-    let written = has_elements(rt, env, other, 0, &mut [7i64; 2], &[i64::MIN, -20]);
-    keeps_none(rt, env.release_array_elements(array, elements, Mode::Copy));
-    written?;
-    has_elements(rt, env, array, 0, &mut [7i64; 2], &[i64::MIN, -20])
+#[derive(Drop)]
+struct GoesToAnother;
+
+impl EnvTest for GoesToAnother {
+    fn run<S: Steps, R: Abort>(self, rt: &R, alloc: Global, env: &mut Env<S>) -> Result<(), Fail> {
+        let array = env.new_array::<i64>(2)?;
+        env.set_array_region(array, 0, &[10i64, -20])?;
+        let other = env.new_array::<i64>(2)?;
+        let mut elements = env.get_array_elements::<i64>(alloc, array)?;
+        assert_same!(rt; elements.set(0, i64::MIN), Ok(()));
+        let elements = committed(
+            rt,
+            env.release_array_elements(other, elements, Mode::Commit),
+        );
+        let written = has_elements(rt, env, other, 0, &mut [7i64; 2], &[i64::MIN, -20]);
+        keeps_none(rt, env.release_array_elements(array, elements, Mode::Copy));
+        written?;
+        has_elements(rt, env, array, 0, &mut [7i64; 2], &[i64::MIN, -20])
+    }
 }
 
 #[test]
-fn elements_of_one_array_for_another(rt: HostRuntime) -> Result<(), Fail> {
-    alone(&rt, rt.alloc(), TWO, Case::GoesToAnother)
+fn elements_of_one_array_are_released_to_another(rt: HostRuntime) -> Result<(), Fail> {
+    alone(&rt, rt.alloc(), TWO, GoesToAnother)
 }
 
 /// An array has nothing of what was written to a copy that is discarded, nor to one whose release was refused.
-pub(crate) fn is_discarded<S: Steps>(
-    rt: &impl Abort,
-    env: &mut Env<S>,
-    alloc: Global,
-) -> Result<(), Fail> {
-    let array = env.new_array::<i64>(2)?;
-    env.set_array_region(array, 0, &[10i64, -20])?;
-    let mut elements = env.get_array_elements::<i64>(alloc, array)?;
-    assert!(rt; elements.set(0, i64::MIN).is_ok());
-    elements.discard();
-    let longer = env.new_array::<i64>(3)?;
-    let mut elements = env.get_array_elements::<i64>(alloc, array)?;
-    assert!(rt; elements.set(1, i64::MAX).is_ok());
-    let released = discard_left(env.release_array_elements(longer, elements, Mode::Copy));
-    assert!(rt; released == Err(Fault::Range));
-    has_elements(rt, env, longer, 0, &mut [7i64; 3], &[0; 3])?;
-    has_elements(rt, env, array, 0, &mut [7i64; 2], &[10, -20])
+#[derive(Drop)]
+struct IsDiscarded;
+
+impl EnvTest for IsDiscarded {
+    fn run<S: Steps, R: Abort>(self, rt: &R, alloc: Global, env: &mut Env<S>) -> Result<(), Fail> {
+        let array = env.new_array::<i64>(2)?;
+        env.set_array_region(array, 0, &[10i64, -20])?;
+        let mut elements = env.get_array_elements::<i64>(alloc, array)?;
+        assert_same!(rt; elements.set(0, i64::MIN), Ok(()));
+        elements.discard();
+        let longer = env.new_array::<i64>(3)?;
+        let mut elements = env.get_array_elements::<i64>(alloc, array)?;
+        assert_same!(rt; elements.set(1, i64::MAX), Ok(()));
+        let released = discard_left(env.release_array_elements(longer, elements, Mode::Copy));
+        assert_same!(rt; released, Err(Fault::Range));
+        has_elements(rt, env, longer, 0, &mut [7i64; 3], &[0; 3])?;
+        has_elements(rt, env, array, 0, &mut [7i64; 2], &[10, -20])
+    }
 }
 
 #[test]
-fn writes_to_a_discarded_copy(rt: HostRuntime) -> Result<(), Fail> {
-    alone(&rt, rt.alloc(), TWO, Case::IsDiscarded)
+fn what_is_written_to_a_discarded_copy_is_lost(rt: HostRuntime) -> Result<(), Fail> {
+    alone(&rt, rt.alloc(), TWO, IsDiscarded)
 }
 
 /// Units of which no two beside each other are alike, and none comes again within some thousands.
@@ -141,7 +150,7 @@ fn with_words(words: u32) -> Config {
 }
 
 /// All units of a string of so many are copied.
-pub(crate) fn copies_units<S: Steps>(
+fn copies_units<S: Steps>(
     rt: &impl Abort,
     alloc: Global,
     env: &mut Env<S>,
@@ -150,12 +159,12 @@ pub(crate) fn copies_units<S: Steps>(
     let units = long_units(alloc, count)?;
     let string = env.new_string(units.as_slice())?;
     let copied = env.get_string_chars(alloc, string)?;
-    assert!(rt; copied.as_slice() == units.as_slice());
+    assert_same!(rt; copied.as_slice(), units.as_slice());
     Ok(())
 }
 
 /// All elements of an array of so many are copied.
-pub(crate) fn copies_elements<S: Steps>(
+fn copies_elements<S: Steps>(
     rt: &impl Abort,
     alloc: Global,
     env: &mut Env<S>,
@@ -170,34 +179,53 @@ pub(crate) fn copies_elements<S: Steps>(
     Ok(())
 }
 
+/// All units of a string of so many are copied.
+#[derive(Drop)]
+struct Units(u32);
+
+impl EnvTest for Units {
+    fn run<S: Steps, R: Abort>(self, rt: &R, alloc: Global, env: &mut Env<S>) -> Result<(), Fail> {
+        copies_units(rt, alloc, env, self.0)
+    }
+}
+
+/// All elements of an array of so many are copied.
+#[derive(Drop)]
+struct ElementsOf(u32);
+
+impl EnvTest for ElementsOf {
+    fn run<S: Steps, R: Abort>(self, rt: &R, alloc: Global, env: &mut Env<S>) -> Result<(), Fail> {
+        copies_elements(rt, alloc, env, self.0)
+    }
+}
+
 /// All units of a string of so many are copied, and then all elements of an array of so many beside it.
-pub(crate) fn copies_both<S: Steps>(
-    rt: &impl Abort,
-    alloc: Global,
-    env: &mut Env<S>,
-    units: u32,
-    elements: u32,
-) -> Result<(), Fail> {
-    copies_units(rt, alloc, env, units)?;
-    copies_elements(rt, alloc, env, elements)
+#[derive(Drop)]
+struct UnitsAndElements(u32, u32);
+
+impl EnvTest for UnitsAndElements {
+    fn run<S: Steps, R: Abort>(self, rt: &R, alloc: Global, env: &mut Env<S>) -> Result<(), Fail> {
+        copies_units(rt, alloc, env, self.0)?;
+        copies_elements(rt, alloc, env, self.1)
+    }
 }
 
 // With ample memory a copy is made, however long it is: of a thousand, and of all words of the room.
 #[test]
-fn long_copies(rt: HostRuntime) -> Result<(), Fail> {
+fn a_copy_may_be_as_long_as_the_space(rt: HostRuntime) -> Result<(), Fail> {
     let alloc = rt.alloc();
     let most = Config::MOST_WORDS;
     for (words, count) in [(4_096, 1_000), (4_096, 4_096), (most, most)] {
-        alone(&rt, alloc, with_words(words), Case::Units(count))?;
-        alone(&rt, alloc, with_words(words), Case::Elements(count))?;
+        alone(&rt, alloc, with_words(words), Units(count))?;
+        alone(&rt, alloc, with_words(words), ElementsOf(count))?;
     }
     Ok(())
 }
 
 #[test]
-fn long_copies_in_a_room(rt: HostRuntime) -> Result<(), Fail> {
+fn a_copy_in_a_room_may_be_as_long_as_the_space(rt: HostRuntime) -> Result<(), Fail> {
     let alloc = rt.alloc();
-    let both = Case::UnitsAndElements(1_000, 4_096);
+    let both = UnitsAndElements(1_000, 4_096);
     in_a_room(&rt, alloc, with_words(5_096), both)?;
-    in_a_room(&rt, alloc, with_words(4_096), Case::Units(4_096))
+    in_a_room(&rt, alloc, with_words(4_096), Units(4_096))
 }

@@ -1,6 +1,7 @@
 //! Two threads that delete the same references: round by round, each time at once.
 
 use crate::side_by_side::{SideWork, both_do};
+use assertions::assert_same;
 use jr_env::{Env, NativeInterface};
 use jr_steps::Steps;
 use jr_word::{Config, Fault, Handle};
@@ -55,7 +56,7 @@ pub(crate) fn make_contested<S: Steps>(rt: &impl Abort, env: &mut Env<S>) -> Res
     let array = env.new_array::<i32>(4)?;
     for slot in 0..=ROUNDS {
         let made = env.new_global_ref(array)?;
-        assert!(rt; made == Some(reference(slot)));
+        assert_same!(rt; made, Some(reference(slot)); at slot);
     }
     Ok(())
 }

@@ -1,25 +1,28 @@
 //! Elements of arrays in a region as those of one type alone, and units of strings as chars.
 
 use crate::at_a_level::{has, is_deep, is_not_put, is_not_read, is_told};
-use crate::cases::{Case, alone};
+use crate::cases::{EnvTest, alone};
 use crate::envs::TWO;
+use assertions::assert_same;
 use jr_env::{Env, NativeInterface, Region};
 use jr_model::Mode;
 use jr_steps::Steps;
 use jr_word::{Elem, Fault, Kind};
+use std::alloc::Global;
+use std::fmt::Debug;
 use std::process::Abort;
 use std::test::Fail;
 
 /// Checks with what the element at an index is refused as one of a type, if it is, where it is read and where it is written.
-fn answers<S: Steps, E: Elem + PartialEq>(
+fn answers<S: Steps, E: Elem + PartialEq + Debug>(
     rt: &impl Abort,
     region: &mut Region<'_, S>,
     index: u32,
     value: E,
     wanted: Option<Fault>,
 ) {
-    assert!(rt; region.get::<E>(0, index).err() == wanted);
-    assert!(rt; region.set(0, index, value).err() == wanted);
+    assert_same!(rt; region.get::<E>(0, index).err(), wanted; at (E::KIND, index));
+    assert_same!(rt; region.set(0, index, value).err(), wanted; at (E::KIND, index));
 }
 
 /// The same as a boolean, a byte, a char, a short, an int and a long.
@@ -39,7 +42,7 @@ fn answers_each<S: Steps>(
 }
 
 /// The elements of a new array are those of one type, at each index below the length; past it none are, of whatever type, which is looked at before the index.
-fn has_one_type<S: Steps, E: Elem + PartialEq>(
+fn has_one_type<S: Steps, E: Elem + PartialEq + Debug>(
     rt: &impl Abort,
     env: &mut Env<S>,
     length: u32,
@@ -92,36 +95,46 @@ fn long_ones_are_of_one_type<S: Steps>(rt: &impl Abort, env: &mut Env<S>) -> Res
 }
 
 /// The elements of no array are of two types.
-pub(crate) fn are_of_one_type<S: Steps>(rt: &impl Abort, env: &mut Env<S>) -> Result<(), Fail> {
-    short_ones_are_of_one_type(rt, env)?;
-    long_ones_are_of_one_type(rt, env)
+#[derive(Drop)]
+struct AreOfOneType;
+
+impl EnvTest for AreOfOneType {
+    fn run<S: Steps, R: Abort>(self, rt: &R, _alloc: Global, env: &mut Env<S>) -> Result<(), Fail> {
+        short_ones_are_of_one_type(rt, env)?;
+        long_ones_are_of_one_type(rt, env)
+    }
 }
 
 #[test]
-fn elements_of_another_type_and_past_the_length(rt: HostRuntime) -> Result<(), Fail> {
-    alone(&rt, rt.alloc(), TWO, Case::AreOfOneType)
+fn elements_are_of_one_type_and_end_at_the_length(rt: HostRuntime) -> Result<(), Fail> {
+    alone(&rt, rt.alloc(), TWO, AreOfOneType)
 }
 
 /// The units of a string are read as chars alone, and the type is looked at before the index; none is written, of whatever type.
-pub(crate) fn has_units<S: Steps>(rt: &impl Abort, env: &mut Env<S>) -> Result<(), Fail> {
-    let string = env.new_string(&[104, 65_535])?;
-    let mut region = env.get_string_critical(string)?;
-    is_deep(rt, &region, 1);
-    is_told(rt, &region, 0, Kind::Text, 2);
-    has(rt, &mut region, 0, 1, 65_535u16);
-    is_not_read::<_, u16>(rt, &mut region, 0, u32::MAX, Fault::Range);
-    is_not_read::<_, i16>(rt, &mut region, 0, 0, Fault::WrongElement);
-    is_not_read::<_, i64>(rt, &mut region, 0, 2, Fault::WrongElement);
-    is_not_put(rt, &mut region, 0, 0, 105u16, Fault::NotArray);
-    is_not_put(rt, &mut region, 0, 0, true, Fault::NotArray);
-    match region.release(Mode::Copy) {
-        None => {}
-        Some(_) => panic!(rt; "a level is left"),
+#[derive(Drop)]
+struct HasUnits;
+
+impl EnvTest for HasUnits {
+    fn run<S: Steps, R: Abort>(self, rt: &R, _alloc: Global, env: &mut Env<S>) -> Result<(), Fail> {
+        let string = env.new_string(&[104, 65_535])?;
+        let mut region = env.get_string_critical(string)?;
+        is_deep(rt, &region, 1);
+        is_told(rt, &region, 0, Kind::Text, 2);
+        has(rt, &mut region, 0, 1, 65_535u16);
+        is_not_read::<_, u16>(rt, &mut region, 0, u32::MAX, Fault::Range);
+        is_not_read::<_, i16>(rt, &mut region, 0, 0, Fault::WrongElement);
+        is_not_read::<_, i64>(rt, &mut region, 0, 2, Fault::WrongElement);
+        is_not_put(rt, &mut region, 0, 0, 105u16, Fault::NotArray);
+        is_not_put(rt, &mut region, 0, 0, true, Fault::NotArray);
+        match region.release(Mode::Copy) {
+            None => {}
+            Some(_) => panic!(rt; "a level is left"),
+        }
+        Ok(())
     }
-    Ok(())
 }
 
 #[test]
-fn units_of_another_type(rt: HostRuntime) -> Result<(), Fail> {
-    alone(&rt, rt.alloc(), TWO, Case::HasUnits)
+fn units_are_read_as_chars_alone(rt: HostRuntime) -> Result<(), Fail> {
+    alone(&rt, rt.alloc(), TWO, HasUnits)
 }

@@ -1,43 +1,45 @@
 use crate::copies::are;
+use assertions::assert_same;
 use jr_elements::{Elements, discard_left, elements_of};
 use jr_model::Mode;
 use jr_word::{Elem, Fault};
+use std::fmt::Debug;
 use std::process::Abort;
 use std::test::Fail;
 
 /// Nothing is at the index or behind it: an element is neither given nor set.
-fn ends_at<E: Elem + PartialEq>(
+fn ends_at<E: Elem + PartialEq + Debug>(
     rt: &impl Abort,
     elements: &mut Elements<E>,
     index: u32,
     value: E,
     wanted: &[E],
 ) {
-    assert!(rt; elements.get(index) == Err(Fault::Range));
-    assert!(rt; elements.set(index, value) == Err(Fault::Range));
+    assert_same!(rt; elements.get(index), Err(Fault::Range); at index);
+    assert_same!(rt; elements.set(index, value), Err(Fault::Range); at index);
     are(rt, elements, wanted);
 }
 
 /// Checks how many elements were copied.
 fn are_copies<E: Elem>(rt: &impl Abort, elements: &Elements<E>, length: u32) {
-    assert!(rt; elements.length() == length);
+    assert_same!(rt; elements.length(), length);
     assert!(rt; elements.is_copy());
 }
 
 /// Checks what an element is.
 fn has(rt: &impl Abort, elements: &Elements<i32>, index: u32, wanted: i32) {
-    assert!(rt; elements.get(index) == Ok(wanted));
+    assert_same!(rt; elements.get(index), Ok(wanted); at index);
 }
 
 #[test]
-fn elements_within_and_past_the_end(rt: HostRuntime) -> Result<(), Fail> {
+fn copied_elements_end_at_their_length(rt: HostRuntime) -> Result<(), Fail> {
     let items = Vec::from_slice(rt.alloc(), &[10i32, -20, 30])?;
     let mut elements = elements_of(items);
     are_copies(&rt, &elements, 3);
     has(&rt, &elements, 0, 10);
     has(&rt, &elements, 2, 30);
-    assert!(rt; elements.set(0, i32::MIN).is_ok());
-    assert!(rt; elements.set(2, i32::MAX).is_ok());
+    assert_same!(&rt; elements.set(0, i32::MIN), Ok(()));
+    assert_same!(&rt; elements.set(2, i32::MAX), Ok(()));
     let wanted = [i32::MIN, -20, i32::MAX];
     are(&rt, &elements, &wanted);
     ends_at(&rt, &mut elements, 3, 7, &wanted);
@@ -57,17 +59,17 @@ fn elements_are_written_as_a_slice(rt: HostRuntime) -> Result<(), Fail> {
 }
 
 #[test]
-fn modes_by_their_numbers(rt: HostRuntime) {
-    assert!(rt; Mode::of_code(0) == Some(Mode::Copy));
-    assert!(rt; Mode::of_code(1) == Some(Mode::Commit));
-    assert!(rt; Mode::of_code(2) == Some(Mode::Abort));
+fn modes_have_the_numbers_of_jni(rt: HostRuntime) {
+    assert_same!(&rt; Mode::of_code(0), Some(Mode::Copy));
+    assert_same!(&rt; Mode::of_code(1), Some(Mode::Commit));
+    assert_same!(&rt; Mode::of_code(2), Some(Mode::Abort));
     for code in [-1, 3, i32::MIN, i32::MAX] {
-        assert!(rt; Mode::of_code(code).is_none(), "{code}");
+        assert_same!(&rt; Mode::of_code(code), None; at code);
     }
 }
 
 #[test]
-fn no_elements(rt: HostRuntime) -> Result<(), Fail> {
+fn an_empty_copy_has_no_element(rt: HostRuntime) -> Result<(), Fail> {
     let mut elements = elements_of(Vec::<bool>::new(rt.alloc()));
     are_copies(&rt, &elements, 0);
     ends_at(&rt, &mut elements, 0, true, &[]);
@@ -100,9 +102,9 @@ fn a_commit_alone_keeps_the_elements(rt: HostRuntime) -> Result<(), Fail> {
 #[test]
 fn what_a_release_left_is_discarded(rt: HostRuntime) -> Result<(), Fail> {
     let elements = elements_of(Vec::from_slice(rt.alloc(), &[7u16, 65_535])?);
-    assert!(rt; discard_left(Ok(Some(elements))) == Ok(()));
-    assert!(rt; discard_left::<u16>(Ok(None)) == Ok(()));
+    assert_same!(&rt; discard_left(Ok(Some(elements))), Ok(()));
+    assert_same!(&rt; discard_left::<u16>(Ok(None)), Ok(()));
     let elements = elements_of(Vec::from_slice(rt.alloc(), &[7u16])?);
-    assert!(rt; discard_left(Err((elements, Fault::Barred))) == Err(Fault::Barred));
+    assert_same!(&rt; discard_left(Err((elements, Fault::Barred))), Err(Fault::Barred));
     Ok(())
 }

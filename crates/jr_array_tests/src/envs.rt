@@ -3,12 +3,14 @@ ghost use Rattle.std.specs.Prelude.{◌≡◌, All};
 ghost use Rattle.jr_model.specs.declared.event.Role.TheVariants.{Outside};
 ghost use Rattle.jr_rule.specs.Passes.{IsOpened};
 
+use assertions::assert_same;
 use jr_env::{Env, NativeInterface};
 use jr_fixtures::{LAST, closed, next_pass};
 use jr_model::Summary;
 use jr_rule::{Pass, Room};
 use jr_steps::{Role, Steps};
 use jr_word::{Config, Elem, Fault, Handle};
+use std::fmt::Debug;
 use std::process::Abort;
 use std::test::Fail;
 
@@ -46,30 +48,30 @@ pub(crate) fn leaves(rt: &impl Abort, room: Room<LAST>, passes: Vec<Pass>, wante
         Ok(pass) => closed(room, pass),
         Err(_) => None,
     };
-    assert!(rt; left == Some(wanted));
+    assert_same!(rt; left, Some(wanted));
 }
 
 /// Checks that a call was refused so.
 pub(crate) fn refuses<A>(rt: &impl Abort, answer: Result<A, Fault>, fault: Fault) {
     match answer {
-        Ok(_) => panic!(rt; "a call is not refused"),
-        Err(refusal) => assert!(rt; refusal == fault),
+        Ok(_) => panic!(rt; "wanted {fault:?}, and a call is not refused"),
+        Err(refusal) => assert_same!(rt; refusal, fault),
     }
 }
 
 /// Checks that the thread is outside the gate, and that its calls are made.
 pub(crate) fn is_outside<S: Steps>(rt: &impl Abort, env: &mut Env<S>) {
-    assert!(rt; env.held.steps.role() == Role::Outside);
-    assert!(rt; env.get_object_ref_type(Handle::NULL) == Ok(0));
+    assert_same!(rt; env.held.steps.role(), Role::Outside);
+    assert_same!(rt; env.get_object_ref_type(Handle::NULL), Ok(0));
 }
 
 /// Checks that elements are the same.
-pub(crate) fn are_alike<E: Elem + PartialEq>(rt: &impl Abort, found: &[E], wanted: &[E]) {
-    assert!(rt; found == wanted);
+pub(crate) fn are_alike<E: Elem + PartialEq + Debug>(rt: &impl Abort, found: &[E], wanted: &[E]) {
+    assert_same!(rt; found, wanted);
 }
 
 /// The array has these elements from an index on.
-pub(crate) fn has_elements<S: Steps, E: Elem + PartialEq>(
+pub(crate) fn has_elements<S: Steps, E: Elem + PartialEq + Debug>(
     rt: &impl Abort,
     env: &mut Env<S>,
     array: Handle,

@@ -4,12 +4,14 @@ use crate::at_a_level::{
     give_up, has, is_deep, is_missing, is_not_put, is_not_read, is_told, nests_array, nests_string,
     put,
 };
-use crate::cases::{Case, alone, in_a_room};
+use crate::cases::{EnvTest, alone, in_a_room};
 use crate::envs::{ONES, TWO, has_elements, is_outside};
+use assertions::assert_same;
 use jr_env::{Env, NativeInterface, Region, Stay};
 use jr_model::Mode;
 use jr_steps::Steps;
 use jr_word::{Fault, Handle, Kind};
+use std::alloc::Global;
 use std::process::Abort;
 use std::test::Fail;
 
@@ -39,7 +41,7 @@ fn not_opened<'e, S: Steps>(
     match stay.get_array_critical(word) {
         Ok(_) => panic!(rt; "a region is opened"),
         Err((stay, fault)) => {
-            assert!(rt; fault == wanted);
+            assert_same!(rt; fault, wanted);
             stay
         }
     }
@@ -55,7 +57,7 @@ fn not_opened_text<'e, S: Steps>(
     match stay.get_string_critical(word) {
         Ok(_) => panic!(rt; "a region is opened"),
         Err((stay, fault)) => {
-            assert!(rt; fault == wanted);
+            assert_same!(rt; fault, wanted);
             stay
         }
     }
@@ -63,7 +65,7 @@ fn not_opened_text<'e, S: Steps>(
 
 /// Checks the length of an array in a stay.
 fn has_length<S: Steps>(rt: &impl Abort, stay: &mut Stay<'_, S>, array: Handle, wanted: u32) {
-    assert!(rt; stay.get_array_length(array) == Ok(wanted));
+    assert_same!(rt; stay.get_array_length(array), Ok(wanted));
 }
 
 /// Reads and writes elements of an array of three at the first level, and of a string at a second one.
@@ -122,21 +124,26 @@ fn ends<S: Steps>(rt: &impl Abort, env: &mut Env<S>, array: Handle) -> Result<()
 }
 
 /// A region in a stay has levels as any other; the stay goes on behind it, or ends with it.
-pub(crate) fn has_levels<S: Steps>(rt: &impl Abort, env: &mut Env<S>) -> Result<(), Fail> {
-    let array = env.new_array::<i32>(3)?;
-    let text = env.new_string(&[104, 105])?;
-    goes_on(rt, env, array, text)?;
-    is_outside(rt, env);
-    ends(rt, env, array)?;
-    has_elements(rt, env, array, 0, &mut [7; 3], &[10, 0, 30])
+#[derive(Drop)]
+struct HasLevels;
+
+impl EnvTest for HasLevels {
+    fn run<S: Steps, R: Abort>(self, rt: &R, _alloc: Global, env: &mut Env<S>) -> Result<(), Fail> {
+        let array = env.new_array::<i32>(3)?;
+        let text = env.new_string(&[104, 105])?;
+        goes_on(rt, env, array, text)?;
+        is_outside(rt, env);
+        ends(rt, env, array)?;
+        has_elements(rt, env, array, 0, &mut [7; 3], &[10, 0, 30])
+    }
 }
 
 #[test]
 fn a_stay_goes_on_behind_its_levels(rt: HostRuntime) -> Result<(), Fail> {
-    alone(&rt, rt.alloc(), TWO, Case::HasLevels)
+    alone(&rt, rt.alloc(), TWO, HasLevels)
 }
 
 #[test]
 fn a_stay_goes_on_behind_its_levels_in_a_room(rt: HostRuntime) -> Result<(), Fail> {
-    in_a_room(&rt, rt.alloc(), TWO, Case::HasLevels)
+    in_a_room(&rt, rt.alloc(), TWO, HasLevels)
 }

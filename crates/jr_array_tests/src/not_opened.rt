@@ -1,5 +1,6 @@
 //! Regions that are not opened.
 
+use assertions::assert_same;
 use jr_env::Env;
 use jr_model::Mode;
 use jr_steps::Steps;
@@ -41,7 +42,7 @@ pub(crate) fn opens_array<S: Steps>(
     word: Handle,
     wanted: Option<Fault>,
 ) {
-    assert!(rt; array_refused(rt, env, word) == wanted);
+    assert_same!(rt; array_refused(rt, env, word), wanted);
 }
 
 /// The same of a region over a string.
@@ -51,5 +52,5 @@ pub(crate) fn opens_string<S: Steps>(
     word: Handle,
     wanted: Option<Fault>,
 ) {
-    assert!(rt; string_refused(rt, env, word) == wanted);
+    assert_same!(rt; string_refused(rt, env, word), wanted);
 }

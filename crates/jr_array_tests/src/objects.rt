@@ -1,10 +1,12 @@
 //! The kind of each object.
 
-use crate::cases::{Case, alone};
+use crate::cases::{EnvTest, alone};
 use crate::envs::TWO;
+use assertions::assert_same;
 use jr_env::{Env, NativeInterface};
 use jr_steps::Steps;
 use jr_word::{Handle, Kind};
+use std::alloc::Global;
 use std::process::Abort;
 use std::test::Fail;
 
@@ -19,20 +21,25 @@ pub(crate) fn one_of_each<S: Steps>(env: &mut Env<S>) -> Result<[Handle; 4], Fai
 
 /// Checks the kind of an object.
 fn has_kind<S: Steps>(rt: &impl Abort, env: &mut Env<S>, word: Handle, kind: Kind) {
-    assert!(rt; env.kind_of(word) == Ok(kind));
+    assert_same!(rt; env.kind_of(word), Ok(kind); at word);
 }
 
 /// The kind of each of these.
-pub(crate) fn have_kinds<S: Steps>(rt: &impl Abort, env: &mut Env<S>) -> Result<(), Fail> {
-    let [plain, string, shorts, objects] = one_of_each(env)?;
-    has_kind(rt, env, plain, Kind::Plain);
-    has_kind(rt, env, string, Kind::Text);
-    has_kind(rt, env, shorts, Kind::Short);
-    has_kind(rt, env, objects, Kind::Objects);
-    Ok(())
+#[derive(Drop)]
+struct HaveKinds;
+
+impl EnvTest for HaveKinds {
+    fn run<S: Steps, R: Abort>(self, rt: &R, _alloc: Global, env: &mut Env<S>) -> Result<(), Fail> {
+        let [plain, string, shorts, objects] = one_of_each(env)?;
+        has_kind(rt, env, plain, Kind::Plain);
+        has_kind(rt, env, string, Kind::Text);
+        has_kind(rt, env, shorts, Kind::Short);
+        has_kind(rt, env, objects, Kind::Objects);
+        Ok(())
+    }
 }
 
 #[test]
-fn kinds_of_objects(rt: HostRuntime) -> Result<(), Fail> {
-    alone(&rt, rt.alloc(), TWO, Case::HaveKinds)
+fn each_object_has_its_kind(rt: HostRuntime) -> Result<(), Fail> {
+    alone(&rt, rt.alloc(), TWO, HaveKinds)
 }

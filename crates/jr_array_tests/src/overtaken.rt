@@ -4,6 +4,7 @@ ghost use Rattle.std.specs.Prelude.{◌≡◌};
 use crate::courses::{By, Shown, overtakes};
 use crate::envs::refuses;
 use crate::plans::Planned;
+use assertions::assert_same;
 use jr_env::{Env, NativeInterface};
 use jr_model::Summary;
 use jr_rule::{Cells, Parts, StepKind, StepsOver};
@@ -208,8 +209,8 @@ pub(crate) fn is_overtaken<S: Steps>(rt: &impl Abort, env: &mut Env<S>) -> Resul
         env.new_object_array(3, Handle::NULL),
         Fault::Raced(5, 8),
     );
-    assert!(rt; env.held.steps.thread() == 1);
-    assert!(rt; env.get_object_ref_type(FIRST) == Ok(0));
+    assert_same!(rt; env.held.steps.thread(), 1);
+    assert_same!(rt; env.get_object_ref_type(FIRST), Ok(0));
     Ok(())
 }
 

@@ -1,18 +1,20 @@
 //! Regions of several elements and of none, through the calls that copy them out and in, over plain words, and long ones over a room too.
 
-use crate::cases::{Case, alone, in_a_room};
+use crate::cases::{EnvTest, alone, in_a_room};
 use crate::envs::{FOREIGN, ONES, TWO, has_elements, refuses};
 use crate::objects::one_of_each;
+use assertions::assert_same;
 use jr_env::{Env, NativeInterface};
 use jr_steps::Steps;
 use jr_word::{Config, Fault, Handle};
+use std::alloc::Global;
 use std::process::Abort;
 use std::test::Fail;
 
 /// Checks that each element is the one that stood there before.
-fn are_untouched(rt: &impl Abort, elements: &[i32]) {
+fn are_untouched(rt: &impl Abort, start: u32, elements: &[i32]) {
     for element in elements {
-        assert!(rt; *element == 7);
+        assert_same!(rt; *element, 7; at start);
     }
 }
 
@@ -29,7 +31,7 @@ fn lies_past<S: Steps>(
         env.get_array_region(array, start, elements),
         Fault::Range,
     );
-    are_untouched(rt, elements);
+    are_untouched(rt, start, elements);
     refuses(
         rt,
         env.set_array_region(array, start, elements),
@@ -48,22 +50,27 @@ fn ends_at_its_length<S: Steps>(rt: &impl Abort, env: &mut Env<S>, array: Handle
 }
 
 /// Regions of none, of one and of all elements are read and written, and none past the end.
-pub(crate) fn has_parts<S: Steps>(rt: &impl Abort, env: &mut Env<S>) -> Result<(), Fail> {
-    let array = env.new_array::<i32>(3)?;
-    refuses(rt, env.new_array::<i16>(u32::MAX), Fault::SpaceFull(3));
-    env.set_array_region(array, 0, &[10, 20, 30])?;
-    has_elements(rt, env, array, 0, &mut [7; 3], &[10, 20, 30])?;
-    has_elements(rt, env, array, 1, &mut [7], &[20])?;
-    has_elements::<_, i32>(rt, env, array, 3, &mut [], &[])?;
-    env.set_array_region(array, 2, &[-40])?;
-    env.set_array_region::<i32>(array, 3, &[])?;
-    ends_at_its_length(rt, env, array);
-    has_elements(rt, env, array, 0, &mut [7; 3], &[10, 20, -40])
+#[derive(Drop)]
+struct HasParts;
+
+impl EnvTest for HasParts {
+    fn run<S: Steps, R: Abort>(self, rt: &R, _alloc: Global, env: &mut Env<S>) -> Result<(), Fail> {
+        let array = env.new_array::<i32>(3)?;
+        refuses(rt, env.new_array::<i16>(u32::MAX), Fault::SpaceFull(3));
+        env.set_array_region(array, 0, &[10, 20, 30])?;
+        has_elements(rt, env, array, 0, &mut [7; 3], &[10, 20, 30])?;
+        has_elements(rt, env, array, 1, &mut [7], &[20])?;
+        has_elements::<_, i32>(rt, env, array, 3, &mut [], &[])?;
+        env.set_array_region(array, 2, &[-40])?;
+        env.set_array_region::<i32>(array, 3, &[])?;
+        ends_at_its_length(rt, env, array);
+        has_elements(rt, env, array, 0, &mut [7; 3], &[10, 20, -40])
+    }
 }
 
 #[test]
-fn parts_of_none_of_one_of_all_and_past_the_end(rt: HostRuntime) -> Result<(), Fail> {
-    alone(&rt, rt.alloc(), TWO, Case::HasParts)
+fn parts_end_at_the_length(rt: HostRuntime) -> Result<(), Fail> {
+    alone(&rt, rt.alloc(), TWO, HasParts)
 }
 
 /// Two threads, and words for an array of 4,096 elements.
@@ -73,28 +80,33 @@ const LONG: Config = Config {
 };
 
 /// The elements of a long array are read as they were written: all, all but the first, and thirteen from the sixth on.
-pub(crate) fn a_long_part<S: Steps>(rt: &impl Abort, env: &mut Env<S>) -> Result<(), Fail> {
-    let array = env.new_array::<i64>(4_096)?;
-    let mut written = [0i64; 4_096];
-    let mut next = i64::MIN;
-    for element in &mut written {
-        *element = next;
-        next = next.wrapping_mul(3).wrapping_add(1);
+#[derive(Drop)]
+struct LongPart;
+
+impl EnvTest for LongPart {
+    fn run<S: Steps, R: Abort>(self, rt: &R, _alloc: Global, env: &mut Env<S>) -> Result<(), Fail> {
+        let array = env.new_array::<i64>(4_096)?;
+        let mut written = [0i64; 4_096];
+        let mut next = i64::MIN;
+        for element in &mut written {
+            *element = next;
+            next = next.wrapping_mul(3).wrapping_add(1);
+        }
+        env.set_array_region(array, 0, &written)?;
+        has_elements(rt, env, array, 0, &mut [0; 4_096], &written)?;
+        has_elements(rt, env, array, 1, &mut [0; 4_095], &written[1..])?;
+        has_elements(rt, env, array, 5, &mut [0; 13], &written[5..18])
     }
-    env.set_array_region(array, 0, &written)?;
-    has_elements(rt, env, array, 0, &mut [0; 4_096], &written)?;
-    has_elements(rt, env, array, 1, &mut [0; 4_095], &written[1..])?;
-    has_elements(rt, env, array, 5, &mut [0; 13], &written[5..18])
 }
 
 #[test]
-fn four_thousand_and_ninety_six_elements(rt: HostRuntime) -> Result<(), Fail> {
-    alone(&rt, rt.alloc(), LONG, Case::LongPart)
+fn a_long_part_is_read_as_written(rt: HostRuntime) -> Result<(), Fail> {
+    alone(&rt, rt.alloc(), LONG, LongPart)
 }
 
 #[test]
-fn four_thousand_and_ninety_six_elements_in_a_room(rt: HostRuntime) -> Result<(), Fail> {
-    in_a_room(&rt, rt.alloc(), LONG, Case::LongPart)
+fn a_long_part_in_a_room_is_read_as_written(rt: HostRuntime) -> Result<(), Fail> {
+    in_a_room(&rt, rt.alloc(), LONG, LongPart)
 }
 
 /// Words that name no array of chars, each with its refusal: a string is none, whose units are chars, and neither is an array of shorts.
@@ -125,22 +137,27 @@ fn is_no_such_array<S: Steps>(
     let mut elements = [65_535u16, 7];
     let answer = env.get_array_region(word, start, &mut elements);
     refuses(rt, answer, fault);
-    assert!(rt; elements == [65_535, 7]);
+    assert_same!(rt; elements, [65_535, 7]; at (word, start));
     let answer = env.set_array_region(word, start, &elements);
     refuses(rt, answer, fault);
 }
 
 /// None of these words names such an array. The kind is looked at before the length.
-pub(crate) fn have_no_parts<S: Steps>(rt: &impl Abort, env: &mut Env<S>) -> Result<(), Fail> {
-    let rows = no_arrays_of_chars(env)?;
-    for (word, fault) in rows {
-        is_no_such_array(rt, env, word, 0, fault);
-        is_no_such_array(rt, env, word, 3, fault);
+#[derive(Drop)]
+struct HaveNoParts;
+
+impl EnvTest for HaveNoParts {
+    fn run<S: Steps, R: Abort>(self, rt: &R, _alloc: Global, env: &mut Env<S>) -> Result<(), Fail> {
+        let rows = no_arrays_of_chars(env)?;
+        for (word, fault) in rows {
+            is_no_such_array(rt, env, word, 0, fault);
+            is_no_such_array(rt, env, word, 3, fault);
+        }
+        Ok(())
     }
-    Ok(())
 }
 
 #[test]
-fn what_is_no_array_of_the_kind(rt: HostRuntime) -> Result<(), Fail> {
-    alone(&rt, rt.alloc(), TWO, Case::HaveNoParts)
+fn no_part_is_read_or_written_of_what_is_no_array_of_the_kind(rt: HostRuntime) -> Result<(), Fail> {
+    alone(&rt, rt.alloc(), TWO, HaveNoParts)
 }

@@ -6,6 +6,7 @@ ghost use Rattle.jr_gate.specs.Stays.{IsOwnAnnouncement};
 use crate::at_a_level::{give_up, has, nests_array, put};
 use crate::envs::{ONES, TWO, env_of, has_elements};
 use crate::not_opened::{opens_array, opens_string};
+use assertions::assert_same;
 use jr_env::{Env, NativeInterface};
 use jr_fixtures::{LAST, NoPass, next_steps};
 use jr_gate::{Announced, announce, shut_gate};
@@ -30,7 +31,7 @@ fn is_barred<S: Steps>(rt: &impl Abort, env: &mut Env<S>, other: &mut S) -> Resu
     opens_array(rt, env, array, Some(Fault::Barred));
     opens_string(rt, env, string, Some(Fault::Barred));
     opens_array(rt, env, ONES, Some(Fault::Barred));
-    assert!(rt; env.held.steps.role() == Role::Outside);
+    assert_same!(rt; env.held.steps.role(), Role::Outside);
     collection.reopen(other);
     opens_array(rt, env, array, None);
     opens_string(rt, env, string, None);
@@ -50,13 +51,14 @@ fn is_kept_waiting<S: Steps>(rt: &impl Abort, steps: &mut S, announced: Announce
     match announced.shut(steps) {
         Ok(_) => panic!(rt; "a region stands"),
         Err((announced, fault)) => {
-            assert!(rt; fault == Fault::Busy(1));
+            assert_same!(rt; fault, Fault::Busy(1));
             announced
         }
     }
 }
 
-/// A region that stands goes on once another thread has announced that it will shut the gate: a level is added, and elements are read and written at both. The gate is not shut before the region has ended, and no other region is opened before it is open again.
+/// A region that stands goes on once another thread has announced that it will shut the gate: a level is added, and elements are read and written at both.
+/// The gate is not shut before the region has ended, and no other region is opened before it is open again.
 fn goes_on_while_announced<S: Steps>(
     rt: &impl Abort,
     env: &mut Env<S>,

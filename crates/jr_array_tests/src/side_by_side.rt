@@ -2,6 +2,7 @@
 use crate::deletion_threads::{Side, delete_beside, make_contested};
 use crate::envs::leaves;
 use crate::overtaken::FIRST;
+use assertions::assert_same;
 use jr_env::{Env, NativeInterface, Patience};
 use jr_fixtures::{LAST, NoPass, next_env};
 use jr_gate::shut_gate;
@@ -130,7 +131,7 @@ impl SideWork {
         match self {
             SideWork::Write => {
                 let array = env.new_array::<i64>(2)?;
-                assert!(rt; array == FIRST);
+                assert_same!(rt; array, FIRST);
                 Ok(())
             }
             SideWork::Delete(Side::One) => make_contested(rt, env),

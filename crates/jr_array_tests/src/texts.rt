@@ -1,7 +1,8 @@
 //! Strings of a text, and texts of a string.
 
-use crate::cases::{Case, alone, in_a_room};
+use crate::cases::{EnvTest, alone, in_a_room};
 use crate::envs::{TWO, refuses};
+use assertions::assert_same;
 use jr_env::{Env, NativeInterface};
 use jr_steps::Steps;
 use jr_word::{Fault, Handle};
@@ -26,41 +27,42 @@ fn spells<S: Steps>(
     let Some(text) = env.string_of(alloc, string)? else {
         return Err("the units spell no text")?;
     };
-    assert!(rt; text.as_str() == wanted);
+    assert_same!(rt; text.as_str(), wanted);
     Ok(())
 }
 
 /// A text comes back from its string, whose units are those; no text comes of a surrogate alone, nor of what is no string.
-pub(crate) fn spell_texts<S: Steps>(
-    rt: &impl Abort,
-    alloc: Global,
-    env: &mut Env<S>,
-) -> Result<(), Fail> {
-    let string = env.new_string_of(alloc, TEXT)?;
-    let units = env.get_string_chars(alloc, string)?;
-    assert!(rt; units.as_slice() == UNITS.as_slice());
-    spells(rt, alloc, env, string, TEXT)?;
-    let nothing = env.new_string_of(alloc, "")?;
-    spells(rt, alloc, env, nothing, "")?;
-    let alone = env.new_string(&UNITS[..4])?;
-    assert!(rt; env.string_of(alloc, alone)?.is_none());
-    refuses(rt, env.string_of(alloc, Handle::NULL), Fault::Null);
-    let array = env.new_array::<u16>(1)?;
-    refuses(rt, env.string_of(alloc, array), Fault::WrongKind);
-    let long = "a text that does not fit beside the others";
-    match env.new_string_of(alloc, long) {
-        Ok(_) => Err("a long text fits")?,
-        Err(Fault::SpaceFull(_)) => Ok(()),
-        Err(fault) => Err(fault)?,
+#[derive(Drop)]
+struct SpellTexts;
+
+impl EnvTest for SpellTexts {
+    fn run<S: Steps, R: Abort>(self, rt: &R, alloc: Global, env: &mut Env<S>) -> Result<(), Fail> {
+        let string = env.new_string_of(alloc, TEXT)?;
+        let units = env.get_string_chars(alloc, string)?;
+        assert_same!(rt; units.as_slice(), UNITS.as_slice());
+        spells(rt, alloc, env, string, TEXT)?;
+        let nothing = env.new_string_of(alloc, "")?;
+        spells(rt, alloc, env, nothing, "")?;
+        let alone = env.new_string(&UNITS[..4])?;
+        assert!(rt; env.string_of(alloc, alone)?.is_none());
+        refuses(rt, env.string_of(alloc, Handle::NULL), Fault::Null);
+        let array = env.new_array::<u16>(1)?;
+        refuses(rt, env.string_of(alloc, array), Fault::WrongKind);
+        let long = "a text that does not fit beside the others";
+        match env.new_string_of(alloc, long) {
+            Ok(_) => Err("a long text fits")?,
+            Err(Fault::SpaceFull(_)) => Ok(()),
+            Err(fault) => Err(fault)?,
+        }
     }
 }
 
 #[test]
-fn texts_over_plain_words(rt: HostRuntime) -> Result<(), Fail> {
-    alone(&rt, rt.alloc(), TWO, Case::SpellTexts)
+fn a_text_comes_back_from_its_string(rt: HostRuntime) -> Result<(), Fail> {
+    alone(&rt, rt.alloc(), TWO, SpellTexts)
 }
 
 #[test]
-fn texts_over_a_room(rt: HostRuntime) -> Result<(), Fail> {
-    in_a_room(&rt, rt.alloc(), TWO, Case::SpellTexts)
+fn a_text_comes_back_from_its_string_in_a_room(rt: HostRuntime) -> Result<(), Fail> {
+    in_a_room(&rt, rt.alloc(), TWO, SpellTexts)
 }

@@ -3,11 +3,13 @@ ghost use Rattle.std.specs.Prelude.{IfOk};
 ghost use Rattle.jr_env.specs.Envs.{IsOutside};
 ghost use Rattle.jr_env.specs.StandingRegions.{WasUndisturbed};
 
-use crate::cases::{Case, alone};
+use crate::cases::{EnvTest, alone};
 use crate::envs::TWO;
+use assertions::assert_same;
 use jr_env::{Env, NativeInterface, levels_beside};
 use jr_steps::Steps;
 use jr_word::{Fault, Handle};
+use std::alloc::Global;
 use std::process::Abort;
 use std::test::Fail;
 
@@ -26,13 +28,18 @@ fn nests_and_reads<S: Steps>(env: &mut Env<S>, array: Handle) -> Result<i32, Fau
 }
 
 /// In such a region it reads what it wrote.
-pub(crate) fn is_undisturbed<S: Steps>(rt: &impl Abort, env: &mut Env<S>) -> Result<(), Fail> {
-    let array = env.new_array::<i32>(2)?;
-    assert!(rt; nests_and_reads(env, array) == Ok(7));
-    Ok(())
+#[derive(Drop)]
+struct IsUndisturbed;
+
+impl EnvTest for IsUndisturbed {
+    fn run<S: Steps, R: Abort>(self, rt: &R, _alloc: Global, env: &mut Env<S>) -> Result<(), Fail> {
+        let array = env.new_array::<i32>(2)?;
+        assert_same!(rt; nests_and_reads(env, array), Ok(7));
+        Ok(())
+    }
 }
 
 #[test]
 fn a_region_is_not_disturbed(rt: HostRuntime) -> Result<(), Fail> {
-    alone(&rt, rt.alloc(), TWO, Case::IsUndisturbed)
+    alone(&rt, rt.alloc(), TWO, IsUndisturbed)
 }

@@ -202,7 +202,8 @@ pub(crate) fn is_right<R: Threads + Clock + Sync>(rt: &R, alloc: Global, task: T
     }
 }
 
-/// Prints a line for each call and each way: of the rounds that count, in which all threads ran, what the tries came to in the one with the median of the collections that came in, and how many rounds these are.
+/// Prints a line for each call and each way:
+/// of the rounds that count, in which all threads ran, what the tries came to in the one with the median of the collections that came in, and how many rounds these are.
 pub(crate) fn print<R: Threads + Clock + Print + Sync>(
     rt: &R,
     alloc: Global,

@@ -1,7 +1,9 @@
 //! How long the calls for references and arrays take in a room that threads share, how often they answer as they should, and how many collections come in beside them.
 //!
 //! With no word it makes each call a few hundred times, by one thread and by two, and prints how often each answered as it should: the same text on every machine.
-//! With the words THREADS STANDING CALLS ROUNDS it measures each call, with stays before them just those that are made in stays too, with checked those that are made with a watcher too, with notes a note that is made and learned and with owned each call over steps that own their room too, and with the words collect ARRAYS EVERY ROUNDS a collection, announced or not, and a census: `measure` tells what it prints.
+//! With the words THREADS STANDING CALLS ROUNDS it measures each call, with stays before them just those that are made in stays too, with checked those that are made with a watcher too,
+//! with notes a note that is made and learned and with owned each call over steps that own their room too, and with the words collect ARRAYS EVERY ROUNDS a collection, announced or not, and a census:
+//! `measure` tells what it prints.
 //! With the words beside CALLERS TRIES ROUNDS it counts how many collections come in beside so many threads that call without a break: `beside` tells what it prints.
 #![tactic(auto)]
 

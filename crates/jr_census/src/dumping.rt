@@ -15,7 +15,11 @@ use jr_steps::Steps;
 use jr_weak::shut_announced;
 use jr_word::{Fault, HeaderParts, LocalParts, SlotParts};
 
-/// Notes what each slot, each local place and each object has at the step that shuts the gate for it, and opens the gate again. It is handed room for it: a place for each slot, one for each local place of each thread, one for each object number, and one for each word of array space. A slot's is the one of its index, those of a thread's local places stand in their order behind those of the threads before it, and an object's header that of its number less one, none where no object has it; the place that the header says is that of the first element among the words. It changes nothing in the room, takes no memory, and never waits. The thread has to stand outside.
+/// Notes what each slot, each local place and each object has at the step that shuts the gate for it, and opens the gate again. It is handed room for it:
+/// a place for each slot, one for each local place of each thread, one for each object number, and one for each word of array space.
+/// A slot's is the one of its index, those of a thread's local places stand in their order behind those of the threads before it, and an object's header that of its number less one,
+/// none where no object has it; the place that the header says is that of the first element among the words. It changes nothing in the room, takes no memory, and never waits.
+/// The thread has to stand outside.
 ///
 /// # Errors
 ///
@@ -25,7 +29,8 @@ use jr_word::{Fault, HeaderParts, LocalParts, SlotParts};
 ///
 /// # Operations
 ///
-/// One where it is refused. Else a look at each slot, at each local place of every thread and at the header of each object number, a load for each element, and two at the gate: at the most one for each slot, local place, object and word of the room, and two.
+/// One where it is refused. Else a look at each slot, at each local place of every thread and at the header of each object number, a load for each element, and two at the gate:
+/// at the most one for each slot, local place, object and word of the room, and two.
 pub fn take_dump<S: Steps>(
     steps: &mut S,
     slots: &mut [SlotParts],
@@ -55,11 +60,15 @@ pub fn take_dump<S: Steps>(
     Ok(())
 }
 
-/// Takes a dump as `take_dump` does, but announces it first, so that nobody is let in any more. It tries so many times to shut the gate, which is refused while another thread is inside or knocks, and takes the announcement back where the last try is refused, too. It takes no memory and never waits. The thread has to stand outside.
+/// Takes a dump as `take_dump` does, but announces it first, so that nobody is let in any more.
+/// It tries so many times to shut the gate, which is refused while another thread is inside or knocks, and takes the announcement back where the last try is refused, too.
+/// It takes no memory and never waits. The thread has to stand outside.
 ///
 /// # Errors
 ///
-/// E14 with how many threads were inside, knocking, announcing or collecting, at least 1, where another thread kept the gate closed already; E23 with two counts of the open gate, where another thread went in or out between the look at it and the announcement; E14 with how many other threads were inside or knocking at the last try, at least 1.
+/// E14 with how many threads were inside, knocking, announcing or collecting, at least 1, where another thread kept the gate closed already;
+/// E23 with two counts of the open gate, where another thread went in or out between the look at it and the announcement;
+/// E14 with how many other threads were inside or knocking at the last try, at least 1.
 ///
 /// Nothing has changed then, the notes are as they were, and the thread stands outside. Over one thread, and over plain words, it is never refused.
 ///

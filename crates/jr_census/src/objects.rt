@@ -142,7 +142,8 @@ fn unless_marked(marker: &Marker, object: u16, header: Option<HeaderParts>) -> O
 pub(crate) fn count_objects<S: Steps>(steps: &mut S, marker: &Marker) -> (Objects, Objects)
     requires role { (S.facts steps.old).stands.role ≡ Collecting }
     requires can { MayKnow S.facts steps.old CanReopen }
-    ensures { LoadsTell S.facts (λ j. j.config.objects) steps.old steps.new (λ k. AreObjects k.config.objects (state_of k).objects result.0 × AreObjects k.config.objects (unmarked (marks_of marker.now) (state_of k).objects) result.1) }
+    ensures { LoadsTell S.facts (λ j. j.config.objects) steps.old steps.new (λ k. AreObjects k.config.objects (state_of k).objects result.0
+        × AreObjects k.config.objects (unmarked (marks_of marker.now) (state_of k).objects) result.1) }
 {
     let objects = steps.config().objects;
     let mut present = Objects::NONE;

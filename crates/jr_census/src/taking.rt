@@ -34,7 +34,8 @@ pub struct Census {
     pub words: WordCounts,
 }
 
-/// Tells what stands in the room at the step that shuts the gate for it, and opens the gate again. It changes nothing, takes no memory, and never waits. The marker, made for a room of so many objects, is for what nothing reaches, and serves again. The thread has to stand outside.
+/// Tells what stands in the room at the step that shuts the gate for it, and opens the gate again. It changes nothing, takes no memory, and never waits.
+/// The marker, made for a room of so many objects, is for what nothing reaches, and serves again. The thread has to stand outside.
 ///
 /// # Errors
 ///
@@ -44,7 +45,8 @@ pub struct Census {
 ///
 /// # Operations
 ///
-/// One where it is refused. Else those of `mark`, a look at each slot, at each local place of every thread, at the header of each object number and at the top, and two at the gate: at the most two for each slot, local place and object, one for each word of the room, and three.
+/// One where it is refused. Else those of `mark`, a look at each slot, at each local place of every thread, at the header of each object number and at the top, and two at the gate:
+/// at the most two for each slot, local place and object, one for each word of the room, and three.
 pub fn take_census<S: Steps>(steps: &mut S, marker: &mut Marker) -> Result<Census, Fault>
     requires outside { (S.facts steps.old).stands.role ≡ Outside }
     requires room { room_of marker.old ≡ (S.facts steps.old).stands.config.objects }
@@ -58,11 +60,15 @@ pub fn take_census<S: Steps>(steps: &mut S, marker: &mut Marker) -> Result<Censu
     Ok(count(steps, shut, marker))
 }
 
-/// Takes a census as `take_census` does, but announces it first, so that nobody is let in any more. It tries so many times to shut the gate, which is refused while another thread is inside or knocks, and takes the announcement back where the last try is refused, too. It takes no memory and never waits. The thread has to stand outside.
+/// Takes a census as `take_census` does, but announces it first, so that nobody is let in any more.
+/// It tries so many times to shut the gate, which is refused while another thread is inside or knocks, and takes the announcement back where the last try is refused, too.
+/// It takes no memory and never waits. The thread has to stand outside.
 ///
 /// # Errors
 ///
-/// E14 with how many threads were inside, knocking, announcing or collecting, at least 1, where another thread kept the gate closed already; E23 with two counts of the open gate, where another thread went in or out between the look at it and the announcement; E14 with how many other threads were inside or knocking at the last try, at least 1.
+/// E14 with how many threads were inside, knocking, announcing or collecting, at least 1, where another thread kept the gate closed already;
+/// E23 with two counts of the open gate, where another thread went in or out between the look at it and the announcement;
+/// E14 with how many other threads were inside or knocking at the last try, at least 1.
 ///
 /// Nothing has changed then, the marker is as it was, and the thread stands outside. Over one thread, and over plain words, it is never refused.
 ///

@@ -17,17 +17,20 @@ use crate::sliding::slide;
 use jr_steps::Steps;
 use jr_word::HeaderParts;
 
-/// Moves all arrays together: each, in the order in which they stand, to the end of the one before, the first to the first word, and sets how many words are used, which it answers. `present` has each object that is present, once; `noted` is room for as many. Its one event is the last, and it takes no memory.
+/// Moves all arrays together: each, in the order in which they stand, to the end of the one before, the first to the first word, and sets how many words are used, which it answers.
+/// `present` has each object that is present, once; `noted` is room for as many. Its one event is the last, and it takes no memory.
 ///
 /// # Operations
 ///
-/// A look at the header of each present object, at the most three for each word that is used then, and one at the top: a load and a store for each element that moves, and a store for the header of each array that moves.
+/// A look at the header of each present object, at the most three for each word that is used then, and one at the top:
+/// a load and a store for each element that moves, and a store for the header of each array that moves.
 pub fn compact<S: Steps>(steps: &mut S, present: &[u16], noted: &mut [PlacedObject]) -> u32
     requires role { (S.facts steps.old).stands.role ≡ Collecting }
     requires room { length present.now ≤ length noted.old }
     requires can { MayKnow S.facts steps.old (CanCompact present.now) }
     ensures size { length noted.new ≡ length noted.old }
-    ensures acts { ActedTo S.facts steps.old steps.new (Settle result ∷ []) (CanCompact present.now) (λ j k. AreCompacted result j k × TakesWithin (length present.now + (result + result + result) + 1) j k) }
+    ensures acts { ActedTo S.facts steps.old steps.new (Settle result ∷ []) (CanCompact present.now) (λ j k. AreCompacted result j k
+        × TakesWithin (length present.now + (result + result + result) + 1) j k) }
 {
     let count = note(steps, present, noted);
     let entries = &mut noted[..count];

@@ -14,7 +14,8 @@ use jr_model::{LEVELS, Mode};
 use jr_steps::Steps;
 use jr_word::{Elem, Fault, Handle, Kind};
 
-/// The levels of a critical region, in one stay of a thread, the first first. They have to be spent: the stay ends when the first level is given up. (The JNI Specification, chapter 4, Get/ReleasePrimitiveArrayCritical and Get/ReleaseStringCritical.)
+/// The levels of a critical region, in one stay of a thread, the first first. They have to be spent: the stay ends when the first level is given up.
+/// (The JNI Specification, chapter 4, Get/ReleasePrimitiveArrayCritical and Get/ReleaseStringCritical.)
 pub struct Levels {
     inside: Inside,
     levels: ArrayVec<Level, LEVELS>,
@@ -80,13 +81,14 @@ impl Levels {
     ghost use Rattle.jr_gate.specs.Stays.{IsOwnStay};
     ghost use Rattle.jr_critical.specs.Finding.{level_nesting};
     ghost use Rattle.jr_critical.specs.LevelParts.{part_read, ReadsPartAt, WritesPartAt};
-    ghost use Rattle.jr_critical.specs.Levels.{objects_of, level_object, level_at, in_words, nested_by, opened_by, opened_within, stay_of, without_stay, OpensOver, OpensWithinOver, NestsOver, ReadsAt, WritesAt, GivesUpAllOver, GivesUpLastOver, LeavesBefore, StandOver, StandsOutside, StandsWithin, TellsKind, TellsLength, WasAdded};
+    ghost use Rattle.jr_critical.specs.Levels.{objects_of, level_object, level_at, in_words, nested_by, opened_by, opened_within, stay_of, without_stay, OpensOver, OpensWithinOver, NestsOver};
+    ghost use Rattle.jr_critical.specs.Levels.{ReadsAt, WritesAt, GivesUpAllOver, GivesUpLastOver, LeavesBefore, StandOver, StandsOutside, StandsWithin, TellsKind, TellsLength, WasAdded};
 
     /// Enters the gate, and opens the first level over an array whose elements are no objects. The thread has to stand outside. (JNI Specification, chapter 4, "GetPrimitiveArrayCritical")
     ///
     /// # Errors
     ///
-    /// E13 where a thread is collecting at the entry, or has announced that it will; E2 where the handle is malformed or lies outside the room; E3 where it is a local one of another thread; E2 where its reference does not stand; E1 where it is to null; E5 where it is to a plain object or a string; E6 where it is to an array of objects.
+    /// That of the gate; those of a handle to an object; E5 where it is to a plain object or a string; E6 where it is to an array of objects.
     ///
     /// Nothing has changed then, and the thread is outside and ready for its next call.
     ///
@@ -108,7 +110,7 @@ impl Levels {
     ///
     /// # Errors
     ///
-    /// E13 where a thread is collecting at the entry, or has announced that it will; E2 where the handle is malformed or lies outside the room; E3 where it is a local one of another thread; E2 where its reference does not stand; E1 where it is to null; E4 where it is to no string.
+    /// That of the gate; those of a handle to an object; E4 where it is to no string.
     ///
     /// Nothing has changed then, and the thread is outside and ready for its next call.
     ///
@@ -126,11 +128,12 @@ impl Levels {
         open(held, handle, Wanted::Text)
     }
 
-    /// Opens the first level over an array whose elements are no objects, in a stay of the thread, which goes on: the levels have its end from then on. (JNI Specification, chapter 4, "GetPrimitiveArrayCritical")
+    /// Opens the first level over an array whose elements are no objects, in a stay of the thread, which goes on: the levels have its end from then on.
+    /// (JNI Specification, chapter 4, "GetPrimitiveArrayCritical")
     ///
     /// # Errors
     ///
-    /// E2 where the handle is malformed or lies outside the room; E3 where it is a local one of another thread; E2 where its reference does not stand; E1 where it is to null; E5 where it is to a plain object or a string; E6 where it is to an array of objects.
+    /// Those of a handle to an object; E5 where it is to a plain object or a string; E6 where it is to an array of objects.
     ///
     /// The stay is handed back, and goes on.
     ///
@@ -157,7 +160,7 @@ impl Levels {
     ///
     /// # Errors
     ///
-    /// E2 where the handle is malformed or lies outside the room; E3 where it is a local one of another thread; E2 where its reference does not stand; E1 where it is to null; E4 where it is to no string.
+    /// Those of a handle to an object; E4 where it is to no string.
     ///
     /// The stay is handed back, and goes on.
     ///
@@ -225,7 +228,7 @@ impl Levels {
     ///
     /// # Errors
     ///
-    /// E2 where the handle is malformed or lies outside the room; E3 where it is a local one of another thread; E2 where its reference does not stand; E1 where it is to null; E5 where it is to a plain object or a string; E6 where it is to an array of objects; E17 where sixteen levels stand.
+    /// Those of a handle to an object; E5 where it is to a plain object or a string; E6 where it is to an array of objects; E17 where sixteen levels stand.
     ///
     /// The levels are as they were, and stand.
     ///
@@ -251,7 +254,7 @@ impl Levels {
     ///
     /// # Errors
     ///
-    /// E2 where the handle is malformed or lies outside the room; E3 where it is a local one of another thread; E2 where its reference does not stand; E1 where it is to null; E4 where it is to no string; E17 where sixteen levels stand.
+    /// Those of a handle to an object; E4 where it is to no string; E17 where sixteen levels stand.
     ///
     /// The levels are as they were, and stand.
     ///
@@ -354,7 +357,8 @@ impl Levels {
         Ok(())
     }
 
-    /// Copies a part of the elements at a level out, from an index on: as many as the slice has room for, one after the other, rising. The units of a string are read as chars. The levels have to stand over the steps and the frames, and the level has to be one of them.
+    /// Copies a part of the elements at a level out, from an index on: as many as the slice has room for, one after the other, rising. The units of a string are read as chars.
+    /// The levels have to stand over the steps and the frames, and the level has to be one of them.
     ///
     /// # Errors
     ///
@@ -450,7 +454,8 @@ impl Levels {
         self.levels.len()
     }
 
-    /// Gives up the last level. With the first one the stay ends, and the answer is none; else it is the levels before it. A region is no copy, so that every mode does the same. (JNI Specification, chapter 4, "ReleasePrimitiveArrayCritical", "ReleaseStringCritical")
+    /// Gives up the last level. With the first one the stay ends, and the answer is none; else it is the levels before it. A region is no copy, so that every mode does the same.
+    /// (JNI Specification, chapter 4, "ReleasePrimitiveArrayCritical", "ReleaseStringCritical")
     ///
     /// # Operations
     ///

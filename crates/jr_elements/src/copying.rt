@@ -27,7 +27,8 @@ fn zeros<E: Elem>(alloc: Global, count: u32) -> Result<Vec<E>, AllocError>
     Ok(items)
 }
 
-/// Copies all elements of an object whose header was read in this stay, one after the other, rising. The units of a string are read as chars. Memory for all of them is taken first, and none for no elements.
+/// Copies all elements of an object whose header was read in this stay, one after the other, rising. The units of a string are read as chars.
+/// Memory for all of them is taken first, and none for no elements.
 ///
 /// # Errors
 ///
@@ -50,7 +51,8 @@ pub fn read_all<S: Steps, E: Elem>(
     ensures stands { (S.facts steps.new).stands ≡ (S.facts steps.old).stands }
     ensures size { IfOk result (λ items. length items.items ≡ header.length) }
     ensures none { header.length ≡ 0 → IsOk result }
-    ensures call { Called S.facts steps.old steps.new (HoldsHeader object header) (λ j k. unless_memory_for header.length (reading object 0 header.length)) (answer_in (λ items. map E.word_of items.items) result) (by_steps (copy_steps header.length result) (LeavesObject object header)) }
+    ensures call { Called S.facts steps.old steps.new (HoldsHeader object header) (λ j k. unless_memory_for header.length (reading object 0 header.length))
+        (answer_in (λ items. map E.word_of items.items) result) (by_steps (copy_steps header.length result) (LeavesObject object header)) }
     ensures known { MayKnow S.facts steps.new (HoldsHeader object header) }
 {
     let Ok(mut items) = zeros(alloc, header.length) else {
@@ -76,7 +78,8 @@ pub fn put_back<S: Steps, E: Elem>(
     requires kind { same_element E.KIND header.kind ≡ true }
     requires size { length elements.now ≡ header.length }
     ensures stands { (S.facts steps.new).stands ≡ (S.facts steps.old).stands }
-    ensures call { Called S.facts steps.old steps.new (HoldsHeader object header) (λ j k. writing object 0 (map E.word_of elements.now)) (Ok tt) (by_steps (length elements.now) (LeavesObject object header)) }
+    ensures call { Called S.facts steps.old steps.new (HoldsHeader object header) (λ j k. writing object 0 (map E.word_of elements.now)) (Ok tt)
+        (by_steps (length elements.now) (LeavesObject object header)) }
     ensures known { MayKnow S.facts steps.new (HoldsHeader object header) }
 {
     write_part(steps, object, header, 0, elements.as_slice());

@@ -7,7 +7,8 @@ use jr_model::Mode;
 use jr_word::{Elem, Fault};
 use std::marker::Model;
 
-/// The elements of an array, copied: a list of their own, of which the room knows nothing, and in which nobody else writes. A contract sees the list. A copy can't be let go, so that no write to it is lost in silence: it is released, or discarded.
+/// The elements of an array, copied: a list of their own, of which the room knows nothing, and in which nobody else writes. A contract sees the list.
+/// A copy can't be let go, so that no write to it is lost in silence: it is released, or discarded.
 pub struct Elements<E: Elem> {
     items: Vec<E>,
 }

@@ -14,24 +14,26 @@ use Rattle.jr_model.specs.CollectionCalls.{announcing_acts, collection_acts}
 use Rattle.jr_model.specs.Frames.{Frames}
 use Rattle.jr_model.specs.Calls.{◌>>◌, act, one_of}
 use Rattle.jr_model.specs.History.{PassView}
+use Rattle.jr_model.specs.State.{Handle}
 use Rattle.jr_model.specs.Parts.{announce, collect_announced, found_closed, found_moved}
 use Rattle.jr_model.specs.Refusals.{Grounds}
 use Rattle.jr_model.proofs.Stays.{did_then}
 use Rattle.jr_steps.specs.declared.known.Holdings.{Holdings}
 use Rattle.jr_steps.specs.declared.known.Known.{Known}
 use Rattle.jr_steps.specs.Knowing.{Facts, MayKnow, Standing, anything, fresh_from}
-use Rattle.jr_gate.specs.Performing.{hint_from}
+use Rattle.jr_gate.specs.Performing.{ThreadState, hint_from}
 use Rattle.jr_gate.proofs.SameRoom.{as_before}
 use Rattle.jr_frames.specs.Table.{Table}
 use Rattle.jr_frames.specs.Ready.{StandsReady}
 use Rattle.jr_frames.proofs.FramesAgree.{holds_did}
 use Rattle.jr_weak.specs.declared.collecting.Collected.{Collected}
-use Rattle.jr_weak.specs.Collecting.{CollectsAnnounced, GivesUp, MakesAnnouncedCollection, WasGivenUp}
+use Rattle.jr_weak.specs.Collecting.{CollectsAnnouncedMarking, GivesUp, MakesAnnouncedListing, WasGivenUp}
 use Rattle.jr_weak.specs.Collecting.{announced_steps, closed_at_look, closed_at_exchange, moved_at_exchange, taken_back}
 use Rattle.jr_weak.specs.Counting.{collection_steps}
 use Rattle.jr_weak.specs.Waiting.{ShutsActByAct}
 use Rattle.jr_env.specs.Collections.{IsNoTurn, announced_collection}
 use Rattle.jr_env.specs.Deeds.{DoesDeed, DoesOutside}
+use Rattle.jr_env.specs.Listings.{listed_announced}
 use Rattle.jr_env.specs.OpenStays.{Leaves}
 use Rattle.jr_env.specs.Works.{EndsStay}
 use Rattle.jr_env.proofs.EndedStays.{leaves}
@@ -174,16 +176,18 @@ module _ {S : Type 0} {facts : S → Facts} where
   ready_given_up tries e r z = ready_after r z.went (λ j k y shown. (z.acts, y, ending_spares shown.0))
 
   module _ {a b : S} (tries : ℕ) (t : Table) where
-    announced_deed : (x : Collected) → MakesAnnouncedCollection facts a b tries x.cleared x.dropped x.used
-        → DoesDeed facts a b t.frames t.frames (announced_collection tries) (Ok x)
-    announced_deed x m =
+    announced_deed : (marks : List Bool) (tells : List Handle → List ℕ → Type 0) (x : Collected)
+        → MakesAnnouncedListing facts a b tries marks tells x.cleared x.dropped x.used
+        → DoesDeed facts a b t.frames t.frames (listed_announced tries marks tells) (Ok x)
+    announced_deed marks tells x m =
         let refused = m.refused in
-        let cleared = m.done.cleared in
-        let dropped = m.done.dropped in
+        let made = (m.done).0 in
+        let cleared = made.cleared in
+        let dropped = made.dropped in
         let rest = collection_acts cleared dropped x.used in
         let d = made_deed t (announcing_acts refused) (λ c. announced_steps refused (collection_steps c))
-        (CollectsAnnounced refused) (collect_announced tries) x m.done
-        (λ p q y. did_then (announcing_acts refused) rest y.announced y.done.did)
+        (CollectsAnnouncedMarking marks refused) (collect_announced tries) tells x made (m.done).1
+        (λ p q y. did_then (announcing_acts refused) rest y.announced y.done.collects.did)
         (waiting_spares refused rest (collection_spares cleared dropped x.used)) (inl (
           tt,
           t.frames,
@@ -242,23 +246,62 @@ module _ {S : Type 0} {facts : S → Facts} where
           );
     }
 
+    -- one that was given up lists nothing
+    given_up_listed : (marks : List Bool) (tells : List Handle → List ℕ → Type 0) (e : Fault)
+        → DoesDeed facts a b t.frames t.frames (announced_collection tries) (Err e)
+        → DoesDeed facts a b t.frames t.frames (listed_announced tries marks tells) (Err e)
+    given_up_listed marks tells e d = record { stands_is = d.stands_is; did = d.did }
+
   -- THE DEED WAS DONE, once a stay that was left has been ended, and the thread stands ready
-  pub collected_announced : {o a b : S} {r t : Table} (tries : ℕ) (answer : Result Collected Fault)
-      → EndsStay facts o a r t
-      → IfOk answer (λ c. MakesAnnouncedCollection facts a b tries c.cleared c.dropped c.used)
+  pub collected_announced : {o a b : S} {r t : Table} (tries : ℕ) (marks : List Bool)
+      (tells : List Handle → List ℕ → Type 0) (answer : Result Collected Fault) → EndsStay facts o a r t
+      → IfOk answer (λ c. MakesAnnouncedListing facts a b tries marks tells c.cleared c.dropped c.used)
       → IfErr answer (λ e. GivesUp facts a b tries e)
-      → StandsReady facts Outside b t × DoesOutside facts o b r.frames t.frames (announced_collection tries) answer
-  collected_announced {t = t} tries (Ok x) ends ok err =
-      let acts = collection_acts ok.done.cleared ok.done.dropped x.used in (
-        ready_after ends.ready ok.done.went (λ j k y shown. (
+      → StandsReady facts Outside b t
+      × DoesOutside facts o b r.frames t.frames (listed_announced tries marks tells) answer
+  collected_announced {t = t} tries marks tells (Ok x) ends ok err =
+      let made = (ok.done).0 in
+      let acts = collection_acts made.cleared made.dropped x.used in (
+        ready_after ends.ready made.went (λ j k y shown. (
           announcing_acts ok.refused ++ acts,
-          did_then (announcing_acts ok.refused) acts y.announced y.done.did,
-          waiting_spares ok.refused acts (collection_spares ok.done.cleared ok.done.dropped x.used),
+          did_then (announcing_acts ok.refused) acts y.announced y.done.collects.did,
+          waiting_spares ok.refused acts (collection_spares made.cleared made.dropped x.used),
         )),
-        does_from ends (announced_deed tries t x ok),
+        does_from ends (announced_deed tries t marks tells x ok),
       )
-  collected_announced {t = t} tries (Err e) ends ok err =
-      (ready_given_up tries e ends.ready err, does_from ends (given_up_deed tries t e err))
+  collected_announced {t = t} tries marks tells (Err e) ends ok err = (
+    ready_given_up tries e ends.ready err,
+    does_from ends (given_up_listed tries t marks tells e (given_up_deed tries t e err)),
+  )
+
+-- whatever is told of it
+pub plain_announced : (tries : ℕ) (marks : List Bool) (tells : List Handle → List ℕ → Type 0) (p q : ThreadState)
+    (r : Result Collected Fault) → listed_announced tries marks tells p r q → announced_collection tries p r q
+plain_announced tries marks tells p q (Ok c) z =
+    let y = (z.done).0 in
+    let did = y.collects in
+    record {
+      refused = z.refused;
+      few = z.few;
+      done = record {
+        cleared = y.cleared;
+        dropped = y.dropped;
+        clears = y.clears;
+        drops = y.drops;
+        collects = record {
+          shutting = did.shutting;
+          announced = did.announced;
+          done = (did.done).collects;
+          until = did.until;
+        };
+        ran = y.ran;
+        taken = y.taken;
+        fresh = y.fresh;
+        hint = y.hint;
+        lets_go = y.lets_go;
+      };
+    }
+plain_announced tries marks tells p q (Err e) z = z
 
 -- why there was no turn
 pub no_turn_why : {S : Type 0} (facts : S → Facts) (a b : S) (tries : ℕ) (e : Fault) → MayKnow facts a anything

@@ -1,4 +1,4 @@
--- A word is explained by a call of an env.
+-- What one look tells, as what a word is, is told by a call of an env.
 use Rattle.std.proofs.Common.{◌≡◌, ◌||◌, ℕ, Bool, true, false, cond, [], ◌∷◌, ◌++◌, map, Result}
 use Rattle.std.proofs.Common.{Ok, Err, IfOk, refl, sym, ap, subst, ◌∙◌}
 use Rattle.std.specs.Result.{IsErrAnd}
@@ -27,7 +27,7 @@ use Rattle.jr_gate.specs.Acting.{ActedTo, LetsGoInTwo}
 use Rattle.jr_gate.specs.Performing.{Performed, ThreadState}
 use Rattle.jr_gate.proofs.Spending.{made_of, spend_first, spend_last, spend_step, spending}
 use Rattle.jr_frames.specs.declared.explaining.Explanation.{Explanation}
-use Rattle.jr_frames.specs.Explaining.{ExplainsWord, IsExplained, WasSeen, glance, look_acts}
+use Rattle.jr_frames.specs.Explaining.{WasSeen, glance, look_acts}
 use Rattle.jr_frames.specs.declared.held.Held.{Held}
 use Rattle.jr_frames.specs.Reading.{IsReadAs}
 use Rattle.jr_frames.specs.Ready.{StandsReady}
@@ -39,7 +39,8 @@ use Rattle.jr_env.specs.Deeds.{DoesDeed, DoesOutside}
 use Rattle.jr_env.specs.declared.env.Env.{Env}
 use Rattle.jr_env.specs.LentStays.{DoesInside}
 use Rattle.jr_env.specs.OpenStays.{StaysOn}
-use Rattle.jr_env.specs.Words.{WasExplained, explained_by_call, explaining}
+use Rattle.jr_env.specs.Seeing.{SeesSo, Telling, WasSeenSo, seen_by_call, seen_in_stay}
+use Rattle.jr_env.specs.Words.{explained_in_stay, explaining}
 use Rattle.jr_env.specs.Works.{EndsStay}
 use Rattle.jr_env.proofs.Carrying.{own_call}
 use Rattle.jr_env.proofs.EnvCalls.{does_call_by, does_more}
@@ -63,23 +64,23 @@ seen_within {c} {d} a {P} {Q} old mid later new sizes threads front back so n =
       met = subst (λ (es : History). Q (state es)) same (so _ n.met);
     }
 
--- what a word is to the same thread of the same room
-same_explained : {c d : Config} {t u : ℕ} (f : Frames) (a : Word) (e : Explanation) → c ≡ d → t ≡ u → (s : State)
-    → IsExplained c t f s a e → IsExplained d u f s a e
-same_explained {c} {d} {t} {u} f a e sizes threads s is =
-    subst (λ x. IsExplained d x f s a e) threads (subst (λ x. IsExplained x t f s a e) sizes is)
+-- what is so for the same thread of the same room
+same_so : {A : Type 0} (so : Telling A) {c d : Config} {t u : ℕ} (f : Frames) (x : A) → c ≡ d → t ≡ u → (s : State)
+    → so c t f s x → so d u f s x
+same_so so {c} {d} {t} {u} f x sizes threads s is =
+    subst (λ y. so d y f s x) threads (subst (λ y. so y t f s x) sizes is)
 
--- the explanation was so at the one look
-abbrev told_by : {S : Type 0} → (S → Facts) → S → Frames → Word → Explanation → Known → Known → Type 0
-told_by facts a f w e j k = WasSeen (facts a).stands.config w
-    (λ s. IsExplained (facts a).stands.config (facts a).stands.thread f s w e) (view j) (view k)
+-- it was so at the one look
+abbrev told_at : {S A : Type 0} → (S → Facts) → Telling A → S → Frames → Word → A → Known → Known → Type 0
+told_at facts so a f w x j k = WasSeen (facts a).stands.config w
+    (λ s. so (facts a).stands.config (facts a).stands.thread f s x) (view j) (view k)
 
-module _ {S : Type 0} {facts : S → Facts} (fits : AreOf facts) where
-  -- WHAT IS EXPLAINED between an entry and its exit
-  pub explained_whole : {a b c d : S} (f : Frames) (w : Word) (e : Explanation) → (facts a).stands.role ≡ Outside
-      → Took facts a b (Gate Enter ∷ []) anything keeps → ExplainsWord facts b c f w e
-      → Took facts c d (Gate Leave ∷ []) anything lets_go → DoesDeed facts a d f f (explained_by_call w) (Ok e)
-  explained_whole {a} {b} {c} {d} f w e out enters p leaves = record {
+module _ {S A : Type 0} {facts : S → Facts} (fits : AreOf facts) (so : Telling A) where
+  -- WHAT IS TOLD between an entry and its exit
+  pub seen_whole : {a b c d : S} (f : Frames) (w : Word) (e : A) → (facts a).stands.role ≡ Outside
+      → Took facts a b (Gate Enter ∷ []) anything keeps → SeesSo facts so b c f w e
+      → Took facts c d (Gate Leave ∷ []) anything lets_go → DoesDeed facts a d f f (seen_by_call so w) (Ok e)
+  seen_whole {a} {b} {c} {d} f w e out enters p leaves = record {
     stands_is = left_before out enters.stands_is p.stands_is leaves.stands_is;
     did = λ k s m.
         let x = enters.goes k s tt in
@@ -100,38 +101,39 @@ module _ {S : Type 0} {facts : S → Facts} (fits : AreOf facts) where
           (
             (own_call facts fits (λ r. 1) (λ r last t s. entered (glance r w)) k z.0 s (made_of count run), z.3),
             seen_within w (view k) (view x.0) (view y.0) (view z.0) sizes (x.2.thread) (goes_did x.2).begins
-                (goes_did z.2).begins (same_explained f w e sizes threads) y.3.0,
+                (goes_did z.2).begins (same_so so f e sizes threads) y.3.0,
           ),
         );
   }
 
   -- the thread stands ready in its stay, as before
-  pub ready_explained : {b c : S} {t : Table} {w : Word} {e : Explanation} → StandsReady facts Within b t
-      → ExplainsWord facts b c t.frames w e → StandsReady facts Within c t
-  ready_explained {b} {t = t} {w = w} {e = e} r p =
-      ready_after {so = told_by facts b t.frames w e} r (same_owner t) p
+  pub ready_seen : {b c : S} {t : Table} {w : Word} {e : A} → StandsReady facts Within b t
+      → SeesSo facts so b c t.frames w e → StandsReady facts Within c t
+  ready_seen {b} {t = t} {w = w} {e = e} r p =
+      ready_after {so = told_at facts so b t.frames w e} r (same_owner t) p
 
   -- and outside, once it has left
-  pub ready_behind : {b c d : S} {t : Table} {w : Word} {e : Explanation} → StandsReady facts Within b t
-      → ExplainsWord facts b c t.frames w e → Took facts c d (Gate Leave ∷ []) anything lets_go
+  pub ready_behind : {b c d : S} {t : Table} {w : Word} {e : A} → StandsReady facts Within b t
+      → SeesSo facts so b c t.frames w e → Took facts c d (Gate Leave ∷ []) anything lets_go
       → StandsReady facts Outside d t
-  ready_behind {c = c} {d = d} {t = t} r p leaves = ready_left (ready_explained r p) leaves
+  ready_behind {c = c} {d = d} {t = t} r p leaves = ready_left (ready_seen r p) leaves
 
   -- an entry that found the gate shut, once a stay that was left has been ended
-  pub explained_barred : {o a b : S} {r t : Table} {e : Fault} (w : Word) (answer : Result Explanation Fault)
+  pub seen_barred : {o a b : S} {r t : Table} {e : Fault} (w : Word) (answer : Result A Fault)
       → EndsStay facts o a r t → IsErrAnd answer (λ y. y ≡ e)
       → (e ≡ Barred) × ActedTo facts a b (Gate Knock ∷ Gate Withdraw ∷ []) anything LetsGoInTwo
-      → DoesOutside facts o b r.frames t.frames (explained_by_call w) answer
-  explained_barred {e = e} w answer ended given why = does_more (λ p q x. (x, none answer given p q))
+      → DoesOutside facts o b r.frames t.frames (seen_by_call so w) answer
+  seen_barred {e = e} w answer ended given why = does_more (λ p q x. (x, none answer given p q))
       (does_call_by fits (λ c. 1) (λ c last thread s. entered (glance c w))
       (completes_from (λ c last thread s. glance c w) (λ c. 1) ended (completes_more 1
       (completes_barred (λ c last thread s. glance c w) ended.ready answer given why))))
     where
-      none : (y : Result Explanation Fault) → IsErrAnd y (λ z. z ≡ e) → (p q : ThreadState)
-          → IfOk y (λ x. WasExplained w p x q)
+      none : (y : Result A Fault) → IsErrAnd y (λ z. z ≡ e) → (p q : ThreadState)
+          → IfOk y (λ x. WasSeenSo so w p x q)
       none (Ok x) is p q = absurd is
       none (Err d) is p q = tt
 
+module _ {S : Type 0} {facts : S → Facts} (fits : AreOf facts) where
   -- the thread stands ready outside where its entry was refused
   pub ready_barred : {a b : S} {t : Table} {e : Fault} → StandsReady facts Outside a t
       → (e ≡ Barred) × ActedTo facts a b (Gate Knock ∷ Gate Withdraw ∷ []) anything LetsGoInTwo
@@ -140,7 +142,7 @@ module _ {S : Type 0} {facts : S → Facts} (fits : AreOf facts) where
       (refl, why.1)).ready
 
 -- the one look is no exit
-glance_stays : (w : Word) (c : Config) → Stays (glance {A = Explanation} c w)
+glance_stays : {A : Type 0} (w : Word) (c : Config) → Stays (glance {A = A} c w)
 glance_stays w c f g acts answer is = subst NoneLeaves (sym is.2) (go w is.0)
   where
     looking : (b : Bool) (h : Handle) (r : Found) → NoneLeaves (cond b [] (Look h r ∷ []))
@@ -152,24 +154,23 @@ glance_stays w c f g acts answer is = subst NoneLeaves (sym is.2) (go w is.0)
     go Malformed r = tt
     go (Parts h) r = looking (is_out_of_bounds c (Parts h) || is_local h) h r
 
-module _ {S : Type 0} {G : Ghosts S} (fits : AreOf G.facts) where
+module _ {S A : Type 0} {G : Ghosts S} (fits : AreOf G.facts) (so : Telling A) where
   -- the stay goes on
-  pub explains_on : (old new : Held S G) (w : Word) (e : Explanation) → new.frames ≡ old.frames
-      → ExplainsWord G.facts old.steps new.steps old.frames.frames w e → StaysOn old new
-  explains_on old new w e same p =
-      let told = told_by G.facts old.steps old.frames.frames w e in
+  pub sees_on : (old new : Held S G) (w : Word) (e : A) → new.frames ≡ old.frames
+      → SeesSo G.facts so old.steps new.steps old.frames.frames w e → StaysOn old new
+  sees_on old new w e same p =
+      let told = told_at G.facts so old.steps old.frames.frames w e in
       performs_on fits old new 1 told (λ c last t s. glance c w) (λ c last t s. glance_stays w c) (subst (λ (t : Table).
       Performed G.facts old.steps new.steps old.frames.frames t.frames 1 (Holds old.frames.frames)
       (λ s. glance (G.facts old.steps).stands.config w) (Ok e) (λ j k. told j k × Holds t.frames k)) (sym same) p)
 
-  -- WHAT IS EXPLAINED IN A STAY
-  pub explained_inside : (old new : Env S G) (n : ℕ) (w : Word) (e : Explanation) → IsReadAs n w
-      → new.held.frames ≡ old.held.frames
-      → ExplainsWord G.facts old.held.steps new.held.steps old.held.frames.frames w e → StaysOn old.held new.held
-      → DoesInside old new (explaining n) (Ok e)
-  explained_inside old new n w e reads same p on = record {
+  -- WHAT IS TOLD IN A STAY
+  pub seen_inside : (old new : Env S G) (w : Word) (e : A) → new.held.frames ≡ old.held.frames
+      → SeesSo G.facts so old.held.steps new.held.steps old.held.frames.frames w e → StaysOn old.held new.held
+      → DoesInside old new (seen_in_stay so w) (Ok e)
+  seen_inside old new w e same p on = record {
     did = subst (λ (t : Table). DoesDeed G.facts old.held.steps new.held.steps old.held.frames.frames t.frames
-        (explaining n) (Ok e)) (sym same) (record {
+        (seen_in_stay so w) (Ok e)) (sym same) (record {
           stands_is = p.stands_is;
           did = λ k s m.
               let x = p.ran k s m in
@@ -178,16 +179,22 @@ module _ {S : Type 0} {G : Ghosts S} (fits : AreOf G.facts) where
                 x.1,
                 x.3.1,
                 (
-                  w,
-                  reads,
-                  (
-                    own_call G.facts fits (λ r. 1) (λ r last t s. glance r w) k x.0 s x.2,
-                    seen_within w (view k) (view k) (view x.0) (view x.0) (sym i.config) refl (prefix_self k.seen)
-                        (prefix_self x.0.seen)
-                        (same_explained old.held.frames.frames w e (sym i.config) (sym i.thread)) x.3.0,
-                  ),
+                  own_call G.facts fits (λ r. 1) (λ r last t s. glance r w) k x.0 s x.2,
+                  seen_within w (view k) (view k) (view x.0) (view x.0) (sym i.config) refl (prefix_self k.seen)
+                      (prefix_self x.0.seen) (same_so so old.held.frames.frames e (sym i.config) (sym i.thread)) x.3.0,
                 ),
               );
         });
     on = on;
   }
+
+-- of a word that was read
+pub reads_inside : {S : Type 0} {G : Ghosts S} (old new : Env S G) (n : ℕ) (w : Word) (e : Explanation) → IsReadAs n w
+    → DoesInside old new (explained_in_stay w) (Ok e) → DoesInside old new (explaining n) (Ok e)
+reads_inside old new n w e reads d = record {
+  did = record {
+    stands_is = d.did.stands_is;
+    did = λ k s m. let x = d.did.did k s m in (x.0, x.1, x.2, (w, reads, x.3));
+  };
+  on = d.on;
+}

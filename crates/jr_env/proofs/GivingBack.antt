@@ -1,14 +1,18 @@
 -- Collections that are announced until one gets its turn, and weak references that are deleted where they are cleared.
-use Rattle.std.proofs.Common.{◌≡◌, ◌<◌, ◌≤◌, ◌-◌, ◌+◌, ℕ, suc, Bool, true, false, Result, Ok, Err, IfErr}
+use Rattle.std.proofs.Common.{◌≡◌, ◌<◌, ◌≤◌, ◌-◌, ◌+◌, ℕ, suc, Bool, true, false, List, Result, Ok, Err, IfErr}
 use Rattle.std.proofs.Common.{inl, inr, refl, subst, arith}
 use Rattle.std.specs.Result.{IsErrAnd}
 use Rattle.jr_word.specs.declared.fault.Fault.{Fault}
 use Rattle.jr_word.specs.declared.fault.Fault.TheVariants.{Size}
+use Rattle.jr_word.specs.declared.handle.Handle.{Handle as NativeHandle}
 use Rattle.jr_word.specs.declared.handle.RefKind.TheVariants.{Weak}
 use Rattle.jr_model.specs.Frames.{Frames}
 use Rattle.jr_steps.specs.Knowing.{Facts}
+use Rattle.jr_weak.specs.declared.collecting.Collected.{Collected}
+use Rattle.jr_weak.specs.Listing.{ListsTell}
 use Rattle.jr_env.specs.Collections.{IsNoTurn}
 use Rattle.jr_env.specs.Deeds.{Deed, DoesOutside, delete_reference, is_same_object}
+use Rattle.jr_env.specs.Listings.{listed_announced}
 use Rattle.jr_env.specs.Remedies.{MadeUntilServed, deleting_cleared, refused_once, served_now, tried_last}
 use Rattle.jr_env.specs.Tries.{made_again}
 use Rattle.jr_env.proofs.EnvCalls.{does_more, does_next}
@@ -31,6 +35,24 @@ the_last : {M A : Type 0} {one : M → Result A Fault → M → Type 0} {old new
     → n ≤ k → one old answer new → MadeUntilServed one (n - k) old answer new
 the_last {one = one} {old = old} {new = new} {answer = answer} n k l o =
     let e : 0 ≡ n - k = omega arith in subst (λ m. MadeUntilServed one m old answer new) e (tried_last o)
+
+-- what each try does, the whole does
+pub until_each : {M A : Type 0} {one two : M → Result A Fault → M → Type 0} {n : ℕ} {old new : M}
+    {answer : Result A Fault} → ((p q : M) (r : Result A Fault) → one p r q → two p r q)
+    → MadeUntilServed one n old answer new → MadeUntilServed two n old answer new
+until_each w (served_now o) = served_now (w _ _ _ o)
+until_each w (refused_once o t) = refused_once (w _ _ _ o) (until_each w t)
+until_each w (tried_last o) = tried_last (w _ _ _ o)
+
+-- the buffers as they were handed in, where no try before wrote there
+pub lists_same : {S : Type 0} {facts : S → Facts} {a b : S} {f g : Frames} (tries : ℕ) (marks : List Bool)
+    (hs : List NativeHandle) (ns : List ℕ) (r : Result Collected Fault) {hs' hs'' : List NativeHandle}
+    {ns' ns'' : List ℕ} → hs'' ≡ hs' → ns'' ≡ ns'
+    → DoesOutside facts a b f g (listed_announced tries marks (ListsTell hs'' ns'' hs ns)) r
+    → DoesOutside facts a b f g (listed_announced tries marks (ListsTell hs' ns' hs ns)) r
+lists_same {facts = facts} {a = a} {b = b} {f = f} {g = g} tries marks hs ns r e h d =
+    subst (λ (z : List NativeHandle × List ℕ). DoesOutside facts a b f g (listed_announced tries marks
+    (ListsTell z.0 z.1 hs ns)) r) (λ i. (e i, h i)) d
 
 -- what got no turn was not refused for its marker
 pub not_of_size : {A : Type 0} (r : Result A Fault) → IfErr r IsNoTurn → r ≡ Err Size → ⊥

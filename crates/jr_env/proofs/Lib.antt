@@ -9,12 +9,15 @@ pub mod Removing
 pub mod Carrying
 pub mod EnvCalls
 pub mod ExplainedWords
+pub mod UsedLook
 pub mod ReadWords
 pub mod Served
 pub mod MadeAgain
 pub mod GivingBack
 pub mod FrameCalls
 pub mod AtObjects
+pub mod Identities
+pub mod IdentityLaws
 pub mod ElementChecks
 pub mod ElementReading
 pub mod ArrayParts
@@ -29,3 +32,4 @@ pub mod StandingRegions
 pub mod OpenStays
 pub mod WithinStays
 pub mod StayLevels
+pub mod TellingCalls

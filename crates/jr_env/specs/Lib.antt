@@ -1,4 +1,5 @@
 pub mod Requests
+pub mod Demands
 pub mod Deeds
 pub mod Envs
 pub mod StandingRegions
@@ -9,13 +10,19 @@ pub mod Collections
 pub mod Censuses
 pub mod Tries
 pub mod Remedies
-pub mod Turns
+pub mod Listings
+pub mod Retried
 pub mod Scopes
 pub mod Texts
 pub mod Works
+pub mod Seeing
 pub mod Words
+pub mod UsedWords
 pub mod Watching
+pub mod TellingCalls
+pub mod TellingRegions
 pub mod LentStays
 pub mod Moving
+pub mod Identities
 pub mod StayLevels
 pub mod Calling

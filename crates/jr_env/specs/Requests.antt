@@ -10,7 +10,8 @@ use Rattle.jr_word.specs.declared.kind.Kind.{Kind}
 use Rattle.jr_word.specs.declared.kind.Kind.TheVariants.{Boolean, Byte, Char, Short, Int, Long}
 use Rattle.jr_model.specs.State.{Handle}
 use Rattle.jr_model.specs.Checks.{Word}
-use Rattle.jr_model.specs.Programs.{AnswerKind, AnswerOf, Program, Which, at_both, handed_none, handed_one}
+use Rattle.jr_model.specs.Programs.{AnswerKind, AnswerOf, Program, Which, at_both, ends, gives_object, handed_none}
+use Rattle.jr_model.specs.Programs.{handed_one, names, object, one, wants}
 use Rattle.jr_model.specs.CallPrograms as programs
 use Rattle.jr_env.specs.declared.native_call.Handed.{Handed}
 use Rattle.jr_env.specs.declared.native_call.Handed.TheVariants.{Nothing, One, Both}
@@ -137,6 +138,15 @@ for_is_same_object v w = named (codes "IsSameObject")
 abbrev pub for_get_object_ref_type : ℕ → Request ℕ
 for_get_object_ref_type w = named (codes "GetObjectRefType")
     (at_word 0 w programs.get_object_ref_type)
+
+-- THE IDENTITY of an object is its number in the machine: the program that tells it, which looks at no header
+abbrev pub identity_of : Program 0 object
+identity_of = names one (wants one (ends gives_object))
+
+-- the identity of what the word names
+abbrev pub for_identity_of : ℕ → Request ℕ
+for_identity_of w = named (codes "IdentityOf")
+    (at_word 0 w identity_of)
 
 -- PopLocalFrame
 abbrev pub for_pop_local_frame : ℕ → Request (Option HandleWord)

@@ -9,6 +9,16 @@ use Rattle.jr_env.specs.declared.checked.Examined.{Examined}
 use Rattle.jr_env.specs.declared.checked.Refusal.{Refusal}
 use Rattle.jr_env.specs.Requests.{Request, request_name, request_words}
 
+-- the checked caller with this caller beneath
+abbrev pub with_caller : {N W : Type 0} → Checked N W → N → Checked N W
+with_caller checked beneath = record checked { caller = record checked.caller { now = beneath } }
+
+-- THE CALLER BENEATH DID THIS, and the watcher was told nothing
+pub record ActsBeneath {N W : Type 0} (act : N → N → Type 0) (old new : Checked N W) : Type 0 where
+  pub same_reference : new.caller.ghost_name ≡ old.caller.ghost_name
+  pub watcher : new.watcher ≡ old.watcher
+  pub acts : act old.caller.now new.caller.now
+
 -- the words that a watcher is told of, with what each is
 abbrev pub evidence_of : Evidence → List Examined
 evidence_of Nothing = []
@@ -51,3 +61,19 @@ module _ {N W : Type 0} (explained : N → N → ℕ → Result Explanation Faul
     pub call : made old.caller.now mid.caller.now request answer
     pub watcher : mid.watcher ≡ old.watcher
     pub tells : TellsOf mid new (request_name request) (request_words request) answer
+
+  -- THE CALLER BENEATH DID THIS, and the watcher was told of it just where its answer is a refusal
+  pub record WatchedBeneath {A : Type 0} (act : N → N → Type 0) (old new : Checked N W) (name words : List ℕ)
+      (answer : Result A Fault) : Type 0 where
+    pub same_reference : new.caller.ghost_name ≡ old.caller.ghost_name
+    pub mid : N
+    pub acts : act old.caller.now mid
+    pub tells : TellsOf (with_caller old mid) new name words answer
+
+  -- WHO IS BENEATH TOLD of a refusal in its own way, and then the watcher was told
+  pub record TellsBoth (beneath : N → N → List ℕ → List ℕ → Fault → Type 0) (old new : Checked N W)
+      (name words : List ℕ) (fault : Fault) : Type 0 where
+    pub same_reference : new.caller.ghost_name ≡ old.caller.ghost_name
+    pub mid : N
+    pub first : beneath old.caller.now mid name words fault
+    pub then_watcher : HasTold (with_caller old mid) new name words fault

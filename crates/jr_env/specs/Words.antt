@@ -1,31 +1,27 @@
 -- What is told of a word that native code hands in, from one moment of its pass and frames to another.
-use Rattle.std.specs.Prelude.{ℕ, IfOk, Result}
+use Rattle.std.specs.Prelude.{ℕ, Result}
 use Rattle.jr_word.specs.declared.fault.Fault.{Fault}
-use Rattle.jr_model.specs.Calls.{entered}
 use Rattle.jr_model.specs.Checks.{Word}
 use Rattle.jr_steps.specs.declared.steps.Steps.{Ghosts}
-use Rattle.jr_gate.specs.Performing.{ThreadState}
 use Rattle.jr_frames.specs.declared.explaining.Explanation.{Explanation}
 use Rattle.jr_frames.specs.declared.held.Held.{Held}
-use Rattle.jr_frames.specs.Explaining.{IsExplained, WasSeen, glance}
+use Rattle.jr_frames.specs.Explaining.{IsExplained}
 use Rattle.jr_frames.specs.Reading.{IsReadAs}
-use Rattle.jr_env.specs.Deeds.{Deed, DoesOutside, call_by, within_by}
+use Rattle.jr_env.specs.Deeds.{Deed, DoesOutside}
+use Rattle.jr_env.specs.Seeing.{Telling, seen_by_call, seen_in_stay}
 
--- the explanation of the word was so at its one look, or at a moment in between where the word needs none
-abbrev pub WasExplained : Word → ThreadState → Explanation → ThreadState → Type 0
-WasExplained a old e new = WasSeen old.pass.config a
-    (λ s. IsExplained old.pass.config old.pass.thread old.frames s a e) old.pass new.pass
+-- what a word is explained as: the answer was so at its one look, or at a moment in between where the word needs none
+abbrev pub explanation_of : Word → Telling Explanation
+explanation_of a c thread f s e = IsExplained c thread f s a e
 
 -- a word was explained by a call: its entry, its one look, if it needs one, and its exit;
 -- and it took one operation more at the most
 abbrev pub explained_by_call : Word → Deed Explanation
-explained_by_call a old answer new = call_by (λ c. 1) (λ c last t s. entered (glance c a)) old answer new
-    × IfOk answer (λ e. WasExplained a old e new)
+explained_by_call a = seen_by_call (explanation_of a) a
 
 -- the same in a stay, without an entry and an exit
 abbrev pub explained_in_stay : Word → Deed Explanation
-explained_in_stay a old answer new = within_by (λ c. 1) (λ c last t s. glance c a) old answer new
-    × IfOk answer (λ e. WasExplained a old e new)
+explained_in_stay a = seen_in_stay (explanation_of a) a
 
 -- WHAT A WORD IS, that native code hands in
 abbrev pub explain : ℕ → Deed Explanation

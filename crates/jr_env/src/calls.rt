@@ -7,10 +7,12 @@ mod counting;
 mod critical_regions;
 mod explaining;
 mod frames;
+mod identity;
 mod making;
 mod meeting;
 pub(crate) mod names;
 mod notes;
+mod numbers;
 mod objects;
 mod references;
 mod staying;
@@ -19,6 +21,7 @@ mod texts;
 pub use array_parts::SetArrayRegion;
 pub use copies::{CopyBack, GetArrayElements, GetStringChars};
 pub use frames::{FreeLocals, PopLocalFrame};
+pub use identity::IdentityOf;
 pub use making::{NewArray, NewObjectArray, NewPlain, NewString};
 pub use objects::{
     GetArrayLength, GetObjectArrayElement, GetStringLength, KindOf, SetObjectArrayElement,

@@ -72,7 +72,7 @@ pub trait Explains: Sized {
     ///
     /// # Errors
     ///
-    /// Of an env E13 where a thread is collecting at the entry, or has announced that it will.
+    /// Of an env that of the gate.
     ///
     /// # Operations
     ///
@@ -123,7 +123,8 @@ fn look_at<N: Explains>(caller: &mut N, handle: Handle) -> Examined
     Examined { handle, is }
 }
 
-/// An env or a stay with a watcher. It answers each call as the caller beneath does. Where a call is refused, it asks what each word is that the call was handed, and tells the watcher. So a refusal takes the operations of `explain` for each of them, and a call that isn't refused none.
+/// An env or a stay with a watcher. It answers each call as the caller beneath does. Where a call is refused, it asks what each word is that the call was handed, and tells the watcher.
+/// So a refusal takes the operations of `explain` for each of them, and a call that isn't refused none.
 #[derive(Drop)]
 pub struct Checked<'e, N, W> {
     /// Who makes the calls.
@@ -231,7 +232,7 @@ impl<N: Explains, W: Watcher> Checked<'_, N, W> {
 
     /// Tells the watcher of a refusal, by functions that take the words in registers: so a call that isn't refused stores none.
     #[inline(always)]
-    fn tell(&mut self, call: &'static str, handed: Handed, fault: Fault)
+    pub(crate) fn tell_watcher(&mut self, call: &'static str, handed: Handed, fault: Fault)
         ensures same_reference { self.new.caller.ghost_name ≡ self.old.caller.ghost_name }
         ensures told { HasTold N.explained N.thread W.hears self.old self.new call.now (handed_words handed) fault }
     {
@@ -254,7 +255,7 @@ impl<S: Steps, N: NativeCaller<S> + Explains, W: Watcher> NativeCaller<S> for Ch
         let handed = call.handed();
         let answer = self.caller.make(call);
         if let Err(fault) = &answer {
-            self.tell(name, handed, *fault);
+            self.tell_watcher(name, handed, *fault);
         }
         answer
     }
@@ -268,7 +269,7 @@ impl<S: Steps, N: NativeCaller<S> + Explains, W: Watcher> NativeCaller<S> for Ch
     ) -> Result<(), Fault> {
         let answer = self.caller.copy_part(array, start, elements);
         if let Err(fault) = &answer {
-            self.tell(names::get_region(E::KIND), Handed::One(array), *fault);
+            self.tell_watcher(names::get_region(E::KIND), Handed::One(array), *fault);
         }
         answer
     }

@@ -1,7 +1,7 @@
 //! A copy of an array's elements as a scope: they are copied out, something is done with them, and they are released.
 ghost use Rattle.std.specs.Prelude.{List, Option, Ok, Err, IfOk, IfErr};
 ghost use Rattle.jr_env.specs.Scopes.{IfUnreleased, RanOverCopy};
-ghost use Rattle.jr_env.specs.Turns.{WasCopiedOut, WasReleased};
+ghost use Rattle.jr_env.specs.Retried.{WasCopiedOut, WasReleased};
 
 use crate::calls::GetArrayElements;
 use crate::env::Env;
@@ -47,7 +47,9 @@ fn discard_kept<E: Elem>(kept: Option<Elements<E>>) {
     }
 }
 
-/// Copies all elements of an array out, does something with them, and releases them by a mode, also where what was done gave up. The copy and the release are each made again as long as they are refused and there is patience. No element is the closure's own in the room meanwhile: others may write there, and a collection may come.
+/// Copies all elements of an array out, does something with them, and releases them by a mode, also where what was done gave up.
+/// The copy and the release are each made again as long as they are refused and there is patience. No element is the closure's own in the room meanwhile:
+/// others may write there, and a collection may come.
 ///
 /// # Errors
 ///
@@ -69,8 +71,10 @@ pub fn with_array_elements<S: Steps, E: Elem, T: Drop, F: FnOnce(&mut [E]) -> T>
     body: F,
 ) -> Result<T, Unreleased<T, Elements<E>>>
     requires { F.IsAlwaysCallable body }
-    ensures done { IfOk result (λ x. (left : List _) × (kept : Option (List _)) × RanOverCopy (WasCopiedOut patience E.KIND E.word_of array.0) (WasReleased patience E.KIND E.word_of array.0 mode) F.FnOnce body env.old env.new x left (Ok kept)) }
-    ensures refused { IfErr result (IfUnreleased (λ e. WasCopiedOut patience E.KIND E.word_of array.0 env.old (Err e) env.new) (λ x left e. RanOverCopy (WasCopiedOut patience E.KIND E.word_of array.0) (WasReleased patience E.KIND E.word_of array.0 mode) F.FnOnce body env.old env.new x left (Err (left, e)))) }
+    ensures done { IfOk result (λ x. (left : List _) × (kept : Option (List _))
+        × RanOverCopy (WasCopiedOut patience E.KIND E.word_of array.0) (WasReleased patience E.KIND E.word_of array.0 mode) F.FnOnce body env.old env.new x left (Ok kept)) }
+    ensures refused { IfErr result (IfUnreleased (λ e. WasCopiedOut patience E.KIND E.word_of array.0 env.old (Err e) env.new)
+        (λ x left e. RanOverCopy (WasCopiedOut patience E.KIND E.word_of array.0) (WasReleased patience E.KIND E.word_of array.0 mode) F.FnOnce body env.old env.new x left (Err (left, e)))) }
 {
     let element = PhantomData::<E>;
     let call = GetArrayElements {

@@ -9,7 +9,8 @@ use jr_model::Mode;
 use jr_steps::Steps;
 use jr_word::{Elem, Fault, Handle, Kind};
 
-/// A critical region: the elements of the arrays and strings at its levels are read and written in place, and no collection comes before its first level is given up. While it stands no other call on its env compiles, and it has to be released. (JNI Specification, chapter 4, "GetPrimitiveArrayCritical")
+/// A critical region: the elements of the arrays and strings at its levels are read and written in place, and no collection comes before its first level is given up.
+/// While it stands no other call on its env compiles, and it has to be released. (JNI Specification, chapter 4, "GetPrimitiveArrayCritical")
 pub struct Region<'e, S: Steps> {
     env: &'e mut Env<S>,
     levels: Levels,
@@ -44,7 +45,7 @@ impl<'e, S: Steps> Region<'e, S> {
     ///
     /// # Errors
     ///
-    /// E2 where the handle is malformed or lies outside the room; E3 where it is a local one of another thread; E2 where its reference does not stand; E1 where it is to null; E5 where it is to a plain object or a string; E6 where it is to an array of objects; E17 where sixteen levels stand.
+    /// Those of a handle to an object; E5 where it is to a plain object or a string; E6 where it is to an array of objects; E17 where sixteen levels stand.
     ///
     /// The levels are as they were, and stand.
     ///
@@ -66,7 +67,7 @@ impl<'e, S: Steps> Region<'e, S> {
     ///
     /// # Errors
     ///
-    /// E2 where the handle is malformed or lies outside the room; E3 where it is a local one of another thread; E2 where its reference does not stand; E1 where it is to null; E4 where it is to no string; E17 where sixteen levels stand.
+    /// Those of a handle to an object; E4 where it is to no string; E17 where sixteen levels stand.
     ///
     /// The levels are as they were, and stand.
     ///
@@ -132,7 +133,8 @@ impl<'e, S: Steps> Region<'e, S> {
         levels_beside::set(self.env, &self.levels, level, index, value)
     }
 
-    /// Copies a part of the elements at a level out, from an index on: as many as the slice has room for, one after the other, rising. The units of a string are read as chars. It is `get_array_region` without an entry, an exit and a look at a reference. Others may write between two of its loads.
+    /// Copies a part of the elements at a level out, from an index on: as many as the slice has room for, one after the other, rising. The units of a string are read as chars.
+    /// It is `get_array_region` without an entry, an exit and a look at a reference. Others may write between two of its loads.
     ///
     /// # Errors
     ///
@@ -152,7 +154,8 @@ impl<'e, S: Steps> Region<'e, S> {
     ) -> Result<(), Fault>
         ensures same_reference { (env_of self.new).ghost_name ≡ (env_of self.old).ghost_name }
         ensures size { length elements.new ≡ length elements.old }
-        ensures call { AtLevel self.old self.new level (part_read result (map E.word_of elements.new)) (ReadsPartAt (held_of self.old) (held_of self.new) (levels_of self.old) level E.KIND start (length elements.old) (part_read result (map E.word_of elements.new))) }
+        ensures call { AtLevel self.old self.new level (part_read result (map E.word_of elements.new))
+            (ReadsPartAt (held_of self.old) (held_of self.new) (levels_of self.old) level E.KIND start (length elements.old) (part_read result (map E.word_of elements.new))) }
         ensures region { StandsOn (held_of self.old) (held_of self.new) (levels_of self.old) (levels_of self.new) }
         ensures frames { frames_of self.new ≡ frames_of self.old }
         ensures levels { levels_of self.new ≡ levels_of self.old }
@@ -164,7 +167,8 @@ impl<'e, S: Steps> Region<'e, S> {
         levels_beside::get_part(self.env, &self.levels, level, start, elements)
     }
 
-    /// Copies elements into a part of a level's array, from an index on, one after the other, rising. It is `set_array_region` without an entry, an exit and a look at a reference. Others may read between two of its stores.
+    /// Copies elements into a part of a level's array, from an index on, one after the other, rising. It is `set_array_region` without an entry, an exit and a look at a reference.
+    /// Others may read between two of its stores.
     ///
     /// # Errors
     ///
@@ -239,7 +243,8 @@ impl<'e, S: Steps> Region<'e, S> {
         false
     }
 
-    /// Gives up the last level. With the first one the thread leaves the gate, and the env can be called again: none is left. Every mode does the same, since a region is no copy: none undoes a write, and none keeps the elements. (JNI Specification, chapter 4, "ReleasePrimitiveArrayCritical", "ReleaseStringCritical")
+    /// Gives up the last level. With the first one the thread leaves the gate, and the env can be called again: none is left. Every mode does the same, since a region is no copy:
+    /// none undoes a write, and none keeps the elements. (JNI Specification, chapter 4, "ReleasePrimitiveArrayCritical", "ReleaseStringCritical")
     ///
     /// # Operations
     ///

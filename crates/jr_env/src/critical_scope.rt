@@ -33,7 +33,8 @@ impl<'e, S: Steps> CriticalRegion for Region<'e, S> {
     }
 }
 
-/// Does something in a critical region, and ends the region with all its levels, also where what was done gave up. So `?` is free in the closure. It is handed the region alone, whose first level is 0. The answer is the closure's, beside the env.
+/// Does something in a critical region, and ends the region with all its levels, also where what was done gave up. So `?` is free in the closure.
+/// It is handed the region alone, whose first level is 0. The answer is the closure's, beside the env.
 ///
 /// # Operations
 ///

@@ -1,4 +1,6 @@
-//! The calls of a critical region by its levels, which stand beside their env and don't borrow it. They are for who keeps levels and env from one command to the next, as an interpreter of commands does, and can't hold a borrow of the env meanwhile; [`Region`](crate::Region) is the way for everybody else, and asks for nothing.
+//! The calls of a critical region by its levels, which stand beside their env and don't borrow it.
+//! They are for who keeps levels and env from one command to the next, as an interpreter of commands does, and can't hold a borrow of the env meanwhile;
+//! [`Region`](crate::Region) is the way for everybody else, and asks for nothing.
 //!
 //! The levels have to be closed on the env that opened them, the last first. Each other call of the env ends the stay that they stand in.
 ghost use Rattle.std.specs.Prelude.{◌≡◌, ◌<◌, IfErr, IfOk, length, map, IfNone, IfSome};
@@ -8,9 +10,10 @@ ghost use Rattle.jr_critical.specs.LevelParts.{part_read, ReadsPartAt, WritesPar
 ghost use Rattle.jr_env.specs.Envs.{IsOutside};
 ghost use Rattle.jr_env.specs.StandingRegions.{EndsUndisturbed, StandsOn, StandsSince};
 ghost use Rattle.jr_env.specs.Criticals.{HasEntered, WasRefused};
-ghost use Rattle.jr_env.specs.Turns.{TriesAgainToOpen, TriesToOpen};
+ghost use Rattle.jr_env.specs.Retried.{TriesAgainToOpen, TriesToOpen};
 
 use crate::env::Env;
+use crate::native_call::Handed;
 use crate::patience::{Patience, with_patience};
 use crate::work::outside;
 use jr_critical::Levels;
@@ -22,7 +25,7 @@ use jr_word::{Elem, Fault, Handle};
 ///
 /// # Errors
 ///
-/// E13 where a thread is collecting at the entry, or has announced that it will; E2 where the handle is malformed or lies outside the room; E3 where it is a local one of another thread; E2 where its reference does not stand; E1 where it is to null; E5 where it is to a plain object or a string; E6 where it is to an array of objects.
+/// That of the gate; those of a handle to an object; E5 where it is to a plain object or a string; E6 where it is to an array of objects.
 ///
 /// Nothing has changed then, and the thread stands outside.
 ///
@@ -43,7 +46,7 @@ pub fn open_array<S: Steps>(env: &mut Env<S>, array: Handle) -> Result<Levels, F
 ///
 /// # Errors
 ///
-/// E13 where a thread is collecting at the entry, or has announced that it will; E2 where the handle is malformed or lies outside the room; E3 where it is a local one of another thread; E2 where its reference does not stand; E1 where it is to null; E4 where it is to no string.
+/// That of the gate; those of a handle to an object; E4 where it is to no string.
 ///
 /// Nothing has changed then, and the thread stands outside.
 ///
@@ -67,6 +70,31 @@ pub enum First {
     Array(Handle),
     /// A string.
     Text(Handle),
+}
+
+impl First {
+    ghost use Rattle.std.specs.Prelude.{◌≡◌, [], ◌∷◌};
+    ghost use Rattle.jr_env.specs.Requests.{handed_words};
+    ghost use Rattle.jr_env.specs.TellingRegions.{opening_name};
+    ghost use Rattle.jr_env.specs.Retried.{first_word};
+
+    /// What the call is named that opens it.
+    pub(crate) fn call(self) -> &'static str
+        ensures { result.now ≡ opening_name self }
+    {
+        match self {
+            First::Array(_) => "GetPrimitiveArrayCritical",
+            First::Text(_) => "GetStringCritical",
+        }
+    }
+
+    /// What that call is handed.
+    pub(crate) fn handed(self) -> Handed
+        ensures { handed_words result ≡ first_word self ∷ [] }
+    {
+        let (First::Array(word) | First::Text(word)) = self;
+        Handed::One(word)
+    }
 }
 
 /// Opens a critical region, by the call for what its first level is over.
@@ -102,11 +130,12 @@ pub fn retry_open<S: Steps>(
     with_patience(env, patience, |env| open(env, first))
 }
 
-/// Adds a level over an array whose elements are no objects, and answers its number. An array may stand at several levels. The levels have to stand over the env. (JNI Specification, chapter 4, "GetPrimitiveArrayCritical")
+/// Adds a level over an array whose elements are no objects, and answers its number. An array may stand at several levels. The levels have to stand over the env.
+/// (JNI Specification, chapter 4, "GetPrimitiveArrayCritical")
 ///
 /// # Errors
 ///
-/// E2 where the handle is malformed or lies outside the room; E3 where it is a local one of another thread; E2 where its reference does not stand; E1 where it is to null; E5 where it is to a plain object or a string; E6 where it is to an array of objects; E17 where sixteen levels stand.
+/// Those of a handle to an object; E5 where it is to a plain object or a string; E6 where it is to an array of objects; E17 where sixteen levels stand.
 ///
 /// The levels are as they were, and stand.
 ///
@@ -133,7 +162,7 @@ pub fn nest_array<S: Steps>(
 ///
 /// # Errors
 ///
-/// E2 where the handle is malformed or lies outside the room; E3 where it is a local one of another thread; E2 where its reference does not stand; E1 where it is to null; E4 where it is to no string; E17 where sixteen levels stand.
+/// Those of a handle to an object; E4 where it is to no string; E17 where sixteen levels stand.
 ///
 /// The levels are as they were, and stand.
 ///
@@ -211,7 +240,8 @@ pub fn set<S: Steps, E: Elem>(
     levels.set(&mut env.held, level, index, value)
 }
 
-/// Copies a part of the elements at a level out, from an index on: as many as the slice has room for. The units of a string are read as chars. The levels have to stand over the env, and the level has to be one of them.
+/// Copies a part of the elements at a level out, from an index on: as many as the slice has room for. The units of a string are read as chars.
+/// The levels have to stand over the env, and the level has to be one of them.
 ///
 /// # Errors
 ///
@@ -271,7 +301,8 @@ pub fn set_part<S: Steps, E: Elem>(
     levels.set_part(&mut env.held, level, start, elements)
 }
 
-/// Gives up the last level, and answers those before it. With the first one the thread leaves the gate, and none is left. Every mode does the same, since a region is no copy. The levels have to stand over the env. (JNI Specification, chapter 4, "ReleasePrimitiveArrayCritical", "ReleaseStringCritical")
+/// Gives up the last level, and answers those before it. With the first one the thread leaves the gate, and none is left. Every mode does the same, since a region is no copy.
+/// The levels have to stand over the env. (JNI Specification, chapter 4, "ReleasePrimitiveArrayCritical", "ReleaseStringCritical")
 ///
 /// # Operations
 ///

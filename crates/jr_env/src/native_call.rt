@@ -1,5 +1,6 @@
 //! A call of native code as a value, and who makes it: an env, and a stay.
 
+use crate::demand::Demand;
 use jr_frames::Frames;
 use jr_gate::Inside;
 use jr_heap::Numbers;
@@ -23,6 +24,7 @@ pub trait NativeCall<S: Steps> {
     ghost use Rattle.jr_gate.specs.Stays.{IsOwnStay};
     ghost use Rattle.jr_frames.specs.Ready.{StandsReady, KeepsOwner};
     ghost use Rattle.std.specs.Prelude.{◌≡◌};
+    ghost use Rattle.jr_env.specs.Demands.{Demands};
     ghost use Rattle.jr_env.specs.Requests.{Request, handed_words, request_name, request_words};
     ghost use Rattle.jr_env.specs.Works.{Serves};
 
@@ -38,6 +40,13 @@ pub trait NativeCall<S: Steps> {
     /// The words that it is handed as references. Of a request that reads more by what these say, they are the first.
     fn handed(&self) -> Handed
         ensures { handed_words result ≡ request_words (request self.now) };
+
+    /// What it asks of the room, and may be refused for want of. A call that makes no global or weak reference and no object asks for nothing.
+    fn demand(&self) -> Demand
+        ensures { Demands (request self.now) result }
+    {
+        Demand::Nothing
+    }
 
     /// Does what it asks for, in a stay of the thread. An env makes a call, and so does a stay: it is they who call this.
     ///
@@ -74,7 +83,7 @@ pub trait NativeCaller<S: Steps>: Sized {
     ///
     /// # Errors
     ///
-    /// Those of the call. Of an env before them E13 where a thread is collecting at the entry, or has announced that it will.
+    /// Those of the call. Of an env before them that of the gate.
     ///
     /// What stands then is what the call leaves.
     ///
@@ -88,7 +97,7 @@ pub trait NativeCaller<S: Steps>: Sized {
     ///
     /// # Errors
     ///
-    /// E2 where the handle is malformed or lies outside the room; E3 where it is a local one of another thread; E2 where its reference does not stand; E1 where it is to null; E5 where it is to a plain object or a string; E6 where it is to an array of other elements; E7 where the part does not lie in the array.
+    /// Those of a handle to an object; E5 where it is to a plain object or a string; E6 where it is to an array of other elements; E7 where the part does not lie in the array.
     ///
     /// The slice is as it was, and nothing has changed.
     ///

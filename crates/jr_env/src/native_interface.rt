@@ -4,8 +4,8 @@ ghost use Rattle.jr_env.specs.Requests.{for_is_same_object};
 use crate::calls::copies::{GetArrayElements, GetStringChars};
 use crate::calls::{
     DeleteGlobalRef, DeleteLocalRef, DeleteWeakGlobalRef, FreeLocals, GetArrayLength,
-    GetObjectArrayElement, GetObjectRefType, GetStringLength, IsSameObject, KindOf, NewArray,
-    NewGlobalRef, NewLocalRef, NewObjectArray, NewPlain, NewString, NewWeakGlobalRef,
+    GetObjectArrayElement, GetObjectRefType, GetStringLength, IdentityOf, IsSameObject, KindOf,
+    NewArray, NewGlobalRef, NewLocalRef, NewObjectArray, NewPlain, NewString, NewWeakGlobalRef,
     PopLocalFrame, SetArrayRegion, SetObjectArrayElement,
 };
 use crate::native_call::NativeCaller;
@@ -15,19 +15,33 @@ use jr_word::{Elem, Fault, Handle, Kind};
 use std::alloc::Global;
 use std::marker::PhantomData;
 
-/// The calls of the Java Native Interface that enter the gate, by their names, of an env and of a stay. An env makes each by an entry and an exit of its own, which are two operations more than are told here. Before the refusals that are told it has E13, where a thread is collecting at the entry, or has announced that it will. Afterwards its thread stands outside. A stay goes on.
+/// The calls of the Java Native Interface that enter the gate, by their names, of an env and of a stay.
+/// An env makes each by an entry and an exit of its own, which are two operations more than are told here.
+/// Before the refusals that are told it has E13, where a thread is collecting at the entry, or has announced that it will. Afterwards its thread stands outside. A stay goes on.
+///
+/// What several calls are refused by they cite:
+///
+/// - that of the gate is that of the gate;
+/// - those of a handle are E2 where it is malformed or lies outside the room, E3 where it is a local one of another thread, and E2 where its reference does not stand;
+/// - those of a handle to an object are these, and E1 where it is to null;
+/// - those of space are E10 with how many words are reserved, where so many more don't fit, E12 with how many words were looked at and how many were found,
+///   where another thread reserved some in between, and E11 where every object number was present at one moment of the call.
 pub trait NativeInterface<S: Steps>: NativeCaller<S> {
     ghost use Rattle.std.specs.Prelude.{◌≡◌, IfErr, length, map};
     ghost use Rattle.jr_word.specs.declared.handle.RefKind.TheVariants as ref_kind;
     ghost use Rattle.jr_env.specs.Copying.{CopiesThrough};
     ghost use Rattle.jr_env.specs.Deeds.{read_answer};
-    ghost use Rattle.jr_env.specs.Requests.{for_delete_local_ref, for_delete_reference, for_free_locals, for_get_array_elements, for_get_array_length, for_get_array_region, for_get_object_array_element, for_get_object_ref_type, for_get_string_chars, for_get_string_length, for_is_same_object, for_kind_of, for_new_array, for_new_local_ref, for_new_object_array, for_new_plain, for_new_reference, for_new_string, for_pop_local_frame, for_set_array_region, for_set_object_array_element, told_by};
+    ghost use Rattle.jr_env.specs.Requests.{for_delete_local_ref, for_delete_reference, for_free_locals, for_get_array_elements, for_get_array_length, for_get_array_region};
+    ghost use Rattle.jr_env.specs.Requests.{for_get_object_array_element, for_get_object_ref_type, for_get_string_chars, for_get_string_length, for_identity_of, for_is_same_object, for_kind_of};
+    ghost use Rattle.jr_env.specs.Requests.{for_new_array, for_new_local_ref, for_new_object_array, for_new_plain, for_new_reference, for_new_string, for_pop_local_frame, for_set_array_region};
+    ghost use Rattle.jr_env.specs.Requests.{for_set_object_array_element, told_by};
 
     /// Makes a global reference to what the handle names, none for NULL and for a weak one that is cleared. (JNI Specification, chapter 4, "NewGlobalRef")
     ///
     /// # Errors
     ///
-    /// E2 where the handle is malformed or lies outside the room; E3 where it is a local one of another thread; E2 where its reference does not stand; E8 where each slot was occupied when it was tried, or later in the call.
+    /// Those of a handle;
+    /// E8 where each slot was occupied when it was tried, or later in the call.
     ///
     /// Nothing has changed then.
     ///
@@ -41,7 +55,8 @@ pub trait NativeInterface<S: Steps>: NativeCaller<S> {
     ///
     /// # Errors
     ///
-    /// E2 where the handle is malformed or lies outside the room; E3 where it is a local one of another thread; E2 where its reference does not stand; E8 where each slot was occupied when it was tried, or later in the call.
+    /// Those of a handle;
+    /// E8 where each slot was occupied when it was tried, or later in the call.
     ///
     /// Nothing has changed then.
     ///
@@ -55,7 +70,7 @@ pub trait NativeInterface<S: Steps>: NativeCaller<S> {
     ///
     /// # Errors
     ///
-    /// E2 where the handle is malformed or lies outside the room; E3 where it is a local one of another thread; E2 where its reference does not stand; E9 where no local place is free.
+    /// Those of a handle; E9 where no local place is free.
     ///
     /// Nothing has changed then.
     ///
@@ -69,7 +84,7 @@ pub trait NativeInterface<S: Steps>: NativeCaller<S> {
     ///
     /// # Errors
     ///
-    /// E2 where the handle is malformed or lies outside the room; E3 where it is a local one of another thread; E2 where its reference does not stand; E9 where no local place is free.
+    /// Those of a handle; E9 where no local place is free.
     ///
     /// Nothing has changed then.
     ///
@@ -83,7 +98,8 @@ pub trait NativeInterface<S: Steps>: NativeCaller<S> {
     ///
     /// # Errors
     ///
-    /// E2 where the handle is malformed or lies outside the room; E3 where it is a local one of another thread; E2 where its reference does not stand; E8 where each slot was occupied when it was tried, or later in the call.
+    /// Those of a handle;
+    /// E8 where each slot was occupied when it was tried, or later in the call.
     ///
     /// Nothing has changed then.
     ///
@@ -135,7 +151,8 @@ pub trait NativeInterface<S: Steps>: NativeCaller<S> {
     fn delete_local_ref(&mut self, handle: Handle) -> Result<(), Fault>
         ensures { Self.made self.old self.new (for_delete_local_ref handle.0) result };
 
-    /// Whether two references are to one object, or both to null. The look at the first and the look at the second are two moments. Each check is made of the first handle and then of the second, before the next check. (JNI Specification, chapter 4, "IsSameObject")
+    /// Whether two references are to one object, or both to null. The look at the first and the look at the second are two moments.
+    /// Each check is made of the first handle and then of the second, before the next check. (JNI Specification, chapter 4, "IsSameObject")
     ///
     /// # Errors
     ///
@@ -149,7 +166,8 @@ pub trait NativeInterface<S: Steps>: NativeCaller<S> {
     fn is_same_object(&mut self, left: Handle, right: Handle) -> Result<bool, Fault>
         ensures { Self.made self.old self.new (for_is_same_object left.0 right.0) result };
 
-    /// The type of a reference: 1 local, 2 global, 3 weak global, be it cleared, and 0 for NULL, a malformed handle, one that lies outside the room, a local one of another thread, and one whose reference does not stand. (JNI Specification, chapter 4, "GetObjectRefType")
+    /// The type of a reference: 1 local, 2 global, 3 weak global, be it cleared, and 0 for NULL, a malformed handle, one that lies outside the room, a local one of another thread,
+    /// and one whose reference does not stand. (JNI Specification, chapter 4, "GetObjectRefType")
     ///
     /// # Errors
     ///
@@ -161,11 +179,29 @@ pub trait NativeInterface<S: Steps>: NativeCaller<S> {
     fn get_object_ref_type(&mut self, handle: Handle) -> Result<u8, Fault>
         ensures { Self.made self.old self.new (for_get_object_ref_type handle.0) result };
 
-    /// Takes the newest frame away with its local references, and makes one in the frame below to what the handle names, none for NULL and for a weak one that is cleared, which needs no place. (JNI Specification, chapter 4, "PopLocalFrame")
+    /// Tells the identity of what the handle names: a number, at least 1, that all references to one object share, and that no other object has while that one is present.
+    /// A collection leaves it, be the object moved or not. Once a collection has dropped the object, another may have its number. So it is a key for what an embedder keeps beside its objects.
+    /// The Java Native Interface has no such call.
     ///
     /// # Errors
     ///
-    /// E15 where no frame was pushed; E2 where the handle is malformed or lies outside the room; E3 where it is a local one of another thread; E2 where its reference does not stand; E9 where no place would be free for the result, once those of the frame are.
+    /// Those of a handle to an object.
+    ///
+    /// Nothing has changed then.
+    ///
+    /// # Operations
+    ///
+    /// Just its events, at most 1: a look at the slot of a global or weak handle.
+    fn identity_of(&mut self, handle: Handle) -> Result<u16, Fault>
+        ensures { Self.made self.old self.new (for_identity_of handle.0) result };
+
+    /// Takes the newest frame away with its local references, and makes one in the frame below to what the handle names, none for NULL and for a weak one that is cleared, which needs no place.
+    /// (JNI Specification, chapter 4, "PopLocalFrame")
+    ///
+    /// # Errors
+    ///
+    /// E15 where no frame was pushed; those of a handle;
+    /// E9 where no place would be free for the result, once those of the frame are.
     ///
     /// Nothing is taken away then.
     ///
@@ -197,7 +233,7 @@ pub trait NativeInterface<S: Steps>: NativeCaller<S> {
     ///
     /// # Errors
     ///
-    /// E2 where the handle is malformed or lies outside the room; E3 where it is a local one of another thread; E2 where its reference does not stand; E1 where it is to null.
+    /// Those of a handle to an object.
     ///
     /// Nothing has changed then.
     ///
@@ -211,7 +247,8 @@ pub trait NativeInterface<S: Steps>: NativeCaller<S> {
     ///
     /// # Errors
     ///
-    /// E2 where the handle is malformed or lies outside the room; E3 where it is a local one of another thread; E2 where its reference does not stand; E1 where it is to null; E5 where it is to a plain object or a string.
+    /// Those of a handle to an object;
+    /// E5 where it is to a plain object or a string.
     ///
     /// Nothing has changed then.
     ///
@@ -225,7 +262,8 @@ pub trait NativeInterface<S: Steps>: NativeCaller<S> {
     ///
     /// # Errors
     ///
-    /// E2 where the handle is malformed or lies outside the room; E3 where it is a local one of another thread; E2 where its reference does not stand; E1 where it is to null; E4 where it is to no string.
+    /// Those of a handle to an object;
+    /// E4 where it is to no string.
     ///
     /// Nothing has changed then.
     ///
@@ -239,7 +277,8 @@ pub trait NativeInterface<S: Steps>: NativeCaller<S> {
     ///
     /// # Errors
     ///
-    /// E2 where the handle is malformed or lies outside the room; E3 where it is a local one of another thread; E2 where its reference does not stand; E1 where it is to null; E5 where it is to a plain object or a string; E6 where it is to an array of other elements than objects; E7 where the index is not below the length; E9 where the element is to an object and no local place is free.
+    /// Those of a handle to an object; E5 where it is to a plain object or a string; E6 where it is to an array of other elements than objects; E7 where the index is not below the length;
+    /// E9 where the element is to an object and no local place is free.
     ///
     /// Nothing has changed then.
     ///
@@ -253,11 +292,14 @@ pub trait NativeInterface<S: Steps>: NativeCaller<S> {
     ) -> Result<Option<Handle>, Fault>
         ensures { Self.made self.old self.new (for_get_object_array_element array.0 index) result };
 
-    /// Sets an element of an object array to what the second handle names, to null for NULL and for a weak one that is cleared. Each check of a reference is made of the array and then of the value, before the next, and all of them before E1. A negative index can't be handed in. (JNI Specification, chapter 4, "SetObjectArrayElement")
+    /// Sets an element of an object array to what the second handle names, to null for NULL and for a weak one that is cleared.
+    /// Each check of a reference is made of the array and then of the value, before the next, and all of them before E1. A negative index can't be handed in.
+    /// (JNI Specification, chapter 4, "SetObjectArrayElement")
     ///
     /// # Errors
     ///
-    /// E2 where a handle is malformed or lies outside the room; E3 where one is a local one of another thread; E2 where the reference of one does not stand; E1 where the array's is to null; E5 where it is to a plain object or a string; E6 where it is to an array of other elements than objects; E7 where the index is not below the length.
+    /// E2 where a handle is malformed or lies outside the room; E3 where one is a local one of another thread; E2 where the reference of one does not stand; E1 where the array's is to null;
+    /// E5 where it is to a plain object or a string; E6 where it is to an array of other elements than objects; E7 where the index is not below the length.
     ///
     /// Nothing has changed then.
     ///
@@ -293,30 +335,37 @@ pub trait NativeInterface<S: Steps>: NativeCaller<S> {
     ///
     /// # Errors
     ///
-    /// E9 where no local place is free; E10 with how many words are reserved, where so many more don't fit; E12 with how many words were looked at and how many were found, where another thread reserved some in between; E11 where every object number was present at one moment of the call.
+    /// E9 where no local place is free; E10 with how many words are reserved, where so many more don't fit;
+    /// E12 with how many words were looked at and how many were found, where another thread reserved some in between; E11 where every object number was present at one moment of the call.
     ///
     /// Nothing has changed then; but after E11 the words of the array stay reserved until the next collection.
     ///
     /// # Operations
     ///
-    /// At most 4, and one for each element and for each object number of the room: its events (the exchange of the top, that of a header, and the store of the local word), the look at the top, a store for each element, and an exchange for each number that is found present. Without elements nothing is reserved.
+    /// At most 4, and one for each element and for each object number of the room:
+    /// its events (the exchange of the top, that of a header, and the store of the local word), the look at the top, a store for each element, and an exchange for each number that is found present.
+    /// Without elements nothing is reserved.
     fn new_array<E: Elem>(&mut self, length: u32) -> Result<Handle, Fault>
         ensures { Self.made self.old self.new (for_new_array E.KIND length) result }
     {
         self.make(NewArray::<E>::of(length))
     }
 
-    /// Makes an array of so many object references, each to what the handle names, null for NULL and for a weak one that is cleared, and a local reference to it. (JNI Specification, chapter 4, "NewObjectArray")
+    /// Makes an array of so many object references, each to what the handle names, null for NULL and for a weak one that is cleared, and a local reference to it.
+    /// (JNI Specification, chapter 4, "NewObjectArray")
     ///
     /// # Errors
     ///
-    /// E2 where the handle is malformed or lies outside the room; E3 where it is a local one of another thread; E2 where its reference does not stand; E9 where no local place is free; E10 with how many words are reserved, where so many more don't fit; E12 with how many words were looked at and how many were found, where another thread reserved some in between; E11 where every object number was present at one moment of the call.
+    /// Those of a handle; E9 where no local place is free; E10 with how many words are reserved, where so many more don't fit;
+    /// E12 with how many words were looked at and how many were found, where another thread reserved some in between; E11 where every object number was present at one moment of the call.
     ///
     /// Nothing has changed then; but after E11 the words of the array stay reserved until the next collection.
     ///
     /// # Operations
     ///
-    /// At most 5, and one for each element and for each object number of the room: its events (a look at the slot of a global or weak handle, the exchange of the top, that of a header, and the store of the local word), the look at the top, a store for each element, and an exchange for each number that is found present. Without elements nothing is reserved.
+    /// At most 5, and one for each element and for each object number of the room:
+    /// its events (a look at the slot of a global or weak handle, the exchange of the top, that of a header, and the store of the local word), the look at the top, a store for each element,
+    /// and an exchange for each number that is found present. Without elements nothing is reserved.
     fn new_object_array(&mut self, length: u32, initial: Handle) -> Result<Handle, Fault>
         ensures { Self.made self.old self.new (for_new_object_array length initial.0) result }
     {
@@ -327,24 +376,28 @@ pub trait NativeInterface<S: Steps>: NativeCaller<S> {
     ///
     /// # Errors
     ///
-    /// E9 where no local place is free; E10 with how many words are reserved, where so many more don't fit; E12 with how many words were looked at and how many were found, where another thread reserved some in between; E11 where every object number was present at one moment of the call.
+    /// E9 where no local place is free; E10 with how many words are reserved, where so many more don't fit;
+    /// E12 with how many words were looked at and how many were found, where another thread reserved some in between; E11 where every object number was present at one moment of the call.
     ///
     /// Nothing has changed then; but after E11 the words of the string stay reserved until the next collection.
     ///
     /// # Operations
     ///
-    /// At most 4, and one for each unit and for each object number of the room: its events (the exchange of the top, that of a header, and the store of the local word), the look at the top, a store for each unit, and an exchange for each number that is found present. Without units nothing is reserved.
+    /// At most 4, and one for each unit and for each object number of the room:
+    /// its events (the exchange of the top, that of a header, and the store of the local word), the look at the top, a store for each unit, and an exchange for each number that is found present.
+    /// Without units nothing is reserved.
     fn new_string(&mut self, units: &[u16]) -> Result<Handle, Fault>
         ensures { Self.made self.old self.new (for_new_string units.now) result }
     {
         self.make(NewString(units))
     }
 
-    /// Copies a part of an array out, from an index on: as many elements as the slice has room for, one after the other, rising. No elements are in range up to the end of the array. (JNI Specification, chapter 4, "Get<PrimitiveType>ArrayRegion Routines")
+    /// Copies a part of an array out, from an index on: as many elements as the slice has room for, one after the other, rising. No elements are in range up to the end of the array.
+    /// (JNI Specification, chapter 4, "Get<PrimitiveType>ArrayRegion Routines")
     ///
     /// # Errors
     ///
-    /// E2 where the handle is malformed or lies outside the room; E3 where it is a local one of another thread; E2 where its reference does not stand; E1 where it is to null; E5 where it is to a plain object or a string; E6 where it is to an array of other elements; E7 where the part does not lie in the array.
+    /// Those of a handle to an object; E5 where it is to a plain object or a string; E6 where it is to an array of other elements; E7 where the part does not lie in the array.
     ///
     /// The slice is as it was, and nothing has changed.
     ///
@@ -364,11 +417,12 @@ pub trait NativeInterface<S: Steps>: NativeCaller<S> {
         self.copy_part(array, start, elements)
     }
 
-    /// Copies elements into a part of an array, from an index on, one after the other, rising. No elements are in range up to the end of the array. (JNI Specification, chapter 4, "Set<PrimitiveType>ArrayRegion Routines")
+    /// Copies elements into a part of an array, from an index on, one after the other, rising. No elements are in range up to the end of the array.
+    /// (JNI Specification, chapter 4, "Set<PrimitiveType>ArrayRegion Routines")
     ///
     /// # Errors
     ///
-    /// E2 where the handle is malformed or lies outside the room; E3 where it is a local one of another thread; E2 where its reference does not stand; E1 where it is to null; E5 where it is to a plain object or a string; E6 where it is to an array of other elements; E7 where the part does not lie in the array.
+    /// Those of a handle to an object; E5 where it is to a plain object or a string; E6 where it is to an array of other elements; E7 where the part does not lie in the array.
     ///
     /// Nothing is written then.
     ///
@@ -386,11 +440,16 @@ pub trait NativeInterface<S: Steps>: NativeCaller<S> {
         self.make(SetArrayRegion(array, start, elements))
     }
 
-    /// Copies elements from a part of an array to a part of an array of the same elements, through a buffer, which is as long as the part. All are read before the first is written. So the arrays may be one, and the parts may overlap: what is written is what was read, as if through a temporary array. It is `get_array_region` into the buffer, and then `set_array_region` of it, of an env two calls. Others may write between two of its operations. (Java's `System.arraycopy`)
+    /// Copies elements from a part of an array to a part of an array of the same elements, through a buffer, which is as long as the part. All are read before the first is written.
+    /// So the arrays may be one, and the parts may overlap: what is written is what was read, as if through a temporary array.
+    /// It is `get_array_region` into the buffer, and then `set_array_region` of it, of an env two calls. Others may write between two of its operations. (Java's `System.arraycopy`)
     ///
     /// # Errors
     ///
-    /// E2 where the first handle is malformed or lies outside the room; E3 where it is a local one of another thread; E2 where its reference does not stand; E1 where it is to null; E5 where it is to a plain object or a string; E6 where it is to an array of other elements; E7 where the part does not lie in the array; E2 where the second handle is malformed or lies outside the room; E3 where it is a local one of another thread; E2 where its reference does not stand; E1 where it is to null; E5 where it is to a plain object or a string; E6 where it is to an array of other elements; E7 where the part does not lie in the array.
+    /// E2 where the first handle is malformed or lies outside the room; E3 where it is a local one of another thread; E2 where its reference does not stand; E1 where it is to null;
+    /// E5 where it is to a plain object or a string; E6 where it is to an array of other elements; E7 where the part does not lie in the array;
+    /// E2 where the second handle is malformed or lies outside the room; E3 where it is a local one of another thread; E2 where its reference does not stand; E1 where it is to null;
+    /// E5 where it is to a plain object or a string; E6 where it is to an array of other elements; E7 where the part does not lie in the array.
     ///
     /// Nothing is written then. Where the second array refused, the buffer has what was read, and else it is as it was.
     ///
@@ -406,7 +465,8 @@ pub trait NativeInterface<S: Steps>: NativeCaller<S> {
         buffer: &mut [E],
     ) -> Result<(), Fault>
         ensures size { length buffer.new ≡ length buffer.old }
-        ensures call { CopiesThrough Self.made Self.made (for_get_array_region E.KIND from.0 start (length buffer.old)) (map E.word_of buffer.new) (for_set_array_region E.KIND to.0 target (map E.word_of buffer.new)) self.old self.new result }
+        ensures call { CopiesThrough Self.made Self.made (for_get_array_region E.KIND from.0 start (length buffer.old)) (map E.word_of buffer.new)
+            (for_set_array_region E.KIND to.0 target (map E.word_of buffer.new)) (buffer.new ≡ buffer.old) self.old self.new result }
     {
         self.copy_part(from, start, buffer)?;
         self.make(SetArrayRegion(to, target, buffer))
@@ -416,7 +476,7 @@ pub trait NativeInterface<S: Steps>: NativeCaller<S> {
     ///
     /// # Errors
     ///
-    /// E2 where the handle is malformed or lies outside the room; E3 where it is a local one of another thread; E2 where its reference does not stand; E1 where it is to null; E5 where it is to a plain object or a string; E6 where it is to an array of other elements; E16 where the memory for them was refused.
+    /// Those of a handle to an object; E5 where it is to a plain object or a string; E6 where it is to an array of other elements; E16 where the memory for them was refused.
     ///
     /// No element is read then, and nothing has changed.
     ///
@@ -442,7 +502,8 @@ pub trait NativeInterface<S: Steps>: NativeCaller<S> {
     ///
     /// # Errors
     ///
-    /// E2 where the handle is malformed or lies outside the room; E3 where it is a local one of another thread; E2 where its reference does not stand; E1 where it is to null; E4 where it is to no string; E16 where the memory for them was refused.
+    /// Those of a handle to an object;
+    /// E4 where it is to no string; E16 where the memory for them was refused.
     ///
     /// No unit is read then, and nothing has changed.
     ///
@@ -522,6 +583,11 @@ impl<S: Steps, N: NativeCaller<S>> NativeInterface<S> for N {
     #[inline(always)]
     fn get_object_ref_type(&mut self, handle: Handle) -> Result<u8, Fault> {
         self.make(GetObjectRefType(handle))
+    }
+
+    #[inline(always)]
+    fn identity_of(&mut self, handle: Handle) -> Result<u16, Fault> {
+        self.make(IdentityOf(handle))
     }
 
     #[inline(always)]

@@ -81,7 +81,8 @@ impl Patience {
     }
 }
 
-/// Calls a closure, and again as long as its answer is worth another try, but no more often than there is patience for. The last answer is the answer. It is for what is more than one call of an env, and for calls that open a region or a stay or copy elements.
+/// Calls a closure, and again as long as its answer is worth another try, but no more often than there is patience for. The last answer is the answer.
+/// It is for what is more than one call of an env, and for calls that open a region or a stay or copy elements.
 ///
 /// What it is handed may be an env, a stay, or anything else. Each call begins with what the one before left there, and with what that left of the closure.
 ///

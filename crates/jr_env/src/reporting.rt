@@ -1,7 +1,7 @@
 //! A refused call as a line of a log.
 use crate::checked::{Evidence, Examined, Refusal};
 use jr_frames::Explanation;
-use jr_word::{Kind, RefKind};
+use jr_word::{Fault, Kind, RefKind};
 use std::fmt;
 
 /// A reference of the kind.
@@ -66,7 +66,23 @@ impl fmt::Display for Examined {
     }
 }
 
-/// Whose call it was, why it was refused, and what the words were.
+/// The counts that a refusal has, behind what it means.
+fn write_counts<W: fmt::Write>(f: &mut fmt::Formatter<W>, fault: Fault) -> fmt::Result {
+    match fault {
+        Fault::SpaceFull(used) => write!(f, " (words in use: {used})"),
+        Fault::Busy(count) | Fault::LeftInside(count) => {
+            write!(
+                f,
+                " (threads inside, knocking, announcing or collecting: {count})"
+            )
+        }
+        Fault::Raced(seen, found) => write!(f, " (words looked at: {seen}, found: {found})"),
+        Fault::Moved(seen, found) => write!(f, " (threads looked at: {seen}, found: {found})"),
+        _ => Ok(()),
+    }
+}
+
+/// Whose call it was, why it was refused with the counts of it, and what the words were.
 impl fmt::Display for Refusal {
     fn fmt<W: fmt::Write>(&self, f: &mut fmt::Formatter<W>) -> fmt::Result {
         let Refusal {
@@ -77,6 +93,7 @@ impl fmt::Display for Refusal {
         } = *self;
         let meaning = fault.meaning();
         write!(f, "thread {thread}: {call}: {fault}, {meaning}")?;
+        write_counts(f, fault)?;
         match evidence {
             Evidence::Nothing => Ok(()),
             Evidence::One(word) => write!(f, "; {word}"),

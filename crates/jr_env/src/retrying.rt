@@ -36,7 +36,8 @@ impl<S: Steps> Env<S> {
     ghost use Rattle.jr_env.specs.Envs.{Does};
     ghost use Rattle.jr_env.specs.Tries.{made_again, made_collecting};
 
-    /// Makes a call, and again as long as it is refused by E12, E13 or E23, but no more than so many times more. Where the patience waits for room E10 and E11 are for another try too. The last answer is the answer. Between two tries it does nothing but yield, where the patience does.
+    /// Makes a call, and again as long as it is refused by E12, E13 or E23, but no more than so many times more. Where the patience waits for room E10 and E11 are for another try too.
+    /// The last answer is the answer. Between two tries it does nothing but yield, where the patience does.
     ///
     /// # Errors
     ///
@@ -61,7 +62,8 @@ impl<S: Steps> Env<S> {
     ///
     /// # Errors
     ///
-    /// E17 where the marker was made for another number of objects than the room has: then no try is made, and nothing has changed. E14 where the collection was kept out; else those of the call at its last try.
+    /// E17 where the marker was made for another number of objects than the room has: then no try is made, and nothing has changed. E14 where the collection was kept out;
+    /// else those of the call at its last try.
     ///
     /// What stands then is what the last of these leaves, and the thread stands outside.
     ///

@@ -91,7 +91,8 @@ impl<S: Steps> LocalFrames for Env<S> {
     }
 }
 
-/// Opens a frame, does something in it, and pops it, also where what was done gave up. What is done has to leave as many frames as it found: the one that is popped is the newest. The pop is made again as long as it is refused and there is patience.
+/// Opens a frame, does something in it, and pops it, also where what was done gave up. What is done has to leave as many frames as it found: the one that is popped is the newest.
+/// The pop is made again as long as it is refused and there is patience.
 ///
 /// # Errors
 ///
@@ -144,7 +145,8 @@ fn handed_on(answer: Result<Handle, Fault>, below: Option<Handle>) -> Result<Opt
     }
 }
 
-/// Opens a frame, does something in it that answers a reference, and pops it for that reference: the answer is a local one to the same object in the frame below. Where what was done gave up, the frame is popped for NULL, and the refusal is the answer. Else as `with_local_frame`.
+/// Opens a frame, does something in it that answers a reference, and pops it for that reference: the answer is a local one to the same object in the frame below.
+/// Where what was done gave up, the frame is popped for NULL, and the refusal is the answer. Else as `with_local_frame`.
 ///
 /// # Errors
 ///
@@ -160,7 +162,8 @@ pub fn with_local_frame_returning<E: LocalFrames, F: FnOnce(&mut E) -> Result<Ha
     body: F,
 ) -> Result<Result<Option<Handle>, Fault>, Unscoped<Result<Handle, Fault>>>
     requires { F.IsAlwaysCallable body }
-    ensures done { IfOk result (λ r. (x : Result Handle Fault) × (below : Option Handle) × (r ≡ handed_on x below) × RanReturning E.opens (E.closes patience) F.FnOnce body env.old env.new capacity x (Ok below)) }
+    ensures done { IfOk result (λ r. (x : Result Handle Fault) × (below : Option Handle) × (r ≡ handed_on x below)
+        × RanReturning E.opens (E.closes patience) F.FnOnce body env.old env.new capacity x (Ok below)) }
     ensures refused { IfErr result (IfUnscoped (λ e. E.opens env.old env.new capacity (Err e)) (λ x e. RanReturning E.opens (E.closes patience) F.FnOnce body env.old env.new capacity x (Err e))) }
 {
     if let Err(fault) = env.open_frame(capacity) {

@@ -9,7 +9,9 @@ use jr_gate::Inside;
 use jr_steps::Steps;
 use jr_word::{Elem, Fault, Handle};
 
-/// A stay: one entry at the gate and one exit for as many calls as are made in it. Each is the call of `Env` of its name without an entry and an exit of its own, and is refused as that is, but never by E13. While it stands no other call on its env compiles, no collection comes (E14), and it has to be ended.
+/// A stay: one entry at the gate and one exit for as many calls as are made in it.
+/// Each is the call of `Env` of its name without an entry and an exit of its own, and is refused as that is, but never by E13.
+/// While it stands no other call on its env compiles, no collection comes (E14), and it has to be ended.
 pub struct Stay<'e, S: Steps> {
     pub(crate) env: &'e mut Env<S>,
     pub(crate) inside: Inside,

@@ -3,3 +3,4 @@
 mod copies;
 mod explaining;
 mod levels;
+mod numbers;

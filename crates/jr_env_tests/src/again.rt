@@ -1,9 +1,10 @@
 //! Calls that are made again, and one behind a collection, over plain words.
 
-use crate::plain::{Case, try_plain};
+use crate::plain::{EnvTest, alone};
+use assertions::assert_same;
 use jr_env::calls::{DeleteLocalRef, NewArray, SetArrayRegion};
 use jr_env::{Env, NativeInterface, Patience, with_patience};
-use jr_fixtures::is_refused;
+use jr_fixtures::refusal;
 use jr_steps::Steps;
 use jr_weak::Marker;
 use jr_word::{Config, Fault, Handle};
@@ -20,7 +21,7 @@ fn has_ints<S: Steps>(
 ) -> Result<(), Fail> {
     let mut numbers = [5, 5];
     env.get_array_region(array, 0, &mut numbers)?;
-    assert!(rt; numbers == wanted);
+    assert_same!(rt; numbers, wanted);
     Ok(())
 }
 
@@ -45,7 +46,7 @@ const FEW: Config = Config {
 fn fill<S: Steps>(rt: &impl Abort, env: &mut Env<S>) -> Result<(), Fail> {
     let first = env.retry(NewArray::<i32>::of(3), Patience::of(0))?;
     let full = env.retry(NewArray::<i32>::of(2), Patience::of(3));
-    assert!(rt; is_refused(full, Some(Fault::SpaceFull(3))));
+    assert_same!(rt; refusal(full), Some(Fault::SpaceFull(3)));
     env.retry(DeleteLocalRef(first), Patience::of(3))?;
     Ok(())
 }
@@ -59,22 +60,22 @@ fn write<S: Steps>(rt: &impl Abort, env: &mut Env<S>, array: Handle) -> Result<(
 }
 
 /// An array is made where there is room, and behind a collection where there is none, or not at all.
-pub(crate) fn is_made_behind<S: Steps>(
-    rt: &impl Abort,
-    alloc: Global,
-    env: &mut Env<S>,
-) -> Result<(), Fail> {
-    fill(rt, env)?;
-    let second = array_behind(alloc, env, 2)??;
-    write(rt, env, second)?;
-    let third = array_behind(alloc, env, 5)?;
-    assert!(rt; is_refused(third, Some(Fault::SpaceFull(0))));
-    Ok(())
+struct MadeBehind;
+
+impl EnvTest for MadeBehind {
+    fn run<S: Steps, R: Abort>(rt: &R, alloc: Global, env: &mut Env<S>) -> Result<(), Fail> {
+        fill(rt, env)?;
+        let second = array_behind(alloc, env, 2)??;
+        write(rt, env, second)?;
+        let third = array_behind(alloc, env, 5)?;
+        assert_same!(rt; refusal(third), Some(Fault::SpaceFull(0)));
+        Ok(())
+    }
 }
 
 #[test]
 fn an_array_is_made_behind_a_collection(rt: HostRuntime) -> Result<(), Fail> {
-    try_plain(&rt, rt.alloc(), FEW, Case::Again)
+    alone::<MadeBehind, _>(&rt, rt.alloc(), FEW)
 }
 
 /// Counts a call, which is refused so often before it answers how often it was made.
@@ -102,8 +103,8 @@ fn is_called(
         patience,
         |calls| counted(calls, refusals, fault),
     );
-    assert!(rt; answer == wanted);
-    assert!(rt; calls == times);
+    assert_same!(rt; answer, wanted; at (refusals, fault));
+    assert_same!(rt; calls, times; at (refusals, fault));
 }
 
 #[test]
@@ -116,5 +117,5 @@ fn a_closure_is_called_again(rt: HostRuntime) {
     is_called(&rt, few.waiting_for_room(), 1, full, Ok(2), 2);
     let stale = Fault::Stale;
     is_called(&rt, few.without_yields(), 9, stale, Err(stale), 1);
-    assert!(rt; Patience::LONG.more == 4_194_304);
+    assert_same!(&rt; Patience::LONG.more, 4_194_304);
 }

@@ -1,5 +1,8 @@
 //! What words are told to be, as references are made, cleared and deleted.
 
+use crate::plain::{EnvTest, alone};
+use crate::references::TWO;
+use assertions::assert_same;
 use jr::Explanation;
 use jr_env::{Env, NativeInterface};
 use jr_fixtures::made;
@@ -16,7 +19,7 @@ fn is_told<S: Steps>(
     word: Handle,
     wanted: Explanation,
 ) -> Result<(), Fail> {
-    assert!(rt; env.explain(word)? == wanted);
+    assert_same!(rt; env.explain(word)?, wanted; at word);
     Ok(())
 }
 
@@ -73,30 +76,35 @@ fn told_in_stay<S: Steps>(env: &mut Env<S>, word: Handle) -> Result<Explanation,
 }
 
 /// Each word is told to be what it is.
-pub(crate) fn are_explained<S: Steps>(
-    rt: &impl Abort,
-    alloc: Global,
-    env: &mut Env<S>,
-) -> Result<(), Fail> {
-    told_of_none(rt, env)?;
-    let string = env.new_string(&[7])?;
-    let weak = made(env.new_weak_global_ref(string))?;
-    let array = env.new_array::<i32>(2)?;
-    let global = made(env.new_global_ref(array))?;
-    stands(rt, env, string, RefKind::Local, Some(Kind::Text))?;
-    stands(rt, env, weak, RefKind::Weak, Some(Kind::Text))?;
-    stands(rt, env, global, RefKind::Global, Some(Kind::Int))?;
-    is_told(rt, env, Handle(weak.0 ^ 1), Explanation::OtherKind)?;
-    is_told(rt, env, Handle(global.0 ^ 1), Explanation::OtherKind)?;
-    env.delete_local_ref(string)?;
-    is_told(rt, env, string, Explanation::Gone)?;
-    let mut marker = env.marker(alloc)?;
-    env.collect(&mut marker)?;
-    stands(rt, env, weak, RefKind::Weak, None)?;
-    env.delete_weak_global_ref(weak)?;
-    env.delete_global_ref(global)?;
-    told_of_gone(rt, env, weak)?;
-    told_of_gone(rt, env, global)?;
-    assert!(rt; told_in_stay(env, global)? == Explanation::Gone);
-    Ok(())
+struct AreExplained;
+
+impl EnvTest for AreExplained {
+    fn run<S: Steps, R: Abort>(rt: &R, alloc: Global, env: &mut Env<S>) -> Result<(), Fail> {
+        told_of_none(rt, env)?;
+        let string = env.new_string(&[7])?;
+        let weak = made(env.new_weak_global_ref(string))?;
+        let array = env.new_array::<i32>(2)?;
+        let global = made(env.new_global_ref(array))?;
+        stands(rt, env, string, RefKind::Local, Some(Kind::Text))?;
+        stands(rt, env, weak, RefKind::Weak, Some(Kind::Text))?;
+        stands(rt, env, global, RefKind::Global, Some(Kind::Int))?;
+        is_told(rt, env, Handle(weak.0 ^ 1), Explanation::OtherKind)?;
+        is_told(rt, env, Handle(global.0 ^ 1), Explanation::OtherKind)?;
+        env.delete_local_ref(string)?;
+        is_told(rt, env, string, Explanation::Gone)?;
+        let mut marker = env.marker(alloc)?;
+        env.collect(&mut marker)?;
+        stands(rt, env, weak, RefKind::Weak, None)?;
+        env.delete_weak_global_ref(weak)?;
+        env.delete_global_ref(global)?;
+        told_of_gone(rt, env, weak)?;
+        told_of_gone(rt, env, global)?;
+        assert_same!(rt; told_in_stay(env, global)?, Explanation::Gone);
+        Ok(())
+    }
+}
+
+#[test]
+fn each_word_is_told_what_it_is(rt: HostRuntime) -> Result<(), Fail> {
+    alone::<AreExplained, _>(&rt, rt.alloc(), TWO)
 }

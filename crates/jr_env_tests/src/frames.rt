@@ -1,10 +1,12 @@
 //! What scripts can't show of frames: a capacity of 32 bits, and local references that are freed while their env goes on.
 
-use crate::plain::{Case, try_plain};
+use crate::plain::{EnvTest, alone};
+use assertions::assert_same;
 use jr_env::{Env, NativeInterface};
-use jr_fixtures::{has_type, is_refused, made};
+use jr_fixtures::{has_type, made, refusal};
 use jr_steps::Steps;
 use jr_word::{Config, Fault, Handle};
+use std::alloc::Global;
 use std::process::Abort;
 use std::test::Fail;
 
@@ -16,8 +18,8 @@ pub(crate) fn are_free<S: Steps>(
 ) -> Result<(), Fail> {
     env.ensure_local_capacity(u32::from(places))?;
     for more in [u32::from(places) + 1, u32::MAX] {
-        assert!(rt; is_refused(env.ensure_local_capacity(more), Some(Fault::LocalsFull)));
-        assert!(rt; is_refused(env.push_local_frame(more), Some(Fault::LocalsFull)));
+        assert_same!(rt; refusal(env.ensure_local_capacity(more)), Some(Fault::LocalsFull); at more);
+        assert_same!(rt; refusal(env.push_local_frame(more)), Some(Fault::LocalsFull); at more);
     }
     Ok(())
 }
@@ -36,28 +38,32 @@ fn in_three_frames<S: Steps>(env: &mut Env<S>) -> Result<[Handle; 3], Fail> {
 /// A local reference is freed.
 fn is_freed<S: Steps>(rt: &impl Abort, env: &mut Env<S>, local: Handle) -> Result<(), Fail> {
     has_type(env, local, 0)?;
-    assert!(rt; is_refused(env.new_local_ref(local), Some(Fault::Stale)));
+    assert_same!(rt; refusal(env.new_local_ref(local)), Some(Fault::Stale); at local);
     Ok(())
 }
 
 /// References of three frames are freed, all places are free again and the base frame alone is open, and those that are not local stand.
-pub(crate) fn frees_all<S: Steps>(rt: &impl Abort, env: &mut Env<S>) -> Result<(), Fail> {
-    let locals = in_three_frames(env)?;
-    let global = made(env.new_global_ref(locals[0]))?;
-    env.free_locals()?;
-    for local in locals {
-        is_freed(rt, env, local)?;
+struct FreesAll;
+
+impl EnvTest for FreesAll {
+    fn run<S: Steps, R: Abort>(rt: &R, _alloc: Global, env: &mut Env<S>) -> Result<(), Fail> {
+        let locals = in_three_frames(env)?;
+        let global = made(env.new_global_ref(locals[0]))?;
+        env.free_locals()?;
+        for local in locals {
+            is_freed(rt, env, local)?;
+        }
+        are_free(rt, env, 16)?;
+        assert_same!(rt; refusal(env.pop_local_frame(global)), Some(Fault::NoFrame));
+        let again = made(env.new_local_ref(global))?;
+        env.free_locals()?;
+        env.free_locals()?;
+        has_type(env, again, 0)?;
+        has_type(env, global, 2)
     }
-    are_free(rt, env, 16)?;
-    assert!(rt; is_refused(env.pop_local_frame(global), Some(Fault::NoFrame)));
-    let again = made(env.new_local_ref(global))?;
-    env.free_locals()?;
-    env.free_locals()?;
-    has_type(env, again, 0)?;
-    has_type(env, global, 2)
 }
 
 #[test]
 fn locals_are_freed(rt: HostRuntime) -> Result<(), Fail> {
-    try_plain(&rt, rt.alloc(), Config::LEAST, Case::Frees)
+    alone::<FreesAll, _>(&rt, rt.alloc(), Config::LEAST)
 }

@@ -1,12 +1,14 @@
 //! How many handles a slot and a local place give, and what their row says then.
 
 use crate::frames::are_free;
-use crate::plain::{Case, has_words, try_plain};
+use crate::plain::{EnvTest, alone, has_words};
+use assertions::assert_same;
 use jr_env::{Env, NativeInterface};
-use jr_fixtures::{has_type, is_refused, made, opened_env};
+use jr_fixtures::{has_type, made, opened_env, refusal};
 use jr_rule::PlainSteps;
 use jr_steps::Steps;
 use jr_word::{Config, Fault, Handle};
+use std::alloc::Global;
 use std::process::Abort;
 use std::test::Fail;
 
@@ -61,50 +63,58 @@ fn gives_more<S: Steps>(
     given: &Given,
 ) -> Result<(), Fail> {
     let last = last_renewed(env, kind, object)?;
-    assert!(rt; last == given.later[0]);
+    assert_same!(rt; last, given.later[0]);
     has_type(env, last, 0)?;
     has_type(env, given.first[0], 0)?;
     // A later reference is told from the one whose serial has the same lower half.
     let next = renew(env, kind, object)?;
-    assert!(rt; next == given.later[1]);
+    assert_same!(rt; next, given.later[1]);
     has_type(env, next, given.ref_type)?;
     has_type(env, given.first[1], 0)
 }
 
 /// The one slot gives more than 65,536 handles.
-pub(crate) fn slot_gives_more<S: Steps>(rt: &impl Abort, env: &mut Env<S>) -> Result<(), Fail> {
-    let local = env.new_plain()?;
-    let given = Given {
-        first: [Handle(2), Handle(6)],
-        later: [Handle(0x4_0002), Handle(0x4_0006)],
-        ref_type: 2,
-    };
-    gives_more(rt, env, Renewed::Global, local, &given)
+struct SlotGivesMore;
+
+impl EnvTest for SlotGivesMore {
+    fn run<S: Steps, R: Abort>(rt: &R, _alloc: Global, env: &mut Env<S>) -> Result<(), Fail> {
+        let local = env.new_plain()?;
+        let given = Given {
+            first: [Handle(2), Handle(6)],
+            later: [Handle(0x4_0002), Handle(0x4_0006)],
+            ref_type: 2,
+        };
+        gives_more(rt, env, Renewed::Global, local, &given)
+    }
 }
 
 #[test]
 fn a_slot_gives_more_than_65_536_handles(rt: HostRuntime) -> Result<(), Fail> {
-    try_plain(&rt, rt.alloc(), Config::LEAST, Case::Slot)
+    alone::<SlotGivesMore, _>(&rt, rt.alloc(), Config::LEAST)
 }
 
 /// A local place gives more than 65,536 handles.
-pub(crate) fn place_gives_more<S: Steps>(rt: &impl Abort, env: &mut Env<S>) -> Result<(), Fail> {
-    let local = env.new_plain()?;
-    // One of the sixteen places is left free.
-    for _ in 0..14 {
-        made(env.new_local_ref(local))?;
+struct PlaceGivesMore;
+
+impl EnvTest for PlaceGivesMore {
+    fn run<S: Steps, R: Abort>(rt: &R, _alloc: Global, env: &mut Env<S>) -> Result<(), Fail> {
+        let local = env.new_plain()?;
+        // One of the sixteen places is left free.
+        for _ in 0..14 {
+            made(env.new_local_ref(local))?;
+        }
+        let given = Given {
+            first: [Handle(0x3C_0000_0001), Handle(0x3C_0000_0005)],
+            later: [Handle(0x3C_0004_0001), Handle(0x3C_0004_0005)],
+            ref_type: 1,
+        };
+        gives_more(rt, env, Renewed::Local, local, &given)
     }
-    let given = Given {
-        first: [Handle(0x3C_0000_0001), Handle(0x3C_0000_0005)],
-        later: [Handle(0x3C_0004_0001), Handle(0x3C_0004_0005)],
-        ref_type: 1,
-    };
-    gives_more(rt, env, Renewed::Local, local, &given)
 }
 
 #[test]
 fn a_local_place_gives_more_than_65_536_handles(rt: HostRuntime) -> Result<(), Fail> {
-    try_plain(&rt, rt.alloc(), Config::LEAST, Case::Place)
+    alone::<PlaceGivesMore, _>(&rt, rt.alloc(), Config::LEAST)
 }
 
 /// The one slot gives three handles, and is retired with the last of them. The reference to the object.
@@ -113,10 +123,10 @@ fn retires_a_slot<S: Steps>(rt: &impl Abort, env: &mut Env<S>) -> Result<Handle,
     let words = [Handle(2), Handle(6), Handle(10)];
     for word in words {
         let global = made(env.new_global_ref(local))?;
-        assert!(rt; global == word);
+        assert_same!(rt; global, word);
         env.delete_global_ref(global)?;
     }
-    assert!(rt; is_refused(env.new_global_ref(local), Some(Fault::RowFull)));
+    assert_same!(rt; refusal(env.new_global_ref(local)), Some(Fault::RowFull));
     for word in words {
         has_type(env, word, 0)?;
     }
@@ -139,7 +149,7 @@ fn retires<S: Steps>(rt: &impl Abort, env: &mut Env<S>) -> Result<(), Fail> {
 }
 
 #[test]
-fn retires_a_slot_and_a_place_after_their_last_serials(rt: HostRuntime) -> Result<(), Fail> {
+fn a_slot_and_a_place_are_retired_after_their_last_serials(rt: HostRuntime) -> Result<(), Fail> {
     let mut env = opened_env(PlainSteps::<2>::new(rt.alloc(), Config::LEAST)?);
     retires(&rt, &mut env)?;
     let mut row = [0; 20];

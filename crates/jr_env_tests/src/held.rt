@@ -1,6 +1,7 @@
 //! What an env holds, while the env itself is out of reach.
 ghost use Rattle.jr_env.specs.Envs.{IsOutside};
 
+use assertions::assert_same;
 use jr_env::{Env, NativeInterface};
 use jr_fixtures::{made, plain_env};
 use jr_gate::enter;
@@ -39,7 +40,7 @@ fn resolves(
     answer: Result<Option<u16>, Fault>,
     wanted: Result<Option<u16>, Fault>,
 ) {
-    assert!(rt; answer == wanted);
+    assert_same!(rt; answer, wanted);
 }
 
 /// A reference that stands resolves to its object, one that was deleted to none, and NULL to nothing.

@@ -6,6 +6,8 @@ mod again;
 #[cfg(test)]
 mod checked;
 #[cfg(test)]
+mod closing;
+#[cfg(test)]
 mod explained;
 #[cfg(test)]
 mod frames;
@@ -14,9 +16,13 @@ mod handles;
 #[cfg(test)]
 mod held;
 #[cfg(test)]
+mod identities;
+#[cfg(test)]
 mod native_code;
 #[cfg(test)]
 mod notes;
+#[cfg(test)]
+mod numbers;
 #[cfg(test)]
 mod owner_threads;
 #[cfg(test)]

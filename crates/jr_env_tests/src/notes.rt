@@ -70,7 +70,8 @@ fn both_learn<R: Threads + Wait + Sync>(
 
 /// An env learns a note. So each reference that stood where the note was made, and that nobody has deleted since, stands here: a global one with its object, a weak one with it, or cleared.
 pub(crate) fn learns<Q: Site, S: StepsIn<Q>>(env: &mut Env<S>, note: NoteOf<Q>)
-    ensures { (k : Known) → (S.facts env.new.held.steps).knows k → (h : HandleParts) (o : ℕ) → (state (seen_by_note note.note)).refs h ≡ Object o → (since : History) × (seen_by_note note.note ++ since ≡ k.seen) × (NoneDeletes h since → IsFoundAs h o ((state k.seen).refs h)) }
+    ensures { (k : Known) → (S.facts env.new.held.steps).knows k → (h : HandleParts) (o : ℕ) → (state (seen_by_note note.note)).refs h ≡ Object o → (since : History)
+        × (seen_by_note note.note ++ since ≡ k.seen) × (NoneDeletes h since → IsFoundAs h o ((state k.seen).refs h)) }
 {
     references_stand_until_deleted();
     env.learn(note);

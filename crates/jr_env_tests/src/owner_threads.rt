@@ -1,4 +1,5 @@
-//! Notes between threads that own their room: each thread takes over the array that its neighbour sent by a queue, with a note of it. It tells what it answers, and whoever joins it knows that by contract. No file of proofs is written here.
+//! Notes between threads that own their room: each thread takes over the array that its neighbour sent by a queue, with a note of it.
+//! It tells what it answers, and whoever joins it knows that by contract. No file of proofs is written here.
 ghost use Rattle.std.specs.Prelude.{◌≡◌, IfOk, IfSome};
 ghost use Rattle.jr_steps.specs.declared.known.Known.{Known};
 ghost use Rattle.jr_rule.specs.Passes.{known_of, Closes};

@@ -1,5 +1,6 @@
 //! A room that its threads own: threads that were spawned hand references on by a queue, and whoever is the last closes the room.
 
+use assertions::assert_same;
 use jr::calls::NewArray;
 use jr::{
     Config, Env, Fault, Handle, NativeInterface, OwnedEnv, Patience, Steps, Summary, close_owned,
@@ -84,7 +85,7 @@ pub(crate) fn closed_by_one(
     length: u32,
     by_this: Option<Summary>,
 ) -> Option<Summary> {
-    assert!(rt; length == 3);
+    assert_same!(rt; length, 3);
     if by_this.is_some() {
         assert!(rt; closed.is_none());
         return by_this;
@@ -106,6 +107,6 @@ fn the_last_of_three_owners_closes_the_room(rt: HostRuntime) -> Result<(), Fail>
         let (length, summary) = thread.join(&rt)?;
         closed = closed_by_one(&rt, closed, length, summary);
     }
-    assert!(rt; closed == Some(AT_THE_END));
+    assert_same!(&rt; closed, Some(AT_THE_END));
     Ok(())
 }

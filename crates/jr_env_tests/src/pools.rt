@@ -71,7 +71,7 @@ fn works<Q: Site, S: StepsIn<Q>>(env: &mut Env<S>, left: &Parcel<Q>) -> Result<u
 }
 
 /// Hands an env back: E13 where it is refused, and then it is gone.
-fn detach<S: Steps + Drop>(attached: AttachedOver<'_, S>) -> Result<(), Fault> {
+pub(crate) fn detach<S: Steps + Drop>(attached: AttachedOver<'_, S>) -> Result<(), Fault> {
     match attached.detach(Patience::LONG) {
         Ok(()) => Ok(()),
         Err((attached, fault)) => {
@@ -174,7 +174,7 @@ fn threads_come_and_go(rt: HostRuntime) -> Result<(), Fail> {
 }
 
 /// The env of a pool in which one is free: E21 where none is.
-fn attached<S: Steps + Drop>(pool: &PoolOver<S>) -> Result<AttachedOver<'_, S>, Fault> {
+pub(crate) fn attached<S: Steps + Drop>(pool: &PoolOver<S>) -> Result<AttachedOver<'_, S>, Fault> {
     pool.attach().ok_or(Fault::NotFresh)
 }
 

@@ -4,9 +4,11 @@ ghost use Rattle.std.specs.Prelude.{◌≡◌, IfOk};
 ghost use Rattle.jr_model.specs.declared.event.Role.TheVariants.{Outside};
 ghost use Rattle.jr_rule.specs.Passes.{IsAt, IsOpened};
 
-use crate::plain::{Case, has_words, try_plain};
+use crate::checked::are_told;
+use crate::plain::{EnvTest, alone, has_words};
+use assertions::assert_same;
 use jr_env::{Env, NativeInterface};
-use jr_fixtures::{LAST, has_type, is_refused, made, next_pass, opened_env};
+use jr_fixtures::{LAST, has_type, made, next_pass, opened_env, refusal};
 use jr_rule::{Pass, PlainSteps, Room, RoomSteps};
 use jr_steps::Steps;
 use jr_word::{Config, Fault, Handle};
@@ -15,7 +17,7 @@ use std::process::Abort;
 use std::test::Fail;
 
 /// A room of two threads with four slots and 16 local places each.
-const TWO: Config = Config {
+pub(crate) const TWO: Config = Config {
     threads: 2,
     slots: 4,
     objects: 8,
@@ -81,7 +83,7 @@ fn refused_as_local<S: Steps>(rt: &impl Abort, env: &mut Env<S>, of: &OfEach) {
         (FOREIGN, Fault::Foreign),
     ];
     for (word, fault) in rows {
-        assert!(rt; is_refused(env.delete_local_ref(word), Some(fault)));
+        assert_same!(rt; refusal(env.delete_local_ref(word)), Some(fault); at word);
     }
 }
 
@@ -109,33 +111,41 @@ fn refused_as_global<S: Steps>(rt: &impl Abort, env: &mut Env<S>, of: &OfEach) {
         (of.global, None, Some(Fault::WrongKind)),
     ];
     for (word, of_global, of_weak) in rows {
-        assert!(rt; is_refused(env.delete_global_ref(word), of_global));
-        assert!(rt; is_refused(env.delete_weak_global_ref(word), of_weak));
+        assert_same!(rt; refusal(env.delete_global_ref(word)), of_global; at word);
+        assert_same!(rt; refusal(env.delete_weak_global_ref(word)), of_weak; at word);
     }
 }
 
 /// A reference of each kind is deleted by the call for its kind alone, and what was refused stands.
-pub(crate) fn are_deleted_by_kind<S: Steps>(rt: &impl Abort, env: &mut Env<S>) -> Result<(), Fail> {
-    let of = of_each(env)?;
-    refused_as_local(rt, env, &of);
-    have_types(rt, env, &of, [1, 2, 3])?;
-    refused_as_global(rt, env, &of);
-    have_types(rt, env, &of, [1, 0, 0])
+struct DeletedByKind;
+
+impl EnvTest for DeletedByKind {
+    fn run<S: Steps, R: Abort>(rt: &R, _alloc: Global, env: &mut Env<S>) -> Result<(), Fail> {
+        let of = of_each(env)?;
+        refused_as_local(rt, env, &of);
+        have_types(rt, env, &of, [1, 2, 3])?;
+        refused_as_global(rt, env, &of);
+        have_types(rt, env, &of, [1, 0, 0])
+    }
 }
 
 #[test]
-fn references_of_another_kind(rt: HostRuntime) -> Result<(), Fail> {
-    try_plain(&rt, rt.alloc(), TWO, Case::ByKind)
+fn a_reference_is_deleted_by_the_call_for_its_kind_alone(rt: HostRuntime) -> Result<(), Fail> {
+    alone::<DeletedByKind, _>(&rt, rt.alloc(), TWO)
 }
 
-#[test]
-fn each_word_is_told_what_it_is(rt: HostRuntime) -> Result<(), Fail> {
-    try_plain(&rt, rt.alloc(), TWO, Case::Explained)
+/// A watcher is told each refusal, with what its words are.
+struct AreTold;
+
+impl EnvTest for AreTold {
+    fn run<S: Steps, R: Abort>(rt: &R, alloc: Global, env: &mut Env<S>) -> Result<(), Fail> {
+        are_told(rt, alloc, env)
+    }
 }
 
 #[test]
 fn each_refusal_is_told_with_what_its_words_are(rt: HostRuntime) -> Result<(), Fail> {
-    try_plain(&rt, rt.alloc(), TWO, Case::Checked)
+    alone::<AreTold, _>(&rt, rt.alloc(), TWO)
 }
 
 /// The steps, handed back by a refusal of an env.
@@ -143,7 +153,7 @@ fn refused<S: Steps + Drop>(rt: &impl Abort, env: Result<Env<S>, (S, Fault)>) ->
     match env {
         Ok(_) => Err("the pass is not fresh")?,
         Err((steps, fault)) => {
-            assert!(rt; fault == Fault::NotFresh);
+            assert_same!(rt; fault, Fault::NotFresh);
             assert!(rt; !steps.fresh());
             Ok(steps)
         }
@@ -168,7 +178,7 @@ fn refused_after_an_env<S: Steps + Drop>(rt: &impl Abort, steps: S) -> Result<S,
         return Err("the pass is fresh")?;
     };
     assert!(rt; !env.held.steps.fresh());
-    assert!(rt; env.new_plain()? == OWN);
+    assert_same!(rt; env.new_plain()?, OWN);
     refused(rt, Env::new(env.into_pass()))
 }
 
@@ -225,7 +235,7 @@ fn shared_by(room: &Room<LAST>, pass: Pass) -> Result<(Handle, Pass), Fail>
 /// A thread finds what a reference names: its first local reference is to it.
 fn finds_as_own<S: Steps>(rt: &impl Abort, env: &mut Env<S>, shared: Handle) -> Result<(), Fail> {
     let own = made(env.new_local_ref(shared))?;
-    assert!(rt; own == OWN);
+    assert_same!(rt; own, OWN);
     Ok(())
 }
 
@@ -264,7 +274,7 @@ fn who_meets_another_finds_its_reference(rt: HostRuntime) -> Result<(), Fail> {
     let second = met_by(&rt, &room, first, shared, second)?;
     // The pass that was met is as it was: of thread 1, and not fresh.
     let steps = RoomSteps::new(&room, second);
-    assert!(rt; steps.thread() == 1);
+    assert_same!(&rt; steps.thread(), 1);
     assert!(rt; !steps.fresh());
     Ok(())
 }
@@ -303,7 +313,8 @@ fn both_find<S: Steps + Drop>(
     find(rt, &mut first, &mut second, shared?)
 }
 
-/// Two envs in one thread: once the first has met the second, it finds a reference that this one made, by its handle. The second is as it was: its local reference stands, and its next global one follows.
+/// Two envs in one thread: once the first has met the second, it finds a reference that this one made, by its handle. The second is as it was:
+/// its local reference stands, and its next global one follows.
 #[test]
 fn who_meets_another_env_finds_its_reference(rt: HostRuntime) -> Result<(), Fail> {
     let (room, first, second) = opened(rt.alloc())?;
@@ -322,23 +333,27 @@ fn is_next<S: Steps>(
     wanted: Handle,
 ) -> Result<(), Fail> {
     let next = made(env.new_global_ref(object))?;
-    assert!(rt; next == wanted);
+    assert_same!(rt; next, wanted);
     Ok(())
 }
 
 /// Each search for a free slot begins behind the newest reference of the pass, and goes on at slot 0 behind the last one.
-pub(crate) fn goes_round<S: Steps>(rt: &impl Abort, env: &mut Env<S>) -> Result<(), Fail> {
-    let local = env.new_plain()?;
-    is_next(rt, env, local, Handle(2))?;
-    is_next(rt, env, local, Handle(0x4_0000_0002))?;
-    env.delete_global_ref(Handle(2))?;
-    is_next(rt, env, local, Handle(0x8_0000_0002))?;
-    is_next(rt, env, local, Handle(6))?;
-    assert!(rt; is_refused(env.new_global_ref(local), Some(Fault::RowFull)));
-    Ok(())
+struct GoesRound;
+
+impl EnvTest for GoesRound {
+    fn run<S: Steps, R: Abort>(rt: &R, _alloc: Global, env: &mut Env<S>) -> Result<(), Fail> {
+        let local = env.new_plain()?;
+        is_next(rt, env, local, Handle(2))?;
+        is_next(rt, env, local, Handle(0x4_0000_0002))?;
+        env.delete_global_ref(Handle(2))?;
+        is_next(rt, env, local, Handle(0x8_0000_0002))?;
+        is_next(rt, env, local, Handle(6))?;
+        assert_same!(rt; refusal(env.new_global_ref(local)), Some(Fault::RowFull));
+        Ok(())
+    }
 }
 
 #[test]
 fn searches_go_round(rt: HostRuntime) -> Result<(), Fail> {
-    try_plain(&rt, rt.alloc(), THREE_SLOTS, Case::Round)
+    alone::<GoesRound, _>(&rt, rt.alloc(), THREE_SLOTS)
 }

@@ -1,9 +1,10 @@
 //! What gives a full room back: a collection in turn, a call that is made again behind one, and cleared weak references that are deleted, over plain words.
 
-use crate::plain::{Case, try_plain};
+use crate::plain::{EnvTest, alone};
+use assertions::assert_same;
 use jr_env::calls::NewArray;
 use jr_env::{Env, NativeInterface, Patience};
-use jr_fixtures::is_refused;
+use jr_fixtures::refusal;
 use jr_steps::Steps;
 use jr_weak::Marker;
 use jr_word::{Config, Fault, Handle};
@@ -31,13 +32,13 @@ fn gives_the_slot_back<S: Steps>(
 ) -> Result<(), Fail> {
     let object = env.new_plain()?;
     let weak = Handle::or_null(env.new_weak_global_ref(object)?);
-    assert!(rt; is_refused(env.new_global_ref(object), Some(Fault::RowFull)));
+    assert_same!(rt; refusal(env.new_global_ref(object)), Some(Fault::RowFull));
     assert!(rt; !env.delete_cleared(weak, FEW)?);
     env.delete_local_ref(object)?;
     let collected = env.collect_in_turn(marker, 1, FEW)?;
-    assert!(rt; collected.cleared == 1);
+    assert_same!(rt; collected.cleared, 1);
     assert!(rt; env.delete_cleared(weak, FEW)?);
-    assert!(rt; is_refused(env.delete_cleared(weak, FEW), Some(Fault::Stale)));
+    assert_same!(rt; refusal(env.delete_cleared(weak, FEW)), Some(Fault::Stale));
     Ok(())
 }
 
@@ -50,25 +51,25 @@ fn gives_the_words_back<S: Steps>(
     let all = NewArray::<i32>::of(4);
     let first = env.retry_collecting_in_turn(marker, 1, all, FEW)?;
     let full = env.retry_collecting_in_turn(marker, 1, all, FEW);
-    assert!(rt; is_refused(full, Some(Fault::SpaceFull(4))));
+    assert_same!(rt; refusal(full), Some(Fault::SpaceFull(4)));
     env.delete_local_ref(first)?;
     let second = env.retry_collecting_in_turn(marker, 1, all, FEW)?;
-    assert!(rt; env.get_array_length(second)? == 4);
+    assert_same!(rt; env.get_array_length(second)?, 4);
     Ok(())
 }
 
 /// Each remedy gives back what it is for.
-pub(crate) fn give_back<S: Steps>(
-    rt: &impl Abort,
-    alloc: Global,
-    env: &mut Env<S>,
-) -> Result<(), Fail> {
-    let mut marker = env.marker(alloc)?;
-    gives_the_slot_back(rt, env, &mut marker)?;
-    gives_the_words_back(rt, env, &mut marker)
+struct GiveBack;
+
+impl EnvTest for GiveBack {
+    fn run<S: Steps, R: Abort>(rt: &R, alloc: Global, env: &mut Env<S>) -> Result<(), Fail> {
+        let mut marker = env.marker(alloc)?;
+        gives_the_slot_back(rt, env, &mut marker)?;
+        gives_the_words_back(rt, env, &mut marker)
+    }
 }
 
 #[test]
 fn remedies_give_a_full_room_back(rt: HostRuntime) -> Result<(), Fail> {
-    try_plain(&rt, rt.alloc(), ONE, Case::Remedies)
+    alone::<GiveBack, _>(&rt, rt.alloc(), ONE)
 }

@@ -1,11 +1,12 @@
 //! Calls that are made of others: a frame and a copy round a closure, stays and regions that are opened with patience, strong references made of weak ones, and a region that ends with all its levels.
 
-use crate::plain::{Case, try_plain};
+use crate::plain::{EnvTest, alone};
+use assertions::assert_same;
 use jr_env::{
     Env, NativeInterface, Patience, with_array_elements, with_local_frame,
     with_local_frame_returning,
 };
-use jr_fixtures::{has_type, is_refused, made};
+use jr_fixtures::{has_type, made, refusal};
 use jr_model::Mode;
 use jr_steps::Steps;
 use jr_word::{Config, Fault, Handle};
@@ -38,14 +39,14 @@ fn hands_on_from_its_frame<S: Steps>(rt: &impl Abort, env: &mut Env<S>) -> Resul
         Patience::LONG,
         |env| env.new_string(&[104]),
     ).map_err(|unscoped| unscoped.fault())?;
-    assert!(rt; env.get_string_length(Handle::or_null(string?)) == Ok(1));
+    assert_same!(rt; env.get_string_length(Handle::or_null(string?)), Ok(1));
     let refused = with_local_frame_returning(
         env,
         4,
         Patience::LONG,
         |env| env.new_array::<i32>(17),
     ).map_err(|unscoped| unscoped.fault())?;
-    assert!(rt; is_refused(refused, Some(Fault::SpaceFull(3))));
+    assert_same!(rt; refusal(refused), Some(Fault::SpaceFull(3)));
     Ok(())
 }
 
@@ -59,8 +60,8 @@ fn ends_with_both<S: Steps>(
     let mut region = env.get_array_critical(first)?;
     let nested = region.nest_array(second);
     region.release_all();
-    assert!(rt; nested == Ok(1));
-    assert!(rt; env.get_array_length(first) == Ok(2));
+    assert_same!(rt; nested, Ok(1));
+    assert_same!(rt; env.get_array_length(first), Ok(2));
     Ok(())
 }
 
@@ -94,7 +95,7 @@ fn is_turned_round<S: Steps>(
         },
     )
     .map_err(|unreleased| unreleased.fault())?;
-    assert!(rt; count == 2);
+    assert_same!(rt; count, 2);
     Ok(())
 }
 
@@ -109,26 +110,26 @@ fn are_opened<S: Steps>(rt: &impl Abort, env: &mut Env<S>, array: Handle) -> Res
     let mut region = env.retry_string_critical(string?, Patience::LONG)?;
     let unit = region.get::<u16>(0, 0);
     region.release_all();
-    assert!(rt; first == Ok(2));
-    assert!(rt; unit == Ok(104));
+    assert_same!(rt; first, Ok(2));
+    assert_same!(rt; unit, Ok(104));
     Ok(())
 }
 
 /// Tries these calls.
-pub(crate) fn are_made<S: Steps>(
-    rt: &impl Abort,
-    alloc: Global,
-    env: &mut Env<S>,
-) -> Result<(), Fail> {
-    leaves_its_frame(env)?;
-    hands_on_from_its_frame(rt, env)?;
-    let array = env.new_array::<i32>(2)?;
-    is_turned_round(rt, alloc, env, array)?;
-    are_opened(rt, env, array)?;
-    becomes_strong(rt, env, array)
+struct MadeOfOthers;
+
+impl EnvTest for MadeOfOthers {
+    fn run<S: Steps, R: Abort>(rt: &R, alloc: Global, env: &mut Env<S>) -> Result<(), Fail> {
+        leaves_its_frame(env)?;
+        hands_on_from_its_frame(rt, env)?;
+        let array = env.new_array::<i32>(2)?;
+        is_turned_round(rt, alloc, env, array)?;
+        are_opened(rt, env, array)?;
+        becomes_strong(rt, env, array)
+    }
 }
 
 #[test]
 fn calls_are_made_of_others(rt: HostRuntime) -> Result<(), Fail> {
-    try_plain(&rt, rt.alloc(), SIZES, Case::OfOthers)
+    alone::<MadeOfOthers, _>(&rt, rt.alloc(), SIZES)
 }

@@ -1,5 +1,6 @@
 //! Threads that fight for the last serials of two slots.
 
+use assertions::assert_same;
 use jr_env::{Env, NativeInterface};
 use jr_fixtures::{NoPass, has_type, next_env};
 use jr_rule::Room;
@@ -84,7 +85,7 @@ fn is_each_given_once(rt: &impl Abort, given: [[u8; 6]; 3]) {
         let times = first[at]
             .saturating_add(second[at])
             .saturating_add(third[at]);
-        assert!(rt; times == 1);
+        assert_same!(rt; times, 1);
     }
 }
 
@@ -97,10 +98,10 @@ fn are_retired<S: Steps>(rt: &impl Abort, steps: &mut S) -> Result<(), Fail> {
         return Err("the room has other sizes")?;
     }
     assert!(rt; steps.go_in());
-    assert!(rt; steps.see_slot(0, SlotLoad::Probe) == RETIRED);
-    assert!(rt; steps.see_slot(1, SlotLoad::Probe) == RETIRED);
+    assert_same!(rt; steps.see_slot(0, SlotLoad::Probe), RETIRED);
+    assert_same!(rt; steps.see_slot(1, SlotLoad::Probe), RETIRED);
     steps.go_out();
-    assert!(rt; SlotWord::pack(RETIRED).0 == 9);
+    assert_same!(rt; SlotWord::pack(RETIRED).0, 9);
     Ok(())
 }
 

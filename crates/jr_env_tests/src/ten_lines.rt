@@ -1,8 +1,9 @@
 //! The ten lines of README.md, by one thread in a room of its own.
 ghost use Rattle.jr_rule.specs.Passes.{IsOpened};
 
+use assertions::assert_same;
 use jr::{Collected, Config, Env, Fault, Handle, NativeInterface, Pass, Room, RoomSteps};
-use jr_fixtures::{LAST, is_refused, next_pass};
+use jr_fixtures::{LAST, next_pass, refusal};
 use std::alloc::Global;
 use std::test::Fail;
 
@@ -36,14 +37,14 @@ fn ten_lines(alloc: Global, room: &Room<LAST>, pass: Pass) -> Result<Seen, Fault
 }
 
 #[test]
-fn the_ten_lines_of_the_first_page(rt: HostRuntime) -> Result<(), Fail> {
+fn the_ten_lines_of_the_first_page_do_what_they_say(rt: HostRuntime) -> Result<(), Fail> {
     let (room, mut passes) = Room::<LAST>::open(rt.alloc(), SIZES)?;
     let pass = next_pass(&room, &mut passes)?;
     let (collected, cleared, stale) = ten_lines(rt.alloc(), &room, pass)?;
-    assert!(rt; collected.cleared == 1);
-    assert!(rt; collected.dropped == 1);
-    assert!(rt; collected.used == 0);
+    assert_same!(&rt; collected.cleared, 1);
+    assert_same!(&rt; collected.dropped, 1);
+    assert_same!(&rt; collected.used, 0);
     assert!(rt; cleared);
-    assert!(rt; is_refused(stale, Some(Fault::Stale)));
+    assert_same!(&rt; refusal(stale), Some(Fault::Stale));
     Ok(())
 }

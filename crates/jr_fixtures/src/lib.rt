@@ -96,6 +96,11 @@ pub fn made(answer: Result<Option<Handle>, Fault>) -> Result<Handle, Fail> {
     }
 }
 
+/// What a call is refused with, if it is.
+pub fn refusal<A: Drop>(answer: Result<A, Fault>) -> Option<Fault> {
+    answer.err()
+}
+
 /// Whether a call answers with this refusal, or with none.
 pub fn is_refused<A: Drop>(answer: Result<A, Fault>, wanted: Option<Fault>) -> bool {
     answer.err() == wanted
@@ -107,7 +112,7 @@ pub fn has_type<S: Steps>(env: &mut Env<S>, word: Handle, wanted: u8) -> Result<
     if found == wanted {
         Ok(())
     } else {
-        Err(Fail::new(format_args!("the type is {found}, not {wanted}")))
+        Err(Fail::new(format_args!("the type of {word:?} is {found}, not {wanted}")))
     }
 }
 

@@ -47,7 +47,7 @@ bit_true true n e = refl
 bit_true false n e = absurd (omega arith)
 
 -- a list of numbers below n is as long as the times that they are in it, added up
-sum_times : (n : ℕ) (xs : List ℕ) → ((p : ℕ) → n ≤ p → times p xs ≡ 0) → sum_below n (λ p. times p xs) ≡ length xs
+pub sum_times : (n : ℕ) (xs : List ℕ) → ((p : ℕ) → n ≤ p → times p xs ≡ 0) → sum_below n (λ p. times p xs) ≡ length xs
 sum_times n [] below = sum_none n
 sum_times n (x ∷ xs) below =
     omega (

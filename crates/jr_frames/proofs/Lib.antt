@@ -2,6 +2,7 @@ pub mod Showing
 pub mod Places
 pub mod Named
 pub mod FreePlaces
+pub mod PlacesCounted
 pub mod Changing
 pub mod Still
 pub mod Adding

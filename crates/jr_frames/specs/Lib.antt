@@ -1,5 +1,6 @@
 pub mod Table
 pub mod Places
+pub mod Counted
 pub mod Arrangements
 pub mod Popping
 pub mod Freeing

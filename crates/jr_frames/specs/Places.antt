@@ -20,6 +20,10 @@ place_at places p = slice_index_or places p unused
 abbrev pub is_taken : List Place → ℕ → Bool
 is_taken places p = not ((place_at places p).object == 0)
 
+-- the place has given a handle
+abbrev pub gave_any : List Place → ℕ → Bool
+gave_any places p = nat_le 1 (given_of (place_at places p))
+
 -- the place is there, and free
 abbrev pub is_idle : ℕ → List Place → ℕ → Bool
 is_idle last places p =

@@ -1,4 +1,5 @@
 //! The local references of a thread, in frames.
+use crate::counting::{LocalCounts, count_places};
 use crate::frame_walk::any_gives_again;
 use crate::place::Place;
 use arrayvec::ArrayVec;
@@ -42,6 +43,7 @@ impl Frames {
     ghost use Rattle.std.specs.Prelude.{◌≡◌, ◌≢◌, ◌≤◌, ◌==◌, ◌<◌, ◌+◌, ◌↔◌, [], IsTrue, length, IfSome, IfNone, IsSome, Some, None, nat_lt, slice_index};
     ghost use Rattle.jr_model.specs.declared.frames.TheConstants.{FRAMES};
     ghost use Rattle.jr_model.specs.Frames.{fresh_frames, object_of, object_at, free_places, IsAdded, AreSound, without_local, pushed, popped, last_frame};
+    ghost use Rattle.jr_frames.specs.Counted.{AreCounted};
     ghost use Rattle.jr_frames.specs.Table.{IsNext, IsOnly, TakesOldest, TakesOldestOf, with_frames, frame_at, oldest_handle};
 
     /// No reference, and as many places as the configuration says.
@@ -87,6 +89,27 @@ impl Frames {
         ensures { IsTrue result ↔ (wanted ≤ free_places self.now.last self.now.frames) }
     {
         wanted <= u32::from(self.free)
+    }
+
+    /// How many places are free: so many more references can be made.
+    #[inline(always)]
+    pub fn free_places(&self) -> u32
+        ensures { result ≡ free_places self.now.last self.now.frames }
+    {
+        u32::from(self.free)
+    }
+
+    /// How many references stand, in how many frames, and how many places are free and were ever used. In the code each place is gone through.
+    pub fn counts(&self) -> LocalCounts
+        ensures { AreCounted self.now result }
+    {
+        let (standing, given) = count_places(&self.places);
+        LocalCounts {
+            frames: self.depth(),
+            standing,
+            free: self.free,
+            given,
+        }
     }
 
     /// Adds a reference to an object, in the newest frame, at a free place's handle.

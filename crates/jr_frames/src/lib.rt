@@ -1,6 +1,8 @@
-//! The local references of one thread, in frames: the table, where each call is a constant amount of work, but for the making of a table and the question whether a pop frees a place; and over any steps the references that native code hands in.
+//! The local references of one thread, in frames: the table, where each call is a constant amount of work, but for the making of a table, its counts, and the question whether a pop frees a place;
+//! and over any steps the references that native code hands in.
 #![tactic(auto)]
 
+mod counting;
 mod explaining;
 mod finding;
 mod frame_walk;
@@ -14,6 +16,7 @@ mod pop;
 mod reference;
 mod resolving;
 
+pub use counting::LocalCounts;
 pub use explaining::{Explanation, explain};
 pub use finding::find;
 pub use frames::Frames;

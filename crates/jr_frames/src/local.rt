@@ -36,7 +36,8 @@ pub fn new_local<S: Steps>(
     requires stay { IsOwnStay inside.now (S.facts steps.old).stands }
     requires ready { StandsReady S.facts Within steps.old frames.old }
     requires object { MayKnow S.facts steps.old (HasOptional object) }
-    ensures call { MakesLocal S.facts steps.old steps.new frames.old.frames frames.new.frames object (creation (S.facts steps.old).stands.config (S.facts steps.old).stands.last (S.facts steps.old).stands.thread object) result }
+    ensures call { MakesLocal S.facts steps.old steps.new frames.old.frames frames.new.frames object
+        (creation (S.facts steps.old).stands.config (S.facts steps.old).stands.last (S.facts steps.old).stands.thread object) result }
     ensures same { KeepsOwner frames.old frames.new }
     ensures owner { IfOk result (λ made. IfSome made (λ h. (h.kind ≡ Local) × (h.owner ≡ (S.facts steps.old).stands.thread))) }
 {

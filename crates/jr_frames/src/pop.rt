@@ -39,7 +39,8 @@ pub fn pop_frame<S: Steps>(
     requires ready { StandsReady S.facts Within steps.old frames.old }
     requires above { 2 ≤ length frames.old.frames.frames }
     requires object { MayKnow S.facts steps.old (λ k. Holds frames.old.frames k × HasOptional object k) }
-    ensures call { MakesLocal S.facts steps.old steps.new frames.old.frames frames.new.frames object (popping (S.facts steps.old).stands.config (S.facts steps.old).stands.last (S.facts steps.old).stands.thread object) result }
+    ensures call { MakesLocal S.facts steps.old steps.new frames.old.frames frames.new.frames object
+        (popping (S.facts steps.old).stands.config (S.facts steps.old).stands.last (S.facts steps.old).stands.thread object) result }
     ensures same { KeepsOwner frames.old frames.new }
     ensures owner { IfOk result (λ made. IfSome made (λ h. (h.kind ≡ Local) × (h.owner ≡ (S.facts steps.old).stands.thread))) }
 {

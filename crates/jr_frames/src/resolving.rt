@@ -86,7 +86,8 @@ pub fn resolve<S: Steps>(
 ) -> Result<Option<u16>, Fault>
     requires stay { IsOwnStay inside.now (S.facts steps.old).stands }
     requires owner { OwnerFits reference }
-    ensures { Resolves S.facts steps.old steps.new frames.now.frames (resolved (S.facts steps.old).stands.config (S.facts steps.old).stands.last (S.facts steps.old).stands.thread (word_of reference)) result }
+    ensures { Resolves S.facts steps.old steps.new frames.now.frames
+        (resolved (S.facts steps.old).stands.config (S.facts steps.old).stands.last (S.facts steps.old).stands.thread (word_of reference)) result }
 {
     if reference.is_malformed() || reference.lies_outside(steps.config()) {
         return Err(Fault::Stale);
@@ -143,7 +144,8 @@ pub fn resolve_both<S: Steps>(
     requires stay { IsOwnStay inside.now (S.facts steps.old).stands }
     requires left { OwnerFits left }
     requires right { OwnerFits right }
-    ensures { ResolvesBoth S.facts steps.old steps.new frames.now.frames (resolved_both (S.facts steps.old).stands.config (S.facts steps.old).stands.last (S.facts steps.old).stands.thread (word_of left) (word_of right)) result }
+    ensures { ResolvesBoth S.facts steps.old steps.new frames.now.frames
+        (resolved_both (S.facts steps.old).stands.config (S.facts steps.old).stands.last (S.facts steps.old).stands.thread (word_of left) (word_of right)) result }
 {
     if left.is_shared() && right.is_shared() {
         // (the same, in a place of its own: there the compiler knows how most of the tests end)
@@ -164,7 +166,8 @@ fn resolve_each<S: Steps>(
     requires stay { IsOwnStay inside.now (S.facts steps.old).stands }
     requires left { OwnerFits left }
     requires right { OwnerFits right }
-    ensures { ResolvesBoth S.facts steps.old steps.new frames.now.frames (resolved_both (S.facts steps.old).stands.config (S.facts steps.old).stands.last (S.facts steps.old).stands.thread (word_of left) (word_of right)) result }
+    ensures { ResolvesBoth S.facts steps.old steps.new frames.now.frames
+        (resolved_both (S.facts steps.old).stands.config (S.facts steps.old).stands.last (S.facts steps.old).stands.thread (word_of left) (word_of right)) result }
 {
     let config = steps.config();
     let thread = steps.thread();

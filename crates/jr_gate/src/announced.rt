@@ -21,11 +21,13 @@ pub struct Announced {
 }
 
 impl Announced {
-    /// Shuts the gate, by the steps' own announcement. Own is by the number of the thread and the role of the steps: the announcement has their thread's number, and they are announcing. Where the gate is shut, no present object array names an absent object, and the pass holds nothing. Over one thread, and over plain words, it is never refused.
+    /// Shuts the gate, by the steps' own announcement. Own is by the number of the thread and the role of the steps: the announcement has their thread's number, and they are announcing.
+    /// Where the gate is shut, no present object array names an absent object, and the pass holds nothing. Over one thread, and over plain words, it is never refused.
     ///
     /// # Errors
     ///
-    /// E14 with how many other threads are inside or knocking at that one step, at least 1, and the announcement. Who they are the law `announcers_count_who_is_inside` of `jr_model` says of the refused shut.
+    /// E14 with how many other threads are inside or knocking at that one step, at least 1, and the announcement.
+    /// Who they are the law `announcers_count_who_is_inside` of `jr_model` says of the refused shut.
     ///
     /// Nothing has changed then: the announcement stands.
     ///
@@ -62,11 +64,15 @@ impl Announced {
     }
 }
 
-/// Announces that the gate will be shut for a collection. The thread has to stand outside. From then on nobody is let in, and who is inside may go on, nest levels of its critical region, and leave (the laws `nobody_enters_an_announced_gate` and `announced_gates_only_empty` of `jr_model`, of every history that these calls leave). The announcement is the steps' own, by the number of the thread and the role of the steps. Over one thread, and over plain words, it is never refused.
+/// Announces that the gate will be shut for a collection. The thread has to stand outside.
+/// From then on nobody is let in, and who is inside may go on, nest levels of its critical region, and leave (the laws `nobody_enters_an_announced_gate` and `announced_gates_only_empty` of
+/// `jr_model`, of every history that these calls leave). The announcement is the steps' own, by the number of the thread and the role of the steps.
+/// Over one thread, and over plain words, it is never refused.
 ///
 /// # Errors
 ///
-/// E14 with how many threads are inside, knocking, announcing or collecting, at least 1, where another thread keeps the gate closed, at the look or at the exchange; E23 with the word of the gate at the look and at the exchange, where it was open at both and another thread went in or out between them.
+/// E14 with how many threads are inside, knocking, announcing or collecting, at least 1, where another thread keeps the gate closed, at the look or at the exchange;
+/// E23 with the word of the gate at the look and at the exchange, where it was open at both and another thread went in or out between them.
 ///
 /// Nothing has changed then, and the thread stands outside.
 ///

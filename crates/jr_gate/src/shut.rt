@@ -16,7 +16,8 @@ pub struct Shut {
 }
 
 impl Shut {
-    /// Opens the gate after the steps' own collection. Own is by the number of the thread and the role of the steps: the collection has their thread's number, and they are collecting. No present object array may name an absent object, and no move may be unfinished.
+    /// Opens the gate after the steps' own collection. Own is by the number of the thread and the role of the steps: the collection has their thread's number, and they are collecting.
+    /// No present object array may name an absent object, and no move may be unfinished.
     ///
     /// # Operations
     ///
@@ -31,7 +32,8 @@ impl Shut {
     }
 }
 
-/// Shuts the gate for a collection. The thread has to stand outside. Where the gate is shut, no present object array names an absent object, and the pass holds nothing. The collection is the steps' own, by the number of the thread and the role of the steps. Over one thread, and over plain words, it is never refused.
+/// Shuts the gate for a collection. The thread has to stand outside. Where the gate is shut, no present object array names an absent object, and the pass holds nothing.
+/// The collection is the steps' own, by the number of the thread and the role of the steps. Over one thread, and over plain words, it is never refused.
 ///
 /// # Errors
 ///

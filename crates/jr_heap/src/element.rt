@@ -37,7 +37,8 @@ pub fn read<S: Steps>(steps: &mut S, object: u16, index: u32) -> Result<u64, Fau
     requires role { (S.facts steps.old).stands.role ≡ Within }
     requires object { MayKnow S.facts steps.old (HasObject object) }
     ensures stands { (S.facts steps.new).stands ≡ (S.facts steps.old).stands }
-    ensures call { Called S.facts steps.old steps.new (HasObject object) (λ j k. reading (state_of k) object index) result (by_steps (1 + element_steps result) (λ j k. Relearns object j k × ShowsElementOf object result k)) }
+    ensures call { Called S.facts steps.old steps.new (HasObject object) (λ j k. reading (state_of k) object index) result (by_steps (1 + element_steps result) (λ j k. Relearns object j k
+        × ShowsElementOf object result k)) }
     ensures object { MayKnow S.facts steps.new (HasObject object) }
 {
     let header = header(steps, object);
@@ -64,7 +65,8 @@ pub fn read_element<S: Steps>(
     requires role { (S.facts steps.old).stands.role ≡ Within }
     requires known { MayKnow S.facts steps.old (HoldsHeader object header) }
     ensures stands { (S.facts steps.new).stands ≡ (S.facts steps.old).stands }
-    ensures call { Called S.facts steps.old steps.new (HoldsHeader object header) (λ j k. reading (state_of k) object index) result (by_steps (element_steps result) (λ j k. LeavesObject object header j k × ReadsOfKind header.kind result k)) }
+    ensures call { Called S.facts steps.old steps.new (HoldsHeader object header) (λ j k. reading (state_of k) object index) result
+        (by_steps (element_steps result) (λ j k. LeavesObject object header j k × ReadsOfKind header.kind result k)) }
     ensures value { IfOk result (λ v. is_value_of header.kind v ≡ true) }
     ensures known { MayKnow S.facts steps.new (HoldsHeader object header) }
 {
@@ -92,7 +94,8 @@ pub fn write<S: Steps>(steps: &mut S, object: u16, index: u32, word: u64) -> Res
     requires role { (S.facts steps.old).stands.role ≡ Within }
     requires object { MayKnow S.facts steps.old (λ k. HasObject object k × MayBeNamedIn object word k) }
     ensures stands { (S.facts steps.new).stands ≡ (S.facts steps.old).stands }
-    ensures call { Called S.facts steps.old steps.new (λ k. HasObject object k × MayBeNamedIn object word k) (λ j k. writing (state_of k) object index word) result (by_steps (1 + element_steps result) (Relearns object)) }
+    ensures call { Called S.facts steps.old steps.new (λ k. HasObject object k
+        × MayBeNamedIn object word k) (λ j k. writing (state_of k) object index word) result (by_steps (1 + element_steps result) (Relearns object)) }
     ensures object { MayKnow S.facts steps.new (HasObject object) }
 {
     let header = header(steps, object);
@@ -120,7 +123,8 @@ pub fn write_element<S: Steps>(
     requires role { (S.facts steps.old).stands.role ≡ Within }
     requires known { MayKnow S.facts steps.old (λ k. HoldsHeader object header k × MayBeNamed header.kind word k) }
     ensures stands { (S.facts steps.new).stands ≡ (S.facts steps.old).stands }
-    ensures call { Called S.facts steps.old steps.new (λ k. HoldsHeader object header k × MayBeNamed header.kind word k) (λ j k. writing (state_of k) object index word) result (by_steps (element_steps result) (LeavesObject object header)) }
+    ensures call { Called S.facts steps.old steps.new (λ k. HoldsHeader object header k
+        × MayBeNamed header.kind word k) (λ j k. writing (state_of k) object index word) result (by_steps (element_steps result) (LeavesObject object header)) }
     ensures known { MayKnow S.facts steps.new (HoldsHeader object header) }
 {
     if is_constant(header.kind) {

@@ -69,7 +69,8 @@ pub fn publish<S: Steps>(
     requires plain { kind ≡ Plain → size_of range ≡ 0 }
     requires ready { MayKnow S.facts steps.old (IsReady kind (place_of range) (size_of range)) }
     ensures stands { (S.facts steps.new).stands ≡ (S.facts steps.old).stands }
-    ensures call { Called S.facts steps.old steps.new (IsReady kind (place_of range) (size_of range)) (λ j k. publication kind (own_words (place_of range) (size_of range) j)) result (by_between (publish_steps (S.facts steps.old).stands.config.objects result) (S.facts steps.old).stands.config.objects (Publishes kind (place_of range) (size_of range) result)) }
+    ensures call { Called S.facts steps.old steps.new (IsReady kind (place_of range) (size_of range)) (λ j k. publication kind (own_words (place_of range) (size_of range) j)) result
+        (by_between (publish_steps (S.facts steps.old).stands.config.objects result) (S.facts steps.old).stands.config.objects (Publishes kind (place_of range) (size_of range) result)) }
     ensures object { IfOk result (λ o. MayKnow S.facts steps.new (HasObject o)) }
     ensures known { IfOk result (λ o. MayKnow S.facts steps.new (HoldsHeader o (header_of kind (place_of range) (size_of range)))) }
 {

@@ -9,7 +9,8 @@ ghost use Rattle.jr_heap.specs.Heap.{Called, HoldsHeader, LeavesObject, by_steps
 use jr_steps::Steps;
 use jr_word::{Elem, HeaderParts};
 
-/// Reads elements of an array whose header was read in this stay, from an index on: as many as the slice has room for, one after the other, rising. They have to lie in the array. The units of a string are read as chars.
+/// Reads elements of an array whose header was read in this stay, from an index on: as many as the slice has room for, one after the other, rising. They have to lie in the array.
+/// The units of a string are read as chars.
 ///
 /// # Operations
 ///
@@ -28,7 +29,8 @@ pub fn read_part<S: Steps, E: Elem>(
     requires part { start + length elements.old ≤ header.length }
     ensures stands { (S.facts steps.new).stands ≡ (S.facts steps.old).stands }
     ensures size { length elements.new ≡ length elements.old }
-    ensures call { Called S.facts steps.old steps.new (HoldsHeader object header) (λ j k. reading object start (length elements.old)) (Ok (map E.word_of elements.new)) (by_steps (length elements.old) (LeavesObject object header)) }
+    ensures call { Called S.facts steps.old steps.new (HoldsHeader object header) (λ j k. reading object start (length elements.old)) (Ok (map E.word_of elements.new))
+        (by_steps (length elements.old) (LeavesObject object header)) }
     ensures known { MayKnow S.facts steps.new (HoldsHeader object header) }
 {
     steps.see_part(object, header, start, elements);
@@ -51,7 +53,8 @@ pub fn write_part<S: Steps, E: Elem>(
     requires kind { same_element E.KIND header.kind ≡ true }
     requires part { start + length elements.now ≤ header.length }
     ensures stands { (S.facts steps.new).stands ≡ (S.facts steps.old).stands }
-    ensures call { Called S.facts steps.old steps.new (HoldsHeader object header) (λ j k. writing object start (map E.word_of elements.now)) (Ok tt) (by_steps (length elements.now) (LeavesObject object header)) }
+    ensures call { Called S.facts steps.old steps.new (HoldsHeader object header) (λ j k. writing object start (map E.word_of elements.now)) (Ok tt)
+        (by_steps (length elements.now) (LeavesObject object header)) }
     ensures known { MayKnow S.facts steps.new (HoldsHeader object header) }
 {
     let mut index = start;

@@ -46,7 +46,8 @@ impl Range {
 ///
 /// # Errors
 ///
-/// E10 with how many words are reserved, where so many more don't fit; E12 with how many were looked at and how many were found, where another thread reserved words in between, and so never over plain words.
+/// E10 with how many words are reserved, where so many more don't fit;
+/// E12 with how many were looked at and how many were found, where another thread reserved words in between, and so never over plain words.
 ///
 /// What the pass holds is as it was.
 ///
@@ -88,9 +89,11 @@ pub fn fill<S: Steps>(steps: &mut S, range: &Range, word: u64)
     requires role { (S.facts steps.old).stands.role ≡ Within }
     requires own { MayKnow S.facts steps.old (IsOwn (place_of range.now) (size_of range.now)) }
     ensures stands { (S.facts steps.new).stands ≡ (S.facts steps.old).stands }
-    ensures call { Called S.facts steps.old steps.new (IsOwn (place_of range.now) (size_of range.now)) (λ j k. no_act) (Ok tt) (by_steps (size_of range.now) (Fills (place_of range.now) (size_of range.now) word)) }
+    ensures call { Called S.facts steps.old steps.new (IsOwn (place_of range.now) (size_of range.now)) (λ j k. no_act) (Ok tt)
+        (by_steps (size_of range.now) (Fills (place_of range.now) (size_of range.now) word)) }
     ensures own { MayKnow S.facts steps.new (IsOwn (place_of range.now) (size_of range.now)) }
-    ensures ready { (kind : Kind) → MayKnow S.facts steps.old (λ k. IsOwn (place_of range.now) (size_of range.now) k × IsWordNow kind word k) → MayKnow S.facts steps.new (IsReady kind (place_of range.now) (size_of range.now)) }
+    ensures ready { (kind : Kind) → MayKnow S.facts steps.old (λ k. IsOwn (place_of range.now) (size_of range.now) k × IsWordNow kind word k)
+        → MayKnow S.facts steps.new (IsReady kind (place_of range.now) (size_of range.now)) }
 {
     for index in 0..range.length {
         steps.put_reserved(range.place, index, word);
@@ -107,7 +110,8 @@ pub fn fill_from<S: Steps>(steps: &mut S, range: &Range, units: &[u16])
     requires own { MayKnow S.facts steps.old (IsOwn (place_of range.now) (size_of range.now)) }
     requires long { length units.now ≡ size_of range.now }
     ensures stands { (S.facts steps.new).stands ≡ (S.facts steps.old).stands }
-    ensures call { Called S.facts steps.old steps.new (IsOwn (place_of range.now) (size_of range.now)) (λ j k. no_act) (Ok tt) (by_steps (size_of range.now) (FillsWith (place_of range.now) units.now)) }
+    ensures call { Called S.facts steps.old steps.new (IsOwn (place_of range.now) (size_of range.now)) (λ j k. no_act) (Ok tt)
+        (by_steps (size_of range.now) (FillsWith (place_of range.now) units.now)) }
     ensures own { MayKnow S.facts steps.new (IsOwn (place_of range.now) (size_of range.now)) }
     ensures ready { MayKnow S.facts steps.new (IsReady Text (place_of range.now) (size_of range.now)) }
 {

@@ -4,8 +4,9 @@ ghost use Rattle.jr_model.specs.declared.event.Role.TheVariants.{Outside};
 ghost use Rattle.jr_gate.specs.Stays.{IsOwnAnnouncement};
 
 use crate::gate::{enters, gate_is, is_busy, is_kept_out};
-use crate::plain::{self, FirstWord, alone, first_word_is};
+use crate::plain::{FirstWord, WordsTest, alone, first_word_is};
 use crate::rooms::{NOTHING, last_of, leaves, steps_of_last};
+use assertions::assert_same;
 use jr_gate::{Announced, announce, enter};
 use jr_rule::{Room, RoomSteps};
 use jr_steps::Steps;
@@ -49,7 +50,7 @@ fn finds_another<S: Steps>(rt: &impl Abort, steps: &mut S)
     requires { (S.facts steps.old).stands.role ≡ Outside }
     ensures { (S.facts steps.new).stands ≡ (S.facts steps.old).stands }
 {
-    assert!(rt; announcement_refused(steps) == Some(Fault::Busy(1)));
+    assert_same!(rt; announcement_refused(steps), Some(Fault::Busy(1)));
 }
 
 /// The gate is not shut, as announced, since so many threads are inside or knocking. The announcement is handed back.
@@ -60,13 +61,14 @@ fn waits<S: Steps>(rt: &impl Abort, steps: &mut S, announced: Announced, count: 
     match announced.shut(steps) {
         Ok(_) => panic!(rt; "a thread is inside or knocking"),
         Err((announced, fault)) => {
-            assert!(rt; fault == Fault::Busy(count));
+            assert_same!(rt; fault, Fault::Busy(count));
             announced
         }
     }
 }
 
-/// Thread 0 is inside, so that thread 2 can't collect. Thread 1 announces. From then on thread 2 is not let in, and finds both where it would shut the gate; thread 1 finds thread 0 alone, and waits. Thread 0 leaves, and thread 2, which would announce too, finds thread 1.
+/// Thread 0 is inside, so that thread 2 can't collect. Thread 1 announces. From then on thread 2 is not let in, and finds both where it would shut the gate; thread 1 finds thread 0 alone, and waits.
+/// Thread 0 leaves, and thread 2, which would announce too, finds thread 1.
 fn announces_beside_a_stay<S: Steps>(
     rt: &impl Abort,
     first: &mut S,
@@ -177,47 +179,44 @@ fn a_gate_is_closed_to_entries_before_it_is_empty(rt: HostRuntime) -> Result<(),
 }
 
 /// An announcement is a bit of the word, until the gate is shut.
-pub(crate) fn is_closed_until_shut<S: Steps + FirstWord>(
-    rt: &impl Abort,
-    steps: &mut S,
-) -> Result<(), Fail>
-    requires { (S.facts steps.old).stands.role ≡ Outside }
-{
-    let announced = announces(rt, steps);
-    first_word_is(rt, steps, 0x2_0000);
-    match announced.shut(steps) {
-        Ok(collection) => {
-            first_word_is(rt, steps, 0x1_0000);
-            collection.reopen(steps);
-        }
-        Err(_) => panic!(rt; "nobody else is there"),
-    }
-    first_word_is(rt, steps, 0);
-    Ok(())
-}
+struct ClosedUntilShut;
 
-/// An announcement is a bit of the word, until it is taken back.
-pub(crate) fn is_taken_back<S: Steps + FirstWord>(
-    rt: &impl Abort,
-    steps: &mut S,
-) -> Result<(), Fail>
-    requires { (S.facts steps.old).stands.role ≡ Outside }
-{
-    let announced = announces(rt, steps);
-    first_word_is(rt, steps, 0x2_0000);
-    announced.cancel(steps);
-    first_word_is(rt, steps, 0);
-    enters(rt, steps, None);
-    Ok(())
+impl WordsTest for ClosedUntilShut {
+    fn run<S: Steps + FirstWord, R: Abort>(rt: &R, steps: &mut S) -> Result<(), Fail> {
+        let announced = announces(rt, steps);
+        first_word_is(rt, steps, 0x2_0000);
+        match announced.shut(steps) {
+            Ok(collection) => {
+                first_word_is(rt, steps, 0x1_0000);
+                collection.reopen(steps);
+            }
+            Err(_) => panic!(rt; "nobody else is there"),
+        }
+        first_word_is(rt, steps, 0);
+        Ok(())
+    }
 }
 
 #[test]
 fn an_announcement_keeps_the_gate_closed_until_it_is_shut(rt: HostRuntime) -> Result<(), Fail> {
-    let case = plain::Case::ClosedUntilShut;
-    alone(&rt, rt.alloc(), Config::LEAST, case)
+    alone::<ClosedUntilShut, _>(&rt, rt.alloc(), Config::LEAST)
+}
+
+/// An announcement is a bit of the word, until it is taken back.
+struct TakenBack;
+
+impl WordsTest for TakenBack {
+    fn run<S: Steps + FirstWord, R: Abort>(rt: &R, steps: &mut S) -> Result<(), Fail> {
+        let announced = announces(rt, steps);
+        first_word_is(rt, steps, 0x2_0000);
+        announced.cancel(steps);
+        first_word_is(rt, steps, 0);
+        enters(rt, steps, None);
+        Ok(())
+    }
 }
 
 #[test]
 fn an_announcement_is_taken_back(rt: HostRuntime) -> Result<(), Fail> {
-    alone(&rt, rt.alloc(), Config::LEAST, plain::Case::IsTakenBack)
+    alone::<TakenBack, _>(&rt, rt.alloc(), Config::LEAST)
 }

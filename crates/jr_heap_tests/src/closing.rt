@@ -5,6 +5,7 @@ ghost use Rattle.jr_rule.specs.Rooms.{IsOfRoom};
 use crate::gate::{gate_is, keep_each_other_out};
 use crate::passes::{Deed, did, opened};
 use crate::rooms::{NOTHING, last_of, leaves, stays_open};
+use assertions::assert_same;
 use jr_model::Role;
 use jr_rule::{AllLeft, Left, Pass, Room, RoomSteps};
 use jr_word::{Config, Fault};
@@ -38,8 +39,8 @@ fn both_are_back(
         return Err("thread 1 is inside")?;
     };
     let Left { room, pass, fault } = left;
-    assert!(rt; fault == Fault::LeftInside(1));
-    assert!(rt; others.len() == 1);
+    assert_same!(rt; fault, Fault::LeftInside(1));
+    assert_same!(rt; others.len(), 1);
     let Some(second) = others.pop() else {
         return Err("the other pass is gone")?;
     };
@@ -58,7 +59,7 @@ fn a_room_of_two_hands_both_passes_back(rt: HostRuntime) -> Result<(), Fail> {
     let second = did(&room, second, Deed::Stand(1, Role::Within))?;
     let second = did(&room, second, Deed::GoOut)?;
     let others = vec![in rt.alloc(); first]?;
-    assert!(rt; room.close_all(second, others).ok() == Some(NOTHING));
+    assert_same!(&rt; room.close_all(second, others).ok(), Some(NOTHING));
     Ok(())
 }
 

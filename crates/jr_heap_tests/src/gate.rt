@@ -4,9 +4,10 @@ ghost use Rattle.jr_model.specs.declared.event.Role.TheVariants.{Outside};
 ghost use Rattle.jr_steps.specs.Knowing.{CanReopen, MayKnow};
 ghost use Rattle.jr_gate.specs.Stays.{IsOwnCollection};
 
-use crate::plain::{self, FirstWord, alone, first_word_is};
+use crate::plain::{FirstWord, WordsTest, alone, first_word_is};
 use crate::rooms::NOTHING;
-use crate::shared::{self, in_a_room};
+use crate::shared::{PairTest, in_a_room};
+use assertions::assert_same;
 use jr_gate::{Shut, enter, shut_gate};
 use jr_steps::{GateLoad, Role, Steps};
 use jr_word::{Config, Fault, GateWord};
@@ -23,7 +24,7 @@ const TWO: Config = Config {
 pub(crate) fn gate_is<S: Steps>(rt: &impl Abort, steps: &mut S, wanted: u64)
     ensures { (S.facts steps.new).stands ≡ (S.facts steps.old).stands }
 {
-    assert!(rt; GateWord::pack(steps.see_gate(GateLoad::Meet)).0 == wanted);
+    assert_same!(rt; GateWord::pack(steps.see_gate(GateLoad::Meet)).0, wanted);
 }
 
 /// Why an entry is refused, if it is. It is ended at once.
@@ -59,7 +60,7 @@ pub(crate) fn enters<S: Steps>(rt: &impl Abort, steps: &mut S, refused: Option<F
     requires { (S.facts steps.old).stands.role ≡ Outside }
     ensures { (S.facts steps.new).stands ≡ (S.facts steps.old).stands }
 {
-    assert!(rt; entry_refused(steps) == refused);
+    assert_same!(rt; entry_refused(steps), refused);
 }
 
 /// Checks that a collection is refused, since so many threads are not outside.
@@ -67,7 +68,7 @@ pub(crate) fn is_busy<S: Steps>(rt: &impl Abort, steps: &mut S, count: u32)
     requires { (S.facts steps.old).stands.role ≡ Outside }
     ensures { (S.facts steps.new).stands ≡ (S.facts steps.old).stands }
 {
-    assert!(rt; shut_refused(steps) == Some(Fault::Busy(count)));
+    assert_same!(rt; shut_refused(steps), Some(Fault::Busy(count)));
 }
 
 /// A thread knocks in vain: what the word of the gate is between knock and withdrawal, and what it is afterwards.
@@ -136,70 +137,68 @@ pub(crate) fn keep_each_other_out<S: Steps>(
 }
 
 /// Thread 0 knocks while thread 1 collects, and is counted until it withdraws: the collection ends, and the next one finds it.
-pub(crate) fn is_counted_until_it_withdraws<S: Steps>(
-    rt: &impl Abort,
-    first: &mut S,
-    second: &mut S,
-) -> Result<(), Fail>
-    requires first { (S.facts first.old).stands.role ≡ Outside }
-    requires second { (S.facts second.old).stands.role ≡ Outside }
-    ensures { IfOk result (λ _. (S.facts second.new).stands ≡ (S.facts second.old).stands) }
-{
-    let Ok(collection) = shut_gate(second) else {
-        return Err("nobody is inside")?;
-    };
-    gate_is(rt, first, 65_536);
-    assert!(rt; !first.go_in());
-    assert!(rt; first.role() == Role::Knocking);
-    gate_is(rt, first, 65_537);
-    collection.reopen(second);
-    gate_is(rt, first, 1);
-    is_busy(rt, second, 1);
-    first.go_out();
-    gate_is(rt, first, 0);
-    assert!(rt; shut_refused(second) == None);
-    Ok(())
+struct CountedUntilItWithdraws;
+
+impl PairTest for CountedUntilItWithdraws {
+    fn run<S: Steps, R: Abort>(rt: &R, first: &mut S, second: &mut S) -> Result<(), Fail> {
+        let Ok(collection) = shut_gate(second) else {
+            return Err("nobody is inside")?;
+        };
+        gate_is(rt, first, 65_536);
+        assert!(rt; !first.go_in());
+        assert_same!(rt; first.role(), Role::Knocking);
+        gate_is(rt, first, 65_537);
+        collection.reopen(second);
+        gate_is(rt, first, 1);
+        is_busy(rt, second, 1);
+        first.go_out();
+        gate_is(rt, first, 0);
+        assert_same!(rt; shut_refused(second), None);
+        Ok(())
+    }
+}
+
+#[test]
+fn a_knock_is_counted_until_it_is_withdrawn(rt: HostRuntime) -> Result<(), Fail> {
+    in_a_room::<CountedUntilItWithdraws, _>(&rt, rt.alloc(), TWO, NOTHING)
 }
 
 /// A stay is one in the word, until it ends.
-pub(crate) fn is_counted<S: Steps + FirstWord>(rt: &impl Abort, steps: &mut S) -> Result<(), Fail>
-    requires { (S.facts steps.old).stands.role ≡ Outside }
-{
-    let Ok(stay) = enter(steps) else {
-        return Err("nobody collects")?;
-    };
-    first_word_is(rt, steps, 1);
-    stay.leave(steps);
-    first_word_is(rt, steps, 0);
-    Ok(())
-}
+struct StayIsCounted;
 
-/// A collection is a bit of the word, until it ends.
-pub(crate) fn is_shut<S: Steps + FirstWord>(rt: &impl Abort, steps: &mut S) -> Result<(), Fail>
-    requires { (S.facts steps.old).stands.role ≡ Outside }
-{
-    let Ok(collection) = shut_gate(steps) else {
-        return Err("nobody is inside")?;
-    };
-    first_word_is(rt, steps, 0x1_0000);
-    collection.reopen(steps);
-    first_word_is(rt, steps, 0);
-    Ok(())
+impl WordsTest for StayIsCounted {
+    fn run<S: Steps + FirstWord, R: Abort>(rt: &R, steps: &mut S) -> Result<(), Fail> {
+        let Ok(stay) = enter(steps) else {
+            return Err("nobody collects")?;
+        };
+        first_word_is(rt, steps, 1);
+        stay.leave(steps);
+        first_word_is(rt, steps, 0);
+        Ok(())
+    }
 }
 
 #[test]
 fn a_stay_is_counted_until_it_ends(rt: HostRuntime) -> Result<(), Fail> {
-    alone(&rt, rt.alloc(), Config::LEAST, plain::Case::IsCounted)
+    alone::<StayIsCounted, _>(&rt, rt.alloc(), Config::LEAST)
+}
+
+/// A collection is a bit of the word, until it ends.
+struct GateIsShut;
+
+impl WordsTest for GateIsShut {
+    fn run<S: Steps + FirstWord, R: Abort>(rt: &R, steps: &mut S) -> Result<(), Fail> {
+        let Ok(collection) = shut_gate(steps) else {
+            return Err("nobody is inside")?;
+        };
+        first_word_is(rt, steps, 0x1_0000);
+        collection.reopen(steps);
+        first_word_is(rt, steps, 0);
+        Ok(())
+    }
 }
 
 #[test]
 fn a_collection_keeps_the_gate_shut_until_it_ends(rt: HostRuntime) -> Result<(), Fail> {
-    alone(&rt, rt.alloc(), Config::LEAST, plain::Case::IsShut)
-}
-
-/// A knock at a shut gate is counted until it is withdrawn, by the next collection too.
-#[test]
-fn a_knock_is_counted_until_it_is_withdrawn(rt: HostRuntime) -> Result<(), Fail> {
-    let case = shared::Case::CountedUntilItWithdraws;
-    in_a_room(&rt, rt.alloc(), TWO, case, NOTHING)
+    alone::<GateIsShut, _>(&rt, rt.alloc(), Config::LEAST)
 }

@@ -7,8 +7,9 @@ ghost use Rattle.jr_steps.specs.Knowing.{HasObject, IsWordNow, MayKnow};
 ghost use Rattle.jr_heap.specs.Heap.{HasKind, IsReady, MayBeNamed};
 ghost use Rattle.jr_heap.specs.Ranges.{place_of, size_of, AreReady};
 
-use crate::plain::{self, alone};
-use crate::shared::{self, in_a_room};
+use crate::plain::{FirstWord, WordsTest, alone};
+use crate::shared::{PairTest, in_a_room};
+use assertions::assert_same;
 use jr_heap::{Numbers, Range, fill, header, publish, read, read_element, reserve, write};
 use jr_model::Summary;
 use jr_steps::Steps;
@@ -112,7 +113,7 @@ pub(crate) fn read_answers<S: Steps>(
     ensures stands { (S.facts steps.new).stands ≡ (S.facts steps.old).stands }
     ensures object { MayKnow S.facts steps.new (HasKind object _kind) }
 {
-    assert!(rt; got(steps, object, _kind, index) == wanted);
+    assert_same!(rt; got(steps, object, _kind, index), wanted);
 }
 
 /// Writing the element at an index of an object of the kind answers what is wanted.
@@ -131,7 +132,7 @@ pub(crate) fn write_answers<S: Steps>(
     ensures stands { (S.facts steps.new).stands ≡ (S.facts steps.old).stands }
     ensures object { MayKnow S.facts steps.new (HasKind object _kind) }
 {
-    assert!(rt; put(steps, object, _kind, index, word) == wanted);
+    assert_same!(rt; put(steps, object, _kind, index, word), wanted);
 }
 
 /// A new plain object.
@@ -166,16 +167,23 @@ fn refuses_past<S: Steps>(
 }
 
 /// The same for each kind of numbers of fewer bits than a word.
-pub(crate) fn each_refuses_past<S: Steps>(rt: &impl Abort, steps: &mut S) -> Result<(), Fail>
-    requires { (S.facts steps.old).stands.role ≡ Outside }
-{
-    let numbers = &mut comes_in(steps)?;
-    refuses_past(rt, steps, numbers, Kind::Boolean, 2)?;
-    refuses_past(rt, steps, numbers, Kind::Byte, 0x100)?;
-    refuses_past(rt, steps, numbers, Kind::Char, 0x1_0000)?;
-    refuses_past(rt, steps, numbers, Kind::Short, 0x1_0000)?;
-    refuses_past(rt, steps, numbers, Kind::Int, 0x1_0000_0000)?;
-    Ok(())
+struct EachKindRefusesPast;
+
+impl WordsTest for EachKindRefusesPast {
+    fn run<S: Steps + FirstWord, R: Abort>(rt: &R, steps: &mut S) -> Result<(), Fail> {
+        let numbers = &mut comes_in(steps)?;
+        refuses_past(rt, steps, numbers, Kind::Boolean, 2)?;
+        refuses_past(rt, steps, numbers, Kind::Byte, 0x100)?;
+        refuses_past(rt, steps, numbers, Kind::Char, 0x1_0000)?;
+        refuses_past(rt, steps, numbers, Kind::Short, 0x1_0000)?;
+        refuses_past(rt, steps, numbers, Kind::Int, 0x1_0000_0000)?;
+        Ok(())
+    }
+}
+
+#[test]
+fn a_word_past_the_kind_is_refused(rt: HostRuntime) -> Result<(), Fail> {
+    alone::<EachKindRefusesPast, _>(&rt, rt.alloc(), WIDE)
 }
 
 /// Makes so many objects without elements. The sum of their numbers.
@@ -280,7 +288,7 @@ fn both_published<S: Steps>(
 
 /// Checks the elements that were read by two headers.
 fn reads(rt: &impl Abort, found: Result<(u64, u64), Fault>, wanted: (u64, u64)) {
-    assert!(rt; found == Ok(wanted));
+    assert_same!(rt; found, Ok(wanted));
 }
 
 /// A range stays filled while another is reserved, and a header serves after another pass published and after other reads of the object.
@@ -296,89 +304,26 @@ fn serve_later<S: Steps>(
     ensures beside { (S.facts other.new).stands ≡ (S.facts other.old).stands }
 {
     let object = made_beside(steps, numbers)?;
-    assert!(rt; read_again(steps, other, numbers, object)? == 7);
+    assert_same!(rt; read_again(steps, other, numbers, object)?, 7);
     reads(rt, both_published(steps, other, numbers, false), (7, 8));
     reads(rt, both_published(steps, other, numbers, true), (7, 8));
     Ok(())
 }
 
 /// The same, in a stay of each.
-pub(crate) fn serve_in_stays<S: Steps>(
-    rt: &impl Abort,
-    first: &mut S,
-    second: &mut S,
-) -> Result<(), Fail>
-    requires first { (S.facts first.old).stands.role ≡ Outside }
-    requires second { (S.facts second.old).stands.role ≡ Outside }
-    ensures { IfOk result (λ _. (S.facts second.new).stands ≡ (S.facts second.old).stands) }
-{
-    let mut numbers = comes_in(first)?;
-    assert!(rt; second.go_in());
-    serve_later(rt, first, second, &mut numbers)?;
-    first.go_out();
-    second.go_out();
-    Ok(())
+struct ServeInStays;
+
+impl PairTest for ServeInStays {
+    fn run<S: Steps, R: Abort>(rt: &R, first: &mut S, second: &mut S) -> Result<(), Fail> {
+        let mut numbers = comes_in(first)?;
+        assert!(rt; second.go_in());
+        serve_later(rt, first, second, &mut numbers)?;
+        first.go_out();
+        second.go_out();
+        Ok(())
+    }
 }
 
-/// Checks that no further word is reserved, since so many are used.
-pub(crate) fn is_full(rt: &impl Abort, answer: Result<Range, Fault>, used: u32) {
-    assert!(rt; answer.err() == Some(Fault::SpaceFull(used)));
-}
-
-/// More words than the room has are refused, and none is reserved. Then one array takes the whole space of the largest room.
-pub(crate) fn one_takes_all<S: Steps>(rt: &impl Abort, steps: &mut S) -> Result<(), Fail>
-    requires { (S.facts steps.old).stands.role ≡ Outside }
-{
-    let numbers = &mut comes_in(steps)?;
-    is_full(rt, reserve(steps, 1_048_577), 0);
-    is_full(rt, reserve(steps, 4_294_967_297), 0);
-    is_full(rt, reserve(steps, u64::MAX), 0);
-    let array = made(steps, numbers, Kind::Long, 1_048_576, u64::MAX)?;
-    read_answers(rt, steps, array, Kind::Long, 0, Ok(u64::MAX));
-    read_answers(rt, steps, array, Kind::Long, 1_048_575, Ok(u64::MAX));
-    read_answers(rt, steps, array, Kind::Long, 1_048_576, Err(Fault::Range));
-    is_full(rt, reserve(steps, 1), 1_048_576);
-    Ok(())
-}
-
-/// Checks that no object is left.
-fn are_given<S: Steps>(rt: &impl Abort, steps: &mut S, numbers: &mut Numbers)
-    requires { (S.facts steps.old).stands.role ≡ Within }
-    ensures { (S.facts steps.new).stands ≡ (S.facts steps.old).stands }
-{
-    assert!(rt; made(steps, numbers, Kind::Int, 0, 0) == Err(Fault::ObjectsFull));
-}
-
-/// Each number is given once, and then none, wherever a look begins.
-pub(crate) fn each_is_given_once<S: Steps>(rt: &impl Abort, steps: &mut S) -> Result<(), Fail>
-    requires { (S.facts steps.old).stands.role ≡ Outside }
-{
-    let mut numbers = comes_in(steps)?;
-    let sum = make_many(steps, &mut numbers, 65_535)?;
-    assert!(rt; sum == 65_535 * 65_536 / 2);
-    are_given(rt, steps, &mut numbers);
-    are_given(rt, steps, &mut Numbers::new());
-    Ok(())
-}
-
-/// A word that is one too large is refused, and an index past the length before it.
-#[test]
-fn a_word_past_the_kind_is_refused(rt: HostRuntime) -> Result<(), Fail> {
-    alone(&rt, rt.alloc(), WIDE, plain::Case::EachRefusesPast)
-}
-
-/// The whole space in one array, and then no word more.
-#[test]
-fn one_array_takes_the_whole_space(rt: HostRuntime) -> Result<(), Fail> {
-    alone(&rt, rt.alloc(), LARGE, plain::Case::OneTakesAll)
-}
-
-#[test]
-fn each_number_is_given_once(rt: HostRuntime) -> Result<(), Fail> {
-    alone(&rt, rt.alloc(), LARGE, plain::Case::EachGivenOnce)
-}
-
-/// A range stays filled while another is reserved, and a header serves after another pass published and after other reads of the object.
 #[test]
 fn ranges_and_headers_serve_later(rt: HostRuntime) -> Result<(), Fail> {
     let left = Summary {
@@ -387,6 +332,60 @@ fn ranges_and_headers_serve_later(rt: HostRuntime) -> Result<(), Fail> {
         live: 8,
         used: 15,
     };
-    let case = shared::Case::ServeInStays;
-    in_a_room(&rt, rt.alloc(), SHARED, case, left)
+    in_a_room::<ServeInStays, _>(&rt, rt.alloc(), SHARED, left)
+}
+
+/// Checks that no further word is reserved, since so many are used.
+pub(crate) fn is_full(rt: &impl Abort, answer: Result<Range, Fault>, used: u32) {
+    assert_same!(rt; answer.err(), Some(Fault::SpaceFull(used)));
+}
+
+/// More words than the room has are refused, and none is reserved. Then one array takes the whole space of the largest room.
+struct OneTakesAll;
+
+impl WordsTest for OneTakesAll {
+    fn run<S: Steps + FirstWord, R: Abort>(rt: &R, steps: &mut S) -> Result<(), Fail> {
+        let numbers = &mut comes_in(steps)?;
+        is_full(rt, reserve(steps, 1_048_577), 0);
+        is_full(rt, reserve(steps, 4_294_967_297), 0);
+        is_full(rt, reserve(steps, u64::MAX), 0);
+        let array = made(steps, numbers, Kind::Long, 1_048_576, u64::MAX)?;
+        read_answers(rt, steps, array, Kind::Long, 0, Ok(u64::MAX));
+        read_answers(rt, steps, array, Kind::Long, 1_048_575, Ok(u64::MAX));
+        read_answers(rt, steps, array, Kind::Long, 1_048_576, Err(Fault::Range));
+        is_full(rt, reserve(steps, 1), 1_048_576);
+        Ok(())
+    }
+}
+
+#[test]
+fn one_array_takes_the_whole_space(rt: HostRuntime) -> Result<(), Fail> {
+    alone::<OneTakesAll, _>(&rt, rt.alloc(), LARGE)
+}
+
+/// Checks that no object is left.
+fn are_given<S: Steps>(rt: &impl Abort, steps: &mut S, numbers: &mut Numbers)
+    requires { (S.facts steps.old).stands.role ≡ Within }
+    ensures { (S.facts steps.new).stands ≡ (S.facts steps.old).stands }
+{
+    assert_same!(rt; made(steps, numbers, Kind::Int, 0, 0), Err(Fault::ObjectsFull));
+}
+
+/// Each number is given once, and then none, wherever a look begins.
+struct EachIsGivenOnce;
+
+impl WordsTest for EachIsGivenOnce {
+    fn run<S: Steps + FirstWord, R: Abort>(rt: &R, steps: &mut S) -> Result<(), Fail> {
+        let mut numbers = comes_in(steps)?;
+        let sum = make_many(steps, &mut numbers, 65_535)?;
+        assert_same!(rt; sum, 65_535 * 65_536 / 2);
+        are_given(rt, steps, &mut numbers);
+        are_given(rt, steps, &mut Numbers::new());
+        Ok(())
+    }
+}
+
+#[test]
+fn each_number_is_given_once(rt: HostRuntime) -> Result<(), Fail> {
+    alone::<EachIsGivenOnce, _>(&rt, rt.alloc(), LARGE)
 }

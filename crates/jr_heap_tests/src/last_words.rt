@@ -5,7 +5,8 @@ ghost use Rattle.jr_steps.specs.Knowing.{MayKnow};
 ghost use Rattle.jr_heap.specs.Heap.{HasKind};
 
 use crate::heap::{comes_in, is_full, made, made_plain, read_answers, write_answers};
-use crate::shared::{self, in_a_room};
+use crate::shared::{PairTest, in_a_room};
+use assertions::assert_same;
 use jr_heap::{Numbers, header, reserve};
 use jr_model::Summary;
 use jr_steps::{Steps, TopLoad};
@@ -35,7 +36,7 @@ fn has_header<S: Steps>(
     ensures stands { (S.facts steps.new).stands ≡ (S.facts steps.old).stands }
     ensures object { MayKnow S.facts steps.new (HasKind object _kind) }
 {
-    assert!(rt; header(steps, object) == wanted);
+    assert_same!(rt; header(steps, object), wanted);
 }
 
 /// Makes an array of three numbers at the first place, and writes and reads there. Then six more words don't fit.
@@ -78,12 +79,12 @@ fn is_overtaken<S: Steps>(rt: &impl Abort, first: &mut S, second: &mut S) -> Res
     ensures second { (S.facts second.new).stands ≡ (S.facts second.old).stands }
 {
     let used = second.see_top(TopLoad::Look);
-    assert!(rt; used == 3);
+    assert_same!(rt; used, 3);
     let _range = reserve(first, 2)?;
     if used >= second.config().words {
         return Err("the room has other sizes")?;
     }
-    assert!(rt; second.claim_top(used, 1) == Err(5));
+    assert_same!(rt; second.claim_top(used, 1), Err(5));
     Ok(())
 }
 
@@ -97,31 +98,26 @@ fn takes_the_last_number<S: Steps>(
     ensures { (S.facts steps.new).stands ≡ (S.facts steps.old).stands }
 {
     made_plain(steps, numbers)?;
-    assert!(rt; made_plain(steps, numbers) == Err(Fault::ObjectsFull));
+    assert_same!(rt; made_plain(steps, numbers), Err(Fault::ObjectsFull));
     Ok(())
 }
 
 /// Thread 0 makes an array, reserves more words than thread 1 knows of, and makes the last object, while both are inside.
-pub(crate) fn share_what_is_left<S: Steps>(
-    rt: &impl Abort,
-    first: &mut S,
-    second: &mut S,
-) -> Result<(), Fail>
-    requires first { (S.facts first.old).stands.role ≡ Outside }
-    requires second { (S.facts second.old).stands.role ≡ Outside }
-    ensures { IfOk result (λ _. (S.facts second.new).stands ≡ (S.facts second.old).stands) }
-{
-    let mut numbers = comes_in(first)?;
-    assert!(rt; second.go_in());
-    makes_an_array(rt, first, &mut numbers)?;
-    is_overtaken(rt, first, second)?;
-    takes_the_last_number(rt, first, &mut numbers)?;
-    first.go_out();
-    second.go_out();
-    Ok(())
+struct ShareWhatIsLeft;
+
+impl PairTest for ShareWhatIsLeft {
+    fn run<S: Steps, R: Abort>(rt: &R, first: &mut S, second: &mut S) -> Result<(), Fail> {
+        let mut numbers = comes_in(first)?;
+        assert!(rt; second.go_in());
+        makes_an_array(rt, first, &mut numbers)?;
+        is_overtaken(rt, first, second)?;
+        takes_the_last_number(rt, first, &mut numbers)?;
+        first.go_out();
+        second.go_out();
+        Ok(())
+    }
 }
 
-/// Of words that two threads want at once one gets them, and the room ends with two objects and the five words that were reserved.
 #[test]
 fn two_threads_share_the_last_words_and_numbers(rt: HostRuntime) -> Result<(), Fail> {
     let left = Summary {
@@ -130,6 +126,5 @@ fn two_threads_share_the_last_words_and_numbers(rt: HostRuntime) -> Result<(), F
         live: 2,
         used: 5,
     };
-    let case = shared::Case::ShareWhatIsLeft;
-    in_a_room(&rt, rt.alloc(), FEW, case, left)
+    in_a_room::<ShareWhatIsLeft, _>(&rt, rt.alloc(), FEW, left)
 }

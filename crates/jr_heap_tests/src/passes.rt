@@ -3,6 +3,7 @@ ghost use Rattle.std.specs.Prelude.{◌≡◌, All, IfOk};
 ghost use Rattle.jr_rule.specs.Passes.{IsAt, IsOpened};
 
 use crate::rooms::{NOTHING, last_of, leaves, stays_open};
+use assertions::assert_same;
 use jr_model::Role;
 use jr_rule::{Pass, PlainSteps, Room, RoomSteps};
 use jr_steps::Steps;
@@ -37,8 +38,8 @@ fn a_room_and_plain_words_have_at_most_64_threads(rt: HostRuntime) {
         threads: 65,
         ..SMALL
     };
-    assert!(rt; Room::<2>::open(rt.alloc(), config).err() == Some(Fault::Size));
-    assert!(rt; PlainSteps::<2>::new(rt.alloc(), config).err() == Some(Fault::Size));
+    assert_same!(&rt; Room::<2>::open(rt.alloc(), config).err(), Some(Fault::Size));
+    assert_same!(&rt; PlainSteps::<2>::new(rt.alloc(), config).err(), Some(Fault::Size));
 }
 
 /// What the holder of a pass does.
@@ -108,7 +109,7 @@ fn a_room_opens_with_one_pass_a_thread(rt: HostRuntime) -> Result<(), Fail> {
     for threads in [1, 2, 64] {
         let config = Config { threads, ..SMALL };
         let (room, passes) = Room::<2>::open(rt.alloc(), config)?;
-        assert!(rt; passes.len() == threads as usize);
+        assert_same!(&rt; passes.len(), threads as usize);
         are_fresh(&room, passes)?;
     }
     Ok(())

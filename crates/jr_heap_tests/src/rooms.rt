@@ -4,6 +4,7 @@ ghost use Rattle.jr_model.specs.declared.event.Role.TheVariants.{Outside};
 ghost use Rattle.jr_rule.specs.Passes.{standing_of, IsOpened};
 ghost use Rattle.jr_rule.specs.Rooms.{IsOfRoom};
 
+use assertions::assert_same;
 use jr_model::Summary;
 use jr_rule::{Left, Pass, Room, RoomSteps};
 use jr_word::Fault;
@@ -47,7 +48,7 @@ pub(crate) fn steps_of_last<'a>(
 pub(crate) fn leaves(rt: &impl Abort, room: Room<2>, pass: Pass, wanted: Summary)
     requires { IsOfRoom room pass }
 {
-    assert!(rt; room.close(pass).ok() == Some(wanted));
+    assert_same!(rt; room.close(pass).ok(), Some(wanted));
 }
 
 /// A room is not closed, since so many threads are not outside: it is handed back, and the pass.
@@ -57,6 +58,6 @@ pub(crate) fn stays_open(rt: &impl Abort, room: Room<2>, pass: Pass, count: u32)
     ensures pass { IsOfRoom room result.1 × ((standing_of result.1).role ≡ (standing_of pass).role) }
 {
     let Left { room, pass, fault } = room.close(pass).err().expect(rt, "a thread is not outside");
-    assert!(rt; fault == Fault::LeftInside(count));
+    assert_same!(rt; fault, Fault::LeftInside(count));
     (room, pass)
 }

@@ -1,5 +1,6 @@
 //! The table of a thread's local references, with places that give three handles each: which place is given next, when one is retired, and what a pop frees.
 
+use assertions::assert_same;
 use jr_frames::Frames;
 use jr_model::FRAMES;
 use jr_word::{Config, HandleParts};
@@ -12,6 +13,8 @@ use std::test::Fail;
 struct Table {
     frames: Frames,
     given: Vec<HandleParts>,
+    /// How many deeds were begun.
+    row: usize,
 }
 
 /// What is done to a table, or asked of it, and what comes of it.
@@ -48,6 +51,7 @@ impl Table {
         Table {
             frames: Frames::new(5, &config, 2),
             given: Vec::new(alloc),
+            row: 0,
         }
     }
 
@@ -61,8 +65,8 @@ impl Table {
 
     fn add(&mut self, rt: &impl Abort, object: u16, index: u16, serial: u32) -> Result<(), Fail> {
         let handle = self.frames.next().ok_or("no place is free")?;
-        assert!(rt; handle.index == index && handle.serial == serial);
-        assert!(rt; !self.given.contains(&handle));
+        assert_same!(rt; (handle.index, handle.serial), (index, serial); at self.row);
+        assert_same!(rt; self.given.contains(&handle), false; at self.row);
         if object == 0 {
             return Err("no object")?;
         }
@@ -101,14 +105,14 @@ impl Table {
 
     /// Checks how many places are free: a handle is to be had where there is one.
     fn has_free(&self, rt: &impl Abort, wanted: u32) {
-        assert!(rt; self.frames.has_room(wanted));
-        assert!(rt; !self.frames.has_room(wanted.saturating_add(1)));
-        assert!(rt; self.frames.next().is_some() == (wanted > 0));
+        assert_same!(rt; self.frames.has_room(wanted), true; at self.row);
+        assert_same!(rt; self.frames.has_room(wanted.saturating_add(1)), false; at self.row);
+        assert_same!(rt; self.frames.next().is_some(), wanted > 0; at self.row);
     }
 
     /// Checks which handle the oldest reference of the newest frame has, if there is one.
     fn has_oldest(&self, rt: &impl Abort, wanted: Option<HandleParts>) {
-        assert!(rt; self.frames.oldest_of_newest() == wanted);
+        assert_same!(rt; self.frames.oldest_of_newest(), wanted; at self.row);
     }
 
     /// Checks that it is the handle of this number.
@@ -121,18 +125,19 @@ impl Table {
     /// Checks what the handle of this number names.
     fn names(&self, rt: &impl Abort, number: usize, object: Option<u16>) -> Result<(), Fail> {
         let handle = self.handle(number)?;
-        assert!(rt; self.frames.object_of(handle) == object);
+        assert_same!(rt; self.frames.object_of(handle), object; at self.row);
         Ok(())
     }
 
     /// Checks how many frames there are.
     fn is_deep(&self, rt: &impl Abort, depth: usize) {
-        assert!(rt; self.frames.depth() == depth);
-        assert!(rt; self.frames.is_base() == (depth == 1));
+        assert_same!(rt; self.frames.depth(), depth; at self.row);
+        assert_same!(rt; self.frames.is_base(), depth == 1; at self.row);
     }
 
     /// Does one deed, and checks what comes of it.
     fn does(&mut self, rt: &impl Abort, deed: Deed) -> Result<(), Fail> {
+        self.row = self.row.saturating_add(1);
         match deed {
             Deed::Add(object, index, serial) => return self.add(rt, object, index, serial),
             Deed::Delete(number) => return self.delete(number),
@@ -143,7 +148,8 @@ impl Table {
             Deed::Empty => self.has_oldest(rt, None),
             Deed::Deep(depth) => self.is_deep(rt, depth),
             Deed::Free(wanted) => self.has_free(rt, wanted),
-            Deed::FreeAfterPop(wanted) => assert!(rt; self.frames.has_room_after_pop() == wanted),
+            Deed::FreeAfterPop(wanted) =>
+                assert_same!(rt; self.frames.has_room_after_pop(), wanted; at self.row),
         }
         Ok(())
     }

@@ -1,22 +1,29 @@
 //! Words, elements, refusals and sizes, with values worked out by hand from the layouts. Those of handles `.ci/run-program` has, by `jrefs word` and `jrefs widen`.
 ghost use Rattle.std.specs.Prelude.{◌≡◌, Some};
 
+use assertions::assert_same;
 use jr_word::{
     Config, Elem, Fault, GateParts, GateState, GateWord, Handle, Header, HeaderParts, Kind,
     LocalParts, LocalWord, SlotParts, SlotWord, TopParts, TopWord,
 };
 use std::alloc::Global;
+use std::fmt::Debug;
 use std::process::Abort;
 use std::test::Fail;
 
 /// Asserts what a word is read as.
-fn reads<P: Copy + PartialEq>(rt: &impl Abort, word: u64, found: Option<P>, wanted: Option<P>) {
-    assert!(rt; found == wanted, "at {word:x}");
+fn reads<P: Copy + Debug + PartialEq>(
+    rt: &impl Abort,
+    word: u64,
+    found: Option<P>,
+    wanted: Option<P>,
+) {
+    assert_same!(rt; found, wanted; at word);
 }
 
 /// Asserts which word is written.
 fn writes(rt: &impl Abort, written: u64, wanted: u64) {
-    assert!(rt; written == wanted);
+    assert_same!(rt; written, wanted);
 }
 
 /// Asserts what a word is read as.
@@ -25,7 +32,7 @@ fn reads_slot(rt: &impl Abort, word: u64, wanted: Option<SlotParts>) {
 }
 
 #[test]
-fn slots(rt: HostRuntime) {
+fn slot_words_have_their_layout(rt: HostRuntime) {
     let global = SlotParts::Global {
         serial: 5,
         object: 3,
@@ -46,7 +53,7 @@ fn slots(rt: HostRuntime) {
 }
 
 #[test]
-fn slots_of_one_bit(rt: HostRuntime) {
+fn each_bit_of_a_slot_word_is_read(rt: HostRuntime) {
     for k in 0..64_u32 {
         let alone = match k {
             0 => Some(SlotParts::Retired { serial: 0 }),
@@ -80,7 +87,7 @@ fn gate(count: u16, state: GateState) -> Option<GateParts> {
 }
 
 #[test]
-fn gates(rt: HostRuntime) {
+fn gate_words_have_their_layout(rt: HostRuntime) {
     let barred = GateParts {
         count: 1,
         state: GateState::Shut,
@@ -117,7 +124,7 @@ fn reads_top(rt: &impl Abort, word: u64, wanted: Option<TopParts>) {
 }
 
 #[test]
-fn tops(rt: HostRuntime) {
+fn top_words_have_their_layout(rt: HostRuntime) {
     let full = TopParts { used: 0xff_ffff };
     writes(&rt, TopWord::pack(full).0, 0xff_ffff);
     reads_top(&rt, 0, Some(TopParts { used: 0 }));
@@ -145,7 +152,7 @@ fn header(kind: Kind, length: u32, place: u32) -> Option<HeaderParts> {
 }
 
 #[test]
-fn headers(rt: HostRuntime) {
+fn headers_have_their_layout(rt: HostRuntime) {
     let ints = HeaderParts {
         kind: Kind::Int,
         length: 4,
@@ -175,7 +182,7 @@ fn headers(rt: HostRuntime) {
 }
 
 #[test]
-fn headers_of_one_bit(rt: HostRuntime) {
+fn each_bit_of_a_header_is_read(rt: HostRuntime) {
     for k in 0..64_u32 {
         let alone = match k {
             0 => header(Kind::Plain, 0, 0),
@@ -201,7 +208,7 @@ fn reads_local(rt: &impl Abort, word: u64, wanted: Option<LocalParts>) {
 }
 
 #[test]
-fn local_places(rt: HostRuntime) {
+fn local_words_have_their_layout(rt: HostRuntime) {
     writes(&rt, LocalWord::pack(LocalParts::Free).0, 0);
     writes(&rt, LocalWord::pack(LocalParts::Object(65_535)).0, 65_535);
     reads_local(&rt, 0, Some(LocalParts::Free));
@@ -225,11 +232,11 @@ fn word_and_back<E: Elem>(value: E) -> (u64, Option<E>)
 /// Asserts the word of an element. That it is read as the element again is proved.
 fn is_written<E: Elem>(rt: &impl Abort, value: E, word: u64) {
     let (written, back) = word_and_back(value);
-    assert!(rt; written == word && back.is_some());
+    assert_same!(rt; (written, back.is_some()), (word, true));
 }
 
 #[test]
-fn elements(rt: HostRuntime) {
+fn elements_are_written_as_their_words(rt: HostRuntime) {
     is_written(&rt, false, 0);
     is_written(&rt, true, 1);
     is_written(&rt, -128_i8, 128);
@@ -247,16 +254,16 @@ fn elements(rt: HostRuntime) {
 }
 
 fn is_kind(rt: &impl Abort, kind: Kind, wanted: Kind) {
-    assert!(rt; kind == wanted);
+    assert_same!(rt; kind, wanted);
 }
 
 /// Asserts that a word is that of no element of this type.
 fn is_none<E: Elem>(rt: &impl Abort, word: u64) {
-    assert!(rt; E::from_word(word).is_none());
+    assert_same!(rt; E::from_word(word).is_none(), true; at word);
 }
 
 #[test]
-fn words_past_the_range(rt: HostRuntime) {
+fn a_word_past_the_range_is_no_element(rt: HostRuntime) {
     for past in [0, 1 << 32, u64::MAX - 0xffff_ffff] {
         is_none::<bool>(&rt, past | 2);
         is_none::<i8>(&rt, past | 0x100);
@@ -274,13 +281,18 @@ fn words_past_the_range(rt: HostRuntime) {
 }
 
 #[test]
-fn answers_as_handles(rt: HostRuntime) {
-    assert!(rt; Handle::or_null(None) == Handle::NULL);
-    assert!(rt; Handle::or_null(Some(Handle(10))) == Handle(10));
-    assert!(rt; Handle(2).is_shared() && Handle(3).is_shared());
-    assert!(rt;
-        !Handle::NULL.is_shared() && !Handle(1).is_shared() && !Handle(2 + (1 << 50)).is_shared()
-    );
+fn an_answer_of_none_is_null(rt: HostRuntime) {
+    assert_same!(&rt; Handle::or_null(None), Handle::NULL);
+    assert_same!(&rt; Handle::or_null(Some(Handle(10))), Handle(10));
+    for (word, shared) in [
+        (0, false),
+        (1, false),
+        (2, true),
+        (3, true),
+        (2 + (1 << 50), false),
+    ] {
+        assert_same!(&rt; Handle(word).is_shared(), shared; at word);
+    }
 }
 
 /// Each refusal, in the order of the numbers, and what a log says of it.
@@ -395,18 +407,18 @@ fn jni_code(number: usize) -> Option<i32> {
 
 /// Asserts a refusal's number, and its answer of JNI.
 fn has_number(rt: &impl Abort, fault: Fault, number: usize) {
-    assert!(rt; usize::from(fault.number()) == number, "{number}");
-    assert!(rt; fault.jni_code() == jni_code(number), "{number}");
+    assert_same!(rt; usize::from(fault.number()), number; at number);
+    assert_same!(rt; fault.jni_code(), jni_code(number); at number);
 }
 
 #[test]
-fn faults(rt: HostRuntime) -> Result<(), Fail> {
+fn each_refusal_tells_its_number_and_its_remedy(rt: HostRuntime) -> Result<(), Fail> {
     for (i, (fault, text)) in REFUSALS.iter().enumerate() {
         let wanted = format!(in rt.alloc(); "E{}", i + 1)?;
-        assert_eq!(rt; shown(rt.alloc(), *fault)?.as_str(), wanted.as_str());
+        assert_same!(&rt; shown(rt.alloc(), *fault)?.as_str(), wanted.as_str(); at i);
         let report = fault.report();
         let said = format!(in rt.alloc(); "{report}")?;
-        assert_eq!(rt; said.as_str(), *text);
+        assert_same!(&rt; said.as_str(), *text; at i);
         has_number(&rt, *fault, i + 1);
     }
     Ok(())
@@ -424,23 +436,23 @@ fn config(sizes: [u32; 5]) -> Config {
 }
 
 #[test]
-fn limits(rt: HostRuntime) {
+fn sizes_within_the_limits_are_allowed_alone(rt: HostRuntime) {
     let least = [1, 1, 1, 0, 16];
     let greatest = [64, 65_536, 65_535, 1_048_576, 4_096];
-    assert!(rt; config(least).in_limits());
-    assert!(rt; config(greatest).in_limits());
+    assert_same!(&rt; config(least).in_limits(), true);
+    assert_same!(&rt; config(greatest).in_limits(), true);
     for i in 0..5 {
         let mut above = greatest;
         above[i] += 1;
-        assert!(rt; !config(above).in_limits());
+        assert_same!(&rt; config(above).in_limits(), false; at i);
         let mut below = least;
         below[i] = below[i].saturating_sub(1);
-        assert!(rt; config(below).in_limits() == (i == 3));
+        assert_same!(&rt; config(below).in_limits(), i == 3; at i);
     }
 }
 
 #[test]
-fn sizes_of_rows(rt: HostRuntime) {
+fn a_row_has_so_many_words(rt: HostRuntime) {
     let rows = [
         ([1, 4, 8, 9, 16], 39),
         ([1, 1, 1, 0, 16], 20),
@@ -449,6 +461,6 @@ fn sizes_of_rows(rt: HostRuntime) {
     for (sizes, words) in rows {
         let config = config(sizes);
         assert!(rt; config.in_limits());
-        assert!(rt; config.row_words() == words);
+        assert_same!(&rt; config.row_words(), words; at sizes);
     }
 }

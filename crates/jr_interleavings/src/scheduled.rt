@@ -6,7 +6,9 @@ use jr_steps::{GateLoad, Role, SlotLoad, Steps, TopLoad};
 use jr_word::{Config, Elem, GateParts, HandleParts, HeaderParts, LocalParts, RefKind, SlotParts};
 use std::sync::Wait;
 
-/// The steps of a thread. Before each step it waits for its turn, but for looks of a collection: between its shut of the gate and its reopening nobody else is inside, and who knocks looks at the gate alone and changes it alone, so that such a look commutes with each step that another thread can take then.
+/// The steps of a thread. Before each step it waits for its turn, but for looks of a collection:
+/// between its shut of the gate and its reopening nobody else is inside, and who knocks looks at the gate alone and changes it alone,
+/// so that such a look commutes with each step that another thread can take then.
 #[derive(Drop)]
 pub(crate) struct Scheduled<'r, 'a, R: Wait, S: Steps> {
     pub(crate) steps: S,

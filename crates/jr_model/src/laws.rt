@@ -73,7 +73,8 @@ pub fn stays_exclude_collections()
     ensures collection { (c : Config) (last : ℕ) → OthersWait c last }
 {}
 
-/// From the entry of a stay that goes on from call to call, or of a critical region, to its exit, no step of a collection comes, of whatever thread; and all between is one stay of the thread, with its acts and no others.
+/// From the entry of a stay that goes on from call to call, or of a critical region, to its exit, no step of a collection comes, of whatever thread;
+/// and all between is one stay of the thread, with its acts and no others.
 pub fn open_stays_exclude_collections()
     ensures goes { GoesOnWithItsActs }
     ensures stands { NoCollectionInOpenStay }
@@ -112,7 +113,8 @@ pub fn local_handles_are_given_once()
     ensures { (last thread : ℕ) → GivenOnce last thread }
 {}
 
-/// A local handle that was deleted, or popped or freed with its frame, never stands again: whatever the thread does with its frames, and wherever its frames came from since, as long as they agree with what happened.
+/// A local handle that was deleted, or popped or freed with its frame, never stands again:
+/// whatever the thread does with its frames, and wherever its frames came from since, as long as they agree with what happened.
 pub fn no_dropped_local_handle_returns()
     ensures gone { (last thread : ℕ) → GoneStaysGone last thread }
     ensures ever { EmptiedStaysGone }
@@ -137,13 +139,15 @@ pub fn created_references_are_found()
     ensures { (c : Config) (last : ℕ) → CreatedIsFound c last }
 {}
 
-/// A reference that stands after a beginning of a history stands after the whole of it, where nothing has deleted it since: a global one with its object, a weak one with it or cleared, and one that was cleared then is cleared still. So what stood where a note was made stands where it is learned.
+/// A reference that stands after a beginning of a history stands after the whole of it, where nothing has deleted it since:
+/// a global one with its object, a weak one with it or cleared, and one that was cleared then is cleared still. So what stood where a note was made stands where it is learned.
 pub fn references_stand_until_deleted()
     ensures object { (c : Config) (last : ℕ) → StandsUntilDeleted c last }
     ensures cleared { (c : Config) (last : ℕ) → ClearedUntilDeleted c last }
 {}
 
-/// A collection that leaves nothing out clears and drops exactly what is to be, each once. What is reached keeps its kind and elements, no other object is present any more, and so many words are used as the present objects have.
+/// A collection that leaves nothing out clears and drops exactly what is to be, each once.
+/// What is reached keeps its kind and elements, no other object is present any more, and so many words are used as the present objects have.
 pub fn collections_are_exact()
     ensures { (c : Config) (last : ℕ) → CollectionIsExact c last }
 {}
@@ -160,7 +164,9 @@ pub fn refusals_change_nothing()
     ensures acts { HarmlessChangesNothing }
 {}
 
-/// What a refusal of any call says of the shared room was so at a moment of that call: E10, E13 and E14 at the very act that they tell of, E11 at one moment, E12 and E23 at two, and E8 for each index at a moment of its own, behind a probe of it. A new reference is E8 for what was so within its own stay alone, in which it probed each index.
+/// What a refusal of any call says of the shared room was so at a moment of that call:
+/// E10, E13 and E14 at the very act that they tell of, E11 at one moment, E12 and E23 at two, and E8 for each index at a moment of its own, behind a probe of it.
+/// A new reference is E8 for what was so within its own stay alone, in which it probed each index.
 pub fn refusals_are_true()
     ensures calls { (c : Config) (last thread : ℕ) (s : State) → CallsRefuseTruly c last thread s }
     ensures parts { (c : Config) (last thread : ℕ) (s : State) → PartsRefuseTruly c last thread s }

@@ -1,2 +1,3 @@
+mod Collected
 mod Owners
 mod Pools

@@ -23,8 +23,8 @@ use Rattle.jr_env.specs.Envs.{Does}
 use Rattle.jr_env.specs.Tries.{made_again}
 use Rattle.jr_env.proofs.EnvCalls.{outside_or}
 use Rattle.jr_env.proofs.MadeAgain.{tries_last}
-use Rattle.jr_owned.specs.Owners.{IsEnvOver, IsLeftByOwner}
-use Rattle.jr_owned.specs.Pools.{FreesLocals, IsIdle, IsLeftAt}
+use Rattle.jr_owned.specs.Owners.{IsEnvOver, IsLeftByOwner, IsLeftCollecting}
+use Rattle.jr_owned.specs.Pools.{FreesLocals, IsIdle, IsLeftAt, IsLeftCollectingAt}
 
 freed_frames : (old new : Frames) (acts : List Act) → entered freeing old acts (Ok tt) new → new.frames ≡ [] ∷ []
 freed_frames old new acts d = ⊎_elim
@@ -93,4 +93,13 @@ left_at site owner r l at d = record {
       ∙ (ap (λ t. Some t) (sym d.of_room.row) ∙ (ap (λ (s : Standing). s.room) d.took.stands_is ∙ at));
   owner = owner;
   left = subst (λ (z : Room 4294967295). IsLeftByOwner z owner l) (sym d.same) d;
+}
+
+-- and where he was to collect first
+pub left_collecting_at : (site : Option TableId) (owner : Holder) (fits : ℕ) (r : Room 4294967295) (l : Left 4294967295)
+    → Some r.row.table.shared.table_id ≡ site → IsLeftCollecting fits r owner l → IsLeftCollectingAt site fits l
+left_collecting_at site owner fits r l at d = record {
+  site_is = ap (λ (z : Room 4294967295). Some z.row.table.shared.table_id) d.same ∙ at;
+  owner = owner;
+  left = subst (λ (z : Room 4294967295). IsLeftCollecting fits z owner l) (sym d.same) d;
 }

@@ -1,5 +1,5 @@
 -- Steps of a thread that owns its room together with others.
-use Rattle.std.specs.Prelude.{◌≡◌, ◌≤◌, ℕ, true, List, [], ◌∷◌, map}
+use Rattle.std.specs.Prelude.{◌≡◌, ◌⊎◌, ◌≤◌, ℕ, true, List, [], ◌∷◌, map}
 use Rattle.std.specs.Arc.{arc_value}
 use Rattle.std.specs.List.{All, AllZip}
 use Rattle.jr_word.specs.declared.config.Config.{Config}
@@ -10,13 +10,14 @@ use Rattle.jr_model.specs.State.{not_outside}
 use Rattle.jr_model.specs.Frames.{fresh_frames}
 use Rattle.jr_steps.specs.declared.steps.Steps.{Ghosts as StepsGhosts}
 use Rattle.jr_steps.specs.Holdings.{empty}
-use Rattle.jr_steps.specs.Knowing.{anything, keeps, state_of, Spent, Took}
+use Rattle.jr_steps.specs.Knowing.{anything, keeps, state_of, view, Spent, Took}
 use Rattle.jr_rule.specs.declared.cells.Cells.{Ghosts}
 use Rattle.jr_rule.specs.declared.closing.Left.{Left}
 use Rattle.jr_rule.specs.declared.over.StepsOver.{StepsOver}
 use Rattle.jr_rule.specs.declared.room.Room.{Room}
 use Rattle.jr_rule.specs.Passes.{Holder, facts_of, holder_of, known_of, numbers_below, IsAt}
 use Rattle.jr_rule.specs.Rule.{known, stepping_pass}
+use Rattle.jr_threads.specs.Closing.{HasSweptAll, IsNotCollected}
 use Rattle.jr_env.specs.declared.env.Env.{Env}
 use Rattle.jr_env.specs.Envs.{IsOutside}
 use Rattle.jr_rule.specs.declared.owned_cells.OwnedCells.{OwnedCells}
@@ -74,3 +75,12 @@ pub record IsLeftByOwner (r : Room 4294967295) (h : Holder) (l : Left 4294967295
   pub same : l.room ≡ r
   pub of_room : IsAt r.row l.pass
   pub took : Took facts_of h (holder_of l.pass) (Meet ∷ []) anything keeps
+
+-- A ROOM WAS NOT CLOSED by its last owner, who was to collect first with a marker for so many objects:
+-- the room is as it was. He did not collect, or he did, and found threads inside then
+pub record IsLeftCollecting (fits : ℕ) (r : Room 4294967295) (h : Holder) (l : Left 4294967295) : Type 0 where
+  pub same : l.room ≡ r
+  pub of_room : IsAt r.row l.pass
+  pub why : IsNotCollected fits r.row.config.objects h (holder_of l.pass) l.fault
+      ⊎ ((swept : Holder) × HasSweptAll (view (stepping_pass h.seat.me)) (view (stepping_pass swept.seat.me))
+      × IsLeftByOwner r swept l)

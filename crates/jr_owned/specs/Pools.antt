@@ -1,5 +1,5 @@
 -- A pool of envs, for threads that come and go.
-use Rattle.std.specs.Prelude.{◌≡◌, Option, Some, [], ◌∷◌, Ok}
+use Rattle.std.specs.Prelude.{◌≡◌, ℕ, Option, Some, [], ◌∷◌, Ok}
 use Rattle.atomic_table.specs.Seated.{TableId}
 use Rattle.jr_model.specs.declared.summary.Summary.{Summary}
 use Rattle.jr_steps.specs.declared.steps.Steps.{Ghosts}
@@ -11,7 +11,8 @@ use Rattle.jr_env.specs.declared.patience.Patience.{Patience}
 use Rattle.jr_env.specs.Deeds.{free_locals}
 use Rattle.jr_env.specs.Envs.{Does, IsOutside}
 use Rattle.jr_env.specs.Tries.{made_again}
-use Rattle.jr_owned.specs.Owners.{IsLeftByOwner}
+use Rattle.jr_threads.specs.Closing.{ClosesCollected}
+use Rattle.jr_owned.specs.Owners.{IsLeftByOwner, IsLeftCollecting}
 
 -- AN ENV IS IDLE: its thread stands outside, and has no local reference, in one base frame
 pub record IsIdle {S : Type 0} {G : Ghosts S} (env : Env S G) : Type 0 where
@@ -35,3 +36,15 @@ pub record IsLeftAt (site : Option TableId) (l : Left 4294967295) : Type 0 where
   pub site_is : Some l.room.row.table.shared.table_id ≡ site
   pub owner : Holder
   pub left : IsLeftByOwner l.room owner l
+
+-- THE SITE'S ROOM IS CLOSED, by an owner of it who had collected
+pub record ClosesCollectedAt (site : Option TableId) (s : Summary) : Type 0 where
+  pub owner : Holder
+  pub site_is : Some owner.seat.table_id ≡ site
+  pub closes : ClosesCollected (stepping_pass owner.seat.me) s
+
+-- THE SITE'S ROOM WAS NOT CLOSED by its last owner, who was to collect first, with a marker for so many objects
+pub record IsLeftCollectingAt (site : Option TableId) (fits : ℕ) (l : Left 4294967295) : Type 0 where
+  pub site_is : Some l.room.row.table.shared.table_id ≡ site
+  pub owner : Holder
+  pub left : IsLeftCollecting fits l.room owner l

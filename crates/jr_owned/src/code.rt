@@ -45,7 +45,8 @@ pub trait OwnedCode: Drop {
 
     ghost tells: { Self → Option TableId → ℕ → Self.Answer → Type 0 } = { λ code room thread answer. Unit {0} };
 
-    /// Runs in the thread of this number, from 0 upward, with its env and its end of the queue. The env stands outside and has no local reference. All threads of the room share the queue, and the type `Q` stands for their room. So a note of the queue is one of this room, and `learn` has no condition.
+    /// Runs in the thread of this number, from 0 upward, with its env and its end of the queue. The env stands outside and has no local reference.
+    /// All threads of the room share the queue, and the type `Q` stands for their room. So a note of the queue is one of this room, and `learn` has no condition.
     fn run<Q: Site>(
         &self,
         thread: u8,

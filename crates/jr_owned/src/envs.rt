@@ -39,7 +39,8 @@ fn over_each<S: Steps + Drop>(alloc: Global, owners: Vec<S>) -> Result<Vec<Env<S
     Ok(envs)
 }
 
-/// Opens a room of these sizes, which its threads own together, and hands out the env of each: at each place that of the thread of that number, which stands outside, has one base frame, and has seen nothing yet. The room is freed with the last of them.
+/// Opens a room of these sizes, which its threads own together, and hands out the env of each:
+/// at each place that of the thread of that number, which stands outside, has one base frame, and has seen nothing yet. The room is freed with the last of them.
 ///
 /// # Errors
 ///

@@ -2,6 +2,7 @@
 #![tactic(auto)]
 
 mod code;
+mod collecting;
 mod envs;
 mod owned;
 mod pool;
@@ -9,6 +10,7 @@ mod pool_room;
 mod site;
 
 pub use code::{OwnedCode, OwnedThreads, RunsCode, spawn_owned};
+pub use collecting::close_collected;
 pub use envs::{OwnedEnv, open_envs};
 pub use owned::{
     OwnedCells, OwnedSteps, close_owned, end_owner, last_owner, open_owned, owned_steps,

@@ -63,7 +63,8 @@ fn hand_out(
     Ok(owners)
 }
 
-/// Opens a room of these sizes, which its threads own together, and hands out the steps of each: at each place those of the thread of that number, which stands outside, is fresh, and has seen nothing yet. The room is freed with the last of them.
+/// Opens a room of these sizes, which its threads own together, and hands out the steps of each:
+/// at each place those of the thread of that number, which stands outside, is fresh, and has seen nothing yet. The room is freed with the last of them.
 ///
 /// # Errors
 ///
@@ -124,7 +125,9 @@ pub fn last_owner(steps: OwnedSteps) -> Option<(Room<LAST>, Pass)>
     Some((room?, pass))
 }
 
-/// Ends the steps of a thread, and closes the room where nobody else owns it any more. It tells what stands there then: what stands after a legal history that begins with all that the thread has seen, and has no more of its events. Where others own the room still, the answer is `None`, and the thread's pass is gone.
+/// Ends the steps of a thread, and closes the room where nobody else owns it any more. It tells what stands there then:
+/// what stands after a legal history that begins with all that the thread has seen, and has no more of its events.
+/// Where others own the room still, the answer is `None`, and the thread's pass is gone.
 ///
 /// # Errors
 ///

@@ -3,10 +3,12 @@ ghost use Rattle.std.specs.Prelude.{◌≡◌, All, Some, length, Err, IfSome, I
 ghost use Rattle.std.specs.Arc.{arc_value};
 ghost use Rattle.jr_word.specs.declared.fault.Fault.TheVariants.{Memory};
 ghost use Rattle.jr_rule.specs.Passes.{IsOpened};
-ghost use Rattle.jr_owned.specs.Pools.{ClosesAt, IsIdle, IsLeftAt};
+ghost use Rattle.jr_owned.specs.Pools.{ClosesAt, ClosesCollectedAt, IsIdle, IsLeftAt, IsLeftCollectingAt};
+ghost use Rattle.jr_weak.specs.Markers.{room_of};
 ghost use Rattle.jr_owned.specs.PoolRooms.{IsRoomOfSite};
 
 use crate::LAST;
+use crate::collecting::close_collected;
 use crate::envs::env_over;
 use crate::owned::{close_owned, owned_steps};
 use crate::pool_room::PoolRoom;
@@ -16,6 +18,7 @@ use jr_env::{Env, Patience};
 use jr_model::Summary;
 use jr_rule::{Left, Pass, Room, Site};
 use jr_steps::Steps;
+use jr_weak::Marker;
 use jr_word::Fault;
 use std::alloc::{AllocError, Global};
 use std::sync::{Arc, Mutex, MutexGuard};
@@ -109,8 +112,23 @@ fn end<Q: Site>(idle: Idle<OwnedStepsOf<Q>>) -> Result<Option<Summary>, Left<LAS
     close_owned(steps)
 }
 
+/// Ends an env that no thread holds, and collects and closes the site's room where nobody else owns it, as `close_collected`.
+fn end_collected<Q: Site>(
+    idle: Idle<OwnedStepsOf<Q>>,
+    marker: &mut Marker,
+) -> Result<Option<Summary>, Left<LAST>>
+    ensures marker { room_of marker.new ≡ room_of marker.old }
+    ensures closed { IfOk result (λ o. IfSome o (ClosesCollectedAt Q.room)) }
+    ensures left { IfErr result (IsLeftCollectingAt Q.room (room_of marker.old)) }
+{
+    let owner = Box::into_inner(idle.env);
+    let steps = of_any_site(owner.into_pass());
+    close_collected(steps, marker)
+}
+
 impl<S: Steps + Drop> PoolOver<S> {
-    /// An env that no other thread holds, until it is detached. Its thread stands outside, and has no local reference, in one base frame. `None` where each env was attached, or taken out of the pool, when it was looked for. (JNI Specification, chapter 5, "AttachCurrentThread")
+    /// An env that no other thread holds, until it is detached. Its thread stands outside, and has no local reference, in one base frame.
+    /// `None` where each env was attached, or taken out of the pool, when it was looked for. (JNI Specification, chapter 5, "AttachCurrentThread")
     ///
     /// # Operations
     ///
@@ -131,7 +149,8 @@ impl<S: Steps + Drop> PoolOver<S> {
         None
     }
 
-    /// An env as `attach` hands out, and again while others hold each, but no more often than there is patience for. The last answer is the answer. Between two tries it does nothing but yield, where the patience does.
+    /// An env as `attach` hands out, and again while others hold each, but no more often than there is patience for. The last answer is the answer.
+    /// Between two tries it does nothing but yield, where the patience does.
     ///
     /// # Operations
     ///
@@ -169,7 +188,8 @@ impl<Q: Site> PoolOver<OwnedStepsOf<Q>> {
         Ok(PoolOver { places })
     }
 
-    /// Ends all envs, and closes the site's room. It tells what stands there, after a legal history that keeps the laws. By its type no thread is attached any more. `None` where an env was taken out of the pool, whose holder owns the room still: then all others are gone.
+    /// Ends all envs, and closes the site's room. It tells what stands there, after a legal history that keeps the laws. By its type no thread is attached any more.
+    /// `None` where an env was taken out of the pool, whose holder owns the room still: then all others are gone.
     ///
     /// # Errors
     ///
@@ -189,6 +209,35 @@ impl<Q: Site> PoolOver<OwnedStepsOf<Q>> {
                 match end(idle) {
                     Ok(None) => {}
                     ended => return ended,
+                }
+            }
+        }
+        Ok(None)
+    }
+
+    /// Ends all envs, and collects and closes the site's room. So what it tells is reached, as `close_collected` says it. By its type no thread is attached any more.
+    /// `None` where an env was taken out of the pool, whose holder owns the room still: then all others are gone.
+    ///
+    /// # Errors
+    ///
+    /// E17 where the marker was made for another number of objects; E14 with how many threads were inside, knocking, announcing or collecting at the step that was to shut the gate, at least 1;
+    /// E22 as `close` has it, with how many were there behind the collection.
+    ///
+    /// The room is handed back as it was but for the collection, and the pass that looked.
+    ///
+    /// # Operations
+    ///
+    /// Those of `close_collected`.
+    pub fn close_collected(self, marker: &mut Marker) -> Result<Option<Summary>, Left<LAST>>
+        ensures marker { room_of marker.new ≡ room_of marker.old }
+        ensures closed { IfOk result (λ o. IfSome o (ClosesCollectedAt Q.room)) }
+        ensures left { IfErr result (IsLeftCollectingAt Q.room (room_of marker.old)) }
+    {
+        for place in self.places {
+            if let Some(idle) = place.into_inner() {
+                match end_collected(idle, marker) {
+                    Ok(None) => {}
+                    told => return told,
                 }
             }
         }

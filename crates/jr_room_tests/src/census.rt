@@ -1,9 +1,10 @@
 //! A census and a dump of a room: what they tell, and that they leave all as it is.
 
-use crate::shared::{Case, in_a_room};
+use crate::shared::{RoomTest, in_a_room};
+use assertions::assert_same;
 use jr_census::Census;
 use jr_env::{Env, NativeInterface};
-use jr_fixtures::{collected, is_refused, made};
+use jr_fixtures::{collected, made, refusal};
 use jr_steps::Steps;
 use jr_weak::Marker;
 use jr_word::{Fault, HeaderParts, LocalParts, SlotParts};
@@ -73,27 +74,34 @@ fn is_counted<S: Steps>(
     } else {
         env.census(marker)?
     };
-    assert!(rt; numbers(&census) == wanted);
+    assert_same!(rt; numbers(&census), wanted; at ("is_announced", is_announced));
     Ok(())
 }
 
 /// A census by thread 1, which has made all that stands, another by the same marker, and one that is announced.
-pub(crate) fn tells_what_stands<S: Steps>(
-    rt: &impl Abort,
-    alloc: Global,
-    env: &mut Env<S>,
-) -> Result<(), Fail> {
-    fill(alloc, env)?;
-    let mut marker = Marker::new(alloc, env.held.steps.config())?;
-    let wanted = [1, 1, 1, 0, 0, 2, 3, 8, 1, 1, 3, 0, 8, 0, 5, 3];
-    is_counted(rt, env, &mut marker, false, wanted)?;
-    is_counted(rt, env, &mut marker, false, wanted)?;
-    is_counted(rt, env, &mut marker, true, wanted)
+struct TellsWhatStands;
+
+impl RoomTest for TellsWhatStands {
+    fn run<S: Steps + Drop, R: Abort>(
+        rt: &R,
+        alloc: Global,
+        _first: &mut S,
+        _second: S,
+        env: &mut Env<S>,
+        _other: &mut Env<S>,
+    ) -> Result<(), Fail> {
+        fill(alloc, env)?;
+        let mut marker = Marker::new(alloc, env.held.steps.config())?;
+        let wanted = [1, 1, 1, 0, 0, 2, 3, 8, 1, 1, 3, 0, 8, 0, 5, 3];
+        is_counted(rt, env, &mut marker, false, wanted)?;
+        is_counted(rt, env, &mut marker, false, wanted)?;
+        is_counted(rt, env, &mut marker, true, wanted)
+    }
 }
 
 #[test]
 fn a_census_tells_what_stands(rt: HostRuntime) -> Result<(), Fail> {
-    in_a_room(&rt, rt.alloc(), Case::Census)
+    in_a_room::<TellsWhatStands, _>(&rt, rt.alloc())
 }
 
 /// Makes an array, and plain objects up to the last number, behind which an array is refused whose words are reserved already.
@@ -103,7 +111,7 @@ fn lose_words<S: Steps>(rt: &impl Abort, env: &mut Env<S>) -> Result<(), Fail> {
         env.new_plain()?;
     }
     let refused = env.new_array::<i32>(2);
-    assert!(rt; is_refused(refused, Some(Fault::ObjectsFull)));
+    assert_same!(rt; refusal(refused), Some(Fault::ObjectsFull));
     Ok(())
 }
 
@@ -116,28 +124,35 @@ fn has_words<S: Steps>(
 ) -> Result<u32, Fail> {
     let words = env.census(marker)?.words;
     let found = [words.used, words.lost, words.reached, words.freed];
-    assert!(rt; found == wanted);
+    assert_same!(rt; found, wanted);
     Ok(words.reached)
 }
 
 /// A census tells words that no object has, which the collection behind it frees.
-pub(crate) fn tells_lost_words<S: Steps>(
-    rt: &impl Abort,
-    alloc: Global,
-    env: &mut Env<S>,
-) -> Result<(), Fail> {
-    lose_words(rt, env)?;
-    let mut marker = Marker::new(alloc, env.held.steps.config())?;
-    let reached = has_words(rt, env, &mut marker, [5, 2, 3, 2])?;
-    let used = env.collect(&mut marker)?.used;
-    assert!(rt; used == reached);
-    has_words(rt, env, &mut marker, [3, 0, 3, 0])?;
-    Ok(())
+struct TellsLostWords;
+
+impl RoomTest for TellsLostWords {
+    fn run<S: Steps + Drop, R: Abort>(
+        rt: &R,
+        alloc: Global,
+        _first: &mut S,
+        _second: S,
+        env: &mut Env<S>,
+        _other: &mut Env<S>,
+    ) -> Result<(), Fail> {
+        lose_words(rt, env)?;
+        let mut marker = Marker::new(alloc, env.held.steps.config())?;
+        let reached = has_words(rt, env, &mut marker, [5, 2, 3, 2])?;
+        let used = env.collect(&mut marker)?.used;
+        assert_same!(rt; used, reached);
+        has_words(rt, env, &mut marker, [3, 0, 3, 0])?;
+        Ok(())
+    }
 }
 
 #[test]
 fn a_census_tells_words_of_no_object(rt: HostRuntime) -> Result<(), Fail> {
-    in_a_room(&rt, rt.alloc(), Case::LostWords)
+    in_a_room::<TellsLostWords, _>(&rt, rt.alloc())
 }
 
 /// Of two slots the first has a cleared weak reference, and the second a global one.
@@ -156,7 +171,7 @@ fn has_three(rt: &impl Abort, headers: &[Option<HeaderParts>; 4]) {
             count = count.saturating_add(1);
         }
     }
-    assert!(rt; count == 3);
+    assert_same!(rt; count, 3);
 }
 
 /// Of five threads with 16 local places each, thread 1 has two references, and no other thread has one.
@@ -171,8 +186,8 @@ fn have_locals(rt: &impl Abort, locals: &[LocalParts; 80]) {
             }
         }
     }
-    assert!(rt; own == 2);
-    assert!(rt; all == 2);
+    assert_same!(rt; own, 2);
+    assert_same!(rt; all, 2);
 }
 
 /// Checks a dump, announced or not, of a room of four slots, four objects and eight words, for five threads with 16 local places each.
@@ -200,17 +215,24 @@ fn is_noted<S: Steps>(rt: &impl Abort, env: &mut Env<S>, is_announced: bool) -> 
 }
 
 /// A dump of what thread 1 has made, and another that is announced.
-pub(crate) fn has_what_stands<S: Steps>(
-    rt: &impl Abort,
-    alloc: Global,
-    env: &mut Env<S>,
-) -> Result<(), Fail> {
-    fill(alloc, env)?;
-    is_noted(rt, env, false)?;
-    is_noted(rt, env, true)
+struct HasWhatStands;
+
+impl RoomTest for HasWhatStands {
+    fn run<S: Steps + Drop, R: Abort>(
+        rt: &R,
+        alloc: Global,
+        _first: &mut S,
+        _second: S,
+        env: &mut Env<S>,
+        _other: &mut Env<S>,
+    ) -> Result<(), Fail> {
+        fill(alloc, env)?;
+        is_noted(rt, env, false)?;
+        is_noted(rt, env, true)
+    }
 }
 
 #[test]
 fn a_dump_has_each_reference_and_object(rt: HostRuntime) -> Result<(), Fail> {
-    in_a_room(&rt, rt.alloc(), Case::Dump)
+    in_a_room::<HasWhatStands, _>(&rt, rt.alloc())
 }

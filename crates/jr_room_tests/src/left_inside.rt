@@ -2,9 +2,10 @@
 ghost use Rattle.std.specs.Prelude.{◌≡◌};
 ghost use Rattle.jr_model.specs.declared.event.Role.TheVariants.{Outside};
 
-use crate::shared::{Case, in_a_room};
+use crate::shared::{RoomTest, in_a_room_for_good};
+use assertions::assert_same;
 use jr_env::{Env, Patience};
-use jr_fixtures::{has_type, is_refused};
+use jr_fixtures::{has_type, refusal};
 use jr_gate::shut_gate;
 use jr_steps::Steps;
 use jr_weak::Marker;
@@ -32,31 +33,33 @@ fn is_kept_out<S: Steps>(
 {
     match shut_gate(other) {
         Ok(shut) => shut.reopen(other),
-        Err(fault) => assert!(rt; fault == Fault::Busy(1)),
+        Err(fault) => assert_same!(rt; fault, Fault::Busy(1)),
     }
     let mut marker = Marker::new(alloc, env.held.steps.config())?;
-    assert!(rt; is_refused(env.collect(&mut marker), Some(Fault::Busy(1))));
+    assert_same!(rt; refusal(env.collect(&mut marker)), Some(Fault::Busy(1)));
     let refused = env.collect_in_turn(&mut marker, 2, Patience::of(3));
-    assert!(rt; is_refused(refused, Some(Fault::Busy(1))));
+    assert_same!(rt; refusal(refused), Some(Fault::Busy(1)));
     has_type(env, Handle::NULL, 0)
 }
 
 /// A thread whose steps are dropped while it is inside keeps the collections of others out for good.
-pub(crate) fn keeps_out_for_good<S: Steps + Drop>(
-    rt: &impl Abort,
-    alloc: Global,
-    dropped: S,
-    other: &mut S,
-    env: &mut Env<S>,
-) -> Result<(), Fail>
-    requires dropped { (S.facts dropped).stands.role ≡ Outside }
-    requires other { (S.facts other.old).stands.role ≡ Outside }
-{
-    drop_inside(rt, dropped);
-    is_kept_out(rt, alloc, other, env)
+struct KeepsOutForGood;
+
+impl RoomTest for KeepsOutForGood {
+    fn run<S: Steps + Drop, R: Abort>(
+        rt: &R,
+        alloc: Global,
+        first: &mut S,
+        second: S,
+        env: &mut Env<S>,
+        _other: &mut Env<S>,
+    ) -> Result<(), Fail> {
+        drop_inside(rt, second);
+        is_kept_out(rt, alloc, first, env)
+    }
 }
 
 #[test]
 fn a_pass_dropped_inside_bars_all_collections(rt: HostRuntime) -> Result<(), Fail> {
-    in_a_room(&rt, rt.alloc(), Case::DroppedInside)
+    in_a_room_for_good::<KeepsOutForGood, _>(&rt, rt.alloc())
 }

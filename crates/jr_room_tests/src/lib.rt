@@ -8,6 +8,8 @@ mod collections;
 #[cfg(test)]
 mod left_inside;
 #[cfg(test)]
+mod listed;
+#[cfg(test)]
 mod plain;
 #[cfg(test)]
 mod shared;

@@ -1,8 +1,6 @@
-//! What is tried of an env over plain words, in one function that makes the env: one that a test makes itself is dear to prove.
+//! Tests of an env over plain words, which one function makes: an env that a test makes itself is dear to prove.
 
-use crate::collections::chains::{reaches_a_chain, reaches_a_cycle};
-use crate::collections::rows::{fills, fills_and_collects};
-use crate::stays::goes_on;
+use assertions::assert_same;
 use jr_env::Env;
 use jr_fixtures::{LAST, plain_env};
 use jr_rule::PlainSteps;
@@ -12,69 +10,41 @@ use std::alloc::Global;
 use std::process::Abort;
 use std::test::Fail;
 
-/// What is tried.
-#[derive(Clone, Copy)]
-pub(crate) enum Case {
-    /// A chain of arrays.
-    Chain,
-    /// A cycle of arrays.
-    Cycle,
-    /// Two arrays, of which one is reached.
-    Filled,
-    /// The same, and a collection.
-    Collected,
-    /// Each call in a stay.
-    Stays,
+/// A test of an env in which nothing stands.
+pub(crate) trait EnvTest {
+    /// Runs it.
+    fn run<S: Steps, R: Abort>(rt: &R, alloc: Global, env: &mut Env<S>) -> Result<(), Fail>;
 }
 
-/// Tries it in an env in which nothing stands.
-fn try_case<S: Steps>(
-    rt: &impl Abort,
-    alloc: Global,
-    env: &mut Env<S>,
-    case: Case,
-) -> Result<(), Fail> {
-    match case {
-        Case::Chain => reaches_a_chain(alloc, env),
-        Case::Cycle => reaches_a_cycle(alloc, env),
-        Case::Filled => fills(env),
-        Case::Collected => fills_and_collects(alloc, env),
-        Case::Stays => goes_on(rt, alloc, env),
-    }
-}
-
-/// Tries it in a room of plain words, which is made for it. The env then.
-fn tried(
-    rt: &impl Abort,
+/// Runs a test over plain words, which are made for it. The env then.
+fn tried<T: EnvTest, R: Abort>(
+    rt: &R,
     alloc: Global,
     config: Config,
-    case: Case,
 ) -> Result<Env<PlainSteps<LAST>>, Fail> {
     let mut env = plain_env(alloc, config)?;
-    try_case(rt, alloc, &mut env, case)?;
+    T::run(rt, alloc, &mut env)?;
     Ok(env)
 }
 
-/// Tries it in a room of plain words.
-pub(crate) fn try_plain(
-    rt: &impl Abort,
+/// Runs a test over plain words.
+pub(crate) fn alone<T: EnvTest, R: Abort>(
+    rt: &R,
     alloc: Global,
     config: Config,
-    case: Case,
 ) -> Result<(), Fail> {
-    tried(rt, alloc, config, case)?;
+    tried::<T, _>(rt, alloc, config)?;
     Ok(())
 }
 
 /// The same, and checks the words of the row then.
-pub(crate) fn leaves_words(
-    rt: &impl Abort,
+pub(crate) fn leaves_words<T: EnvTest, R: Abort>(
+    rt: &R,
     alloc: Global,
     config: Config,
-    case: Case,
     row: &[u64],
 ) -> Result<(), Fail> {
-    let env = tried(rt, alloc, config, case)?;
-    assert!(rt; &*env.held.steps.cells.words == row);
+    let env = tried::<T, _>(rt, alloc, config)?;
+    assert_same!(rt; &*env.held.steps.cells.words, row);
     Ok(())
 }

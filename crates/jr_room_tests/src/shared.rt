@@ -1,12 +1,10 @@
-//! What is shown of threads that share a room: each case has a room of its own, which is made here alone.
-ghost use Rattle.std.specs.Prelude.{◌≡◌, IfOk};
+//! Tests of threads that share a room: each has a room of its own, which is made here alone.
+ghost use Rattle.std.specs.Prelude.{◌≡◌, All, IfOk};
 ghost use Rattle.jr_model.specs.declared.event.Role.TheVariants.{Outside};
+ghost use Rattle.jr_rule.specs.Passes.{IsOpened};
 ghost use Rattle.jr_rule.specs.Rooms.{IsOfRoom};
 
-use crate::census::{has_what_stands, tells_lost_words, tells_what_stands};
-use crate::collections::announced::{bars_for_good, is_barred_by_who_announces};
-use crate::left_inside::keeps_out_for_good;
-use crate::stays::excludes_collections;
+use assertions::assert_same;
 use jr_env::Env;
 use jr_fixtures::{LAST, NoPass, next_env, next_pass, next_steps};
 use jr_rule::{Left, Pass, Room};
@@ -25,30 +23,25 @@ const FIVE: Config = Config {
     locals: 16,
 };
 
-/// What is shown.
-#[derive(Clone, Copy, PartialEq, Eq)]
-pub(crate) enum Case {
-    /// A thread announces a collection, and takes that back.
-    Cancels,
-    /// The pass of a thread is dropped while it announces.
-    DroppedAnnouncing,
-    /// The pass of a thread is dropped while it is inside.
-    DroppedInside,
-    /// A thread stays inside from call to call.
-    Stays,
-    /// A census is taken.
-    Census,
-    /// A census is taken where words are lost.
-    LostWords,
-    /// A dump is taken.
-    Dump,
+/// A test of threads that share a room.
+pub(crate) trait RoomTest {
+    /// Runs it, over the steps of two threads that are outside and the envs of two others.
+    fn run<S: Steps + Drop, R: Abort>(
+        rt: &R,
+        alloc: Global,
+        first: &mut S,
+        second: S,
+        env: &mut Env<S>,
+        other: &mut Env<S>,
+    ) -> Result<(), Fail>
+        requires first { (S.facts first.old).stands.role ≡ Outside }
+        requires second { (S.facts second).stands.role ≡ Outside };
 }
 
-/// Shows what other threads of the room meet, where there is a pass for each. What may be missing is found here, over any steps, since a test that does it itself is dear to prove.
-fn shows<S: Steps + Drop>(
-    rt: &impl Abort,
+/// Runs a test where there is a pass for each. What may be missing is found here, over any steps, since a test that does it itself is dear to prove.
+fn run_over<T: RoomTest, S: Steps + Drop, R: Abort>(
+    rt: &R,
     alloc: Global,
-    case: Case,
     first: Result<S, NoPass>,
     second: Result<S, NoPass>,
     env: Result<Env<S>, NoPass>,
@@ -58,20 +51,10 @@ fn shows<S: Steps + Drop>(
     requires second { IfOk second (λ s. (S.facts s).stands.role ≡ Outside) }
 {
     let mut first = first?;
-    let mut second = second?;
+    let second = second?;
     let mut env = env?;
     let mut other = other?;
-    match case {
-        Case::Cancels => {
-            is_barred_by_who_announces(rt, alloc, &mut first, &mut second, &mut env, &mut other)
-        }
-        Case::DroppedAnnouncing => bars_for_good(rt, alloc, second, &mut env),
-        Case::DroppedInside => keeps_out_for_good(rt, alloc, second, &mut first, &mut env),
-        Case::Stays => excludes_collections(rt, alloc, &mut first, &mut env, &mut other),
-        Case::Census => tells_what_stands(rt, alloc, &mut env),
-        Case::LostWords => tells_lost_words(rt, alloc, &mut env),
-        Case::Dump => has_what_stands(rt, alloc, &mut env),
-    }
+    T::run(rt, alloc, &mut first, second, &mut env, &mut other)
 }
 
 /// A room is not closed, since a thread is inside or announces: the room and the pass, as they are handed back.
@@ -83,22 +66,34 @@ fn is_left(rt: &impl Abort, room: Room<LAST>, pass: Pass) -> Result<(Room<LAST>,
         return Err("a thread is inside or announces")?;
     };
     let Left { room, pass, fault } = left;
-    assert!(rt; fault == Fault::LeftInside(1));
+    assert_same!(rt; fault, Fault::LeftInside(1));
     Ok((room, pass))
 }
 
-/// Shows a case in a room. Where a pass was dropped, the room is not closed.
-pub(crate) fn in_a_room(rt: &impl Abort, alloc: Global, case: Case) -> Result<(), Fail> {
+/// Runs a test in a room that is opened for it. The room is handed back, and the passes that are left.
+fn opened_for<T: RoomTest, R: Abort>(rt: &R, alloc: Global) -> Result<(Room<LAST>, Vec<Pass>), Fail>
+    ensures { IfOk result (λ r. All (λ p. IsOpened r.0.row p) r.1.items) }
+{
     let (room, mut passes) = Room::<LAST>::open(alloc, FIVE)?;
     let first = next_steps(&room, &mut passes);
     let second = next_steps(&room, &mut passes);
     let other = next_env(&room, &mut passes);
     let env = next_env(&room, &mut passes);
-    shows(rt, alloc, case, first, second, env, other)?;
-    if case == Case::DroppedAnnouncing || case == Case::DroppedInside {
-        let pass = next_pass(&room, &mut passes)?;
-        let (room, pass) = is_left(rt, room, pass)?;
-        is_left(rt, room, pass)?;
-    }
+    run_over::<T, _, _>(rt, alloc, first, second, env, other)?;
+    Ok((room, passes))
+}
+
+/// Runs a test in a room.
+pub(crate) fn in_a_room<T: RoomTest, R: Abort>(rt: &R, alloc: Global) -> Result<(), Fail> {
+    opened_for::<T, _>(rt, alloc)?;
+    Ok(())
+}
+
+/// Runs a test in which the steps of a thread are dropped that is not outside: the room is not closed, however often that is tried.
+pub(crate) fn in_a_room_for_good<T: RoomTest, R: Abort>(rt: &R, alloc: Global) -> Result<(), Fail> {
+    let (room, mut passes) = opened_for::<T, _>(rt, alloc)?;
+    let pass = next_pass(&room, &mut passes)?;
+    let (room, pass) = is_left(rt, room, pass)?;
+    is_left(rt, room, pass)?;
     Ok(())
 }

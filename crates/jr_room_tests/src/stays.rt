@@ -9,16 +9,16 @@ ghost use Rattle.jr_rule.specs.Rooms.{IsNoteThere};
 ghost use Rattle.jr_rule.specs.Rule.{stepping_pass};
 ghost use Rattle.jr_steps.specs.Knowing.{view};
 
-use crate::plain::try_plain;
-use crate::shared::in_a_room;
-use crate::{plain, shared};
+use crate::plain::{EnvTest, alone};
+use crate::shared::{RoomTest, in_a_room};
+use assertions::assert_same;
 use jr_env::{Env, NativeInterface, Stay};
-use jr_fixtures::{LAST, collected, collects, has_type, is_refused, made, next_pass};
+use jr_fixtures::{LAST, collected, collects, has_type, made, next_pass, refusal};
 use jr_gate::announce;
 use jr_model::{Mode, open_stays_exclude_collections};
 use jr_rule::{Note, Room, RoomSteps};
 use jr_steps::Steps;
-use jr_word::{Config, Fault, Handle};
+use jr_word::{Config, Fault, Handle, Kind};
 use std::alloc::Global;
 use std::process::Abort;
 use std::test::Fail;
@@ -36,7 +36,7 @@ const SIZES: Config = Config {
 fn one(rt: &impl Abort, answer: Result<Option<Handle>, Fault>) -> Handle {
     match answer {
         Ok(Some(handle)) => handle,
-        _ => panic!(rt; "no reference is made"),
+        other => panic!(rt; "wanted a reference, came {other:?}"),
     }
 }
 
@@ -47,24 +47,24 @@ fn new(rt: &impl Abort, answer: Result<Handle, Fault>) -> Handle {
 
 /// A call is done.
 fn done(rt: &impl Abort, answer: Result<(), Fault>) {
-    assert!(rt; answer.is_ok());
+    assert_same!(rt; answer, Ok(()));
 }
 
 /// Checks the types of words in a stay, as `has_type` does in an env.
 fn have_types<S: Steps>(rt: &impl Abort, stay: &mut Stay<'_, S>, rows: &[(Handle, u8)]) {
     for (word, wanted) in rows {
-        assert!(rt; stay.get_object_ref_type(*word) == Ok(*wanted));
+        assert_same!(rt; stay.get_object_ref_type(*word), Ok(*wanted); at *word);
     }
 }
 
 /// Two words name one object.
 fn are_same<S: Steps>(rt: &impl Abort, stay: &mut Stay<'_, S>, first: Handle, second: Handle) {
-    assert!(rt; stay.is_same_object(first, second) == Ok(true));
+    assert_same!(rt; stay.is_same_object(first, second), Ok(true));
 }
 
 /// Checks the length of an array.
 fn has_length<S: Steps>(rt: &impl Abort, stay: &mut Stay<'_, S>, array: Handle, wanted: u32) {
-    assert!(rt; stay.get_array_length(array) == Ok(wanted));
+    assert_same!(rt; stay.get_array_length(array), Ok(wanted));
 }
 
 /// Makes, compares and deletes references in a stay.
@@ -92,10 +92,9 @@ fn is_text<S: Steps>(
     length: u32,
     array: Handle,
 ) {
-    assert!(rt; stay.get_string_length(text) == Ok(length));
-    let kind = stay.kind_of(text);
-    assert!(rt; kind.is_ok());
-    assert!(rt; kind != stay.kind_of(array));
+    assert_same!(rt; stay.get_string_length(text), Ok(length));
+    assert_same!(rt; stay.kind_of(text), Ok(Kind::Text));
+    assert_same!(rt; stay.kind_of(array), Ok(Kind::Objects));
 }
 
 /// Makes objects in a stay, and looks at them.
@@ -108,6 +107,23 @@ fn calls_on_objects<S: Steps>(rt: &impl Abort, stay: &mut Stay<'_, S>) {
     done(rt, stay.set_object_array_element(row, 1, text));
     let second = one(rt, stay.get_object_array_element(row, 1));
     are_same(rt, stay, second, text);
+    let identity = stay.identity_of(text);
+    assert!(rt; identity.is_ok());
+    assert!(rt; identity == stay.identity_of(second));
+    assert!(rt; identity != stay.identity_of(row));
+}
+
+/// The words that are used and the local references, told in a stay in which more are made.
+fn tells_numbers<S: Steps>(rt: &impl Abort, stay: &mut Stay<'_, S>) {
+    let Ok(used) = stay.words_used() else {
+        panic!(rt; "a stay tells what is used");
+    };
+    let before = stay.local_counts();
+    let text = new(rt, stay.new_string(&[104, 105]));
+    assert!(rt; stay.words_used() == Ok(used.saturating_add(2)));
+    assert!(rt; stay.local_counts().standing.saturating_sub(1) == before.standing);
+    done(rt, stay.delete_local_ref(text));
+    assert!(rt; stay.local_counts().standing == before.standing);
 }
 
 /// Writes an array of three elements in a stay, and reads two of them.
@@ -115,7 +131,7 @@ fn calls_on_parts<S: Steps>(rt: &impl Abort, stay: &mut Stay<'_, S>, array: Hand
     done(rt, stay.set_array_region(array, 0, &[3, 4, 5]));
     let mut read = [0, 0];
     done(rt, stay.get_array_region(array, 1, &mut read));
-    assert!(rt; read == [4, 5]);
+    assert_same!(rt; read, [4, 5]);
 }
 
 /// Copies an array of three elements in a stay, and gives them back.
@@ -126,7 +142,7 @@ fn copies_elements<S: Steps>(
     array: Handle,
 ) -> Result<(), Fail> {
     let elements = stay.get_array_elements::<i32>(alloc, array)?;
-    assert!(rt; elements.length() == 3);
+    assert_same!(rt; elements.length(), 3);
     match stay.release_array_elements(array, elements, Mode::Copy) {
         Ok(None) => Ok(()),
         Ok(Some(_left)) => panic!(rt; "a release keeps elements"),
@@ -142,7 +158,7 @@ fn copies_units<S: Steps>(
 ) -> Result<(), Fail> {
     let text = new(rt, stay.new_string(&[104, 105]));
     let units = stay.get_string_chars(alloc, text)?;
-    assert!(rt; units.len() == 2);
+    assert_same!(rt; units.len(), 2);
     Ok(())
 }
 
@@ -151,7 +167,7 @@ fn calls_on_frames<S: Steps>(rt: &impl Abort, stay: &mut Stay<'_, S>, array: Han
     let kept = one(rt, stay.pop_local_frame(array));
     have_types(rt, stay, &[(array, 0)]);
     has_length(rt, stay, kept, 3);
-    assert!(rt; is_refused(stay.pop_local_frame(kept), Some(Fault::NoFrame)));
+    assert_same!(rt; refusal(stay.pop_local_frame(kept)), Some(Fault::NoFrame));
     done(rt, stay.free_locals());
     have_types(rt, stay, &[(kept, 0)]);
 }
@@ -165,6 +181,7 @@ fn makes_each_call<S: Steps>(
 ) -> Result<(), Fail> {
     calls_on_references(rt, stay, array);
     calls_on_objects(rt, stay);
+    tells_numbers(rt, stay);
     calls_on_parts(rt, stay, array);
     copies_elements(rt, alloc, stay, array)?;
     copies_units(rt, alloc, stay)?;
@@ -174,38 +191,38 @@ fn makes_each_call<S: Steps>(
 
 /// What is refused in a stay, which stands then.
 fn is_refused_in<S: Steps>(rt: &impl Abort, stay: &mut Stay<'_, S>, array: Handle) {
-    assert!(rt; is_refused(stay.new_global_ref(Handle(8)), Some(Fault::Stale)));
-    assert!(rt; is_refused(stay.delete_global_ref(array), Some(Fault::WrongKind)));
-    assert!(rt; is_refused(stay.get_string_length(array), Some(Fault::WrongKind)));
-    assert!(rt; is_refused(stay.new_array::<i64>(1000), Some(Fault::SpaceFull(3))));
-    assert!(rt; is_refused(stay.set_array_region(array, 3, &[1]), Some(Fault::Range)));
-    assert!(rt; is_refused(stay.pop_local_frame(array), Some(Fault::NoFrame)));
+    assert_same!(rt; refusal(stay.new_global_ref(Handle(8))), Some(Fault::Stale));
+    assert_same!(rt; refusal(stay.delete_global_ref(array)), Some(Fault::WrongKind));
+    assert_same!(rt; refusal(stay.get_string_length(array)), Some(Fault::WrongKind));
+    assert_same!(rt; refusal(stay.new_array::<i64>(1000)), Some(Fault::SpaceFull(3)));
+    assert_same!(rt; refusal(stay.set_array_region(array, 3, &[1])), Some(Fault::Range));
+    assert_same!(rt; refusal(stay.pop_local_frame(array)), Some(Fault::NoFrame));
     has_length(rt, stay, array, 3);
 }
 
 /// Each call is made once in a stay, in which nothing was refused for good, and behind which the env goes on.
-pub(crate) fn goes_on<S: Steps>(
-    rt: &impl Abort,
-    alloc: Global,
-    env: &mut Env<S>,
-) -> Result<(), Fail> {
-    let array = env.new_array::<i32>(3)?;
-    let mut stay = env.stay()?;
-    is_refused_in(rt, &mut stay, array);
-    stay.end();
-    env.push_local_frame(8)?;
-    let inner = made(env.new_local_ref(array))?;
-    let mut stay = env.stay()?;
-    let tried = makes_each_call(rt, alloc, &mut stay, inner);
-    stay.end();
-    tried?;
-    has_type(env, array, 0)
+struct GoesOn;
+
+impl EnvTest for GoesOn {
+    fn run<S: Steps, R: Abort>(rt: &R, alloc: Global, env: &mut Env<S>) -> Result<(), Fail> {
+        let array = env.new_array::<i32>(3)?;
+        let mut stay = env.stay()?;
+        is_refused_in(rt, &mut stay, array);
+        stay.end();
+        env.push_local_frame(8)?;
+        let inner = made(env.new_local_ref(array))?;
+        let mut stay = env.stay()?;
+        let tried = makes_each_call(rt, alloc, &mut stay, inner);
+        stay.end();
+        tried?;
+        has_type(env, array, 0)
+    }
 }
 
 /// Each call is made in a stay, by a thread that is alone.
 #[test]
 fn each_call_is_made_in_a_stay(rt: HostRuntime) -> Result<(), Fail> {
-    try_plain(&rt, rt.alloc(), SIZES, plain::Case::Stays)
+    alone::<GoesOn, _>(&rt, rt.alloc(), SIZES)
 }
 
 /// A collection was kept out by one thread, if there was memory for its marker.
@@ -213,7 +230,7 @@ fn is_kept_out(rt: &impl Abort, answer: Result<[u32; 3], Fault>) -> Result<(), F
     if matches!(answer, Err(Fault::Memory)) {
         return Err(Fault::Memory)?;
     }
-    assert!(rt; is_refused(answer, Some(Fault::Busy(1))));
+    assert_same!(rt; refusal(answer), Some(Fault::Busy(1)));
     Ok(())
 }
 
@@ -234,7 +251,7 @@ fn keeps_a_collection_out<S: Steps>(
     stay.end();
     is_kept_out(rt, kept_out)?;
     let global = made(global)?;
-    assert!(rt; env.get_array_length(global)? == 2);
+    assert_same!(rt; env.get_array_length(global)?, 2);
     collects(alloc, other, [0, 0, 2])
 }
 
@@ -258,7 +275,7 @@ fn a_level_keeps_a_collection_out<S: Steps>(
             is_kept_out(rt, kept_out)?;
             done(rt, written);
             done(rt, answer);
-            assert!(rt; read == [-4]);
+            assert_same!(rt; read, [-4]);
             Ok(())
         }
         Err(_) => panic!(rt; "no region is opened"),
@@ -292,9 +309,9 @@ fn goes_on_beside_who_announces<S: Steps>(
             let plain = stay.new_plain();
             announced.cancel(announcer);
             stay.end();
-            assert!(rt; barred == Some(Fault::Barred));
+            assert_same!(rt; barred, Some(Fault::Barred));
             has_type(env, plain?, 1)?;
-            assert!(rt; refused_stay(other).is_none());
+            assert_same!(rt; refused_stay(other), None);
             Ok(())
         }
         Err(_) => panic!(rt; "nobody keeps the gate closed"),
@@ -302,31 +319,35 @@ fn goes_on_beside_who_announces<S: Steps>(
 }
 
 /// A stay of one thread and the collection of another exclude each other, and so do an announcement and a new stay.
-pub(crate) fn excludes_collections<S: Steps>(
-    rt: &impl Abort,
-    alloc: Global,
-    announcer: &mut S,
-    env: &mut Env<S>,
-    other: &mut Env<S>,
-) -> Result<(), Fail>
-    requires { (S.facts announcer.old).stands.role ≡ Outside }
-{
-    keeps_a_collection_out(rt, alloc, env, other)?;
-    a_level_keeps_a_collection_out(rt, alloc, env, other)?;
-    goes_on_beside_who_announces(rt, announcer, env, other)
+struct ExcludesCollections;
+
+impl RoomTest for ExcludesCollections {
+    fn run<S: Steps + Drop, R: Abort>(
+        rt: &R,
+        alloc: Global,
+        first: &mut S,
+        _second: S,
+        env: &mut Env<S>,
+        other: &mut Env<S>,
+    ) -> Result<(), Fail> {
+        keeps_a_collection_out(rt, alloc, env, other)?;
+        a_level_keeps_a_collection_out(rt, alloc, env, other)?;
+        goes_on_beside_who_announces(rt, first, env, other)
+    }
 }
 
 /// A stay keeps collections out, and an announcement keeps new stays out.
 #[test]
 fn stays_and_collections_exclude_each_other(rt: HostRuntime) -> Result<(), Fail> {
-    in_a_room(&rt, rt.alloc(), shared::Case::Stays)
+    in_a_room::<ExcludesCollections, _>(&rt, rt.alloc())
 }
 
 /// A thread goes in, learns a note, and goes out: all between is one stay, in which no event of any thread is a step of a collection. It is false where the gate was closed.
 fn learns_in_a_stay(steps: &mut RoomSteps<'_, LAST>, note: Note) -> bool
     requires outside { steps.old.role ≡ Outside }
     requires note { IsNoteThere steps.old note }
-    ensures { result ≡ true → IsOneStay (view (stepping_pass steps.old.cells.seat.me)) (view (stepping_pass steps.new.cells.seat.me)) (by (stepping_pass steps.old.cells.seat.me).thread (Gate Leave) ∷ []) }
+    ensures { result ≡ true → IsOneStay (view (stepping_pass steps.old.cells.seat.me)) (view (stepping_pass steps.new.cells.seat.me))
+        (by (stepping_pass steps.old.cells.seat.me).thread (Gate Leave) ∷ []) }
 {
     open_stays_exclude_collections();
     if !steps.go_in() {

@@ -76,8 +76,10 @@ pub fn create<S: Steps>(
     requires stay { IsOwnStay inside.now (S.facts steps.old).stands }
     requires kind { kind ≢ Local }
     requires object { MayKnow S.facts steps.old (HasObject object) }
-    ensures ok { IfOk result (λ h. Searched S.facts steps.old steps.new kind object (GoesRound (S.facts steps.old).hint (S.facts steps.old).stands.config.slots) 0 (S.facts steps.old).stands.config.slots (Some h)) }
-    ensures err { IfErr result (λ e. (e ≡ RowFull) × Searched S.facts steps.old steps.new kind object (GoesRound (S.facts steps.old).hint (S.facts steps.old).stands.config.slots) 0 (S.facts steps.old).stands.config.slots None) }
+    ensures ok { IfOk result (λ h. Searched S.facts steps.old steps.new kind object (GoesRound (S.facts steps.old).hint (S.facts steps.old).stands.config.slots) 0
+        (S.facts steps.old).stands.config.slots (Some h)) }
+    ensures err { IfErr result (λ e. (e ≡ RowFull) × Searched S.facts steps.old steps.new kind object (GoesRound (S.facts steps.old).hint (S.facts steps.old).stands.config.slots) 0
+        (S.facts steps.old).stands.config.slots None) }
     ensures next { IfOk result (λ h. (S.facts steps.new).hint ≡ (h.index + 1) % (S.facts steps.old).stands.config.slots) }
     ensures stays { IfErr result (λ e. (S.facts steps.new).hint ≡ (S.facts steps.old).hint) }
 {

@@ -69,10 +69,6 @@ module _ (a b m : SeatState) (alone : IsAlone a) (note : IsNote b) (joined : m �
       → m' ≡ (view_at (joints_at a + joints_at b + 1 + 1) (stepping_pass a ∷ []) (noted_pass b ∷ []), [])
   past_note m' e = e ∙ ap (λ (z : SeatState). (once_more z.0, z.1)) with_note
 
-  -- the note is then as it was
-  pub note_left : (n : SeatState) → n ≡ (note_again m.0, []) → n ≡ b
-  note_left n e = e ∙ (ap (λ (z : SeatState). (note_again z.0, [])) with_note ∙ sym note)
-
 -- A pass that learns what a note says, while its seat knows it
 module _ (a b m : SeatState) {j : ℕ} (alone : IsAlone a)
     (here : m ≡ (view_at j (stepping_pass a ∷ []) (noted_pass b ∷ []), [])) where

@@ -30,7 +30,8 @@ impl<const LAST: u32> Room<LAST> {
     ghost use Rattle.jr_rule.specs.Passes.{facts_of, holder_of, joints_of, known_of, Closes};
     ghost use Rattle.jr_rule.specs.Rooms.{IsOfRoom, IsLeft, CountsInside};
 
-    /// Closes the room, and tells what stands in it: what stands after a legal history that begins with all that the pass has seen, and has no more events of its thread. The pass has to be one of the room's.
+    /// Closes the room, and tells what stands in it: what stands after a legal history that begins with all that the pass has seen, and has no more events of its thread.
+    /// The pass has to be one of the room's.
     ///
     /// # Errors
     ///

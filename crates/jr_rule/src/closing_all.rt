@@ -22,17 +22,23 @@ impl<const LAST: u32> Room<LAST> {
     ghost use Rattle.jr_rule.specs.Passes.{known_of, ClosesAll, SawOneHistory, HasSeenAll};
     ghost use Rattle.jr_rule.specs.Rooms.{IsOfRoom, AreLeft};
 
-    /// Closes the room with several of its passes, and tells what stands in it. What is told is of a history that has no more events of any of them, and where the pass has seen all that each other thread did, it is of what the pass has seen. The passes have to be the room's.
+    /// Closes the room with several of its passes, and tells what stands in it.
+    /// What is told is of a history that has no more events of any of them, and where the pass has seen all that each other thread did, it is of what the pass has seen.
+    /// The passes have to be the room's.
     ///
     /// # Errors
     ///
     /// E22 with how many threads were inside, knocking, announcing or collecting at its one look, at least 1.
     ///
-    /// Where each thread of the room has its pass among these, and all of them are outside, it is not answered. The room and the other passes are handed back as they were, and the first pass, which has looked at the gate. They can be closed again.
+    /// Where each thread of the room has its pass among these, and all of them are outside, it is not answered.
+    /// The room and the other passes are handed back as they were, and the first pass, which has looked at the gate. They can be closed again.
     ///
     /// # Operations
     ///
-    /// One, the look at the gate. Beside it a load of the gate for each other pass and two more, by which they come together, and where the room is not closed one for each other pass and one more, by which they part. Where it is not closed they are counted, as joins and partings: the first pass has the count of all then, and each other pass the one by which it left. Else no thread shares the words any more, and no pass is left that has a count.
+    /// One, the look at the gate.
+    /// Beside it a load of the gate for each other pass and two more, by which they come together, and where the room is not closed one for each other pass and one more, by which they part.
+    /// Where it is not closed they are counted, as joins and partings: the first pass has the count of all then, and each other pass the one by which it left.
+    /// Else no thread shares the words any more, and no pass is left that has a count.
     pub fn close_all(self, pass: Pass, others: Vec<Pass>) -> Result<Summary, AllLeft<LAST>>
         requires pass { IsOfRoom self pass }
         requires others { All (λ p. IsOfRoom self p) others.items }

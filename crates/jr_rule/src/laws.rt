@@ -9,7 +9,8 @@ pub fn rooms_have_one_history()
     ensures opened { OpensWithNothing }
 {}
 
-/// The order of a room's history is the order of the operations on its row: from one moment to a later one the history grows at its end, by the events of the operations as they come. So an event stands behind all that any pass had seen by then, and all that any note said, whether the threads ever met or not.
+/// The order of a room's history is the order of the operations on its row: from one moment to a later one the history grows at its end, by the events of the operations as they come.
+/// So an event stands behind all that any pass had seen by then, and all that any note said, whether the threads ever met or not.
 pub fn histories_go_by_operations()
     ensures order { GoesByOperations }
     ensures behind { StandsBehindAll }

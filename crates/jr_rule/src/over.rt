@@ -249,7 +249,8 @@ impl<C: Parts<P>, P: Copy> Steps for StepsOver<C, P> {
         requires row { index < (C.sight self.old.cells).first.config.slots }
         requires kind { kind ≢ Local }
         requires looked { MayKnow facts_over self.old (λ k. HasObject object k × IsFreeSlot index serial k) }
-        ensures step { Took facts_over self.old self.new (act_of_claim index serial kind object result ∷ []) (λ k. HasObject object k × IsFreeSlot index serial k) (λ j k. LostClaim index result j k × keeps j k) }
+        ensures step { Took facts_over self.old self.new (act_of_claim index serial kind object result ∷ []) (λ k. HasObject object k × IsFreeSlot index serial k) (λ j k. LostClaim index result j k
+            × keeps j k) }
         ensures seen { C.goes self.old.cells self.new.cells (act_of_claim index serial kind object result ∷ []) }
     {
         let at = slot_at(index);

@@ -16,7 +16,8 @@ impl<'a, const LAST: u32> StepsOver<RoomCells, &'a Room<LAST>> {
     ghost use Rattle.jr_steps.specs.Knowing.{view, anything, Goes, Took, keeps};
     ghost use Rattle.jr_rule.specs.Passes.{facts_of, holder_of, joints_of, known_of, IsSame};
     ghost use Rattle.jr_rule.specs.Rule.{stepping_pass};
-    ghost use Rattle.jr_rule.specs.Rooms.{AreAsBefore, AreInOneRoom, IsNoteThere, IsOfRoom, IsPinnedThere, Learned, LearnedPinned, WasNoted, WasPinned, holder_over, joints_of_note, joints_of_pinned, joints_over};
+    ghost use Rattle.jr_rule.specs.Rooms.{AreAsBefore, AreInOneRoom, IsNoteThere, IsOfRoom, IsPinnedThere, Learned, LearnedPinned, WasNoted, WasPinned, holder_over, joints_of_note, joints_of_pinned};
+    ghost use Rattle.jr_rule.specs.Rooms.{joints_over};
 
     /// The steps of a pass in its own room. That the pass is one of the room's is a condition: it has no bytes that name its room.
     pub fn new(room: &'a Room<LAST>, pass: Pass) -> Self
@@ -73,7 +74,8 @@ impl<'a, const LAST: u32> StepsOver<RoomCells, &'a Room<LAST>> {
     ///
     /// # Operations
     ///
-    /// One, a load of the gate. The passes join for it and part again, each by a load of the gate: the thread's count of joins and partings goes up by two, and by what the other pass had. That one begins anew at 0.
+    /// One, a load of the gate. The passes join for it and part again, each by a load of the gate: the thread's count of joins and partings goes up by two, and by what the other pass had.
+    /// That one begins anew at 0.
     pub fn meet(&mut self, other: Pass) -> Pass
         requires { IsOfRoom self.old.place.now other }
         ensures room { self.new.place ≡ self.old.place }
@@ -117,7 +119,8 @@ impl<'a, const LAST: u32> StepsOver<RoomCells, &'a Room<LAST>> {
 
     /// Learns all that a note of the room says: whatever its thread had seen, this one has seen then. That is no event of the machine.
     ///
-    /// So a reference that stood where the note was made stands here, unless somebody has deleted it since: a global one with its object, a weak one with it, or cleared (the law `references_stand_until_deleted` of `jr_model`, of the history up to the note and of that up to here).
+    /// So a reference that stood where the note was made stands here, unless somebody has deleted it since:
+    /// a global one with its object, a weak one with it, or cleared (the law `references_stand_until_deleted` of `jr_model`, of the history up to the note and of that up to here).
     ///
     /// # Operations
     ///
@@ -148,11 +151,13 @@ impl<'a, const LAST: u32> StepsOver<RoomCells, &'a Room<LAST>> {
         self.note().pin()
     }
 
-    /// Learns all that a pinned note of the room says, as `learn` does, and leaves it pinned; or answers false, where another thread was just learning it. Nobody waits, and there is no lock: these steps are then as they were, and the call may be made again. Each call learns, also where this thread has learned the note before.
+    /// Learns all that a pinned note of the room says, as `learn` does, and leaves it pinned; or answers false, where another thread was just learning it. Nobody waits, and there is no lock:
+    /// these steps are then as they were, and the call may be made again. Each call learns, also where this thread has learned the note before.
     ///
     /// # Operations
     ///
-    /// One where the answer is true, a load of the gate, and none where it is false. Where it is true, the note joins the thread's seat and leaves it again by two loads of the gate: they count as one join and one parting. No clause counts the exchanges of the note's own word: one, and where the note rested there another one.
+    /// One where the answer is true, a load of the gate, and none where it is false. Where it is true, the note joins the thread's seat and leaves it again by two loads of the gate:
+    /// they count as one join and one parting. No clause counts the exchanges of the note's own word: one, and where the note rested there another one.
     pub fn learn_pinned(&mut self, pinned: &PinnedNote) -> bool
         requires { IsPinnedThere self.old pinned.now }
         ensures room { self.new.place ≡ self.old.place }
@@ -174,7 +179,8 @@ impl<'a, const LAST: u32> StepsOver<RoomCells, &'a Room<LAST>> {
     ///
     /// # Operations
     ///
-    /// One, a load of the gate. The other's pass leaves its seat for it, the passes join, and they part again, each by a load of the gate: the thread's count of joins and partings goes up by three, and by what the other had. That one begins anew at 0.
+    /// One, a load of the gate. The other's pass leaves its seat for it, the passes join, and they part again, each by a load of the gate:
+    /// the thread's count of joins and partings goes up by three, and by what the other had. That one begins anew at 0.
     pub fn meet_steps(&mut self, other: &mut RoomSteps<'_, LAST>)
         requires { AreInOneRoom self.old other.old }
         ensures room { self.new.place ≡ self.old.place }

@@ -12,7 +12,8 @@ const TAKEN: u64 = 1;
 /// The word of a perch on which its seat rests.
 const RESTS: u64 = 2;
 
-/// What a thread had seen in its room, pinned where other threads find it: it can be shared by `&`, and each thread of the room may learn it, as often as it likes. It is no pass: it holds nobody inside, and no collection and no close waits for it. It has one word of its own, none that names its room, and may be let go.
+/// What a thread had seen in its room, pinned where other threads find it: it can be shared by `&`, and each thread of the room may learn it, as often as it likes. It is no pass:
+/// it holds nobody inside, and no collection and no close waits for it. It has one word of its own, none that names its room, and may be let go.
 ///
 /// There is no lock, and nobody waits: a thread that finds another one just learning it is told so.
 #[derive(Drop)]

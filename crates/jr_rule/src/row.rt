@@ -1,8 +1,12 @@
 //! The row of words, the passes at it, and the operations on a word.
 //!
-//! All threads of a room share one row of 64-bit words. A thread reads or changes a word by the five operations below alone, which are atomic and sequentially consistent (`SeqCst`, in `atomic_table`), so that all of them have one order. (To join two seats or to cut one is a load of the gate too, which ignores what it finds.) Nobody waits for anybody here, and there is no lock.
+//! All threads of a room share one row of 64-bit words.
+//! A thread reads or changes a word by the five operations below alone, which are atomic and sequentially consistent (`SeqCst`, in `atomic_table`), so that all of them have one order.
+//! (To join two seats or to cut one is a load of the gate too, which ignores what it finds.) Nobody waits for anybody here, and there is no lock.
 //!
-//! THE WORDS: word 0 is the gate, word 1 the top of the array space; then come the slots of global and weak references, the local words thread by thread, the headers of objects 1 upward, and the element words. A row begins as zeros: an open gate, no word reserved, each slot free with serial 0, and no object.
+//! THE WORDS: word 0 is the gate, word 1 the top of the array space;
+//! then come the slots of global and weak references, the local words thread by thread, the headers of objects 1 upward, and the element words. A row begins as zeros:
+//! an open gate, no word reserved, each slot free with serial 0, and no object.
 //!
 //! WHO CHANGES WHICH WORD, by its thread's role (loads are open to the roles named in `steps.rt`):
 //!
@@ -17,17 +21,33 @@
 //!
 //! Whoever knocks may take its 1 from the gate again, and whoever announced may take the announced bit from it, or exchange that bit alone for the shut bit: no other word is theirs.
 //!
-//! THE GATE counts, in its low bits, the threads that went in, and has one bit for shut and one for announced, never both. A thread goes in by adding 1. Where it found neither bit, it is within. Else it knocks: it may only take its 1 away again. A collector shuts by an exchange of 0, that is open with nobody counted, for the shut bit alone. So while a thread is within nobody collects, and while one collects nobody is within. It opens by taking the bit away, since others may have knocked meanwhile, whose count stays. Or it announces first that it will shut, by an exchange of the word of an open gate for the same with the announced bit: from then on whoever comes knocks, and those within may go on and leave. It shuts by an exchange of the announced bit alone for the shut bit, so once the last has left, or takes the announced bit away again. What a thread learns of objects or reserves in a stay (from its entry to its exit) holds until that exit, and no longer.
+//! THE GATE counts, in its low bits, the threads that went in, and has one bit for shut and one for announced, never both. A thread goes in by adding 1. Where it found neither bit, it is within.
+//! Else it knocks: it may only take its 1 away again. A collector shuts by an exchange of 0, that is open with nobody counted, for the shut bit alone.
+//! So while a thread is within nobody collects, and while one collects nobody is within. It opens by taking the bit away, since others may have knocked meanwhile, whose count stays.
+//! Or it announces first that it will shut, by an exchange of the word of an open gate for the same with the announced bit: from then on whoever comes knocks, and those within may go on and leave.
+//! It shuts by an exchange of the announced bit alone for the shut bit, so once the last has left, or takes the announced bit away again.
+//! What a thread learns of objects or reserves in a stay (from its entry to its exit) holds until that exit, and no longer.
 //!
-//! A SLOT'S LIFE: it is free with a serial; claimed, by an exchange of just that word for kind, serial and object of a reference; read, by loads; freed, by an exchange of just the word that a look in this stay found, for free with the next serial; and, after its last serial, retired, which no exchange expects. Claims and frees of several threads may race: one exchange finds the word, and the others find that they lost. A collector that clears a weak reference takes its object alone, so that its handle stays its own.
+//! A SLOT'S LIFE: it is free with a serial; claimed, by an exchange of just that word for kind, serial and object of a reference; read, by loads;
+//! freed, by an exchange of just the word that a look in this stay found, for free with the next serial; and, after its last serial, retired, which no exchange expects.
+//! Claims and frees of several threads may race: one exchange finds the word, and the others find that they lost.
+//! A collector that clears a weak reference takes its object alone, so that its handle stays its own.
 //!
-//! WHY A STALE HANDLE NEVER MATCHES: a handle is a kind, a serial and an index, and a look compares kind and serial with the slot's word. A slot's serial only goes up, by one at each deletion, and never wraps. So each serial is given once, the word of a deleted reference never comes back, and an exchange that finds the word it expects knows that the slot was not freed and claimed in between: there is no ABA.
+//! WHY A STALE HANDLE NEVER MATCHES: a handle is a kind, a serial and an index, and a look compares kind and serial with the slot's word.
+//! A slot's serial only goes up, by one at each deletion, and never wraps.
+//! So each serial is given once, the word of a deleted reference never comes back, and an exchange that finds the word it expects knows that the slot was not freed and claimed in between:
+//! there is no ABA.
 //!
 //! A LOCAL WORD is the object of a local reference, or 0. Its own thread alone stores it, and a collector alone loads it. The thread has its own list of what stands there.
 //!
-//! SPACE: a thread within loads the top and exchanges it for more; the words between are its own, since the top only rises while anybody is within. It stores them, and publishes them by an exchange of a header, which is 0 where the number has no object, for kind, length and place. Whoever is within and knows the header from the same stay may load and store the elements, of a string only load. Words that are reserved and not published when their thread leaves belong to nobody, until a collection sets the top.
+//! SPACE: a thread within loads the top and exchanges it for more; the words between are its own, since the top only rises while anybody is within.
+//! It stores them, and publishes them by an exchange of a header, which is 0 where the number has no object, for kind, length and place.
+//! Whoever is within and knows the header from the same stay may load and store the elements, of a string only load.
+//! Words that are reserved and not published when their thread leaves belong to nobody, until a collection sets the top.
 //!
-//! A COLLECTION: while the gate is shut, all other words are the collector's alone. It loads slots, local words, headers and elements, clears weak references to what nothing reaches, stores 0 in the headers of such objects, moves an object's elements down, from the first on, and then stores its header with the new place, sets the top to the sum of the lengths, and opens the gate. No thread knows a header from before: each was outside in between.
+//! A COLLECTION: while the gate is shut, all other words are the collector's alone.
+//! It loads slots, local words, headers and elements, clears weak references to what nothing reaches, stores 0 in the headers of such objects, moves an object's elements down, from the first on,
+//! and then stores its header with the new place, sets the top to the sum of the lengths, and opens the gate. No thread knows a header from before: each was outside in between.
 //!
 //! What always holds of the words is `specs/Rule.antt`, with what each word says in `specs/Image.antt`; `docs/STEP.md` tells how one step is proved.
 ghost use Rattle.std.specs.Prelude.{◌≡◌, ◌+◌, ◌<◌, [], ◌∷◌, IfOk, IfErr, true};

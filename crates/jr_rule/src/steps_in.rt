@@ -32,7 +32,8 @@ pub trait StepsIn<Q: Site>: Steps {
 
     /// Learns all that a note of the room says: whatever its thread had seen, this one has seen then. That is no event of the machine.
     ///
-    /// So a reference that stood where the note was made stands here, unless somebody has deleted it since: a global one with its object, a weak one with it, or cleared (the law `references_stand_until_deleted` of `jr_model`, of the history up to the note and of that up to here).
+    /// So a reference that stood where the note was made stands here, unless somebody has deleted it since:
+    /// a global one with its object, a weak one with it, or cleared (the law `references_stand_until_deleted` of `jr_model`, of the history up to the note and of that up to here).
     ///
     /// # Operations
     ///
@@ -43,7 +44,8 @@ pub trait StepsIn<Q: Site>: Steps {
         ensures learned { HasSeen Self.facts self.new (seen_by_note note) }
         ensures counted { Self.joints self.new ≡ Self.joints self.old + joints_of_note note + 1 };
 
-    /// Learns all that a pinned note of the room says, as `learn` does, and leaves it pinned; or answers false, where another thread was just learning it. Nobody waits, and there is no lock: these steps are then as they were, and the call may be made again. Each call learns, also where this thread has learned the note before.
+    /// Learns all that a pinned note of the room says, as `learn` does, and leaves it pinned; or answers false, where another thread was just learning it. Nobody waits, and there is no lock:
+    /// these steps are then as they were, and the call may be made again. Each call learns, also where this thread has learned the note before.
     ///
     /// # Operations
     ///

@@ -1,4 +1,5 @@
-//! The words of the row: where each is (the gate, the top, the slots, the local words thread by thread, the headers of objects 1 upward, and the element words), and what it says, as the steps make and read it.
+//! The words of the row:
+//! where each is (the gate, the top, the slots, the local words thread by thread, the headers of objects 1 upward, and the element words), and what it says, as the steps make and read it.
 ghost use Rattle.std.specs.Prelude.{◌≡◌, ◌↔◌, ◌<◌, ◌≤◌, ◌^◌, IsTrue};
 ghost use Rattle.jr_word.specs.declared.gate.GateParts.{GateParts as Gates};
 ghost use Rattle.jr_word.specs.declared.slot.SlotParts.TheVariants.{Free};

@@ -35,7 +35,7 @@ use Rattle.jr_rule.specs.declared.site.Site.{Ghosts}
 use Rattle.jr_scripts.specs.declared.part.ThreadRun.{ThreadRun}
 use Rattle.jr_gate.specs.Performing.{ThreadState, thread_state, thread_state_with}
 use Rattle.jr_env.specs.Deeds.{DoesDeed}
-use Rattle.jr_scripts.specs.Posted.{IsOfPosts, commands_of}
+use Rattle.jr_scripts.specs.PostedNames.{IsOfPosts, commands_of}
 use Rattle.jr_scripts.specs.Posting.{said}
 use Rattle.jr_scripts.specs.Explains.{Explained}
 use Rattle.jr_scripts.specs.Text.{heading, ending, text_of_parts}

@@ -13,7 +13,7 @@ use Rattle.jr_model.proofs.Stays.{mine_did}
 use Rattle.jr_syntax.specs.declared.thread.ThreadPart.{ThreadPart}
 use Rattle.jr_syntax.specs.declared.script.Script.{Script}
 use Rattle.jr_syntax.specs.Script.{all_apart, posts_of}
-use Rattle.jr_scripts.specs.Posted.{IsOfPosts, commands_of}
+use Rattle.jr_scripts.specs.PostedNames.{IsOfPosts, commands_of}
 use Rattle.jr_scripts.specs.Posting.{said_alone}
 use Rattle.jr_scripts.specs.Explains.{Explained}
 use Rattle.jr_scripts.proofs.LoneWords.{heard_alone, on_board}

@@ -19,7 +19,7 @@ use Rattle.jr_scripts.specs.declared.reply.Reply.TheVariants as replies
 use Rattle.jr_scripts.specs.Names.{Names, word_posted}
 use Rattle.jr_scripts.specs.Places.{Place}
 use Rattle.jr_scripts.specs.Explains.{Explains, nothing, then}
-use Rattle.jr_scripts.specs.Posted.{IsPosted}
+use Rattle.jr_scripts.specs.PostedNames.{IsPosted}
 use Rattle.jr_scripts.specs.Posting.{IsAnswered, ThreadWords, said, said_alone, words_after, words_with}
 use Rattle.jr_scripts.proofs.Speaking.{found_words}
 

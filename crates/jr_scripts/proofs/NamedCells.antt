@@ -18,8 +18,8 @@ use Rattle.jr_scripts.specs.Names.{name_order}
 use Rattle.jr_scripts.specs.declared.sighting.Sighting.{Sighting}
 use Rattle.jr_scripts.specs.declared.sighting.Posted.{Posted}
 use Rattle.jr_scripts.specs.Layouts.{cell_number}
-use Rattle.jr_scripts.specs.Noting.{posted_by_number, posted_noted}
-use Rattle.jr_scripts.specs.Posted.{AddsPosted, IsOfPosts, IsPosted, commands_of}
+use Rattle.jr_scripts.specs.NotedWords.{posted_by_number, posted_noted}
+use Rattle.jr_scripts.specs.PostedNames.{AddsPosted, IsOfPosts, IsPosted, commands_of}
 
 same_at : (n m : List ℕ) (o : Ordering) → name_order n m ≡ o → is_eq o ≡ true → n ≡ m
 same_at n m Less tie is = absurd cc

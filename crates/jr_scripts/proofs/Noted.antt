@@ -9,8 +9,8 @@ use Rattle.jr_world.specs.Board.{word_under}
 use Rattle.jr_scripts.specs.declared.sighting.Sighting.{Sighting}
 use Rattle.jr_scripts.specs.declared.sighting.Posted.{Posted}
 use Rattle.jr_scripts.specs.Layouts.{cell_number}
-use Rattle.jr_scripts.specs.Noting.{AreBelow, HasAllOf, IsBlank, HasNoted, StaysNoted}
-use Rattle.jr_scripts.specs.Noting.{posted_by_number, posted_in, posted_noted, words_noted}
+use Rattle.jr_scripts.specs.NotedWords.{AreBelow, HasAllOf, IsBlank, HasNoted, StaysNoted}
+use Rattle.jr_scripts.specs.NotedWords.{posted_by_number, posted_in, posted_noted, words_noted}
 use Rattle.jr_model.specs.History.{History}
 use Rattle.jr_rule.specs.Rooms.{seen_by_pinned}
 use Rattle.jr_rule.specs.declared.site.Site.{Ghosts}

@@ -28,7 +28,7 @@ use Rattle.jr_critical.specs.Levels.{level_object, object_opened, objects_of, ro
 use Rattle.jr_steps.specs.declared.steps.Steps.{Ghosts}
 use Rattle.jr_env.specs.declared.env.Env.{Env}
 use Rattle.jr_env.specs.Envs.{IsOutside, WasDone}
-use Rattle.jr_env.specs.Turns.{TriesToOpen}
+use Rattle.jr_env.specs.Retried.{TriesToOpen}
 use Rattle.jr_env.specs.Deeds.{CarriedOut, Deed, decided, done, ◌>>=◌, ◌>>◌, within_by}
 use Rattle.jr_env.proofs.MadeAgain.{worth_formed}
 use Rattle.jr_env.proofs.Carrying.{did_call, did_decided, did_decline, did_in_role, did_more, did_refused, did_reply}

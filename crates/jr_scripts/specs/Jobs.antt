@@ -17,7 +17,7 @@ use Rattle.jr_scripts.specs.declared.sighting.Sighting.{Sighting}
 use Rattle.jr_scripts.specs.declared.sighting.Posted.{Posted}
 use Rattle.jr_rule.specs.declared.site.Site.{Ghosts}
 use Rattle.jr_rule.specs.declared.site.PinnedNoteOf.{PinnedNoteOf}
-use Rattle.jr_scripts.specs.Noting.{posted_noted}
+use Rattle.jr_scripts.specs.NotedWords.{posted_noted}
 use Rattle.jr_rule.specs.Rooms.{seen_by_pinned}
 use Rattle.jr_scripts.specs.Telling.{account_told, talk_told}
 use Rattle.jr_scripts.specs.AllRuns.{RanPass}

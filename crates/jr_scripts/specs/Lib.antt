@@ -1,9 +1,9 @@
 pub mod Buffers
 pub mod Names
 pub mod Layouts
-pub mod Posted
+pub mod PostedNames
 pub mod Posting
-pub mod Noting
+pub mod NotedWords
 pub mod Telling
 pub mod Tries
 pub mod Numbers

@@ -7,7 +7,7 @@ use Rattle.jr_rule.specs.declared.site.Site.{Ghosts}
 use Rattle.jr_rule.specs.declared.site.PinnedNoteOf.{PinnedNoteOf}
 use Rattle.jr_scripts.specs.declared.sighting.Sighting.{Sighting}
 use Rattle.jr_scripts.specs.Posting.{Account, Speech, speaks}
-use Rattle.jr_scripts.specs.Noting.{account_noted}
+use Rattle.jr_scripts.specs.NotedWords.{account_noted}
 
 module _ {Q : Type 0} {G : Ghosts Q} where
   -- it says that its poster had seen this

@@ -8,7 +8,7 @@ ghost use Rattle.jr_rule.specs.Rooms.{IsOfRoom, IsOpening};
 ghost use Rattle.jr_word.specs.declared.fault.Fault.TheVariants.{Memory, Size};
 ghost use Rattle.jr_scripts.specs.AllRuns.{CanBeRun, lines_of_parts, IsRunOfAll, RunsAll};
 ghost use Rattle.jr_scripts.specs.Jobs.{AreJobsOf};
-ghost use Rattle.jr_scripts.specs.Posted.{AddsPosted, commands_of};
+ghost use Rattle.jr_scripts.specs.PostedNames.{AddsPosted, commands_of};
 
 use crate::board::Posts;
 use crate::hold::Hold;
@@ -135,7 +135,8 @@ fn text_of_all<R: Threads + Wait, H: Hold + Sync>(
 ///
 /// # Errors
 ///
-/// E17 exactly where the script has not one part a thread, sizes outside the limits, a name that is posted twice, or lines without a number of 64 bits; E16 where memory was refused, or a thread could not be started.
+/// E17 exactly where the script has not one part a thread, sizes outside the limits, a name that is posted twice, or lines without a number of 64 bits;
+/// E16 where memory was refused, or a thread could not be started.
 ///
 /// The output is as it was.
 pub fn run_all<R: Threads + Wait, H: Hold + Sync>(

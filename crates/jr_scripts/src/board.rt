@@ -59,7 +59,7 @@ pub struct Posts<T> {
 impl<T: Drop> Posts<T> {
     ghost use Rattle.std.specs.Prelude.{◌≡◌, ◌<◌, ◌∷◌, [], Some, IfSome, OnOk, length};
     ghost use Rattle.jr_scripts.specs.Layouts.{cell_number};
-    ghost use Rattle.jr_scripts.specs.Posted.{AddsPosted};
+    ghost use Rattle.jr_scripts.specs.PostedNames.{AddsPosted};
 
     /// A board without names; takes no memory.
     pub fn new(alloc: Global) -> Posts<T>

@@ -32,7 +32,8 @@ fn told_by<'a, Q: Site>(
     requires long { length runs.items ≡ length parts.now }
     requires over { All (IsOver (layout_of all.now.posts.now)) runs.items }
     ensures ok { IfOk result (λ r. AreTold parts.now runs.entry.items r.0.items r.1.items) }
-    ensures noted { IfOk result (λ r. AllByRecursion (IsToldBy (board_noted all.now.posts.now.numbers.entries all.now.notes.items) (rank_noted all.now.posts.now.numbers.entries all.now.notes.items)) runs.entry.items) }
+    ensures noted { IfOk result (λ r. AllByRecursion (IsToldBy (board_noted all.now.posts.now.numbers.entries all.now.notes.items)
+        (rank_noted all.now.posts.now.numbers.entries all.now.notes.items)) runs.entry.items) }
     ensures err { IfErr result (λ e. e ≡ Memory) }
 {
     let mut passes = Vec::new(alloc);

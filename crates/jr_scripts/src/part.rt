@@ -48,7 +48,8 @@ pub(crate) fn run_job<'a, Q: Site, H: Hold, const LAST: u32>(
 ) -> ThreadRun<'a, Q>
     requires part { IsForPart room.now.row first part.now pass }
     requires site { Some room.now.row.table.shared.table_id ≡ Q.room }
-    ensures ran { RanPass (talk_told result.notes.is_lost result.notes.posts.now.numbers.entries result.notes.notes.items) turns first part.now.commands pass result.pass result.answer result.text.items }
+    ensures ran { RanPass (talk_told result.notes.is_lost result.notes.posts.now.numbers.entries result.notes.notes.items) turns first part.now.commands pass result.pass result.answer
+        result.text.items }
     ensures over { layout_of result.notes.posts.now ≡ layout_of board.now }
 {
     let mut text = Vec::new(alloc);

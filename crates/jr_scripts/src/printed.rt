@@ -124,7 +124,8 @@ fn line_of_value(
 
 /// The line of a collection.
 fn line_of_collection(alloc: Global, collected: Collected) -> Result<Vec<u8>, AllocError>
-    ensures { IfOk result (λ text. text.items ≡ text_line (codes "gc" ∷ codes "cleared" ∷ decimal collected.cleared ∷ codes "dropped" ∷ decimal collected.dropped ∷ codes "used" ∷ decimal collected.used ∷ [])) }
+    ensures { IfOk result (λ text. text.items ≡ text_line (codes "gc" ∷ codes "cleared" ∷ decimal collected.cleared ∷ codes "dropped" ∷ decimal collected.dropped ∷ codes "used" ∷ decimal
+        collected.used ∷ [])) }
 {
     let Collected {
         cleared,

@@ -2,7 +2,7 @@
 
 ghost use Rattle.std.specs.Prelude.{◌≡◌};
 ghost use Rattle.jr_scripts.specs.Layouts.{layout_of};
-ghost use Rattle.jr_scripts.specs.Noting.{words_noted};
+ghost use Rattle.jr_scripts.specs.NotedWords.{words_noted};
 ghost use Rattle.jr_scripts.specs.Telling.{account_told};
 
 use crate::board::Board;

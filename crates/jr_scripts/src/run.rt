@@ -90,7 +90,9 @@ fn record(
     Ok(())
 }
 
-/// Runs the commands of a thread, of which the first stands on this line of the script, and appends what they print. A call that is raced or barred is made again, up to `turns` calls in all. The hold is called around each command. The marker, made for the env's room, serves all collections. The thread has to stand outside, and stands there afterwards in any case: a region that stands at the end is ended.
+/// Runs the commands of a thread, of which the first stands on this line of the script, and appends what they print. A call that is raced or barred is made again, up to `turns` calls in all.
+/// The hold is called around each command. The marker, made for the env's room, serves all collections. The thread has to stand outside, and stands there afterwards in any case:
+/// a region that stands at the end is ended.
 ///
 /// # Errors
 ///

@@ -1,7 +1,7 @@
 //! What one thread posts and sees on a board that it shares.
 
 ghost use Rattle.std.specs.Prelude.{◌≡◌, ◌⊎◌, ◌+◌, ◌≤◌, ◌<◌, suc, true, Some, None, get_or, length, IfOk, IfSome};
-ghost use Rattle.jr_scripts.specs.Noting.{account_noted, cell_at, posted_in, AreOfCells, HasAllOf, IsBlank, HasNoted, StaysNoted, words_noted};
+ghost use Rattle.jr_scripts.specs.NotedWords.{account_noted, cell_at, posted_in, AreOfCells, HasAllOf, IsBlank, HasNoted, StaysNoted, words_noted};
 ghost use Rattle.jr_scripts.specs.Layouts.{cell_number, layout_of};
 
 use crate::board::{Board, Posts};

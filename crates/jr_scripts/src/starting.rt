@@ -32,7 +32,8 @@ pub(crate) struct Doing<'a, Q: Site> {
 }
 
 impl<'a, 'b, Q: Site> Promise<ThreadRun<'b, Q>> for Doing<'a, Q> {
-    ghost kept_by = { λ p r. RanPass (talk_told r.notes.is_lost r.notes.posts.now.numbers.entries r.notes.notes.items) p.turns p.first p.part.now.commands p.pass.value r.pass r.answer r.text.items × (layout_of r.notes.posts.now ≡ layout_of p.board.now) };
+    ghost kept_by = { λ p r. RanPass (talk_told r.notes.is_lost r.notes.posts.now.numbers.entries r.notes.notes.items) p.turns p.first p.part.now.commands p.pass.value r.pass r.answer r.text.items
+        × (layout_of r.notes.posts.now ≡ layout_of p.board.now) };
 }
 
 /// Does a job in a thread of its own, where one can be started.
@@ -64,7 +65,8 @@ fn start<'s, 'b: 's, Q: Site + Send + Sync, E, H: Hold + Sync, const LAST: u32>(
     };
     let there = move || -> ThreadRun<Q>
         requires { IsForPart room.now.row first part.now pass × (Some room.now.row.table.shared.table_id ≡ Q.room) }
-        ensures { RanPass (talk_told result.notes.is_lost result.notes.posts.now.numbers.entries result.notes.notes.items) turns first part.entry.now.commands pass result.pass result.answer result.text.items × (layout_of result.notes.posts.now ≡ layout_of board.entry.now) }
+        ensures { RanPass (talk_told result.notes.is_lost result.notes.posts.now.numbers.entries result.notes.notes.items) turns first part.entry.now.commands pass result.pass result.answer
+            result.text.items × (layout_of result.notes.posts.now ≡ layout_of board.entry.now) }
     { run_job(alloc, room, board, hold, first, turns, part, pass) };
     scope.spawn_with(promise, there).ok()
 }

@@ -54,7 +54,8 @@ fn run_with_marker<S: Steps, B: Board<S>, H: Hold>(
     )
 }
 
-/// Runs the commands of a thread as `run_thread` does, with a marker of its own, and then frees its local references, whatever the commands answered: as at the end of a native method. Where the turns run out, they stay.
+/// Runs the commands of a thread as `run_thread` does, with a marker of its own, and then frees its local references, whatever the commands answered: as at the end of a native method.
+/// Where the turns run out, they stay.
 ///
 /// # Errors
 ///

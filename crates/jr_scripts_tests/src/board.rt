@@ -3,6 +3,7 @@
 use crate::printing::{BEFORE, TURNS, prints};
 use crate::scripts::{SIZES, name_of};
 use crate::threads::HANDED_OVER;
+use assertions::{Text, assert_same};
 use jr_rule::PlainSteps;
 use jr_scripts::{Board, NoHold, Posts, Sightings, run_all, run_one};
 use jr_steps::Steps;
@@ -37,7 +38,7 @@ fn have_numbers<S: Steps>(
             panic!(rt; "a command posts no name")
         };
         let wanted = if any { Some(i as u64) } else { None };
-        assert!(rt; notes.look(steps, name) == wanted);
+        assert_same!(rt; notes.look(steps, name), wanted; at i);
     }
 }
 
@@ -58,7 +59,7 @@ fn each_name_has_a_word_of_its_own(rt: HostRuntime) -> Result<(), Fail> {
         return Err("the script has one thread")?;
     };
     let commands = part.commands.as_slice();
-    assert!(rt; commands.len() == 6);
+    assert_same!(&rt; commands.len(), 6);
     let mut posts = Posts::<()>::new(alloc);
     posts.add(commands)?;
     let mut notes = Sightings::new(alloc, &posts);
@@ -81,7 +82,7 @@ fn the_first_word_of_a_name_stays(rt: HostRuntime) -> Result<(), Fail> {
     let mut steps = PlainSteps::<2>::new(alloc, SIZES)?;
     notes.post(&mut steps, &name, 0);
     notes.post(&mut steps, &name, 6);
-    assert!(rt; notes.look(&mut steps, &name) == Some(0));
+    assert_same!(&rt; notes.look(&mut steps, &name), Some(0));
     Ok(())
 }
 
@@ -107,9 +108,9 @@ fn a_script_that_posts_a_name_twice_is_not_run(rt: HostRuntime) -> Result<(), Fa
     let script = posting_twice(alloc)?;
     let mut out = Vec::from_slice(alloc, BEFORE)?;
     let answer = run_all(&rt, alloc, &script, &NoHold, TURNS, &mut out);
-    assert!(rt; answer == Err(Fault::Size));
-    assert!(rt; run_one(alloc, &script, TURNS, &mut out) == Err(Fault::Size));
-    assert!(rt; out.as_slice() == BEFORE);
+    assert_same!(&rt; answer, Err(Fault::Size));
+    assert_same!(&rt; run_one(alloc, &script, TURNS, &mut out), Err(Fault::Size));
+    assert_same!(&rt; Text(out.as_slice()), Text(BEFORE));
     Ok(())
 }
 
@@ -122,8 +123,8 @@ fn a_name_without_a_cell_is_not_posted(rt: HostRuntime) -> Result<(), Fail> {
     let mut steps = PlainSteps::<2>::new(alloc, SIZES)?;
     let other = name_of(b"ga")?;
     notes.post(&mut steps, &other, 6);
-    assert!(rt; notes.look(&mut steps, &other).is_none());
-    assert!(rt; notes.look(&mut steps, &name_of(b"g")?).is_none());
+    assert_same!(&rt; notes.look(&mut steps, &other), None);
+    assert_same!(&rt; notes.look(&mut steps, &name_of(b"g")?), None);
     Ok(())
 }
 
@@ -171,8 +172,8 @@ fn a_thread_waits_for_one_without_memory_and_ends(rt: HostRuntime) -> Result<(),
     let script = parse(alloc, HANDED_OVER)?;
     let mut out = Vec::from_slice(alloc, BEFORE)?;
     if let Err(fault) = run_all(&rt, alloc, &script, &NoHold, 1_000, &mut out) {
-        assert!(rt; fault == Fault::Memory);
-        assert!(rt; out.as_slice() == BEFORE);
+        assert_same!(&rt; fault, Fault::Memory);
+        assert_same!(&rt; Text(out.as_slice()), Text(BEFORE));
         return Err(fault)?;
     }
     assert!(rt; out.starts_with(BEFORE));

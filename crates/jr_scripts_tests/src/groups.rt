@@ -28,7 +28,7 @@ const GROUPS: [(&[u8], &[u8]); 5] = [
 ];
 
 #[test]
-fn a_script_of_each_group(rt: HostRuntime) -> Result<(), Fail> {
+fn a_script_of_each_group_prints_what_it_means(rt: HostRuntime) -> Result<(), Fail> {
     for (script, wanted) in GROUPS {
         prints(&rt, rt.alloc(), script, wanted)?;
     }

@@ -1,4 +1,5 @@
-//! Tests of scripts that no script can make: runs over plain words, with few turns, held or refused memory, and the text of scripts from its commands and back. What scripts can say stands in `scripts/` at the top of the repository.
+//! Tests of scripts that no script can make: runs over plain words, with few turns, held or refused memory, and the text of scripts from its commands and back.
+//! What scripts can say stands in `scripts/` at the top of the repository.
 #![tactic(auto)]
 
 #[cfg(test)]

@@ -4,6 +4,7 @@
 //! line of a copy that found no memory. Any other answer than the one that is wanted fails an assertion: so each growth may be
 //! refused in turn, and the assertions stand.
 
+use assertions::{Text, assert_same};
 use jr_scripts::{NoHold, run_all, run_one};
 use jr_syntax::parse;
 use jr_word::Fault;
@@ -28,12 +29,12 @@ pub(crate) fn leaves(
 ) -> Result<(), Fail> {
     match answer {
         Ok(()) => {
-            assert_eq!(rt; out, wanted);
+            assert_same!(rt; Text(out), Text(wanted));
             Ok(())
         }
         Err(fault) => {
-            assert!(rt; fault == Fault::Memory);
-            assert!(rt; out == BEFORE);
+            assert_same!(rt; fault, Fault::Memory);
+            assert_same!(rt; Text(out), Text(BEFORE));
             Err(fault)?
         }
     }

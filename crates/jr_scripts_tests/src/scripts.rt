@@ -4,6 +4,7 @@ ghost use Rattle.jr_env.specs.Envs.{IsOutside};
 
 use crate::printing::{BEFORE, TURNS, leaves};
 use crate::thread_ends::plain_env;
+use assertions::{Text, assert_same};
 use jr_env::Env;
 use jr_scripts::{Hold, NoHold, Posts, Reply, Sightings, run_all, run_one, run_thread};
 use jr_steps::Steps;
@@ -44,13 +45,13 @@ fn without_commands(alloc: Global, config: Config, names: &[u8]) -> Result<Scrip
 fn is_not_run(rt: &impl Abort, alloc: Global, config: Config, names: &[u8]) -> Result<(), Fail> {
     let script = without_commands(alloc, config, names)?;
     let mut out = Vec::from_slice(alloc, BEFORE)?;
-    assert!(rt; run_one(alloc, &script, TURNS, &mut out) == Err(Fault::Size));
-    assert!(rt; out.as_slice() == BEFORE);
+    assert_same!(rt; run_one(alloc, &script, TURNS, &mut out), Err(Fault::Size));
+    assert_same!(rt; Text(out.as_slice()), Text(BEFORE));
     Ok(())
 }
 
 #[test]
-fn scripts_that_are_not_run_alone(rt: HostRuntime) -> Result<(), Fail> {
+fn a_script_without_one_thread_is_not_run_alone(rt: HostRuntime) -> Result<(), Fail> {
     let alloc = rt.alloc();
     let two = Config {
         threads: 2,
@@ -93,7 +94,7 @@ const TWO_COMMANDS: &[u8] =
     b"vm threads 1 slots 1 objects 2 words 0 locals 16\nthread a\nplain p\ntype p\n";
 
 #[test]
-fn a_thread_without_turns(rt: HostRuntime) -> Result<(), Fail> {
+fn a_thread_without_turns_stops_at_its_first_line(rt: HostRuntime) -> Result<(), Fail> {
     let alloc = rt.alloc();
     let script = parse(alloc, TWO_COMMANDS)?;
     let [part] = script.threads.as_slice() else {
@@ -103,9 +104,9 @@ fn a_thread_without_turns(rt: HostRuntime) -> Result<(), Fail> {
     let mut env = plain_env(alloc)?;
     let mut out = Vec::new(alloc);
     run_from_line_10(alloc, &mut env, commands, 0, &mut out)?;
-    assert!(rt; out.as_slice() == b"10 ! E20\ntype p 0\n".as_slice());
+    assert_same!(&rt; Text(out.as_slice()), Text(b"10 ! E20\ntype p 0\n"));
     run_from_line_10(alloc, &mut env, commands, 1, &mut out)?;
-    assert!(rt; out.as_slice() == b"10 ! E20\ntype p 0\ntype p 1\n".as_slice());
+    assert_same!(&rt; Text(out.as_slice()), Text(b"10 ! E20\ntype p 0\ntype p 1\n"));
     Ok(())
 }
 
@@ -146,7 +147,7 @@ fn three_threads_of_one_script_run_in_one_room(rt: HostRuntime) -> Result<(), Fa
     let answer = run_all(&rt, alloc, &script, &hold, 1_000_000, &mut out);
     // Each thread was joined, also where memory was refused: no command is under way.
     let begun = hold.begun.load(Ordering::SeqCst);
-    assert!(rt; hold.answered.load(Ordering::SeqCst) == begun);
+    assert_same!(&rt; hold.answered.load(Ordering::SeqCst), begun);
     assert!(rt; begun == 21 || answer.is_err());
     leaves(&rt, answer, &out, BUSY_OUTPUT)
 }
@@ -158,7 +159,7 @@ fn a_script_with_a_part_too_few_is_refused(rt: HostRuntime) -> Result<(), Fail> 
     script.config.threads = 4;
     let mut out = Vec::from_slice(alloc, BEFORE)?;
     let answer = run_all(&rt, alloc, &script, &NoHold, TURNS, &mut out);
-    assert!(rt; answer == Err(Fault::Size));
-    assert!(rt; out.as_slice() == BEFORE);
+    assert_same!(&rt; answer, Err(Fault::Size));
+    assert_same!(&rt; Text(out.as_slice()), Text(BEFORE));
     Ok(())
 }

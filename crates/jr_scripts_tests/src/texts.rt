@@ -1,5 +1,6 @@
 //! The text of scripts, from its commands and back. Which texts are scripts, and the fault of each other, the cases of `scripts/` tell.
 
+use assertions::{Text, assert_same};
 use jr_model::Mode;
 use jr_syntax::{
     CloseLevel, Command, MakeFrom, Name, Reference, Script, Sequence, ThreadPart, Tries,
@@ -29,7 +30,7 @@ fn each_command_is_read_and_printed_again(rt: HostRuntime) -> Result<(), Fail> {
     let text =
         b"vm threads 2 slots 4 objects 8 words 16 locals 16\nthread a\nplain p\nboolean z 0\nbyte b 1\nchar c 20\nshort s 300\nint i 16777215\nlong j 9\nobjs o 4 p\nstring t\nstring t 104 0 65535\nlen z\nslen t\nchars t\nget g o 0\nset o 16777215 null\nload i 3\nstore i 0 -9223372036854775808\nstore i 1 9223372036854775807\nelems e i\neget e 0\neput e 0 -1\nrelease e i copy\nrelease e i commit\nrelease e null abort\nthread b2\ncrit r i\ncritstr r t\ncget r 0\ncset r 0 -1\nendcrit commit\nglobal g p\nweak w p\nlocal l null\npop r null\npush 4\nensure 0\ndrop null\ntype w\nsame p null\ngc\ngcann 30\npost g\nwait g\n";
     let printed = a_text_read_is_printed_again(rt.alloc(), text)?;
-    assert!(rt; printed.as_slice() == text.as_slice());
+    assert_same!(&rt; Text(printed.as_slice()), Text(text.as_slice()));
     Ok(())
 }
 
@@ -68,20 +69,20 @@ fn a_script_is_printed_and_read_again(rt: HostRuntime) -> Result<(), Fail> {
     threads.push(part_of_four(&rt, alloc)?)?;
     let script = Script { config, threads };
     let printed = print(alloc, &script)?;
-    assert!(rt; printed.as_slice() == PRINTED);
+    assert_same!(&rt; Text(printed.as_slice()), Text(PRINTED));
     let again = a_script_printed_is_read_again(alloc, &script)?;
-    assert!(rt; again.config == config);
+    assert_same!(&rt; again.config, config);
     let ([part], [wanted]) = (again.threads.as_slice(), script.threads.as_slice()) else {
         return Err("a script of one thread was read as another")?;
     };
     assert!(rt; part.name.is(b"main9"));
-    assert!(rt; part.commands.as_slice() == wanted.commands.as_slice());
+    assert_same!(&rt; part.commands.as_slice(), wanted.commands.as_slice());
     Ok(())
 }
 
 #[test]
-fn names_and_numbers_of_tries(rt: HostRuntime) {
+fn a_default_name_is_a_name_and_tries_keep_their_number(rt: HostRuntime) {
     assert!(rt; Name::default().is(b"a"));
     assert!(rt; is_name(Name::default().as_slice()));
-    assert_eq!(rt; Tries::new(16_777_215).count(), 16_777_215);
+    assert_same!(&rt; Tries::new(16_777_215).count(), 16_777_215);
 }

@@ -4,6 +4,7 @@ ghost use Rattle.jr_env.specs.Envs.{IsOutside};
 
 use crate::printing::BEFORE;
 use crate::scripts::SIZES;
+use assertions::{Text, assert_same};
 use jr_env::{Env, NativeInterface};
 use jr_model::Summary;
 use jr_rule::PlainSteps;
@@ -33,7 +34,7 @@ fn ends<S: Steps>(rt: &impl Abort, alloc: Global, env: &mut Env<S>, turns: u64) 
     let mut notes = Sightings::new(alloc, &posts);
     let mut out = Vec::from_slice(alloc, BEFORE)?;
     run_to_end(alloc, env, 3, &[], &mut notes, &NoHold, turns, &mut out)?;
-    assert!(rt; out.as_slice() == BEFORE);
+    assert_same!(rt; Text(out.as_slice()), Text(BEFORE));
     Ok(())
 }
 
@@ -43,7 +44,7 @@ fn keeps_a_local<S: Steps>(rt: &impl Abort, alloc: Global, env: &mut Env<S>) -> 
 {
     let local = env.new_plain()?;
     ends(rt, alloc, env, 0)?;
-    assert!(rt; env.get_object_ref_type(local) == Ok(1));
+    assert_same!(rt; env.get_object_ref_type(local), Ok(1));
     Ok(local)
 }
 
@@ -57,8 +58,8 @@ fn frees_a_local<S: Steps>(
     requires { IsOutside env.old }
 {
     ends(rt, alloc, env, 1)?;
-    assert!(rt; env.get_object_ref_type(local) == Ok(0));
-    assert!(rt; env.new_local_ref(local) == Err(Fault::Stale));
+    assert_same!(rt; env.get_object_ref_type(local), Ok(0));
+    assert_same!(rt; env.new_local_ref(local), Err(Fault::Stale));
     Ok(())
 }
 
@@ -73,6 +74,6 @@ fn a_thread_without_turns_keeps_its_locals(rt: HostRuntime) -> Result<(), Fail> 
         live: 1,
         used: 0,
     };
-    assert!(rt; env.held.steps.summary() == summary);
+    assert_same!(&rt; env.held.steps.summary(), summary);
     frees_a_local(&rt, alloc, &mut env, local)
 }

@@ -1,5 +1,7 @@
-//! Threads of one script that are held: they wait for each other with many turns. Where memory is refused to one of them, the others wait in vain, so that `.ci/refuse-allocations` leaves these tests out.
+//! Threads of one script that are held: they wait for each other with many turns.
+//! Where memory is refused to one of them, the others wait in vain, so that `.ci/refuse-allocations` leaves these tests out.
 
+use assertions::{Text, assert_same};
 use jr_scripts::{Hold, Reply, run_all};
 use jr_syntax::parse;
 use jr_word::Fault;
@@ -105,11 +107,11 @@ impl Hold for Meeting {
 fn threads_of_a_script_run_side_by_side(rt: HostRuntime) -> Result<(), Fail> {
     let hold = Meeting::new();
     let text = text_of(&rt, rt.alloc(), HANDED_OVER, &hold)?;
-    assert_eq!(rt; text.as_slice(), HANDED_OVER_OUTPUT);
-    assert_eq!(rt; hold.ran_out.load(Ordering::SeqCst), 0);
-    assert_eq!(rt; hold.begun[0].load(Ordering::SeqCst), 5);
-    assert_eq!(rt; hold.begun[1].load(Ordering::SeqCst), 6);
-    assert_eq!(rt; hold.answered[0].load(Ordering::SeqCst), 5);
-    assert_eq!(rt; hold.answered[1].load(Ordering::SeqCst), 6);
+    assert_same!(&rt; Text(text.as_slice()), Text(HANDED_OVER_OUTPUT));
+    assert_same!(&rt; hold.ran_out.load(Ordering::SeqCst), 0);
+    assert_same!(&rt; hold.begun[0].load(Ordering::SeqCst), 5);
+    assert_same!(&rt; hold.begun[1].load(Ordering::SeqCst), 6);
+    assert_same!(&rt; hold.answered[0].load(Ordering::SeqCst), 5);
+    assert_same!(&rt; hold.answered[1].load(Ordering::SeqCst), 6);
     Ok(())
 }

@@ -8,14 +8,18 @@ ghost use Rattle.jr_model.specs.declared.event.Act.TheVariants.{Gate, Read, Writ
 ghost use Rattle.jr_model.specs.declared.event.GateAct.TheVariants.{Cancel, Reopen};
 ghost use Rattle.jr_steps.specs.Collecting.{ShowsLocal, ShowsElement, IsThere, CanWipe, CanDrop, ShowsDropped, CanMove, ShowsMoved, placed, CanPlace, ShowsPlaced, CanSettle};
 ghost use Rattle.jr_model.specs.declared.event.Role.TheVariants.{Outside, Within, Knocking, Announcing, Collecting};
-ghost use Rattle.jr_steps.specs.Acts.{act_of_entry, act_of_exit, act_of_bar, act_of_announcement, act_of_gate_load, GateLoadFits, act_of_slot_load, SlotLoadFits, act_of_claim, act_of_free, act_of_put, acts_of_publication, acts_of_top_load, act_of_reservation, found_of, handle_of};
-ghost use Rattle.jr_steps.specs.Knowing.{anything, DidAll, KnowsHeader, HasWord, IsWordNow, IsFilled, words_for, ShowsHeader, ShowsPublished, ShowsUsed, WasUsed, ShowsRange, ShowsWord, TookWith, HasObject, HasOptional, HasLooked, CanReopen, ShowsAnnounced, ShowsBarred, IsFreeSlot, ShowsGate, ShowsSlot, LostClaim, MayKnow, SawPart, Took, Spent, Hinted, keeps, lets_go};
+ghost use Rattle.jr_steps.specs.Acts.{act_of_entry, act_of_exit, act_of_bar, act_of_announcement, act_of_gate_load, GateLoadFits, act_of_slot_load, SlotLoadFits, act_of_claim, act_of_free};
+ghost use Rattle.jr_steps.specs.Acts.{act_of_put, acts_of_publication, acts_of_top_load, act_of_reservation, found_of, handle_of};
+ghost use Rattle.jr_steps.specs.Knowing.{anything, DidAll, KnowsHeader, HasWord, IsWordNow, IsFilled, words_for, ShowsHeader, ShowsPublished, ShowsUsed, WasUsed, ShowsRange, ShowsWord, TookWith};
+ghost use Rattle.jr_steps.specs.Knowing.{HasObject, HasOptional, HasLooked, CanReopen, ShowsAnnounced, ShowsBarred, IsFreeSlot, ShowsGate, ShowsSlot, LostClaim, MayKnow, SawPart, Took, Spent, Hinted};
+ghost use Rattle.jr_steps.specs.Knowing.{keeps, lets_go};
 
 use crate::loads::{GateLoad, SlotLoad, TopLoad};
 use jr_model::Role;
 use jr_word::{Config, Elem, GateParts, HandleParts, HeaderParts, LocalParts, RefKind, SlotParts};
 
-/// The steps of one thread: each from `go_in` to `set_top` is one atomic operation on one word of the row, but for `see_part`, which is one for each element. The others tell what the pass is, or spend it, and touch no word.
+/// The steps of one thread: each from `go_in` to `set_top` is one atomic operation on one word of the row, but for `see_part`, which is one for each element.
+/// The others tell what the pass is, or spend it, and touch no word.
 pub trait Steps {
     ghost use Rattle.jr_steps.specs.Knowing.{Facts, IsOf};
     ghost use Rattle.jr_steps.specs.declared.known.Known.{Known};
@@ -117,7 +121,8 @@ pub trait Steps {
         requires row { index < (facts self.old).stands.config.slots }
         requires kind { kind ≢ Local }
         requires looked { MayKnow facts self.old (λ k. HasObject object k × IsFreeSlot index serial k) }
-        ensures { Took facts self.old self.new (act_of_claim index serial kind object result ∷ []) (λ k. HasObject object k × IsFreeSlot index serial k) (λ j k. LostClaim index result j k × keeps j k) };
+        ensures { Took facts self.old self.new (act_of_claim index serial kind object result ∷ []) (λ k. HasObject object k × IsFreeSlot index serial k) (λ j k. LostClaim index result j k
+            × keeps j k) };
 
     /// Exchanges the word of a reference that was looked at for a free one: true where it still stood.
     fn free(&mut self, handle: HandleParts, object: Option<u16>) -> bool
@@ -145,14 +150,16 @@ pub trait Steps {
         requires number { (1 ≤ object) × (object ≤ (facts self.old).stands.config.objects) }
         requires header { IsHeader header }
         requires filled { MayKnow facts self.old (IsFilled header) }
-        ensures { TookWith facts self.old self.new (λ k. acts_of_publication object header.kind (words_for header k) result) (facts self.old).stands (IsFilled header) (ShowsPublished object header result) };
+        ensures { TookWith facts self.old self.new (λ k. acts_of_publication object header.kind (words_for header k) result) (facts self.old).stands (IsFilled header)
+            (ShowsPublished object header result) };
 
     /// Loads the top, which counts as what it is named: how many words are reserved.
     fn see_top(&mut self, name: TopLoad) -> u32
         requires { (facts self.old).stands.role ≡ Within }
         ensures { Took facts self.old self.new (acts_of_top_load (facts self.old).stands.config.words name result) anything (λ j k. ShowsUsed result k × keeps j k) };
 
-    /// Reserves words beside a number of words that was used at a moment of this stay, as a look at the top shows one, where that number is used still: right behind it the two together are. Or tells how many are used.
+    /// Reserves words beside a number of words that was used at a moment of this stay, as a look at the top shows one, where that number is used still: right behind it the two together are.
+    /// Or tells how many are used.
     fn claim_top(&mut self, looked: u32, more: u32) -> Result<(), u32>
         requires role { (facts self.old).stands.role ≡ Within }
         requires room { looked + more ≤ (facts self.old).stands.config.words }

@@ -1,6 +1,9 @@
+pub mod Closed
 pub mod Coming
+pub mod Garbage
 pub mod OneHistory
 pub mod Passes
 pub mod Places
 pub mod Starting
 pub mod Stories
+pub mod Swept

@@ -8,12 +8,15 @@ use Rattle.std.specs.List.{AllByRecursion}
 use mathlib.Core.Logic.{dite}
 use native.Mathlib.Decide.{ℕ_discrete}
 use Rattle.jr_word.specs.declared.config.Config.{Config}
+use Rattle.jr_model.specs.declared.event.Act.{Act}
 use Rattle.jr_model.specs.declared.event.Act.TheVariants.{Meet}
+use Rattle.jr_model.specs.CollectionCalls.{collection_acts}
 use Rattle.jr_model.specs.declared.summary.Summary.{Summary}
 use Rattle.jr_model.specs.State.{not_outside, summary}
 use Rattle.jr_model.specs.History.{History, Did, IsLegal, mine, state}
 use Rattle.jr_model.specs.Frames.{fresh_frames}
 use Rattle.jr_model.proofs.Moments.{prefix_trans}
+use Rattle.jr_model.proofs.Stays.{did_then}
 use Rattle.jr_steps.specs.declared.known.Known.{Known}
 use Rattle.jr_steps.specs.Knowing.{view}
 use Rattle.jr_steps.proofs.StepFacts.{goes_did}
@@ -23,6 +26,7 @@ use Rattle.jr_rule.specs.Rule.{stepping_pass}
 use Rattle.jr_rule.specs.Passes.{Holder, facts_of, holder_of, known_of, numbers_below}
 use Rattle.jr_rule.specs.Passes.{standing_of, AreOpened, ClosesAll, EndsAll, IsOpened, IsSeenIn}
 use Rattle.jr_env.specs.Deeds.{Deed}
+use Rattle.jr_threads.specs.Closing.{ClosesSwept}
 use Rattle.jr_threads.specs.declared.native.Ended.{Ended}
 use Rattle.jr_threads.specs.Parts.{closing, DidWithPass, IsThreadPart, RanTogether, ComesOfDeed}
 use Rattle.jr_threads.specs.Sites.{answers_in, passes_in, ThreadRan, ThreadsRan, IsBack}
@@ -44,10 +48,10 @@ since deed r p now x o h =
     (stepping_pass now.seat.me).seen start (outside_did start.steps.outside h.did)
     (λ k n. ap (λ (z : Known). z.seen) (sym n.0))
 
-module _ {A : Type 0} (tells : A → Bool) (deed : ℕ → Deed A) (whole : History) where
+module _ {A : Type 0} (tells : A → Bool) (deed : ℕ → Deed A) (sweep : List Act) (whole : History) where
   -- the part of a thread that only made its calls
-  part_of_other : (c : Config) (last t : ℕ) (x : A) (k : Known) → closing t ≡ [] → k.thread ≡ t → IsSeenIn whole k
-      → (tells x ≡ true → ComesOfDeed c last t (deed t) x k.seen) → IsThreadPart tells deed c last whole t x
+  part_of_other : (c : Config) (last t : ℕ) (x : A) (k : Known) → closing sweep t ≡ [] → k.thread ≡ t → IsSeenIn whole k
+      → (tells x ≡ true → ComesOfDeed c last t (deed t) x k.seen) → IsThreadPart tells deed c last sweep whole t x
   part_of_other c last t x k none is_of s done = record {
     seen = k.seen;
     begins = s.begins;
@@ -57,22 +61,24 @@ module _ {A : Type 0} (tells : A → Bool) (deed : ℕ → Deed A) (whole : Hist
   }
 
   -- the part of the one that looks at the gate at the end
-  part_of_first : (c : Config) (last : ℕ) (x : A) (k met : Known) → k.thread ≡ 0 → Did (view k) (view met) (Meet ∷ [])
+  part_of_first : (c : Config) (last : ℕ) (x : A) (k met : Known) → k.thread ≡ 0
+      → Did (view k) (view met) (sweep ++ Meet ∷ [])
       → IsSeenIn whole met → (tells x ≡ true → ComesOfDeed c last 0 (deed 0) x k.seen)
-      → IsThreadPart tells deed c last whole 0 x
+      → IsThreadPart tells deed c last sweep whole 0 x
   part_of_first c last x k met is_of d s done = record {
     seen = k.seen;
     begins = prefix_trans k.seen met.seen whole d.begins s.begins;
     own = ap (mine whole) (sym (d.thread ∙ is_of))
-        ∙ (s.own ∙ (ap (mine met.seen) d.thread ∙ (d.own ∙ ap (λ l. l ++ Meet ∷ []) (ap (mine k.seen) is_of))));
+        ∙ (s.own ∙ (ap (mine met.seen) d.thread
+        ∙ (d.own ∙ ap (λ l. l ++ (sweep ++ Meet ∷ [])) (ap (mine k.seen) is_of))));
     did = done;
   }
 
   -- the parts of threads that only made their calls, by their places in a list
   parts_of_others : (r : Row) (ps : List Pass) (es : List (Ended A)) → ThreadsRan tells deed r ps es
       → AllByRecursion (IsOpened r) ps → AllByRecursion (IsSeenIn whole) (map known_of (passes_in es))
-      → (i t : ℕ) (d : A) → i < length ps → get_or (map (λ (p : Pass). p.thread) ps) i 0 ≡ t → closing t ≡ []
-      → IsThreadPart tells deed r.config r.last whole t (get_or (answers_in es) i d)
+      → (i t : ℕ) (d : A) → i < length ps → get_or (map (λ (p : Pass). p.thread) ps) i 0 ≡ t → closing sweep t ≡ []
+      → IsThreadPart tells deed r.config r.last sweep whole t (get_or (answers_in es) i d)
   parts_of_others r [] es ran o s i t d below is none = absurd (omega arith)
   parts_of_others r (p ∷ ps) [] ran o s i t d below is none = absurd ran
   parts_of_others r (p ∷ ps) (e ∷ es) ran o s zero t d below is none =
@@ -95,7 +101,7 @@ number_at (suc n) i below = dite (ℕ_discrete n i)
 pub have_run : {A : Type 0} (tells : A → Bool) (deed : ℕ → Deed A) (r : Row) (ps : List Pass) (es : List (Ended A))
     (first : Pass) (others : List Pass) (s : Summary)
     → AreOpened r.config r.last r ps → ThreadsRan tells deed r ps es → first ∷ others ≡ passes_in es
-    → ClosesAll (known_of first) (map known_of others) s → RanTogether tells deed r.config r.last (answers_in es) s
+    → ClosesSwept (known_of first) (map known_of others) s → RanTogether tells deed r.config r.last (answers_in es) s
 have_run tells deed r [] [] first others s o ran is closes = absurd cc
 have_run tells deed r [] (e ∷ es) first others s o ran is closes = absurd ran
 have_run tells deed r (p ∷ ps) [] first others s o ran is closes = absurd ran
@@ -106,9 +112,16 @@ have_run {A} tells deed r (p ∷ ps) (e ∷ es) first others s o ran is closes =
   behind : others ≡ passes_in es
   behind = cc
 
-  ends : ClosesAll (known_of e.pass) (map known_of (passes_in es)) s
-  ends =
-      subst (λ (z : Pass × List Pass). ClosesAll (known_of z.0) (map known_of z.1) s) (λ i. (front i, behind i)) closes
+  behind_sweep : ClosesSwept (known_of e.pass) (map known_of (passes_in es)) s
+  behind_sweep =
+      subst (λ (z : Pass × List Pass). ClosesSwept (known_of z.0) (map known_of z.1) s)
+      (λ i. (front i, behind i)) closes
+
+  ends : ClosesAll behind_sweep.swept (map known_of (passes_in es)) s
+  ends = behind_sweep.closes
+
+  sweep : List Act
+  sweep = collection_acts behind_sweep.collects.cleared behind_sweep.collects.dropped behind_sweep.collects.used
 
   opened : AllByRecursion (IsOpened r) (p ∷ ps)
   opened = recursion_from_All (IsOpened r) (p ∷ ps) o.each
@@ -122,8 +135,8 @@ have_run {A} tells deed r (p ∷ ps) (e ∷ es) first others s o ran is closes =
   own_number : p.thread ≡ 0
   own_number = number 0 (let all = long in omega arith)
 
-  d : Did (view (known_of e.pass)) (view ends.met) (Meet ∷ [])
-  d = goes_did ends.goes
+  d : Did (view (known_of e.pass)) (view ends.met) (sweep ++ Meet ∷ [])
+  d = did_then sweep (Meet ∷ []) behind_sweep.collects.did (goes_did ends.goes)
 
   back : IsBack r p e.pass
   back = (ran.0).back
@@ -145,10 +158,11 @@ have_run {A} tells deed r (p ∷ ps) (e ∷ es) first others s o ran is closes =
       (since (deed p.thread) r p (holder_of e.pass) e.answer opened.0 ((ran.0).came told))
 
   parts : (t : ℕ) (x : A) → t < r.config.threads
-      → IsThreadPart tells deed r.config r.last end.whole t (get_or (answers_in (e ∷ es)) t x)
+      → IsThreadPart tells deed r.config r.last sweep end.whole t (get_or (answers_in (e ∷ es)) t x)
   parts zero x below =
-      part_of_first tells deed end.whole r.config r.last e.answer (known_of e.pass) ends.met is_of d end.first done
-  parts (suc i) x below = parts_of_others tells deed end.whole r ps es ran.1 opened.1 end.others i (suc i) x
+      part_of_first tells deed sweep end.whole r.config r.last e.answer (known_of e.pass) ends.met is_of d end.first
+      done
+  parts (suc i) x below = parts_of_others tells deed sweep end.whole r ps es ran.1 opened.1 end.others i (suc i) x
       (let all = long in omega arith) (number (suc i) below) refl
 
   all : RanTogether tells deed r.config r.last (answers_in (e ∷ es)) s
@@ -158,12 +172,17 @@ have_run {A} tells deed r (p ∷ ps) (e ∷ es) first others s o ran is closes =
     lawful = end.lawful;
     count = length-map (e ∷ es) (λ (z : Ended A). z.answer)
         ∙ (AllZip-long (ThreadRan tells deed r) (p ∷ ps) (e ∷ es) ran ∙ long);
+    cleared = behind_sweep.collects.cleared;
+    dropped = behind_sweep.collects.dropped;
+    used = behind_sweep.collects.used;
     parts = parts;
     looked = record {
       seen = (ends.met).seen;
       begins = (end.first).begins;
       own = subst (λ t. mine end.whole t ≡ mine (ends.met).seen t) (d.thread ∙ is_of) (end.first).own;
-      nobody = subst (λ c. not_outside c (state (ends.met).seen) ≡ 0) (back.at).config ends.nobody;
+      nobody = subst (λ c. not_outside c (state (ends.met).seen) ≡ 0)
+          (behind_sweep.collects.did.config ∙ (back.at).config) ends.nobody;
     };
+    nothing = behind_sweep.nothing;
     is = end.is ∙ ap (λ (z : Config × ℕ). summary z.0 z.1 (state end.whole)) (λ i. (config_is i, last_is i));
   }

@@ -1,3 +1,4 @@
+pub mod Closing
 pub mod Parts
 pub mod Sites
 pub mod Starting

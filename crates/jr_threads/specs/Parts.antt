@@ -7,16 +7,18 @@ use Rattle.jr_word.specs.declared.fault.Fault.{Fault}
 use Rattle.jr_model.specs.declared.event.Act.{Act}
 use Rattle.jr_model.specs.declared.event.Act.TheVariants.{Meet}
 use Rattle.jr_model.specs.declared.summary.Summary.{Summary}
+use Rattle.jr_model.specs.CollectionCalls.{collection_acts}
 use Rattle.jr_model.specs.Frames.{Frames, fresh_frames}
 use Rattle.jr_model.specs.History.{History, PassView, IsLegal, mine, state}
 use Rattle.jr_model.specs.Laws.{KeepsTheLaws}
-use Rattle.jr_model.specs.State.{not_outside, summary}
+use Rattle.jr_model.specs.State.{Handle, not_outside, summary}
 use Rattle.jr_steps.specs.Holdings.{empty}
 use Rattle.jr_steps.specs.Knowing.{Facts, Spent}
 use Rattle.jr_gate.specs.Performing.{ThreadState}
 use Rattle.jr_rule.specs.declared.pass.Pass.{Pass}
 use Rattle.jr_rule.specs.Passes.{Holder, facts_of, holder_of, standing_of}
 use Rattle.jr_env.specs.Deeds.{Deed, DoesDeed}
+use Rattle.jr_threads.specs.Closing.{HasNoGarbage}
 
 -- a pass of the thread, in a room of these sizes and this last serial, that has seen this
 abbrev pub pass_that_saw : Config → ℕ → ℕ → History → PassView
@@ -41,19 +43,20 @@ pub record ComesOfDeed {A : Type 0} (c : Config) (last t : ℕ) (deed : Deed A) 
   pub does : deed (start_moment c last t) (Ok x) left
   pub saw : left.pass ≡ pass_that_saw c last t seen
 
--- what the room's close does in the thread of this number: thread 0 looks at the gate, and no other does anything
-abbrev pub closing : ℕ → List Act
-closing zero = Meet ∷ []
-closing (suc t) = []
+-- what the room's close does in the thread of this number:
+-- thread 0 collects, by these acts, and looks at the gate, and no other does anything
+abbrev pub closing : List Act → ℕ → List Act
+closing sweep zero = sweep ++ Meet ∷ []
+closing sweep (suc t) = []
 
 -- THE THREAD'S PART in the history, with this answer:
 -- the history begins with all that it has seen, and has of its events those, the ones of the close, and no others;
 -- and where the answer tells of the deed, it has done this and nothing else
-pub record IsThreadPart {A : Type 0} (tells : A → Bool) (deed : ℕ → Deed A) (c : Config) (last : ℕ) (whole : History)
-    (t : ℕ) (x : A) : Type 0 where
+pub record IsThreadPart {A : Type 0} (tells : A → Bool) (deed : ℕ → Deed A) (c : Config) (last : ℕ) (sweep : List Act)
+    (whole : History) (t : ℕ) (x : A) : Type 0 where
   pub seen : History
   pub begins : IsPrefix seen whole
-  pub own : mine whole t ≡ mine seen t ++ closing t
+  pub own : mine whole t ≡ mine seen t ++ closing sweep t
   pub did : tells x ≡ true → ComesOfDeed c last t (deed t) x seen
 
 -- NOBODY WAS INSIDE, knocking, announcing or collecting, where thread 0 had looked at the gate, as its last act
@@ -64,15 +67,21 @@ pub record IsLookedAt (c : Config) (whole : History) : Type 0 where
   pub nobody : not_outside c (state seen) ≡ 0
 
 -- THE THREADS HAVE RUN: of one legal history, which keeps the laws, each thread of the room has
--- its part, with the answer at the place of its number; and the summary is of that history's end
+-- its part, with the answer at the place of its number. Behind its own part thread 0 collects and looks at the
+-- gate, so that no object is left to collect at the history's end; and the summary is of that end
 pub record RanTogether {A : Type 0} (tells : A → Bool) (deed : ℕ → Deed A) (c : Config) (last : ℕ) (answers : List A)
     (s : Summary) : Type 0 where
   pub whole : History
   pub legal : IsLegal c last whole
   pub lawful : KeepsTheLaws whole
   pub count : length answers ≡ c.threads
-  pub parts : (t : ℕ) (d : A) → t < c.threads → IsThreadPart tells deed c last whole t (slice_index_or answers t d)
+  pub cleared : List Handle
+  pub dropped : List ℕ
+  pub used : ℕ
+  pub parts : (t : ℕ) (d : A) → t < c.threads
+      → IsThreadPart tells deed c last (collection_acts cleared dropped used) whole t (slice_index_or answers t d)
   pub looked : IsLookedAt c whole
+  pub nothing : HasNoGarbage (state whole)
   pub is : s ≡ summary c last (state whole)
 
 -- with its pass, which was spent first, a thread did this and nothing else, with this answer, and now has this

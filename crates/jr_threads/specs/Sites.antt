@@ -5,6 +5,7 @@ use Rattle.atomic_table.specs.Seated.{TableId}
 use Rattle.jr_word.specs.declared.config.Config.{Config}
 use Rattle.jr_model.specs.declared.summary.Summary.{Summary}
 use Rattle.jr_model.specs.declared.event.Role.TheVariants.{Outside}
+use Rattle.jr_model.specs.History.{state}
 use Rattle.jr_steps.specs.declared.known.Known.{Known}
 use Rattle.jr_rule.specs.declared.pass.Pass.{Pass}
 use Rattle.jr_threads.specs.declared.native.Ended.{Ended}
@@ -14,6 +15,7 @@ use Rattle.jr_rule.specs.declared.room.Room.{Room}
 use Rattle.jr_rule.specs.declared.row.Row.{Row}
 use Rattle.jr_rule.specs.Passes.{known_of, holder_of, ClosesAll, HasEachPass, IsAt, IsOpened}
 use Rattle.jr_env.specs.Deeds.{Deed}
+use Rattle.jr_threads.specs.Closing.{HasNoGarbage}
 use Rattle.jr_threads.specs.Parts.{DidWithPass}
 
 -- THE TYPE STANDS FOR THE ROOM, by its table and its sizes
@@ -48,7 +50,8 @@ ThreadsRan tells deed r ps es = AllZip (ThreadRan tells deed r) ps es
 
 -- A ROOM WAS CLOSED with passes of it, one of each of its threads, of these sizes
 -- and this last serial: what is told is what stands at the end of one legal history,
--- which begins with all that each of them has seen and has no more of their events
+-- which begins with all that each of them has seen and has no more of their events.
+-- Nothing is left to collect there
 pub record IsClosedBehind (c : Config) (last : ℕ) (s : Summary) : Type 0 where
   pub first : Known
   pub others : List Known
@@ -56,6 +59,7 @@ pub record IsClosedBehind (c : Config) (last : ℕ) (s : Summary) : Type 0 where
   pub serials : first.last ≡ last
   pub each : HasEachPass c (first ∷ others)
   pub closes : ClosesAll first others s
+  pub nothing : HasNoGarbage (state closes.ends.whole)
 
 -- THE THREAD WAITS at its place, with this pass
 pub record IsWaiting {A : Type 0} (r : Row) (p : Place A) : Type 0 where

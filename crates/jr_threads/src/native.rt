@@ -18,7 +18,8 @@ pub(crate) const LAST: u32 = LAST_SERIAL;
 
 /// Native code: what each thread of a room runs, over its env.
 ///
-/// Where it wants to, it tells what it does: `tells` picks the answers that tell of a deed, by default none, and `deed` is what a run does in the thread of a number. `run_native` then says so of each thread.
+/// Where it wants to, it tells what it does: `tells` picks the answers that tell of a deed, by default none, and `deed` is what a run does in the thread of a number.
+/// `run_native` then says so of each thread.
 pub trait NativeCode {
     ghost use Rattle.std.specs.Prelude.{◌≡◌, ℕ, Bool, true, false, Ok};
     ghost use Rattle.jr_env.specs.Deeds.{Deed};
@@ -38,7 +39,8 @@ pub trait NativeCode {
 
     ghost deed: { Self → ℕ → Deed Self.Answer } = { λ native thread old answer new. Unit {0} };
 
-    /// Runs in the thread of this number, from 0 upward, with its env, which is that thread's and stands at its start: it has seen nothing, stands outside, and has no local reference. What it leaves in the env's frames stays.
+    /// Runs in the thread of this number, from 0 upward, with its env, which is that thread's and stands at its start: it has seen nothing, stands outside, and has no local reference.
+    /// What it leaves in the env's frames stays.
     ///
     /// `Q` stands for the room of all threads. So a note that comes by the queue, whose end the thread has, is one of this room.
     fn run<Q: Site, S: StepsIn<Q> + Drop>(

@@ -3,6 +3,7 @@ ghost use Rattle.std.specs.Prelude.{◌≡◌, ◌⊎◌, ◌↔◌, ◌≤◌, 
 ghost use Rattle.jr_word.specs.declared.fault.Fault.TheVariants.{Memory, Size};
 ghost use Rattle.jr_word.specs.Config.{in_limits};
 ghost use Rattle.jr_rule.specs.Passes.{AreOpened, IsOpened};
+ghost use Rattle.jr_weak.specs.Markers.{room_of};
 ghost use Rattle.jr_threads.specs.Parts.{RanTogether};
 ghost use Rattle.jr_threads.specs.Sites.{PlaceRan, PlacesRan, IsClosedBehind, IsSiteRoom, IsWaiting};
 
@@ -11,6 +12,7 @@ use crate::native::{LAST, NativeCode, Place, run_thread};
 use crate::queue::NoteQueue;
 use jr_model::Summary;
 use jr_rule::{Pass, Room, Site};
+use jr_weak::Marker;
 use jr_word::{Config, Fault};
 use std::alloc::Global;
 use std::marker::Brand;
@@ -22,7 +24,7 @@ use std::thread::Threads;
 pub struct Ran<A: Drop> {
     /// What each thread answered, in the order of their numbers.
     pub answers: Vec<A>,
-    /// What stood in the room as it was closed.
+    /// What stood in the room as it was closed: each object that it tells is reached.
     pub summary: Summary,
 }
 
@@ -63,17 +65,19 @@ fn run_threads<R: Threads + Sync, Q: Site + Send + Sync + 'static, N: NativeCode
     thread::for_each_mut(rt, places, count, &there);
 }
 
-/// Runs the native code in each thread of a room that was opened, which is the site's, and closes it.
+/// Runs the native code in each thread of a room that was opened, which is the site's, collects, and closes it.
 fn run_in<R: Threads + Sync, Q: Site + Send + Sync + 'static, N: NativeCode + Sync>(
     rt: &R,
     alloc: Global,
     room: Room<LAST>,
     passes: Vec<Pass>,
+    mut marker: Marker,
     native: &N,
 ) -> Result<Ran<N::Answer>, Fault>
     requires opened { AreOpened room.row.config room.row.last room.row passes.items }
     requires some { 1 ≤ length passes.items }
     requires site { IsSiteRoom Q.room Q.sizes room }
+    requires marker { room_of marker ≡ room.row.config.objects }
     ensures memory { IfErr result (λ e. e ≡ Memory) }
     ensures run { IfOk result (λ r. RanTogether N.tells (N.deed native.now) room.row.config room.row.last r.answers.items r.summary) }
     ensures summary { IfOk result (λ r. IsClosedBehind room.row.config room.row.last r.summary) }
@@ -90,17 +94,19 @@ fn run_in<R: Threads + Sync, Q: Site + Send + Sync + 'static, N: NativeCode + Sy
     let first = left.remove(0);
     Ok(Ran {
         answers,
-        summary: close(room, first, left),
+        summary: close(room, first, left, &mut marker),
     })
 }
 
-/// Opens a room of these sizes, runs the native code in each of its threads, each over an env of its own, and closes the room when all have ended.
+/// Opens a room of these sizes, runs the native code in each of its threads, each over an env of its own, and when all have ended collects and closes the room. So what the summary tells is reached:
+/// by a global reference that nobody deleted, or by a local one that a thread left.
 ///
 /// # Errors
 ///
 /// E17 exactly where the sizes are beyond their limits; E16 where memory was refused.
 ///
-/// No native code has run then: all memory is taken before a thread starts. Where the system can't make a thread, that is no refusal: its native code runs in another's, behind or before that one's own.
+/// No native code has run then: all memory is taken before a thread starts, that of the collection too, which is never refused. Where the system can't make a thread, that is no refusal:
+/// its native code runs in another's, behind or before that one's own.
 ///
 /// What lies in the queue at the close is let go, and a global reference in it stays in its slot.
 pub fn run_native<R: Threads + Sync, N: NativeCode + Sync>(
@@ -115,5 +121,8 @@ pub fn run_native<R: Threads + Sync, N: NativeCode + Sync>(
     ensures summary { IfOk result (λ r. IsClosedBehind config 4294967295 r.summary) }
 {
     let (room, passes) = Room::<LAST>::open(alloc, config)?;
-    run_in::<R, Brand, N>(rt, alloc, room, passes, native)
+    let Ok(marker) = Marker::new(alloc, config) else {
+        return Err(Fault::Memory);
+    };
+    run_in::<R, Brand, N>(rt, alloc, room, passes, marker, native)
 }

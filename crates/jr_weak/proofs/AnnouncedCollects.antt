@@ -1,5 +1,5 @@
 -- What is done behind an announcement, and a collection so made; and one that was given up is the model's.
-use Rattle.std.proofs.Common.{◌≡◌, ◌≢◌, ◌+◌, ℕ, inl, inr, List, [], ◌∷◌, ◌++◌, map}
+use Rattle.std.proofs.Common.{◌≡◌, ◌≢◌, ◌+◌, ℕ, Bool, inl, inr, List, [], ◌∷◌, ◌++◌, map}
 use Rattle.std.proofs.Common.{Result, Ok, Err, IfOk, IfErr, length, refl, sym, ap, subst, ◌∙◌, arith, append_assoc}
 use Rattle.std.proofs.lemmas.List.{length-append, length-map}
 use Rattle.std.specs.List.{AllByRecursion}
@@ -11,7 +11,7 @@ use Rattle.jr_model.specs.declared.event.Act.TheVariants.{Gate, ShutBusy, Clear,
 use Rattle.jr_model.specs.declared.event.GateAct.TheVariants.{Announce, Cancel, Shut, Reopen}
 use Rattle.jr_model.specs.State.{Handle}
 use Rattle.jr_model.specs.History.{PassView, Did}
-use Rattle.jr_model.specs.CollectionCalls.{Collects, announcing_acts, sweeping_acts}
+use Rattle.jr_model.specs.CollectionCalls.{announcing_acts, sweeping_acts}
 use Rattle.jr_model.specs.Windows.{IsLastSeen, IsWindow}
 use Rattle.jr_model.proofs.Announcements.{announced_until}
 use Rattle.jr_model.proofs.Moments.{prefix_self}
@@ -25,7 +25,9 @@ use Rattle.jr_gate.specs.Acting.{ActedTo}
 use Rattle.jr_gate.specs.Announcing.{AnnouncesInTwo, WasNotAnnounced}
 use Rattle.jr_compact.specs.Counting.{TakesWithin}
 use Rattle.jr_weak.specs.Counting.{collection_steps, sweeping_steps}
-use Rattle.jr_weak.specs.Collecting.{CollectsFrom, Finishes, GivesUp, MakesAnnouncedCollection, WentAnnounced}
+use Rattle.jr_weak.specs.declared.collecting.Collected.{Collected}
+use Rattle.jr_weak.specs.Collecting.{CollectsFrom, CollectsMarking, Finishes, GivesUp, MakesAnnouncedCollection}
+use Rattle.jr_weak.specs.Collecting.{MakesAnnouncedListing, WentAnnounced}
 use Rattle.jr_weak.specs.Collecting.{closed_at_look, shut_acts, closed_at_exchange, moved_at_exchange, taken_back}
 use Rattle.jr_weak.specs.Waiting.{CancelsAfter, ShutsActByAct, ShutsAfter, ShutsAnnounced}
 use Rattle.jr_weak.proofs.Collects.{collects_since, within_since}
@@ -263,11 +265,13 @@ act_by_act facts {d = d} most rest ends sh then' =
     }
 
 -- A COLLECTION
-pub collects_act_by_act : {S : Type 0} (facts : S → Facts) {a d z : S} {tries cleared_count dropped_count used : ℕ}
-    → ShutsAnnounced facts a d tries → Finishes facts d z cleared_count dropped_count used
+pub collects_act_by_act : {S : Type 0} (facts : S → Facts) {a d z : S} {marks : List Bool}
+    {tells : List Handle → List ℕ → Type 0} {tries cleared_count dropped_count used : ℕ}
+    → ShutsAnnounced facts a d tries → Finishes facts d z marks tells cleared_count dropped_count used
     → ShutsActByAct facts a z tries (λ c. sweeping_steps c + 1)
-collects_act_by_act facts {used = used} sh rest =
-    act_by_act facts (λ c. sweeping_steps c + 1) (λ j k. CollectsFrom j k rest.cleared rest.dropped used) (λ j k from. (
+collects_act_by_act facts {marks = marks} {used = used} sh rest =
+    act_by_act facts (λ c. sweeping_steps c + 1)
+    (λ j k. CollectsFrom marks j k rest.cleared rest.dropped used) (λ j k from. (
       (
         sweeping_acts rest.cleared rest.dropped used,
         did_then (sweeping_acts rest.cleared rest.dropped used) (Gate Reopen ∷ []) from.swept (goes_did from.opened),
@@ -275,40 +279,81 @@ collects_act_by_act facts {used = used} sh rest =
       from.taken,
     )) sh rest.went
 
-collected_for : (cleared : List Handle) (dropped : List ℕ) (used : ℕ) (k k1 k' : Known) → Goes k (Gate Shut ∷ []) k1
-    → CollectsFrom k1 k' cleared dropped used
+collected_for : (marks : List Bool) (cleared : List Handle) (dropped : List ℕ) (used : ℕ) (k k1 k' : Known)
+    → Goes k (Gate Shut ∷ []) k1 → CollectsFrom marks k1 k' cleared dropped used
     → ShutFor (sweeping_acts cleared dropped used) (collection_steps k.config)
-    (λ p q. Collects p q cleared dropped used) k k1 k'
-collected_for cleared dropped used k k1 k' g rest =
-    let since = collects_since cleared dropped used g rest in
+    (λ p q. CollectsMarking marks p q cleared dropped used) k k1 k'
+collected_for marks cleared dropped used k k1 k' g rest =
+    let since = collects_since marks cleared dropped used g rest in
     record {
       opening = rest.opening;
       swept = rest.swept;
       opened = rest.opened;
-      did = since.collects.did;
-      done = since.collects;
+      did = (since.does).collects.did;
+      done = since.does;
       within = within_since k' g rest.taken;
     }
 
-pub makes_announced : {S : Type 0} (facts : S → Facts) {a d z : S} {tries cleared_count dropped_count used : ℕ}
+pub makes_announced : {S : Type 0} (facts : S → Facts) {a d z : S} {marks : List Bool}
+    {tells : List Handle → List ℕ → Type 0} {tries cleared_count dropped_count used : ℕ}
     → (facts a).stands.role ≡ Outside → ShutsAnnounced facts a d tries
-    → Finishes facts d z cleared_count dropped_count used
-    → MakesAnnouncedCollection facts a z tries cleared_count dropped_count used
-makes_announced facts {used = used} outside sh rest = record {
+    → Finishes facts d z marks tells cleared_count dropped_count used
+    → MakesAnnouncedListing facts a z tries marks tells cleared_count dropped_count used
+makes_announced facts {marks = marks} {used = used} outside sh rest = record {
   refused = sh.after.refused;
   few = sh.after.few;
-  done = record {
-    cleared = rest.cleared;
-    dropped = rest.dropped;
-    clears = rest.clears;
-    drops = rest.drops;
-    went = does_announced facts (sweeping_acts rest.cleared rest.dropped used) collection_steps
-        (λ p q. Collects p q rest.cleared rest.dropped used) (λ j k. CollectsFrom j k rest.cleared rest.dropped used)
-        outside (sweeping_spares (Gate Cancel) (λ h e. cc) (λ o e. cc) (λ n e. cc) rest.cleared rest.dropped used)
-        (sweeping_spares (Gate Reopen) (λ h e. cc) (λ o e. cc) (λ n e. cc) rest.cleared rest.dropped used)
-        (collected_for rest.cleared rest.dropped used) sh rest.went;
-  };
+  done = (
+    record {
+      cleared = rest.cleared;
+      dropped = rest.dropped;
+      clears = rest.clears;
+      drops = rest.drops;
+      went = does_announced facts (sweeping_acts rest.cleared rest.dropped used) collection_steps
+          (λ p q. CollectsMarking marks p q rest.cleared rest.dropped used)
+          (λ j k. CollectsFrom marks j k rest.cleared rest.dropped used)
+          outside (sweeping_spares (Gate Cancel) (λ h e. cc) (λ o e. cc) (λ n e. cc) rest.cleared rest.dropped used)
+          (sweeping_spares (Gate Reopen) (λ h e. cc) (λ o e. cc) (λ n e. cc) rest.cleared rest.dropped used)
+          (collected_for marks rest.cleared rest.dropped used) sh rest.went;
+    },
+    rest.told,
+  );
 }
+
+-- whatever is told of it
+pub made_announced_plain : {S : Type 0} (facts : S → Facts) (a z : S) (tries : ℕ) (marks : List Bool)
+    (tells : List Handle → List ℕ → Type 0) (r : Result Collected Fault)
+    → IfOk r (λ c. MakesAnnouncedListing facts a z tries marks tells c.cleared c.dropped c.used)
+    → IfOk r (λ c. MakesAnnouncedCollection facts a z tries c.cleared c.dropped c.used)
+made_announced_plain facts a z tries marks tells (Ok c) made =
+    let all = (made.done).0 in
+    record {
+      refused = made.refused;
+      few = made.few;
+      done = record {
+        cleared = all.cleared;
+        dropped = all.dropped;
+        clears = all.clears;
+        drops = all.drops;
+        went = record {
+          stands_is = all.went.stands_is;
+          hint_is = all.went.hint_is;
+          leads = λ k s m.
+              let y = all.went.leads k s m in
+              let did = y.2 in (
+                y.0,
+                y.1,
+                record {
+                  shutting = did.shutting;
+                  announced = did.announced;
+                  done = (did.done).collects;
+                  until = did.until;
+                },
+                y.3,
+              );
+        };
+      };
+    }
+made_announced_plain facts a z tries marks tells (Err e) made = tt
 
 module _ {S : Type 0} (facts : S → Facts) {a b : S} (tries : ℕ) (outside : (facts a).stands.role ≡ Outside)
     (announced : ActedTo facts a b (Meet ∷ Gate Announce ∷ []) anything AnnouncesInTwo) where

@@ -1,9 +1,10 @@
 -- A collection, from the shut of the gate to its reopening, is the model's.
 use Rattle.std.proofs.Common.{◌≡◌, ◌≤◌, ◌+◌, ℕ, Bool, Option, IsSome, List, [], ◌∷◌}
-use Rattle.std.proofs.Common.{◌++◌, map, refl, sym, ap, subst, ◌∙◌, append_assoc, arith}
+use Rattle.std.proofs.Common.{◌++◌, map, Result, Ok, Err, IfOk, refl, sym, ap, subst, ◌∙◌, append_assoc, arith}
 use Rattle.std.proofs.lemmas.List.{append-nil}
 use mathlib.Core.Logic.{∥∥₁_map}
 use Rattle.jr_word.specs.declared.config.Config.{Config}
+use Rattle.jr_word.specs.declared.fault.Fault.{Fault}
 use Rattle.jr_model.specs.declared.event.Act.{Act}
 use Rattle.jr_model.specs.declared.event.Event.{Event}
 use Rattle.jr_model.specs.declared.event.Role.TheVariants.{Outside, Collecting}
@@ -13,7 +14,7 @@ use Rattle.jr_model.specs.declared.event.GateAct.TheVariants.{Shut, Reopen}
 use Rattle.jr_model.specs.State.{Handle, Contents, State, HaveSameTables}
 use Rattle.jr_model.specs.History.{History, by, state, mine, Did, IsLegal}
 use Rattle.jr_model.proofs.Lengths.{lengths_fit}
-use Rattle.jr_model.specs.CollectionCalls.{IsWhole, collection_acts, sweeping_acts, CollectionIn, Collects}
+use Rattle.jr_model.specs.CollectionCalls.{IsWhole, collection_acts, sweeping_acts, CollectionIn}
 use Rattle.jr_model.specs.Windows.{IsWindow}
 use Rattle.jr_model.proofs.Histories.{mine_append, state_push}
 use Rattle.jr_model.proofs.Stays.{did_added, did_then, mine_did}
@@ -31,7 +32,9 @@ use Rattle.jr_weak.specs.Counting.{clearing_steps, collection_steps, dropping_st
 use Rattle.jr_weak.specs.Marking.{IsMarkedNow}
 use Rattle.jr_weak.specs.Sweeping.{AreCleared, AreDropped, ClearsUnreached}
 use Rattle.jr_weak.specs.Sweeping.{DropsUnreached, IsExactlyToClear, IsExactlyToDrop}
-use Rattle.jr_weak.specs.Collecting.{CollectsFrom, Finishes, MakesCollection}
+use Rattle.jr_weak.specs.declared.collecting.Collected.{Collected}
+use Rattle.jr_weak.specs.Collecting.{CollectsFrom, CollectsMarking, Finishes, MakesCollection, MakesListing}
+use Rattle.jr_weak.proofs.Kept.{exactly_same}
 use Rattle.jr_weak.proofs.Leading.{closed_on, reached_on}
 
 pub sees_did : {k k' : Known} → Sees k k' → Did (view k) (view k') []
@@ -172,20 +175,23 @@ module _ {S : Type 0} (facts : S → Facts) (a b : S) (marks : List Bool) where
       ∥∥₁_map may (λ k. let x = p.leads k.0 k.1 k.2 in (x.0, x.1, can_reopen marks used k.0 x.0 k.2 x.3.0.0))
 
 module _ {S : Type 0} (facts : S → Facts) (fits : AreOf facts) (marks : List Bool) {b c d e f z : S}
-    {cleared_count dropped_count used room : ℕ} (collecting : (facts b).stands.role ≡ Collecting)
+    {cleared_count dropped_count used room : ℕ} {tells : List Handle → List ℕ → Type 0}
+    (collecting : (facts b).stands.role ≡ Collecting)
     (fitting : room ≡ (facts b).stands.config.objects)
     (marked : SawWithin facts (λ j. marking_steps j.config) b c CanReopen (λ j k. IsMarkedNow marks k))
     (clear : ClearsUnreached facts marks c d cleared_count) (drop : DropsUnreached facts marks d e dropped_count)
+    (told : tells clear.cleared drop.dropped)
     (moved : ActedTo facts e f (Settle used ∷ []) (AreDropped marks)
     (λ j k. AreCompacted used j k × TakesWithin (room + (used + used + used) + 1) j k))
     (opened : Took facts f z (Gate Reopen ∷ []) CanReopen lets_go) where
   -- THE REST OF A COLLECTION WAS MADE
-  pub finishes : Finishes facts b z cleared_count dropped_count used
+  pub finishes : Finishes facts b z marks tells cleared_count dropped_count used
   finishes = record {
     cleared = clear.cleared;
     dropped = drop.dropped;
     clears = clear.counted;
     drops = drop.counted;
+    told = told;
     went = record {
       stands_is = opened.stands_is ∙ ap (λ s. standing_after s (Gate Reopen ∷ [])) (moved.stands_is ∙ ap
           (λ s. standing_after s (Settle used ∷ [])) (drop.went.stands_is ∙ (clear.went.stands_is ∙ marked.stands_is)));
@@ -207,6 +213,7 @@ module _ {S : Type 0} (facts : S → Facts) (fits : AreOf facts) (marks : List B
               opened = k6.2;
               whole = whole_of marks (state_of k1) k2.0 k3.0 clear.cleared drop.dropped same k2.3 k3.3.2 k3.3.1 k3.3.0
                   k4.3.0;
+              marked = exactly_same marks (state_of k2.0) (state_of k1) (same_back same) k2.3.0;
               taken = within_all k1 k2.0 k3.0 k4.0 k5.0 k6.0 used room
                   (fitting ∙ ap (λ (c : Config). c.objects) (sym (fits b k1 s).config)) (fits f k5.0 k5.1).legal
                   k5.3.0.0 ((k2.2).sees).config k3.2.0.config k4.2.0.config k5.2.config (k2.2).within k3.2.1 k4.2.1
@@ -227,50 +234,77 @@ within_since {k} {k1} k6 g rest =
     within_two k.taken k1.taken k6.taken (sweeping_steps k.config) one some
 
 -- from the shut on
-pub record CollectsSince (k k' : Known) (cleared : List Handle) (dropped : List ℕ) (used : ℕ) : Type 0 where
-  pub collects : Collects (view k) (view k') cleared dropped used
+pub record CollectsSince (marks : List Bool) (k k' : Known) (cleared : List Handle) (dropped : List ℕ) (used : ℕ)
+    : Type 0 where
+  pub does : CollectsMarking marks (view k) (view k') cleared dropped used
   pub begun : History
   pub window : IsWindow (view k) (view k') (collection_acts cleared dropped used) begun
 
-pub collects_since : {k k1 k6 : Known} (cleared : List Handle) (dropped : List ℕ) (used : ℕ)
-    → Goes k (Gate Shut ∷ []) k1 → CollectsFrom k1 k6 cleared dropped used → CollectsSince k k6 cleared dropped used
+pub collects_since : {k k1 k6 : Known} (marks : List Bool) (cleared : List Handle) (dropped : List ℕ) (used : ℕ)
+    → Goes k (Gate Shut ∷ []) k1 → CollectsFrom marks k1 k6 cleared dropped used
+    → CollectsSince marks k k6 cleared dropped used
 unfolding place_of
-collects_since {k} {k1} {k6} cleared dropped used g rest =
+collects_since {k} {k1} {k6} marks cleared dropped used g rest =
     let acts = sweeping_acts cleared dropped used in
     let first = goes_stepped g in
     let last = goes_stepped rest.opened in
     let did : Did (view k) (view k6) (Gate Shut ∷ acts ++ Gate Reopen ∷ []) = did_then (Gate Shut ∷ [])
     (acts ++ Gate Reopen ∷ []) first.did (did_then acts (Gate Reopen ∷ []) rest.swept last.did) in
     record {
-      collects = record {
-        did = did;
-        place = place_of cleared dropped used g rest.swept rest.opened;
-        whole = whole_before cleared dropped (shut_tables g) rest.whole;
+      does = record {
+        collects = record {
+          did = did;
+          place = place_of cleared dropped used g rest.swept rest.opened;
+          whole = whole_before cleared dropped (shut_tables g) rest.whole;
+        };
+        marked = exactly_same marks (state_of k1) (state (k.seen ++ g.between)) (same_back (shut_tables g)) rest.marked;
       };
       begun = k1.seen;
       window = window_stay (Gate Shut) acts (Gate Reopen) first (λ out. first.behind) rest.swept last (λ out.
           stepped_last last);
     }
 
-module _ {S : Type 0} (facts : S → Facts) {a b z : S} {cleared_count dropped_count used : ℕ}
-    (outside : (facts a).stands.role ≡ Outside)
+module _ {S : Type 0} (facts : S → Facts) {a b z : S} {marks : List Bool} {tells : List Handle → List ℕ → Type 0}
+    {cleared_count dropped_count used : ℕ} (outside : (facts a).stands.role ≡ Outside)
     (shut : Took facts a b (Gate Shut ∷ []) anything (λ j k. IsClosedNow k × lets_go j k))
-    (rest : Finishes facts b z cleared_count dropped_count used) where
+    (rest : Finishes facts b z marks tells cleared_count dropped_count used) where
   -- A COLLECTION WAS MADE
-  pub makes : MakesCollection facts a z cleared_count dropped_count used
-  makes = record {
-    cleared = rest.cleared;
-    dropped = rest.dropped;
-    clears = rest.clears;
-    drops = rest.drops;
-    went = record {
-      stands_is = rest.went.stands_is ∙ (ap (λ s. standing_after s (Gate Reopen ∷ [])) shut.stands_is
-          ∙ ap (λ r. record ((facts a).stands) { role = r }) (sym outside));
-      hint_is = rest.went.hint_is ∙ shut.hint_is;
-      leads = λ k s m.
-          let k1 = shut.goes k s tt in
-          let k6 = rest.went.leads k1.0 k1.1 (k1.3.0, ap (λ (g : Holdings). g.moving) k1.3.1) in
-          let since = collects_since rest.cleared rest.dropped used k1.2 k6.2 in
-          (k6.0, k6.1, since.collects, (k6.3, (since.begun, since.window), within_since k6.0 k1.2 (k6.2).taken));
-    };
-  }
+  pub makes : MakesListing facts a z marks tells cleared_count dropped_count used
+  makes = (
+    record {
+      cleared = rest.cleared;
+      dropped = rest.dropped;
+      clears = rest.clears;
+      drops = rest.drops;
+      went = record {
+        stands_is = rest.went.stands_is ∙ (ap (λ s. standing_after s (Gate Reopen ∷ [])) shut.stands_is
+            ∙ ap (λ r. record ((facts a).stands) { role = r }) (sym outside));
+        hint_is = rest.went.hint_is ∙ shut.hint_is;
+        leads = λ k s m.
+            let k1 = shut.goes k s tt in
+            let k6 = rest.went.leads k1.0 k1.1 (k1.3.0, ap (λ (g : Holdings). g.moving) k1.3.1) in
+            let since = collects_since marks rest.cleared rest.dropped used k1.2 k6.2 in
+            (k6.0, k6.1, since.does, (k6.3, (since.begun, since.window), within_since k6.0 k1.2 (k6.2).taken));
+      };
+    },
+    rest.told,
+  )
+
+-- whatever is told of it
+pub made_plain : {S : Type 0} (facts : S → Facts) (a z : S) (marks : List Bool) (tells : List Handle → List ℕ → Type 0)
+    (r : Result Collected Fault) → IfOk r (λ c. MakesListing facts a z marks tells c.cleared c.dropped c.used)
+    → IfOk r (λ c. MakesCollection facts a z c.cleared c.dropped c.used)
+made_plain facts a z marks tells (Ok c) made =
+    let all = made.0 in
+    record {
+      cleared = all.cleared;
+      dropped = all.dropped;
+      clears = all.clears;
+      drops = all.drops;
+      went = record {
+        stands_is = all.went.stands_is;
+        hint_is = all.went.hint_is;
+        leads = λ k s m. let y = all.went.leads k s m in (y.0, y.1, y.2.collects, y.3);
+      };
+    }
+made_plain facts a z marks tells (Err e) made = tt

@@ -1,7 +1,8 @@
 -- Objects are dropped, number by number.
-use Rattle.std.proofs.Common.{option_to_list, ◌≡◌, ⊎_elim, inl, inr, ◌+◌, ◌<◌, ◌≤◌, ℕ, Bool, true, false}
+use Rattle.std.proofs.Common.{option_to_list, ◌≡◌, ⊎_elim, inl, inr, ◌+◌, ◌<◌, ◌≤◌, ℕ, Bool}
 use Rattle.std.proofs.Common.{Option, Some, None, IsSome, List, [], ◌∷◌, ◌++◌}
-use Rattle.std.proofs.Common.{cond, refl, sym, ap, subst, ◌∙◌, arith, nat_eq, ne_eqb}
+use Rattle.std.proofs.Common.{length, refl, sym, ap, subst, ◌∙◌, arith, nat_eq, ne_eqb}
+use Rattle.std.proofs.lemmas.List.{map-id}
 use mathlib.Core.Logic.{dite, ∥∥₁_map}
 use native.Mathlib.Decide.{ℕ_discrete}
 use Rattle.jr_word.specs.declared.config.Config.{Config}
@@ -20,11 +21,13 @@ use Rattle.jr_steps.specs.Collecting.{CanDrop, ShowsDropped}
 use Rattle.jr_steps.specs.Knowing.{Facts, Standing, AreOf, MayKnow, Took, anything, view, state_of, ShowsHeader}
 use Rattle.jr_steps.proofs.CollectorFacts.{same_tables}
 use Rattle.jr_steps.proofs.StepFacts.{goes_did}
+use Rattle.jr_weak.specs.Listing.{over_front}
 use Rattle.jr_weak.specs.Marks.{IsMarked}
 use Rattle.jr_weak.specs.Sweeping.{MayDrop, NumberIsSwept, SweepsNumber, AreCleared, AreDropped, DropsUnreached}
 use Rattle.jr_weak.proofs.Kept.{DroppedFrom, dropped_from, exactly_same, exactly_dropped}
 use Rattle.jr_weak.proofs.Leading.{reached_on, reached_present}
-use Rattle.jr_weak.proofs.Sweeping.{SweepsTo, TakenTo, sweeps_may, sweeps_next, sweeps_none, taken_next, taken_none}
+use Rattle.jr_weak.proofs.Sweeping.{SweepsTo, TakenTo, sweeps_may, sweeps_next, sweeps_none, taken_next}
+use Rattle.jr_weak.proofs.Sweeping.{taken_none, told_at}
 
 may_on : (marks : List Bool) (k k' : Known) → HaveSameTables (state_of k) (state_of k')
     → k'.holdings.moving ≡ k.holdings.moving → MayDrop marks k → MayDrop marks k'
@@ -54,10 +57,10 @@ absent s o e p = let z = subst (λ (x : Option Contents). IsSome x) e p in cc
 module _ {S : Type 0} {facts : S → Facts} (fits : AreOf facts) (marks : List Bool) (o : ℕ) {a : S}
     (collects : (facts a).stands.role ≡ Collecting) where
   -- it is marked, and stays
-  pub number_marked : IsMarked marks o → SweepsNumber facts marks o a a false
+  pub number_marked : IsMarked marks o → SweepsNumber facts marks o a a None
   number_marked marked = record {
     taken = None;
-    counted = refl;
+    told_is = refl;
     went = record {
       stands_is = refl;
       hint_is = refl;
@@ -78,10 +81,10 @@ module _ {S : Type 0} {facts : S → Facts} (fits : AreOf facts) (marks : List B
   }
 
   -- none is there
-  pub number_none : {b : S} → Took facts a b [] anything (ShowsHeader o None) → SweepsNumber facts marks o a b false
+  pub number_none : {b : S} → Took facts a b [] anything (ShowsHeader o None) → SweepsNumber facts marks o a b None
   number_none {b} t = record {
     taken = None;
-    counted = refl;
+    told_is = refl;
     went = record {
       stands_is = t.stands_is;
       hint_is = t.hint_is;
@@ -120,10 +123,10 @@ module _ {S : Type 0} {facts : S → Facts} (fits : AreOf facts) (marks : List B
         (y.0, y.1, can_drop k.0 y.0 k.2 (same_tables y.2 ((fits a k.0 k.1).role ∙ collects)) y.3))
 
     pub number_dropped : {c : S} → Took facts b c (Drop o ∷ []) (CanDrop o) (ShowsDropped o)
-        → SweepsNumber facts marks o a c true
+        → SweepsNumber facts marks o a c (Some o)
     number_dropped {c} u = record {
       taken = Some o;
-      counted = refl;
+      told_is = refl;
       went = record {
         stands_is = u.stands_is ∙ t.stands_is;
         hint_is = u.hint_is ∙ t.hint_is;
@@ -181,8 +184,8 @@ pub record DroppedTo (marks : List Bool) (n : ℕ) (dropped : List ℕ) (j k : K
   pub marked : (r : ℕ) → 1 ≤ r → r ≤ n → IsPresent (state_of k) r → IsMarked marks r
   pub taken : TakenTo (λ (r : ℕ). r) nat_eq (IsToDrop (state_of j)) n dropped
 
-abbrev pub DropsTo : {S : Type 0} → (S → Facts) → List Bool → ℕ → S → S → ℕ → Type 0
-DropsTo facts marks = SweepsTo facts Drop (AreCleared marks) (DroppedTo marks)
+abbrev pub DropsTo : {S : Type 0} → (S → Facts) → List Bool → ℕ → S → S → ℕ → List ℕ → List ℕ → Type 0
+DropsTo facts marks = SweepsTo facts Drop (λ r. r) (AreCleared marks) (DroppedTo marks)
 
 to_may : (marks : List Bool) (k : Known) → AreCleared marks k → MayDrop marks k
 to_may marks k m = record { exactly = m.marked.0; named = m.named; settled = m.marked.1.1 }
@@ -226,47 +229,52 @@ module _ (marks : List Bool) where
   }
 
 module _ {S : Type 0} {facts : S → Facts} (fits : AreOf facts) (marks : List Bool) where
-  pub drops_none : (a : S) → DropsTo facts marks 0 a a 0
+  pub drops_none : (a : S) (buffer : List ℕ) → DropsTo facts marks 0 a a 0 buffer buffer
   drops_none = sweeps_none fits (drops_begin marks)
 
-  pub drops_may : {a b : S} {i n : ℕ} → MayKnow facts a (AreCleared marks) → DropsTo facts marks i a b n
-      → MayKnow facts b (MayDrop marks)
+  pub drops_may : {a b : S} {i n : ℕ} {buffer buffer' : List ℕ} → MayKnow facts a (AreCleared marks)
+      → DropsTo facts marks i a b n buffer buffer' → MayKnow facts b (MayDrop marks)
   drops_may {i = i} = sweeps_may (MayDrop marks) (λ l j k (was : DroppedTo marks i l j k). was.may)
 
-  pub drops_next : {a b c : S} {n : ℕ} (i : ℕ) (did : Bool) → DropsTo facts marks i a b n
-      → SweepsNumber facts marks (i + 1) b c did → DropsTo facts marks (i + 1) a c (n + cond did 1 0)
-  drops_next i did = sweeps_next i did (λ l j k (was : DroppedTo marks i l j k). was.may) (drops_turn marks i)
+  pub drops_next : {a b c : S} {n : ℕ} {buffer buffer' : List ℕ} (i : ℕ) (told : Option ℕ)
+      → DropsTo facts marks i a b n buffer buffer' → SweepsNumber facts marks (i + 1) b c told
+      → DropsTo facts marks (i + 1) a c (n + length (option_to_list told)) buffer (told_at buffer' n told)
+  drops_next i told = sweeps_next i told (λ l j k (was : DroppedTo marks i l j k). was.may) (drops_turn marks i)
 
-  pub drops_all : {a b : S} {n : ℕ} (i : ℕ) → i ≡ (facts a).stands.config.objects → DropsTo facts marks i a b n
-      → DropsUnreached facts marks a b n
-  drops_all {a} {b} i end p = record {
-    dropped = p.taken;
-    counted = p.counted;
-    went = record {
-      stands_is = p.went.stands_is;
-      hint_is = p.went.hint_is;
-      leads = λ k s m.
-          let x = p.went.leads k s m in
-          let z : DroppedTo marks i p.taken k x.0 = x.3 in
-          let same = ap (λ (t : Standing). t.config.objects) p.went.stands_is in
-          let size = ap (λ (c : Config). c.objects) (fits a k s).config in
-          let some = x.2.1 in (
-            x.0,
-            x.1,
-            (x.2.0, omega arith),
-            (
-              record {
-                all = λ o d. let row = number a k s o d.0 in let high = row.1 in
-                    z.taken.all o row.0 (omega arith) d;
-                only = z.taken.only;
-                once = z.taken.once;
-              },
-              left k x.0 m z (λ o present. let row = number b x.0 x.1 o present in let high = row.1 in
-                  z.marked o row.0 (omega arith) present),
-            ),
-          );
-    };
-  }
+  pub drops_all : {a b : S} {n : ℕ} {buffer buffer' : List ℕ} (i : ℕ) → i ≡ (facts a).stands.config.objects
+      → DropsTo facts marks i a b n buffer buffer'
+      → (z : DropsUnreached facts marks a b n) × (buffer' ≡ over_front buffer z.dropped)
+  drops_all {a} {b} {buffer = buffer} i end p = (
+    record {
+      dropped = p.taken;
+      counted = p.counted;
+      went = record {
+        stands_is = p.went.stands_is;
+        hint_is = p.went.hint_is;
+        leads = λ k s m.
+            let x = p.went.leads k s m in
+            let z : DroppedTo marks i p.taken k x.0 = x.3 in
+            let same = ap (λ (t : Standing). t.config.objects) p.went.stands_is in
+            let size = ap (λ (c : Config). c.objects) (fits a k s).config in
+            let some = x.2.1 in (
+              x.0,
+              x.1,
+              (x.2.0, omega arith),
+              (
+                record {
+                  all = λ o d. let row = number a k s o d.0 in let high = row.1 in
+                      z.taken.all o row.0 (omega arith) d;
+                  only = z.taken.only;
+                  once = z.taken.once;
+                },
+                left k x.0 m z (λ o present. let row = number b x.0 x.1 o present in let high = row.1 in
+                    z.marked o row.0 (omega arith) present),
+              ),
+            );
+      };
+    },
+    p.listed_are ∙ ap (over_front buffer) (map-id p.taken),
+  )
     where
       number : (d : S) (k : Known) → (facts d).knows k → (o : ℕ) → IsPresent (state_of k) o
           → (1 ≤ o) × (o ≤ (facts d).stands.config.objects)

@@ -4,6 +4,7 @@ pub mod RootMarks
 pub mod ElementMarks
 pub mod AllMarked
 pub mod Kept
+pub mod OverFront
 pub mod Sweeping
 pub mod Sweeps
 pub mod Drops

@@ -1,8 +1,8 @@
 -- How a sweep goes on: place by place, where at the most one thing is taken.
-use Rattle.std.proofs.Common.{option_to_list, ◌≡◌, ◌+◌, ◌<◌, ◌≤◌, ℕ, Bool, false, cond, Option, Some, None, is_some}
-use Rattle.std.proofs.Common.{List, [], ◌∷◌, ◌++◌, length, map, Contains, refl, sym, ap, subst, ◌∙◌, arith}
+use Rattle.std.proofs.Common.{option_map, option_to_list, ◌≡◌, ◌+◌, ◌<◌, ◌≤◌, ℕ, Bool, false, Option, Some, None}
+use Rattle.std.proofs.Common.{List, [], ◌∷◌, ◌++◌, length, map, slice_set, Contains, refl, sym, ap, subst, ◌∙◌, arith}
 use Rattle.std.specs.List.{AllByRecursion, IsDistinct}
-use Rattle.std.proofs.lemmas.List.{append-nil, map-append, length-append}
+use Rattle.std.proofs.lemmas.List.{append-nil, map-append, length-append, length-map}
 use Rattle.std.proofs.lemmas.List.Elements.{Contains-push, Contains-append_left}
 use mathlib.Core.Logic.{dite, ∥∥₁_map}
 use native.Mathlib.Decide.{ℕ_discrete}
@@ -12,7 +12,9 @@ use Rattle.jr_model.proofs.Stays.{did_nothing, did_then}
 use Rattle.jr_steps.specs.declared.known.Known.{Known}
 use Rattle.jr_steps.specs.Knowing.{Facts, AreOf, MayKnow, Went, view}
 use Rattle.jr_compact.specs.Counting.{TakesWithin}
+use Rattle.jr_weak.specs.Listing.{over_front}
 use Rattle.jr_weak.specs.Sweeping.{Sweeps}
+use Rattle.jr_weak.proofs.OverFront.{over_more, over_none}
 
 all_more : {X : Type 0} (P : X → Type 0) (xs : List X) (x : X) → AllByRecursion P xs → P x
     → AllByRecursion P (xs ++ x ∷ [])
@@ -74,24 +76,46 @@ taken_next {at = at} {same = same} {IsTo = IsTo} {n = n} {taken = taken} apart (
           (all_weaker (λ x. at x ≤ n) (λ x. same x g ≡ false) taken (λ x l. apart x g (omega arith)) was.low);
     }
 
-long : {X : Type 0} (one : Option X) (did : Bool) → is_some one ≡ did → length (option_to_list one) ≡ cond did 1 0
-long None did is = ap (λ b. cond b 1 0) is
-long (Some x) did is = ap (λ b. cond b 1 0) is
+-- the buffer, with one thing more where one was told
+abbrev pub told_at : {Y : Type 0} → List Y → ℕ → Option Y → List Y
+told_at buffer n None = buffer
+told_at buffer n (Some y) = slice_set buffer n y
 
--- THE FIRST PLACES ARE SWEPT, by two steps each at the most, and so many things were taken
-pub record SweepsTo {X S : Type 0} (facts : S → Facts) (act : X → Act) (met : Known → Type 0)
-    (past : ℕ → List X → Known → Known → Type 0) (i : ℕ) (old new : S) (count : ℕ) : Type 0 where
+-- what is listed of one thing more
+told_more : {X Y : Type 0} (tell : X → Y) (buffer buffer' : List Y) (taken : List X) (n : ℕ) (one : Option X)
+    → length taken ≡ n → buffer' ≡ over_front buffer (map tell taken)
+    → told_at buffer' n (option_map tell one) ≡ over_front buffer (map tell (taken ++ option_to_list one))
+told_more tell buffer buffer' taken n None long is =
+    is ∙ ap (λ xs. over_front buffer (map tell xs)) (sym (append-nil taken))
+told_more tell buffer buffer' taken n (Some x) long is =
+    ap (λ b. slice_set b n (tell x)) is
+    ∙ (ap (λ m. slice_set (over_front buffer (map tell taken)) m (tell x)) (sym (length-map taken tell ∙ long))
+    ∙ (sym (over_more buffer (map tell taken) (tell x))
+    ∙ ap (over_front buffer) (sym (map-append tell taken (x ∷ [])))))
+
+long : {X Y : Type 0} (tell : X → Y) (one : Option X)
+    → length (option_to_list one) ≡ length (option_to_list (option_map tell one))
+long tell None = refl
+long tell (Some x) = refl
+
+-- THE FIRST PLACES ARE SWEPT, by two steps each at the most, and so many things were taken, and listed
+pub record SweepsTo {X Y S : Type 0} (facts : S → Facts) (act : X → Act) (tell : X → Y) (met : Known → Type 0)
+    (past : ℕ → List X → Known → Known → Type 0) (i : ℕ) (old new : S) (count : ℕ) (buffer buffer' : List Y)
+    : Type 0 where
   pub taken : List X
   pub counted : length taken ≡ count
+  pub listed_are : buffer' ≡ over_front buffer (map tell taken)
   pub went : Went facts old new (facts old).stands met
       (λ j k. Did (view j) (view k) (map act taken) × TakesWithin (i + i) j k) (past i taken)
 
-module _ {X S : Type 0} {facts : S → Facts} {act : X → Act} {met : Known → Type 0}
+module _ {X Y S : Type 0} {facts : S → Facts} {act : X → Act} {tell : X → Y} {met : Known → Type 0}
     {past : ℕ → List X → Known → Known → Type 0} where
-  pub sweeps_none : AreOf facts → ((k : Known) → met k → past 0 [] k k) → (a : S) → SweepsTo facts act met past 0 a a 0
-  sweeps_none fits begins a = record {
+  pub sweeps_none : AreOf facts → ((k : Known) → met k → past 0 [] k k) → (a : S) (buffer : List Y)
+      → SweepsTo facts act tell met past 0 a a 0 buffer buffer
+  sweeps_none fits begins a buffer = record {
     taken = [];
     counted = refl;
+    listed_are = sym (over_none buffer);
     went = record {
       stands_is = refl;
       hint_is = refl;
@@ -99,22 +123,26 @@ module _ {X S : Type 0} {facts : S → Facts} {act : X → Act} {met : Known →
     };
   }
 
-  pub sweeps_may : {a b : S} {i n : ℕ} (can : Known → Type 0) → ((l : List X) (j k : Known) → past i l j k → can k)
-      → MayKnow facts a met → SweepsTo facts act met past i a b n → MayKnow facts b can
+  pub sweeps_may : {a b : S} {i n : ℕ} {buffer buffer' : List Y} (can : Known → Type 0)
+      → ((l : List X) (j k : Known) → past i l j k → can k) → MayKnow facts a met
+      → SweepsTo facts act tell met past i a b n buffer buffer' → MayKnow facts b can
   sweeps_may can gives may p = ∥∥₁_map may (λ k. let x = p.went.leads k.0 k.1 k.2 in
       (x.0, x.1, gives p.taken k.0 x.0 x.3))
 
   -- one place more
-  pub sweeps_next : {can : Known → Type 0} {shows : Option X → Known → Known → Type 0} {a b c : S} {n : ℕ} (i : ℕ)
-      (did : Bool) → ((l : List X) (j k : Known) → past i l j k → can k)
+  pub sweeps_next : {can : Known → Type 0} {shows : Option X → Known → Known → Type 0} {a b c : S} {n : ℕ}
+      {buffer buffer' : List Y} (i : ℕ) (told : Option Y) → ((l : List X) (j k : Known) → past i l j k → can k)
       → ((l : List X) (one : Option X) (j k k' : Known) → met j → past i l j k → shows one k k'
       → past (i + 1) (l ++ option_to_list one) j k')
-      → SweepsTo facts act met past i a b n → Sweeps facts act can shows b c did
-      → SweepsTo facts act met past (i + 1) a c (n + cond did 1 0)
-  sweeps_next {n = n} i did gives turn p q = record {
+      → SweepsTo facts act tell met past i a b n buffer buffer' → Sweeps facts act tell can shows b c told
+      → SweepsTo facts act tell met past (i + 1) a c (n + length (option_to_list told)) buffer (told_at buffer' n told)
+  sweeps_next {n = n} {buffer = buffer} {buffer' = buffer'} i told gives turn p q = record {
     taken = p.taken ++ option_to_list q.taken;
     counted = length-append p.taken (option_to_list q.taken)
-        ∙ (ap (λ m. m + length (option_to_list q.taken)) p.counted ∙ ap (λ m. n + m) (long q.taken did q.counted));
+        ∙ (ap (λ m. m + length (option_to_list q.taken)) p.counted
+        ∙ ap (λ m. n + m) (long tell q.taken ∙ ap (λ (z : Option Y). length (option_to_list z)) q.told_is));
+    listed_are = ap (told_at buffer' n) (sym q.told_is)
+        ∙ told_more tell buffer buffer' p.taken n q.taken p.counted p.listed_are;
     went = record {
       stands_is = q.went.stands_is ∙ p.went.stands_is;
       hint_is = q.went.hint_is ∙ p.went.hint_is;

@@ -1,9 +1,10 @@
 -- Weak references are cleared, slot by slot.
 use Rattle.std.proofs.Common.{option_to_list, ◌≡◌, ◌≢◌, ◌+◌, ◌<◌, ◌≤◌, ℕ, Bool, true, false, Option, Some, None}
-use Rattle.std.proofs.Common.{List, [], ◌∷◌, ◌++◌, cond, refl, sym, ap, subst, ◌∙◌, arith}
+use Rattle.std.proofs.Common.{List, [], ◌∷◌, ◌++◌, length, map, refl, sym, ap, subst, ◌∙◌, arith}
 use mathlib.Core.Logic.{dite, ∥∥₁_map}
 use native.Mathlib.Decide.{ℕ_discrete}
 use Rattle.jr_word.specs.declared.config.Config.{Config}
+use Rattle.jr_word.specs.declared.handle.Handle.{Handle as NativeHandle}
 use Rattle.jr_word.specs.declared.handle.RefKind.TheVariants.{Weak}
 use Rattle.jr_word.specs.declared.slot.SlotParts.{SlotParts}
 use Rattle.jr_word.specs.declared.slot.SlotParts.TheVariants as slot
@@ -23,13 +24,15 @@ use Rattle.jr_steps.specs.Collecting.{CanWipe}
 use Rattle.jr_steps.specs.Knowing.{Facts, Standing, AreOf, MayKnow, Took, anything, state_of, keeps, ShowsSlot}
 use Rattle.jr_steps.proofs.CollectorFacts.{same_tables}
 use Rattle.jr_steps.proofs.StepFacts.{goes_did}
+use Rattle.jr_weak.specs.Listing.{native_handle, over_front}
 use Rattle.jr_weak.specs.Marks.{IsMarked, weak_in}
 use Rattle.jr_weak.specs.Marking.{IsMarkedNow}
 use Rattle.jr_weak.specs.Sweeping.{SlotIsSwept, SweepsSlot, ClearsUnreached}
 use Rattle.jr_weak.proofs.Kept.{ClearedFrom, cleared_from, exactly_same, exactly_cleared}
 use Rattle.jr_weak.proofs.Leading.{closed_on, reached_on}
 use Rattle.jr_weak.proofs.RootMarks.{alone_is}
-use Rattle.jr_weak.proofs.Sweeping.{SweepsTo, TakenTo, sweeps_may, sweeps_next, sweeps_none, taken_next, taken_none}
+use Rattle.jr_weak.proofs.Sweeping.{SweepsTo, TakenTo, sweeps_may, sweeps_next, sweeps_none, taken_next}
+use Rattle.jr_weak.proofs.Sweeping.{taken_none, told_at}
 
 weak_is : (q : SlotParts) (n o : ℕ) → weak_in q ≡ Some (n, o) → q ≡ slot.Weak n (Some o)
 weak_is (slot.Weak m (Some r)) n o e = let z : (m, r) ≡ (n, o) = cc in let a = ap (λ (p : ℕ × ℕ). p.0) z in
@@ -88,10 +91,10 @@ module _ {S : Type 0} {facts : S → Facts} (fits : AreOf facts) (marks : List B
     (collects : (facts a).stands.role ≡ Collecting) (q : SlotParts)
     (t : Took facts a b [] anything (λ j k. ShowsSlot i q k × keeps j k)) where
   -- nothing is to be cleared there
-  pub slot_left : ((n o : ℕ) → weak_in q ≡ Some (n, o) → IsMarked marks o) → SweepsSlot facts marks i a b false
+  pub slot_left : ((n o : ℕ) → weak_in q ≡ Some (n, o) → IsMarked marks o) → SweepsSlot facts marks i a b None
   slot_left left = record {
     taken = None;
-    counted = refl;
+    told_is = refl;
     went = record {
       stands_is = t.stands_is;
       hint_is = t.hint_is;
@@ -136,10 +139,10 @@ module _ {S : Type 0} {facts : S → Facts} (fits : AreOf facts) (marks : List B
 
     -- the reference is cleared
     pub slot_cleared : {c : S} → Took facts b c (Clear (handle_of Weak n i) ∷ []) (CanWipe i n o) keeps
-        → SweepsSlot facts marks i a c true
+        → SweepsSlot facts marks i a c (Some (native_handle (handle_of Weak n i)))
     slot_cleared {c} u = record {
       taken = Some (handle_of Weak n i);
-      counted = refl;
+      told_is = refl;
       went = record {
         stands_is = u.stands_is ∙ t.stands_is;
         hint_is = u.hint_is ∙ t.hint_is;
@@ -206,8 +209,9 @@ pub record ClearedTo (marks : List Bool) (i : ℕ) (cleared : List Handle) (j k 
   pub named : (h : Handle) (o : ℕ) → h.kind ≡ Weak → h.index < i → (state_of k).refs h ≡ Object o → IsMarked marks o
   pub taken : TakenTo (λ (h : Handle). h.index + 1) same_handle (IsToClear (state_of j)) i cleared
 
-abbrev pub ClearsTo : {S : Type 0} → (S → Facts) → List Bool → ℕ → S → S → ℕ → Type 0
-ClearsTo facts marks = SweepsTo facts Clear (IsMarkedNow marks) (ClearedTo marks)
+abbrev pub ClearsTo : {S : Type 0} → (S → Facts) → List Bool → ℕ → S → S → ℕ → List NativeHandle → List NativeHandle
+    → Type 0
+ClearsTo facts marks = SweepsTo facts Clear native_handle (IsMarkedNow marks) (ClearedTo marks)
 
 below_apart : (h g : Handle) → h.index + 1 < g.index + 1 → same_handle h g ≡ false
 below_apart h g l = go (same_handle h g) refl
@@ -250,50 +254,55 @@ module _ (marks : List Bool) where
   }
 
 module _ {S : Type 0} {facts : S → Facts} (fits : AreOf facts) (marks : List Bool) where
-  pub clears_none : (a : S) → ClearsTo facts marks 0 a a 0
+  pub clears_none : (a : S) (buffer : List NativeHandle) → ClearsTo facts marks 0 a a 0 buffer buffer
   clears_none = sweeps_none fits (clears_begin marks)
 
-  pub clears_may : {a b : S} {i n : ℕ} → MayKnow facts a (IsMarkedNow marks) → ClearsTo facts marks i a b n
-      → MayKnow facts b (IsMarkedNow marks)
+  pub clears_may : {a b : S} {i n : ℕ} {buffer buffer' : List NativeHandle} → MayKnow facts a (IsMarkedNow marks)
+      → ClearsTo facts marks i a b n buffer buffer' → MayKnow facts b (IsMarkedNow marks)
   clears_may {i = i} = sweeps_may (IsMarkedNow marks) (λ l j k (was : ClearedTo marks i l j k). was.marked)
 
-  pub clears_next : {a b c : S} {n : ℕ} (i : ℕ) (did : Bool) → ClearsTo facts marks i a b n
-      → SweepsSlot facts marks i b c did → ClearsTo facts marks (i + 1) a c (n + cond did 1 0)
-  clears_next i did = sweeps_next i did (λ l j k (was : ClearedTo marks i l j k). was.marked) (clears_turn marks i)
+  pub clears_next : {a b c : S} {n : ℕ} {buffer buffer' : List NativeHandle} (i : ℕ) (told : Option NativeHandle)
+      → ClearsTo facts marks i a b n buffer buffer' → SweepsSlot facts marks i b c told
+      → ClearsTo facts marks (i + 1) a c (n + length (option_to_list told)) buffer (told_at buffer' n told)
+  clears_next i told = sweeps_next i told (λ l j k (was : ClearedTo marks i l j k). was.marked) (clears_turn marks i)
 
-  pub clears_all : {a b : S} {n : ℕ} (i : ℕ) → i ≡ (facts a).stands.config.slots → ClearsTo facts marks i a b n
-      → ClearsUnreached facts marks a b n
-  clears_all {a} {b} i end p = record {
-    cleared = p.taken;
-    counted = p.counted;
-    went = record {
-      stands_is = p.went.stands_is;
-      hint_is = p.went.hint_is;
-      leads = λ k s m.
-          let x = p.went.leads k s m in
-          let z : ClearedTo marks i p.taken k x.0 = x.3 in
-          let size = ap (λ (c : Config). c.slots) (fits a k s).config in
-          let some = x.2.1 in (
-            x.0,
-            x.1,
-            (x.2.0, omega arith),
-            (
-              record {
-                all = λ h c. let l = in_row a k s h (λ e. let w = sym e ∙ c.2 in cc) in
-                    z.taken.all h (omega arith) (omega arith) c;
-                only = z.taken.only;
-                once = z.taken.once;
-              },
-              z.objects,
-              record {
-                marked = z.marked;
-                named = λ h o kind is. let l = in_row b x.0 x.1 h (λ e. let w = sym e ∙ is in cc) in let same =
-                    ap (λ (t : Standing). t.config.slots) p.went.stands_is in z.named h o kind (omega arith) is;
-              },
-            ),
-          );
-    };
-  }
+  pub clears_all : {a b : S} {n : ℕ} {buffer buffer' : List NativeHandle} (i : ℕ)
+      → i ≡ (facts a).stands.config.slots → ClearsTo facts marks i a b n buffer buffer'
+      → (z : ClearsUnreached facts marks a b n) × (buffer' ≡ over_front buffer (map native_handle z.cleared))
+  clears_all {a} {b} i end p = (
+    record {
+      cleared = p.taken;
+      counted = p.counted;
+      went = record {
+        stands_is = p.went.stands_is;
+        hint_is = p.went.hint_is;
+        leads = λ k s m.
+            let x = p.went.leads k s m in
+            let z : ClearedTo marks i p.taken k x.0 = x.3 in
+            let size = ap (λ (c : Config). c.slots) (fits a k s).config in
+            let some = x.2.1 in (
+              x.0,
+              x.1,
+              (x.2.0, omega arith),
+              (
+                record {
+                  all = λ h c. let l = in_row a k s h (λ e. let w = sym e ∙ c.2 in cc) in
+                      z.taken.all h (omega arith) (omega arith) c;
+                  only = z.taken.only;
+                  once = z.taken.once;
+                },
+                z.objects,
+                record {
+                  marked = z.marked;
+                  named = λ h o kind is. let l = in_row b x.0 x.1 h (λ e. let w = sym e ∙ is in cc) in let same =
+                      ap (λ (t : Standing). t.config.slots) p.went.stands_is in z.named h o kind (omega arith) is;
+                },
+              ),
+            );
+      };
+    },
+    p.listed_are,
+  )
     where
       in_row : (d : S) (k : Known) → (facts d).knows k → (h : Handle) → (state_of k).refs h ≢ Stale
           → h.index < (facts d).stands.config.slots

@@ -1,5 +1,5 @@
 -- A collection as a call, over any steps.
-use Rattle.std.specs.Prelude.{◌≡◌, ◌<◌, ◌≤◌, ◌+◌, ℕ, List, [], ◌∷◌, ◌++◌, map, length}
+use Rattle.std.specs.Prelude.{◌≡◌, ◌<◌, ◌≤◌, ◌+◌, ℕ, Bool, List, [], ◌∷◌, ◌++◌, map, length}
 use Rattle.jr_word.specs.declared.config.Config.{Config}
 use Rattle.jr_word.specs.declared.fault.Fault.{Fault}
 use Rattle.jr_word.specs.declared.fault.Fault.TheVariants.{Busy, Moved}
@@ -19,15 +19,24 @@ use Rattle.jr_steps.specs.Knowing.{Facts, Goes, Went, Takes, CanReopen, view}
 use Rattle.jr_steps.specs.Knowing.{state_of, standing_after, anything, lets_go}
 use Rattle.jr_compact.specs.Counting.{TakesWithin}
 use Rattle.jr_weak.specs.Counting.{collection_steps, sweeping_steps}
+use Rattle.jr_weak.specs.Marks.{IsExactly}
 
 -- For the crate's own functions: WHAT COMES AFTER THE SHUT of a collection:
--- nothing is left out of the state then, and the gate is opened at last
-pub record CollectsFrom (j k : Known) (cleared : List Handle) (dropped : List ℕ) (used : ℕ) : Type 0 where
+-- nothing is left out of the state then, marked is just what is reached in it, and the gate is opened at last
+pub record CollectsFrom (marks : List Bool) (j k : Known) (cleared : List Handle) (dropped : List ℕ) (used : ℕ)
+    : Type 0 where
   pub opening : Known
   pub swept : Did (view j) (view opening) (sweeping_acts cleared dropped used)
   pub opened : Goes opening (Gate Reopen ∷ []) k
   pub whole : IsWhole (state_of j) cleared dropped
+  pub marked : IsExactly marks (state_of j)
   pub taken : TakesWithin (sweeping_steps j.config + 1) j k
+
+-- A COLLECTION between two moments, and the marks that it leaves: marked is just what was reached at its shut
+pub record CollectsMarking (marks : List Bool) (old new : PassView) (cleared : List Handle) (dropped : List ℕ)
+    (used : ℕ) : Type 0 where
+  pub collects : Collects old new cleared dropped used
+  pub marked : IsExactly marks (state (collects.place).before)
 
 -- all acts of a thread that shuts the gate, does these, and opens it again
 abbrev pub shut_acts : List Act → List Act
@@ -54,6 +63,12 @@ abbrev pub CollectsAnnounced : List ℕ → PassView → PassView → List Handl
 CollectsAnnounced refused old new cleared dropped used =
     DoesAnnounced old new refused (sweeping_acts cleared dropped used) (λ p q. Collects p q cleared dropped used)
 
+-- and the marks that it leaves
+abbrev pub CollectsAnnouncedMarking : List Bool → List ℕ → PassView → PassView → List Handle → List ℕ → ℕ → Type 0
+CollectsAnnouncedMarking marks refused old new cleared dropped used =
+    DoesAnnounced old new refused (sweeping_acts cleared dropped used)
+    (λ p q. CollectsMarking marks p q cleared dropped used)
+
 -- the operations of one that was refused so often:
 -- one for each act up to its shut, and from then on as many as it takes unannounced
 abbrev pub announced_steps : List ℕ → ℕ → ℕ
@@ -79,14 +94,17 @@ pub data WasGivenUp (tries : ℕ) (old new : PassView) (had has : Holdings) (act
       → WasGivenUp tries old new had has acts e
 
 module _ {S : Type 0} (facts : S → Facts) where
-  -- For the crate's own functions: THE REST OF A COLLECTION WAS MADE, once the gate was shut
-  pub record Finishes (old new : S) (cleared_count dropped_count used : ℕ) : Type 0 where
+  -- For the crate's own functions: THE REST OF A COLLECTION WAS MADE, once the gate was shut. It left these marks,
+  -- and of what it cleared and dropped this is told
+  pub record Finishes (old new : S) (marks : List Bool) (tells : List Handle → List ℕ → Type 0)
+      (cleared_count dropped_count used : ℕ) : Type 0 where
     pub cleared : List Handle
     pub dropped : List ℕ
     pub clears : length cleared ≡ cleared_count
     pub drops : length dropped ≡ dropped_count
+    pub told : tells cleared dropped
     pub went : Went facts old new (standing_after (facts old).stands (Gate Reopen ∷ [])) CanReopen
-        (λ j k. CollectsFrom j k cleared dropped used) lets_go
+        (λ j k. CollectsFrom marks j k cleared dropped used) lets_go
 
   -- THE GATE WAS SHUT, THIS DONE, AND THE GATE OPENED AGAIN, with the first acts before and the others meanwhile: in
   -- its own window, by no more operations than the room's sizes say; and nothing is held then
@@ -117,11 +135,23 @@ module _ {S : Type 0} (facts : S → Facts) where
   abbrev pub MakesCollection : S → S → ℕ → ℕ → ℕ → Type 0
   MakesCollection old new = MakesAfter old new [] collection_steps Collects
 
+  -- ONE THAT LEFT THESE MARKS, and of whose cleared references and dropped objects this is told
+  abbrev pub MakesListing : S → S → List Bool → (List Handle → List ℕ → Type 0) → ℕ → ℕ → ℕ → Type 0
+  MakesListing old new marks tells cleared dropped used =
+      (z : MakesAfter old new [] collection_steps (CollectsMarking marks) cleared dropped used)
+      × tells z.cleared z.dropped
+
   -- AN ANNOUNCED COLLECTION WAS MADE, after fewer refused shuts than there were tries
   abbrev pub MakesAnnouncedCollection : S → S → ℕ → ℕ → ℕ → ℕ → Type 0
   MakesAnnouncedCollection old new tries cleared dropped used = AfterTries tries (λ refused.
       MakesAfter old new (announcing_acts refused) (λ c. announced_steps refused (collection_steps c))
       (CollectsAnnounced refused) cleared dropped used)
+
+  -- one that left these marks, and of whose cleared references and dropped objects this is told
+  abbrev pub MakesAnnouncedListing : S → S → ℕ → List Bool → (List Handle → List ℕ → Type 0) → ℕ → ℕ → ℕ → Type 0
+  MakesAnnouncedListing old new tries marks tells cleared dropped used = AfterTries tries (λ refused.
+      (z : MakesAfter old new (announcing_acts refused) (λ c. announced_steps refused (collection_steps c))
+      (CollectsAnnouncedMarking marks refused) cleared dropped used) × tells z.cleared z.dropped)
 
   -- IT WAS GIVEN UP, by one operation for each of these acts, in its own window
   pub record GivesUp (old new : S) (tries : ℕ) (e : Fault) : Type 0 where

@@ -5,3 +5,4 @@ pub mod Sweeping
 pub mod Collecting
 pub mod Counting
 pub mod Waiting
+pub mod Listing

@@ -1,6 +1,8 @@
 -- What clearing and dropping show.
-use Rattle.std.specs.Prelude.{◌≡◌, ◌≢◌, ℕ, Bool, Option, Some, is_some, option_to_list, List, length, map, nat_eq}
+use Rattle.std.specs.Prelude.{◌≡◌, ◌≢◌, ℕ, Bool, Option, Some, option_map, option_to_list, List}
+use Rattle.std.specs.Prelude.{length, map, nat_eq}
 use Rattle.std.specs.List.{AllByRecursion, Contains, IsDistinct}
+use Rattle.jr_word.specs.declared.handle.Handle.{Handle as NativeHandle}
 use Rattle.jr_word.specs.declared.handle.RefKind.TheVariants.{Weak}
 use Rattle.jr_model.specs.declared.event.Found.TheVariants.{Object}
 use Rattle.jr_model.specs.declared.event.Act.{Act}
@@ -12,6 +14,7 @@ use Rattle.jr_steps.specs.declared.known.Known.{Known}
 use Rattle.jr_steps.specs.Knowing.{Facts, Went, state_of, view, CanReopen, IsSettled}
 use Rattle.jr_compact.specs.Counting.{TakesWithin}
 use Rattle.jr_weak.specs.Counting.{clearing_steps, dropping_steps}
+use Rattle.jr_weak.specs.Listing.{native_handle}
 use Rattle.jr_weak.specs.Marks.{IsMarked, IsExactly}
 use Rattle.jr_weak.specs.Marking.{IsMarkedNow}
 
@@ -64,21 +67,21 @@ pub record NumberIsSwept (marks : List Bool) (o : ℕ) (dropped : Option ℕ) (j
   pub only : (r : ℕ) → dropped ≡ Some r → IsToDrop (state_of j) r × (r ≡ o)
 
 module _ {S : Type 0} (facts : S → Facts) where
-  -- a place was swept, by two steps at the most: one thing was taken there, by this act, or none
-  pub record Sweeps {X : Type 0} (act : X → Act) (met : Known → Type 0) (shows : Option X → Known → Known → Type 0)
-      (old new : S) (did : Bool) : Type 0 where
+  -- a place was swept, by two steps at the most: one thing was taken there, by this act, and told, or none
+  pub record Sweeps {X Y : Type 0} (act : X → Act) (tell : X → Y) (met : Known → Type 0)
+      (shows : Option X → Known → Known → Type 0) (old new : S) (told : Option Y) : Type 0 where
     pub taken : Option X
-    pub counted : is_some taken ≡ did
+    pub told_is : option_map tell taken ≡ told
     pub went : Went facts old new (facts old).stands met
         (λ j k. Did (view j) (view k) (map act (option_to_list taken)) × TakesWithin 2 j k) (shows taken)
 
   -- a slot was swept, and something was cleared or not
-  abbrev pub SweepsSlot : List Bool → ℕ → S → S → Bool → Type 0
-  SweepsSlot marks i = Sweeps Clear (IsMarkedNow marks) (SlotIsSwept marks i)
+  abbrev pub SweepsSlot : List Bool → ℕ → S → S → Option NativeHandle → Type 0
+  SweepsSlot marks i = Sweeps Clear native_handle (IsMarkedNow marks) (SlotIsSwept marks i)
 
   -- a number was swept, and something was dropped or not
-  abbrev pub SweepsNumber : List Bool → ℕ → S → S → Bool → Type 0
-  SweepsNumber marks o = Sweeps Drop (MayDrop marks) (NumberIsSwept marks o)
+  abbrev pub SweepsNumber : List Bool → ℕ → S → S → Option ℕ → Type 0
+  SweepsNumber marks o = Sweeps Drop (λ r. r) (MayDrop marks) (NumberIsSwept marks o)
 
   -- SO MANY WEAK REFERENCES WERE CLEARED, exactly those that were to be
   pub record ClearsUnreached (marks : List Bool) (old new : S) (count : ℕ) : Type 0 where

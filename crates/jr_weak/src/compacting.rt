@@ -14,16 +14,19 @@ use jr_compact::compact;
 use jr_steps::Steps;
 
 impl Marker {
-    /// Moves all arrays together, once only marked objects are present, as after `drop_unreached`, and sets how many words are used, which it answers. Its one event is the last.
+    /// Moves all arrays together, once only marked objects are present, as after `drop_unreached`, and sets how many words are used, which it answers. The marks stay. Its one event is the last.
     ///
     /// # Operations
     ///
-    /// A look at the header of each marked object, a load and a store for each element that moves, a store for the header of each array that moves, and one at the top: at the most one for each object for which the marker has room, three for each word that is used then, and the last.
+    /// A look at the header of each marked object, a load and a store for each element that moves, a store for the header of each array that moves, and one at the top:
+    /// at the most one for each object for which the marker has room, three for each word that is used then, and the last.
     pub fn compact<S: Steps>(&mut self, steps: &mut S) -> u32
         requires role { (S.facts steps.old).stands.role ≡ Collecting }
         requires dropped { MayKnow S.facts steps.old (AreDropped (marks_of self.old)) }
         ensures room { room_of self.new ≡ room_of self.old }
-        ensures acts { ActedTo S.facts steps.old steps.new (Settle result ∷ []) (AreDropped (marks_of self.old)) (λ j k. AreCompacted result j k × TakesWithin (room_of self.old + (result + result + result) + 1) j k) }
+        ensures marks { marks_of self.new ≡ marks_of self.old }
+        ensures acts { ActedTo S.facts steps.old steps.new (Settle result ∷ []) (AreDropped (marks_of self.old)) (λ j k. AreCompacted result j k
+            × TakesWithin (room_of self.old + (result + result + result) + 1) j k) }
     {
         compact(steps, &self.found[..self.count], &mut self.noted)
     }

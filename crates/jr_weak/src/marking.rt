@@ -11,11 +11,13 @@ use crate::marker::Marker;
 use jr_steps::Steps;
 
 impl Marker {
-    /// Marks all objects that are reached during a collection, and no others: those of global references and of all threads' local ones, and with each object array what it names. Marks of earlier collections are taken away first. It has no event.
+    /// Marks all objects that are reached during a collection, and no others: those of global references and of all threads' local ones, and with each object array what it names.
+    /// Marks of earlier collections are taken away first. It has no event.
     ///
     /// # Operations
     ///
-    /// A look at each slot, at each local place of every thread and at the header of each object that is marked, and a load for each element of an object array among these: at the most one for each slot, local place, object and word of the room.
+    /// A look at each slot, at each local place of every thread and at the header of each object that is marked, and a load for each element of an object array among these:
+    /// at the most one for each slot, local place, object and word of the room.
     pub fn mark<S: Steps>(&mut self, steps: &mut S)
         requires role { (S.facts steps.old).stands.role ≡ Collecting }
         requires room { room_of self.old ≡ (S.facts steps.old).stands.config.objects }

@@ -10,11 +10,15 @@ use jr_gate::{Announced, Shut, announce};
 use jr_steps::Steps;
 use jr_word::Fault;
 
-/// Announces that the gate will be shut, so that nobody is let in any more, and shuts it. It tries so many times to shut it, which is refused while another thread is inside or knocks, and takes the announcement back where the last try is refused, too. It never waits. The thread has to stand outside.
+/// Announces that the gate will be shut, so that nobody is let in any more, and shuts it.
+/// It tries so many times to shut it, which is refused while another thread is inside or knocks, and takes the announcement back where the last try is refused, too. It never waits.
+/// The thread has to stand outside.
 ///
 /// # Errors
 ///
-/// E14 with how many threads were inside, knocking, announcing or collecting, at least 1, where another thread kept the gate closed already; E23 with two counts of the open gate, where another thread went in or out between the look at it and the announcement; E14 with how many other threads were inside or knocking at the last try, at least 1.
+/// E14 with how many threads were inside, knocking, announcing or collecting, at least 1, where another thread kept the gate closed already;
+/// E23 with two counts of the open gate, where another thread went in or out between the look at it and the announcement;
+/// E14 with how many other threads were inside or knocking at the last try, at least 1.
 ///
 /// Nothing has changed then, and the thread stands outside. Over one thread, and over plain words, it is never refused.
 ///

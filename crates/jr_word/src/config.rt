@@ -57,7 +57,8 @@ impl Config {
             && (Self::LEAST_LOCALS..=Self::MOST_LOCALS).contains(&self.locals)
     }
 
-    /// How many words the row of a room has: the gate, the top, a word for each slot, for each place of each thread and for each object's header, and the element words. The sizes have to be within the limits.
+    /// How many words the row of a room has: the gate, the top, a word for each slot, for each place of each thread and for each object's header, and the element words.
+    /// The sizes have to be within the limits.
     pub fn row_words(&self) -> usize
         requires { in_limits self.now ≡ true }
         ensures { result ≡ row_words self.now }

@@ -15,7 +15,7 @@ use Rattle.jr_model.specs.declared.event.Act.TheVariants.{Gate}
 use Rattle.jr_model.specs.Maps.{update}
 use Rattle.jr_model.specs.State.{NobodyCloses, SomebodyCloses, State, is_barring}
 use Rattle.jr_model.specs.Steps.{role_behind}
-use Rattle.jr_model.specs.Frames.{Agree, Frames}
+use Rattle.jr_model.specs.Frames.{Frames}
 use Rattle.jr_model.specs.History.{History, IsLegal, by, mine, state}
 use Rattle.jr_model.proofs.Agreement.{stored_append}
 use Rattle.jr_model.proofs.Histories.{mine_push, state_push}

@@ -15,7 +15,7 @@ use Rattle.jr_syntax.proofs.Texts.{no_fault, one_script}
 use Rattle.jr_scripts.specs.AllRuns.{RunsAll}
 use Rattle.jr_world.specs.World.{how_many}
 use Rattle.jr_scripts.specs.Commands.{gives_up}
-use Rattle.jr_scripts.specs.Posted.{commands_of}
+use Rattle.jr_scripts.specs.PostedNames.{commands_of}
 use Rattle.jr_scripts.specs.Together.{MeansTogether}
 use Rattle.jrefs.specs.declared.request.Request.{Request}
 use Rattle.jrefs.specs.declared.request.Request.TheVariants.{Run}

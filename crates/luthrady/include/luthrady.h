@@ -17,7 +17,10 @@
    - An address of a handle, of an `out` or of `count` elements that is NULL is E21 by the tests in this
      header. They end the call before it comes to the library. With LUTHRADY_NO_CHECKS it ends the process.
      Where `count` is 0 the address may be NULL.
-   - A room's handle goes to luthrady_attach and luthrady_release alone.
+   - A thread is detached from the room that it was attached to. Checked: a detach from a room with no
+     attached thread is E21.
+   - Threads that attach and detach by one room's handle take a lock, since a handle is in one call at a time.
+   - luthrady_free_env and luthrady_free_room free a place. No copy of the handle is in a call from then on.
    - Each handle is in one call at a time. Whoever hands one to another thread orders that by a lock, by a
      thread's start or join, or by a sequentially consistent atomic.
    - A word of one room is not handed to another room. It can stand there for something else.
@@ -177,23 +180,41 @@ struct luthrady_stood {
    Refused: E17 where the sizes are beyond their limits; E16 where memory was refused. */
 struct luthrady_reply luthrady_open(struct luthrady_sizes sizes, void **out);
 
-/* Makes the env of the next thread, and writes the pointer to it.
-   Refused: E21 where no room stands behind the handle, each of its threads has one, or it was released;
-   E16 where memory was refused.
-   At E21 nothing has changed. At E16 the env of the next thread is gone, and no other. */
+/* Attaches a thread with an env that no other thread holds, and writes the pointer to it. The thread has
+   no local reference. (JNI Specification, chapter 5, "AttachCurrentThread")
+   Refused: E21 where no room stands behind the handle, no env of it is free, or it was released; E16 where
+   memory was refused.
+   Nothing has changed then. */
 struct luthrady_reply luthrady_attach(struct luthrady_room *room, void **out);
 
-/* Lets go of the envs of threads that were not attached, and of the place that the envs had. No further
-   thread is attached then.
+/* Lets go of the envs that no thread holds. No further thread is attached then, and the last one that is
+   detached closes the room.
    Refused: E21 where no room stands behind the handle.
    Nothing has changed then. */
 struct luthrady_reply luthrady_release(struct luthrady_room *room);
 
-/* Detaches a thread: no env stands behind the handle then. Its local references stay, and keep what they
-   name. Where it closed the room it answers 1, and writes what stood there; else 0.
-   Refused: E21 where no env stands behind the handle; E22 with how many threads were inside, knocking,
-   announcing or collecting as it closed the room, at least 1. */
-struct luthrady_reply luthrady_detach(struct luthrady_env *env, struct luthrady_stood *out);
+/* Detaches a thread from the room that it was attached to. Its local references are freed, and no env
+   stands behind its handle then. The room has the env for the next thread. Where the room was released,
+   the last thread closes it: it answers 1, and writes what stood there; else it answers 0. (JNI
+   Specification, chapter 5, "DetachCurrentThread")
+   Refused: E21 where no room stands behind the room's handle, no thread is attached to it, or no env
+   stands behind the env's handle; E13 where a thread is collecting, or has announced that it will; E22
+   with how many threads were inside, knocking, announcing or collecting as the last one closed the room,
+   at least 1.
+   At E21 nothing has changed. At E13 the thread is still attached, with its local references. At E22 it is
+   detached, and the room can't be closed any more. */
+struct luthrady_reply luthrady_detach(
+    struct luthrady_room *room, struct luthrady_env *env, struct luthrady_stood *out);
+
+/* Frees the place of a thread's env, and leaves NULL in its handle.
+   Refused: E21 where no place of an env stands behind the handle; E19 where the thread is attached.
+   Nothing has changed then. */
+struct luthrady_reply luthrady_free_env(struct luthrady_env *env);
+
+/* Frees the place of a room, with the envs that no thread holds, and leaves NULL in its handle.
+   Refused: E21 where no room stands behind the handle; E22 with how many threads are attached, at least 1.
+   Nothing has changed then. */
+struct luthrady_reply luthrady_free_room(struct luthrady_room *room);
 
 /* A new global reference to what the word names, NULL to null. (JNI Specification, chapter 4,
    "NewGlobalRef")
@@ -491,7 +512,7 @@ static inline const char *luthrady_fault_text(uint32_t fault)
     case 18: return "the word is none of the array's element kind";
     case 19: return "the command is not allowed where the thread stands";
     case 20: return "the turns ran out";
-    case 21: return "no room or no env that may be used stands behind the pointer, or a room has no env left";
+    case 21: return "no room or no env that may be used stands behind the pointer, no env of a room is free, or no thread is attached to it";
     case 22: return "other threads kept the room from being closed";
     case 23: return "a thread went in or out before the announcement";
     default: return "no refusal has this number";
@@ -524,9 +545,21 @@ static inline struct luthrady_reply luthrady_checked_release(struct luthrady_roo
 }
 
 static inline struct luthrady_reply luthrady_checked_detach(
-    struct luthrady_env *env, struct luthrady_stood *out)
+    struct luthrady_room *room, struct luthrady_env *env, struct luthrady_stood *out)
 {
-    return env == NULL || out == NULL ? luthrady_refused_null() : luthrady_detach(env, out);
+    return room == NULL || env == NULL || out == NULL
+        ? luthrady_refused_null()
+        : luthrady_detach(room, env, out);
+}
+
+static inline struct luthrady_reply luthrady_checked_free_env(struct luthrady_env *env)
+{
+    return env == NULL ? luthrady_refused_null() : luthrady_free_env(env);
+}
+
+static inline struct luthrady_reply luthrady_checked_free_room(struct luthrady_room *room)
+{
+    return room == NULL ? luthrady_refused_null() : luthrady_free_room(room);
 }
 
 static inline struct luthrady_reply luthrady_checked_new_global_ref(struct luthrady_env *env, uint64_t object)
@@ -729,6 +762,8 @@ static inline struct luthrady_reply luthrady_checked_batch(
 #define luthrady_attach(...) luthrady_checked_attach(__VA_ARGS__)
 #define luthrady_release(...) luthrady_checked_release(__VA_ARGS__)
 #define luthrady_detach(...) luthrady_checked_detach(__VA_ARGS__)
+#define luthrady_free_env(...) luthrady_checked_free_env(__VA_ARGS__)
+#define luthrady_free_room(...) luthrady_checked_free_room(__VA_ARGS__)
 #define luthrady_new_global_ref(...) luthrady_checked_new_global_ref(__VA_ARGS__)
 #define luthrady_new_weak_global_ref(...) luthrady_checked_new_weak_global_ref(__VA_ARGS__)
 #define luthrady_new_local_ref(...) luthrady_checked_new_local_ref(__VA_ARGS__)

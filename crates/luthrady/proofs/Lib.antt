@@ -3,3 +3,4 @@ pub mod Lending
 pub mod Asking
 pub mod ThroughPointers
 pub mod Batching
+pub mod Pooling

@@ -15,6 +15,7 @@ use denote.Struct.Owning.{Owning, row, shape, fields, to}
 use denote.Struct.Struct.{exits_of}
 use denote.Struct.Values.{intos}
 use mir.Raw.{raw}
+use mir.Val.{Val, vstruct, vcons, vnil}
 use seplogic.Ra.Ura.{Ura}
 use types.Kit.{Item, Goal, Seq, ‵}
 use types.Logic.{Logic}
@@ -73,3 +74,7 @@ module _ {M : Type 1} {𝓤 : Ura M} {𝓛 : Logic 𝓤} {K : Type 0} {Γ : List
       → ((b o : ℕ) → p ≡ block_ptr b o → Seq K 𝓛 (‵ (F (block_ptr b o)) ∷ Γ) G) → Seq K 𝓛 (‵ (F p) ∷ Γ) G
   at_a_block t (block_ptr b o) F there k = k b o refl
   at_a_block t null_ptr F there k = absurd (true≢false there)
+
+-- a struct of two values
+abbrev pub both : Val → Val → Val
+both v w = vstruct (vcons v (vcons w vnil))

@@ -17,10 +17,13 @@ use Rattle.luthrady.specs.Threads.{elsewhere}
 abbrev pub config_of : Sizes → Config
 config_of s = record { threads = s.threads; slots = s.slots; objects = s.objects; words = s.words; locals = s.locals }
 
--- A ROOM WAS OPENED of these sizes, in a marked place, with an env for each thread, or refused, as the reply tells:
+-- THE PLACE OF A ROOM AS IT WAS OPENED: marked, with an env for each thread, and nobody is attached
+abbrev pub IsPlaceOpened : Config → Opened → Type 0
+IsPlaceOpened c o = AreEnvsOpened c o.envs.items × (o.mark ≡ room_mark) × (o.attached ≡ 0) × (o.released ≡ false)
+
+-- A ROOM WAS OPENED of these sizes, or refused, as the reply tells:
 -- with E17 exactly where the sizes are beyond their limits, and else with E16
 abbrev pub OpenReplied : Sizes → Reply → Type 0
 OpenReplied sizes reply = (answer : Result (Box Opened) Fault) × (reply ≡ reply_of elsewhere answer)
     × ((answer ≡ Err Size) ↔ (in_limits (config_of sizes) ≡ false)) × IfErr answer (λ e. (e ≡ Size) ⊎ (e ≡ Memory))
-    × IfOk answer (λ b. AreEnvsOpened (config_of sizes) b.value.envs.items)
-    × IfOk answer (λ b. b.value.mark ≡ room_mark)
+    × IfOk answer (λ b. IsPlaceOpened (config_of sizes) b.value)

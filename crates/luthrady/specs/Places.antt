@@ -1,5 +1,5 @@
 -- What stands behind a handle's pointer.
-use Rattle.std.specs.Prelude.{◌==◌, ℕ, Bool, true, false, Option, None}
+use Rattle.std.specs.Prelude.{◌==◌, ◌&&◌, not, ℕ, Bool, true, false, Option, None}
 use Rattle.std.specs.Global.{Box}
 use denote.RawPtr.{Ptr, block_ptr, null_ptr}
 use Rattle.luthrady.specs.declared.handles.EnvHandle.{EnvHandle}
@@ -28,6 +28,10 @@ at_place null_ptr test = false
 abbrev pub is_room : RoomHandle → Bool
 is_room h = at_place h.at (h.value.mark == room_mark)
 
+-- whether one with an attached thread does
+abbrev pub has_attached : RoomHandle → Bool
+has_attached h = at_place h.at ((h.value.mark == room_mark) && not (h.value.attached == 0))
+
 -- whether the place of an env stands behind a pointer, by its mark
 abbrev pub is_env : EnvHandle → Bool
 is_env h = at_place h.at (h.value.mark == env_mark)
@@ -36,10 +40,6 @@ is_env h = at_place h.at (h.value.mark == env_mark)
 abbrev pub taken : {A : Type 0} → Bool → Option A → Option A
 taken true o = o
 taken false o = None
-
--- the env in a place, by its mark: none once the thread was detached
-abbrev pub native_in : Attached → Option (Box Native)
-native_in a = taken (a.mark == env_mark) a.native
 
 -- THE ENV BEHIND A HANDLE: none at NULL, in another place than an env's, and once the thread was detached
 abbrev pub native_behind : EnvHandle → Option (Box Native)

@@ -84,7 +84,7 @@ impl Operation {
 ///
 /// # Errors
 ///
-/// E21 where no env stands behind the handle; E13 where a thread is collecting at the entry, or has announced that it will.
+/// E21 where no env stands behind the handle; that of the gate.
 ///
 /// No call is made then.
 #[unsafe(no_mangle)]

@@ -2,13 +2,16 @@
 #![tactic(auto)]
 
 mod arrays;
+mod attaching;
 mod batches;
 mod behind;
 mod calling;
 mod collecting;
 mod frames;
+mod freeing;
 mod handles;
 mod held;
+mod parts;
 mod references;
 mod regions;
 mod reply;

@@ -2,12 +2,16 @@
 ghost use Rattle.std.specs.Prelude.{◌≡◌};
 ghost use Rattle.luthrady.specs.Opening.{OpenReplied};
 ghost use Rattle.luthrady.specs.Replies.{reply_of, the_number};
-ghost use Rattle.luthrady.specs.Threads.{AttachReplied, DetachReplied, ReleaseReplied, elsewhere, leaving_answer, stood_of, told_summary};
+ghost use Rattle.luthrady.specs.Threads.{AttachReplied, DetachReplied, FreeEnvReplied, FreeRoomReplied, ReleaseReplied, WasDetached, elsewhere, leaving_answer, stood_of, told_summary};
 
-use crate::behind::{env_of, is_env, is_room, room_of};
+use crate::attaching::open_room;
+use crate::behind::{env_of, has_attached, is_env, is_room, room_of};
+use crate::calling::make;
+use crate::freeing::{take_env, take_room};
 use crate::handles::{EnvHandle, RoomHandle, env_pointer, room_pointer};
-use crate::held::{Attached, Opened, closed, open_room};
+use crate::held::{Attached, Opened};
 use crate::reply::{Reply, of_nothing, of_number};
+use jr_env::calls::FreeLocals;
 use jr_model::Summary;
 use jr_word::{Config, Fault};
 use std::alloc::Global;
@@ -60,13 +64,13 @@ fn opened(answer: Result<Box<Opened>, Fault>, out: &mut *mut u8) -> Reply
     }
 }
 
-/// Makes the env of the next thread, and writes the pointer to it.
+/// Attaches a thread with an env that no other thread holds, and writes the pointer to it. The thread has no local reference. (JNI Specification, chapter 5, "AttachCurrentThread")
 ///
 /// # Errors
 ///
-/// E21 where no room stands behind the handle, each of its threads has one, or it was released; E16 where memory was refused.
+/// E21 where no room stands behind the handle, no env of it is free, or it was released; E16 where memory was refused.
 ///
-/// At E21 nothing has changed. At E16 the env of the next thread is gone, and no other.
+/// Nothing has changed then.
 #[unsafe(no_mangle)]
 pub extern "C" fn luthrady_attach(alloc: Global, room: &mut RoomHandle, out: &mut *mut u8) -> Reply
     ensures { AttachReplied room.old room.new result }
@@ -90,7 +94,7 @@ fn attached(answer: Result<Box<Attached>, Fault>, out: &mut *mut u8) -> Reply
     }
 }
 
-/// Lets go of the envs of threads that were not attached, and of the place that the envs had. No further thread is attached then.
+/// Lets go of the envs that no thread holds. No further thread is attached then, and the last one that is detached closes the room.
 ///
 /// # Errors
 ///
@@ -98,13 +102,13 @@ fn attached(answer: Result<Box<Attached>, Fault>, out: &mut *mut u8) -> Reply
 ///
 /// Nothing has changed then.
 #[unsafe(no_mangle)]
-pub extern "C" fn luthrady_release(alloc: Global, room: &mut RoomHandle) -> Reply
+pub extern "C" fn luthrady_release(room: &mut RoomHandle) -> Reply
     ensures { ReleaseReplied room.old room.new result }
 {
     if !is_room(room) {
         return of_nothing(Err(Fault::NotFresh));
     }
-    room_of(room).envs = Vec::new(alloc);
+    room_of(room).release();
     of_nothing(Ok(()))
 }
 
@@ -134,22 +138,47 @@ fn told_of(summary: Summary) -> Stood
     }
 }
 
-/// Detaches a thread: no env stands behind the handle then. Its local references stay, and keep what they name. Where it closed the room it answers 1, and writes what stood there; else 0.
+/// Detaches a thread from the room that it was attached to. Its local references are freed, and no env stands behind its handle then. The room has the env for the next thread.
+/// Where the room was released, the last thread closes it: it answers 1, and writes what stood there; else it answers 0. (JNI Specification, chapter 5, "DetachCurrentThread")
 ///
 /// # Errors
 ///
-/// E21 where no env stands behind the handle; E22 with how many threads were inside, knocking, announcing or collecting as it closed the room, at least 1.
+/// E21 where no room stands behind the room's handle, no thread is attached to it, or no env stands behind the env's handle; E13 where a thread is collecting, or has announced that it will;
+/// E22 with how many threads were inside, knocking, announcing or collecting as the last one closed the room, at least 1.
+///
+/// At E21 nothing has changed. At E13 the thread is still attached, with its local references. At E22 it is detached, and the room can't be closed any more.
 #[unsafe(no_mangle)]
-pub extern "C" fn luthrady_detach(env: &mut EnvHandle, out: &mut Stood) -> Reply
-    ensures { DetachReplied env.old env.new result out.old out.new }
+pub extern "C" fn luthrady_detach(
+    room: &mut RoomHandle,
+    env: &mut EnvHandle,
+    out: &mut Stood,
+) -> Reply
+    ensures { DetachReplied room.old room.new env.old env.new result out.old out.new }
 {
-    if !is_env(env) {
-        return of_number(Err(Fault::NotFresh));
+    told(detach(room, env), out)
+}
+
+/// Detaches a thread.
+///
+/// # Errors
+///
+/// E21, E13 and E22, as `luthrady_detach`.
+fn detach(room: &mut RoomHandle, handle: &mut EnvHandle) -> Result<Option<Summary>, Fault>
+    ensures { WasDetached room.old room.new handle.old handle.new result }
+{
+    if !has_attached(room) {
+        return Err(Fault::NotFresh);
     }
-    let Some(native) = env_of(env).native.take() else {
-        return of_number(Err(Fault::NotFresh));
+    if let Err(fault) = make(handle, FreeLocals) {
+        return Err(fault);
+    }
+    if !is_env(handle) {
+        return Err(Fault::NotFresh);
+    }
+    let Some(native) = env_of(handle).native.take() else {
+        return Err(Fault::NotFresh);
     };
-    told(closed(native), out)
+    room_of(room).take_back(native)
 }
 
 /// Tells whether a room was closed, and what stood there.
@@ -165,4 +194,47 @@ fn told(closed: Result<Option<Summary>, Fault>, out: &mut Stood) -> Reply
         }
         Err(fault) => of_number(Err(fault)),
     }
+}
+
+/// Frees the place of a thread's env, and leaves NULL in its handle.
+///
+/// # Errors
+///
+/// E21 where no place of an env stands behind the handle; E19 where the thread is attached.
+///
+/// Nothing has changed then.
+#[unsafe(no_mangle)]
+pub extern "C" fn luthrady_free_env(alloc: Global, env: &mut EnvHandle) -> Reply
+    ensures { FreeEnvReplied env.old env.new result }
+{
+    if !is_env(env) {
+        return of_nothing(Err(Fault::NotFresh));
+    }
+    if env_of(env).native.is_some() {
+        return of_nothing(Err(Fault::InCritical));
+    }
+    drop(take_env(alloc, env));
+    of_nothing(Ok(()))
+}
+
+/// Frees the place of a room, with the envs that no thread holds, and leaves NULL in its handle.
+///
+/// # Errors
+///
+/// E21 where no room stands behind the handle; E22 with how many threads are attached, at least 1.
+///
+/// Nothing has changed then.
+#[unsafe(no_mangle)]
+pub extern "C" fn luthrady_free_room(alloc: Global, room: &mut RoomHandle) -> Reply
+    ensures { FreeRoomReplied room.old room.new result }
+{
+    if !is_room(room) {
+        return of_nothing(Err(Fault::NotFresh));
+    }
+    let attached = room_of(room).attached;
+    if attached != 0 {
+        return of_nothing(Err(Fault::LeftInside(attached)));
+    }
+    drop(take_room(alloc, room));
+    of_nothing(Ok(()))
 }

@@ -21,7 +21,8 @@ fn leave_text<S: Steps>(env: &mut Env<S>) -> Result<(), Fault> {
     env.delete_local_ref(text)
 }
 
-/// Makes a shelf that a global reference keeps, which keeps a cache, which keeps two pages. One of these has a global reference of its own, and nothing else names the other. Tells the shelf's global reference.
+/// Makes a shelf that a global reference keeps, which keeps a cache, which keeps two pages. One of these has a global reference of its own, and nothing else names the other.
+/// Tells the shelf's global reference.
 fn keep_shelf<S: Steps>(env: &mut Env<S>) -> Result<Handle, Fault> {
     let cache = env.new_object_array(3, Handle::NULL)?;
     let shelf = env.new_object_array(1, cache)?;
@@ -39,7 +40,8 @@ fn keep_shelf<S: Steps>(env: &mut Env<S>) -> Result<Handle, Fault> {
     Ok(kept)
 }
 
-/// Leaves a string, which a collection drops, and so its weak reference cleared; a shelf; another string; and a local reference. Then the room has no number for an object more, and the words of one that is refused for that are lost. Tells the local reference, and the shelf's global one.
+/// Leaves a string, which a collection drops, and so its weak reference cleared; a shelf; another string; and a local reference.
+/// Then the room has no number for an object more, and the words of one that is refused for that are lost. Tells the local reference, and the shelf's global one.
 pub(crate) fn leak<S: Steps>(
     env: &mut Env<S>,
     marker: &mut Marker,

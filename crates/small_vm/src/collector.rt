@@ -3,7 +3,7 @@
 use crate::symbol_table::SymbolTable;
 use crate::{PATIENCE, SYMBOLS};
 use jr::calls::IsSameObject;
-use jr::{Env, Fault, Handle, Steps};
+use jr::{Env, Fault, Handle, NativeEnv, OverEnv, Steps};
 use std::alloc::Global;
 use std::thread;
 
@@ -14,9 +14,9 @@ const ROUNDS: u32 = 1 << 22;
 const SHUTS: u32 = 1_000;
 
 /// Collects until the others have left, and once more, and tells how many weak references of the cache are cleared then.
-pub(crate) fn run<S: Steps>(
+pub(crate) fn run<S: Steps, N: NativeEnv<S> + OverEnv<Env<S>>>(
     alloc: Global,
-    env: &mut Env<S>,
+    env: &mut N,
     table: &SymbolTable,
 ) -> Result<u32, Fault> {
     let mut marker = env.marker(alloc)?;
@@ -32,7 +32,7 @@ pub(crate) fn run<S: Steps>(
 }
 
 /// How many weak references of the cache are cleared.
-fn cleared<S: Steps>(env: &mut Env<S>, table: &SymbolTable) -> Result<u32, Fault> {
+fn cleared<S: Steps, N: NativeEnv<S>>(env: &mut N, table: &SymbolTable) -> Result<u32, Fault> {
     let mut cleared = 0u32;
     for symbol in 0..SYMBOLS {
         if env.retry(IsSameObject(table.kept(symbol), Handle::NULL), PATIENCE)? {

@@ -6,11 +6,13 @@ use jr::calls::{
     FreeLocals, GetStringLength, NewArray, NewGlobalRef, NewObjectArray, NewString, SetArrayRegion,
     SetObjectArrayElement,
 };
-use jr::{Env, Fault, Handle, QueueEnd, Site, Steps, StepsIn, with_local_frame};
+use jr::{
+    Env, Fault, Handle, NativeEnv, OverEnv, QueueEnd, Site, Steps, StepsIn, with_local_frame,
+};
 
 /// Loads all symbols, hands each on by a global reference, and answers how many units their names have.
-pub(crate) fn run<Q: Site, S: StepsIn<Q>>(
-    env: &mut Env<S>,
+pub(crate) fn run<Q: Site, S: StepsIn<Q>, N: NativeEnv<S> + OverEnv<Env<S>>>(
+    env: &mut N,
     table: &SymbolTable,
     queue: &QueueEnd<'_, Symbol, Q>,
 ) -> Result<u32, Fault> {
@@ -22,8 +24,8 @@ pub(crate) fn run<Q: Site, S: StepsIn<Q>>(
 }
 
 /// Loads all symbols, each in a frame of its own, and hands each on.
-fn load_all<Q: Site, S: StepsIn<Q>>(
-    env: &mut Env<S>,
+fn load_all<Q: Site, S: StepsIn<Q>, N: NativeEnv<S> + OverEnv<Env<S>>>(
+    env: &mut N,
     queue: &QueueEnd<'_, Symbol, Q>,
 ) -> Result<u32, Fault> {
     let mut units = 0u32;
@@ -39,8 +41,8 @@ fn load_all<Q: Site, S: StepsIn<Q>>(
 }
 
 /// Hands a symbol on, with a note of what was seen.
-fn hand_on<Q: Site, S: StepsIn<Q>>(
-    env: &mut Env<S>,
+fn hand_on<Q: Site, S: StepsIn<Q>, N: NativeEnv<S> + OverEnv<Env<S>>>(
+    env: &mut N,
     queue: &QueueEnd<'_, Symbol, Q>,
     symbol: Symbol,
 ) -> Result<(), Fault> {
@@ -49,7 +51,7 @@ fn hand_on<Q: Site, S: StepsIn<Q>>(
 }
 
 /// Loads a symbol, and answers a global reference to it, and how many units its name has.
-fn load<S: Steps>(env: &mut Env<S>, number: u32) -> Result<(Handle, u32), Fault> {
+fn load<S: Steps, N: NativeEnv<S>>(env: &mut N, number: u32) -> Result<(Handle, u32), Fault> {
     let name = env.retry(NewString(&name_of(number)), PATIENCE)?;
     let numbers = env.retry(NewArray::<i32>::of(4), PATIENCE)?;
     let first = i32::try_from(number).unwrap_or(0);

@@ -3,12 +3,16 @@
 
 mod collector;
 mod loader;
+#[cfg(test)]
+mod stressed;
 mod symbol_table;
+#[cfg(test)]
+mod tests;
 mod worker;
 
 use jr::{
-    Config, Env, Fault, HandedOn, Handle, NativeCode, Patience, QueueEnd, Site, StepsIn, Summary,
-    run_native,
+    Config, Env, Fault, HandedOn, Handle, NativeCode, NativeEnv, OverEnv, Patience, QueueEnd, Site,
+    StepsIn, Summary, run_native,
 };
 use std::alloc::{AllocError, Global};
 use std::io;
@@ -72,6 +76,18 @@ impl NativeCode for Machine {
         &self,
         thread: u8,
         env: &mut Env<S>,
+        queue: &mut QueueEnd<'_, Symbol, Q>,
+    ) -> Result<Done, Fault> {
+        self.work(thread, env, queue)
+    }
+}
+
+impl Machine {
+    /// Lets a thread do its work, by an env, or by one that is checked or stressed.
+    fn work<Q: Site, S: StepsIn<Q>, N: NativeEnv<S> + OverEnv<Env<S>>>(
+        &self,
+        thread: u8,
+        env: &mut N,
         queue: &mut QueueEnd<'_, Symbol, Q>,
     ) -> Result<Done, Fault> {
         if thread > 0 {

@@ -7,7 +7,8 @@ use jr::calls::{
     NewWeakGlobalRef,
 };
 use jr::{
-    Env, Fault, Handle, NativeCall, NoMessage, QueueEnd, Site, Steps, StepsIn, with_local_frame,
+    Env, Fault, Handle, NativeCall, NativeEnv, NoMessage, OverEnv, QueueEnd, Site, Steps, StepsIn,
+    with_local_frame,
 };
 use std::alloc::Global;
 
@@ -53,9 +54,9 @@ impl Totals {
 }
 
 /// Works through symbols until no more come.
-pub(crate) fn run<Q: Site, S: StepsIn<Q>>(
+pub(crate) fn run<Q: Site, S: StepsIn<Q>, N: NativeEnv<S> + OverEnv<Env<S>>>(
     alloc: Global,
-    env: &mut Env<S>,
+    env: &mut N,
     table: &SymbolTable,
     queue: &QueueEnd<'_, Symbol, Q>,
 ) -> Result<Totals, Fault> {
@@ -67,9 +68,9 @@ pub(crate) fn run<Q: Site, S: StepsIn<Q>>(
 }
 
 /// Works through the symbols that come, until no more do.
-fn work_all<Q: Site, S: StepsIn<Q>>(
+fn work_all<Q: Site, S: StepsIn<Q>, N: NativeEnv<S> + OverEnv<Env<S>>>(
     alloc: Global,
-    env: &mut Env<S>,
+    env: &mut N,
     table: &SymbolTable,
     queue: &QueueEnd<'_, Symbol, Q>,
 ) -> Result<Totals, Fault> {
@@ -87,9 +88,9 @@ fn work_all<Q: Site, S: StepsIn<Q>>(
 }
 
 /// Works at a symbol in a frame of its own, and lets go of it.
-fn work_in_frame<S: Steps>(
+fn work_in_frame<S: Steps, N: NativeEnv<S> + OverEnv<Env<S>>>(
     alloc: Global,
-    env: &mut Env<S>,
+    env: &mut N,
     table: &SymbolTable,
     symbol: Symbol,
 ) -> Result<Totals, Fault> {
@@ -101,9 +102,9 @@ fn work_in_frame<S: Steps>(
 }
 
 /// Works at a symbol: copies its name out, and adds its numbers up.
-fn work<S: Steps>(
+fn work<S: Steps, N: NativeEnv<S> + OverEnv<Env<S>>>(
     alloc: Global,
-    env: &mut Env<S>,
+    env: &mut N,
     table: &SymbolTable,
     symbol: Symbol,
 ) -> Result<Totals, Fault> {
@@ -133,7 +134,11 @@ fn hash_of(name: &[u16]) -> u32 {
 }
 
 /// The sum of two of an array's numbers, in a critical region.
-fn added<S: Steps>(env: &mut Env<S>, numbers: Handle, at: [u32; 2]) -> Result<i64, Fault> {
+fn added<S: Steps, N: NativeEnv<S> + OverEnv<Env<S>>>(
+    env: &mut N,
+    numbers: Handle,
+    at: [u32; 2],
+) -> Result<i64, Fault> {
     let mut region = env.retry_array_critical(numbers, PATIENCE)?;
     let first = region.get::<i32>(0, at[0]);
     let second = region.get::<i32>(0, at[1]);
@@ -142,8 +147,8 @@ fn added<S: Steps>(env: &mut Env<S>, numbers: Handle, at: [u32; 2]) -> Result<i6
 }
 
 /// The reference that a call made, NULL where that is to nothing.
-fn made<S: Steps, C: NativeCall<S, Answer = Option<Handle>> + Copy>(
-    env: &mut Env<S>,
+fn made<S: Steps, N: NativeEnv<S>, C: NativeCall<S, Answer = Option<Handle>> + Copy>(
+    env: &mut N,
     call: C,
 ) -> Result<Handle, Fault> {
     Ok(Handle::or_null(env.retry(call, PATIENCE)?))

@@ -129,7 +129,8 @@ fn read_into<S: Steps, E: Elem>(
     requires stay { IsOwnStay inside.now (S.facts steps.old).stands }
     requires ready { StandsReady S.facts Within steps.old frames.now }
     ensures size { length elements.new ≡ length elements.old }
-    ensures call { Serves S.facts steps.old steps.new frames.now.frames frames.now.frames (for_get_array_region E.KIND handle.0 start (length elements.old)) (read_answer result (map E.word_of elements.new)) }
+    ensures call { Serves S.facts steps.old steps.new frames.now.frames frames.now.frames (for_get_array_region E.KIND handle.0 start (length elements.old))
+        (read_answer result (map E.word_of elements.new)) }
     ensures err { IfErr result (λ _. elements.new ≡ elements.old) }
 {
     let array = Reference::of(handle);

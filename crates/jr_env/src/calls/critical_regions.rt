@@ -16,13 +16,13 @@ impl<S: Steps> Env<S> {
     ghost use Rattle.jr_env.specs.Envs.{IsOutside};
     ghost use Rattle.jr_env.specs.StandingRegions.{StandsSince};
     ghost use Rattle.jr_env.specs.Criticals.{env_of, held_of, levels_of, rests_in, WasOpened};
-    ghost use Rattle.jr_env.specs.Turns.{rests_opening, TriesAgainToOpen};
+    ghost use Rattle.jr_env.specs.Retried.{rests_opening, TriesAgainToOpen};
 
     /// Opens a critical region, with the array at its first level. The thread is within until that level is released. (JNI Specification, chapter 4, "GetPrimitiveArrayCritical")
     ///
     /// # Errors
     ///
-    /// E13 where a thread is collecting at the entry, or has announced that it will; E2 where the handle is malformed or lies outside the room; E3 where it is a local one of another thread; E2 where its reference does not stand; E1 where it is to null; E5 where it is to a plain object or a string; E6 where it is to an array of objects.
+    /// That of the gate; those of a handle to an object; E5 where it is to a plain object or a string; E6 where it is to an array of objects.
     ///
     /// Nothing has changed then, and the thread stands outside.
     ///
@@ -44,7 +44,7 @@ impl<S: Steps> Env<S> {
     ///
     /// # Errors
     ///
-    /// E13 where a thread is collecting at the entry, or has announced that it will; E2 where the handle is malformed or lies outside the room; E3 where it is a local one of another thread; E2 where its reference does not stand; E1 where it is to null; E4 where it is to no string.
+    /// That of the gate; those of a handle to an object; E4 where it is to no string.
     ///
     /// Nothing has changed then, and the thread stands outside.
     ///

@@ -14,11 +14,13 @@ impl<S: Steps> Env<S> {
     ghost use Rattle.jr_env.specs.Envs.{Does};
     ghost use Rattle.jr_env.specs.Words.{explain as explanation};
 
-    /// What a word is that native code hands in as a handle: NULL, malformed, outside the room, another thread's local one, standing (of which kind, and for an object of which kind or cleared), of another kind than the reference that stands under its serial, given and gone, or not given yet. What it tells of the room was so at its one look. It is refused for no word, and changes nothing.
+    /// What a word is that native code hands in as a handle: NULL, malformed, outside the room, another thread's local one, standing (of which kind, and for an object of which kind or cleared),
+    /// of another kind than the reference that stands under its serial, given and gone, or not given yet. What it tells of the room was so at its one look.
+    /// It is refused for no word, and changes nothing.
     ///
     /// # Errors
     ///
-    /// E13 where a thread is collecting at the entry, or has announced that it will.
+    /// That of the gate.
     ///
     /// Nothing has changed then, and the thread stands outside.
     ///

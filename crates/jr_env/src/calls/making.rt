@@ -12,6 +12,7 @@ ghost use Rattle.jr_env.specs.Works.{Refers, MakesArray};
 
 use crate::calls::names;
 use crate::calls::objects::element_word;
+use crate::demand::Demand;
 use crate::native_call::{Handed, NativeCall};
 use jr_frames::{Frames, Reference, resolve};
 use jr_gate::Inside;
@@ -39,6 +40,11 @@ impl<S: Steps> NativeCall<S> for NewPlain {
     #[inline(always)]
     fn handed(&self) -> Handed {
         Handed::Nothing
+    }
+
+    #[inline(always)]
+    fn demand(&self) -> Demand {
+        Demand::Object(0)
     }
 
     #[inline(always)]
@@ -79,6 +85,11 @@ impl<S: Steps> NativeCall<S> for NewObjectArray {
     }
 
     #[inline(always)]
+    fn demand(&self) -> Demand {
+        Demand::Object(u64::from(self.0))
+    }
+
+    #[inline(always)]
     fn work(
         self,
         steps: &mut S,
@@ -113,6 +124,11 @@ impl<S: Steps> NativeCall<S> for NewString<'_> {
     #[inline(always)]
     fn handed(&self) -> Handed {
         Handed::Nothing
+    }
+
+    #[inline(always)]
+    fn demand(&self) -> Demand {
+        Demand::Object(count(self.0))
     }
 
     #[inline(always)]
@@ -162,6 +178,11 @@ impl<S: Steps, E: Elem> NativeCall<S> for NewArray<E> {
     #[inline(always)]
     fn handed(&self) -> Handed {
         Handed::Nothing
+    }
+
+    #[inline(always)]
+    fn demand(&self) -> Demand {
+        Demand::Object(u64::from(self.length))
     }
 
     #[inline(always)]

@@ -15,7 +15,8 @@ impl<const LAST: u32> Env<RoomSteps<'_, LAST>> {
     ///
     /// # Operations
     ///
-    /// One, a load of the gate. The passes join for it and part again, each by a load of the gate: the thread's count of joins and partings goes up by two, and by what the other pass had. That one begins anew at 0.
+    /// One, a load of the gate. The passes join for it and part again, each by a load of the gate: the thread's count of joins and partings goes up by two, and by what the other pass had.
+    /// That one begins anew at 0.
     pub fn meet(&mut self, pass: Pass) -> Pass
         requires { IsOfRoom self.old.held.steps.place.now pass }
         ensures room { self.new.held.steps.place ≡ self.old.held.steps.place }
@@ -34,7 +35,8 @@ impl<const LAST: u32> Env<RoomSteps<'_, LAST>> {
     ///
     /// # Operations
     ///
-    /// One, a load of the gate. The other's pass leaves its seat for it, the passes join, and they part again, each by a load of the gate: the thread's count of joins and partings goes up by three, and by what the other had. That one begins anew at 0.
+    /// One, a load of the gate. The other's pass leaves its seat for it, the passes join, and they part again, each by a load of the gate:
+    /// the thread's count of joins and partings goes up by three, and by what the other had. That one begins anew at 0.
     pub fn meet_env(&mut self, other: &mut Env<RoomSteps<'_, LAST>>)
         requires { AreInOneRoom self.old.held.steps other.old.held.steps }
         ensures room { self.new.held.steps.place ≡ self.old.held.steps.place }

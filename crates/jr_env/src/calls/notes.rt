@@ -9,7 +9,8 @@ use jr_rule::{NoteOf, PinnedNoteOf, Site, StepsIn};
 use jr_steps::Steps;
 
 impl<S: Steps> Env<S> {
-    /// A note of all that the env's thread has seen until now, to be handed to another thread of the room by whatever way: a channel, a lock, a join. It is no pass: no collection and no close waits for it, and it may be let go. The env stays as it was. An env in a room alone has this call.
+    /// A note of all that the env's thread has seen until now, to be handed to another thread of the room by whatever way: a channel, a lock, a join. It is no pass:
+    /// no collection and no close waits for it, and it may be let go. The env stays as it was. An env in a room alone has this call.
     ///
     /// # Operations
     ///
@@ -25,9 +26,11 @@ impl<S: Steps> Env<S> {
         held.steps.note()
     }
 
-    /// Learns all that a note of the room says: what its thread had seen, this one has seen then. That is no event of the machine. The local references stay as they are. An env in a room alone has this call.
+    /// Learns all that a note of the room says: what its thread had seen, this one has seen then. That is no event of the machine. The local references stay as they are.
+    /// An env in a room alone has this call.
     ///
-    /// So a reference that stood where the note was made stands here, unless somebody has deleted it since: a global one with its object, a weak one with it, or cleared (the law `references_stand_until_deleted`).
+    /// So a reference that stood where the note was made stands here, unless somebody has deleted it since:
+    /// a global one with its object, a weak one with it, or cleared (the law `references_stand_until_deleted`).
     ///
     /// # Operations
     ///
@@ -45,7 +48,8 @@ impl<S: Steps> Env<S> {
         note.learned_in(&mut held.steps);
     }
 
-    /// A pinned note of all that the env's thread has seen until now, from which several threads can learn it, each as often as it likes. The env stays as it was. An env in a room alone has this call.
+    /// A pinned note of all that the env's thread has seen until now, from which several threads can learn it, each as often as it likes. The env stays as it was.
+    /// An env in a room alone has this call.
     ///
     /// # Operations
     ///
@@ -61,7 +65,8 @@ impl<S: Steps> Env<S> {
         note.pin()
     }
 
-    /// Learns all that a pinned note of the room says, as `learn` does, and leaves it pinned; or answers false, where another thread was just learning it. Nobody waits: the env is then as it was, and the call may be made again. An env in a room alone has this call.
+    /// Learns all that a pinned note of the room says, as `learn` does, and leaves it pinned; or answers false, where another thread was just learning it. Nobody waits:
+    /// the env is then as it was, and the call may be made again. An env in a room alone has this call.
     ///
     /// # Operations
     ///
@@ -72,7 +77,8 @@ impl<S: Steps> Env<S> {
         ensures step { result ≡ true → Took S.facts self.old.held.steps self.new.held.steps [] anything keeps }
         ensures learned { result ≡ true → HasSeen S.facts self.new.held.steps (seen_by_pinned pinned.now.pinned) }
         ensures busy { result ≡ false → IsUnchanged S.facts self.old.held.steps self.new.held.steps }
-        ensures counted { (result ≡ true → S.joints self.new.held.steps ≡ S.joints self.old.held.steps + joints_of_pinned pinned.now.pinned + 2) × (result ≡ false → S.joints self.new.held.steps ≡ S.joints self.old.held.steps) }
+        ensures counted { (result ≡ true → S.joints self.new.held.steps ≡ S.joints self.old.held.steps + joints_of_pinned pinned.now.pinned + 2)
+            × (result ≡ false → S.joints self.new.held.steps ≡ S.joints self.old.held.steps) }
         ensures frames { self.new.held.frames ≡ self.old.held.frames }
         ensures numbers { self.new.numbers ≡ self.old.numbers }
     {

@@ -11,6 +11,7 @@ ghost use Rattle.jr_frames.specs.Ready.{StandsReady};
 ghost use Rattle.jr_env.specs.Requests.{for_delete_reference, for_is_same_object, for_new_reference};
 ghost use Rattle.jr_env.specs.Works.{Serves};
 
+use crate::demand::Demand;
 use crate::native_call::{Handed, NativeCall};
 use jr_frames::{
     Frames, Reference, delete_local, lies_outside, names_kind, new_local, resolve, resolve_both,
@@ -45,6 +46,11 @@ impl<S: Steps> NativeCall<S> for NewGlobalRef {
     }
 
     #[inline(always)]
+    fn demand(&self) -> Demand {
+        Demand::Slot
+    }
+
+    #[inline(always)]
     fn work(
         self,
         steps: &mut S,
@@ -76,6 +82,11 @@ impl<S: Steps> NativeCall<S> for NewWeakGlobalRef {
     #[inline(always)]
     fn handed(&self) -> Handed {
         Handed::One(self.0)
+    }
+
+    #[inline(always)]
+    fn demand(&self) -> Demand {
+        Demand::Slot
     }
 
     #[inline(always)]

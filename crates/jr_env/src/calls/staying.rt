@@ -16,13 +16,13 @@ impl<S: Steps> Env<S> {
     ghost use Rattle.jr_env.specs.Envs.{IsOutside};
     ghost use Rattle.jr_env.specs.OpenStays.{BehindExit, Enters, EntersOver, StaysSince};
     ghost use Rattle.jr_env.specs.LentStays.{env_in, rests_within, WasEntered};
-    ghost use Rattle.jr_env.specs.Turns.{rests_trying, TriesAgainToStay, TriesToStay};
+    ghost use Rattle.jr_env.specs.Retried.{rests_trying, TriesAgainToStay, TriesToStay};
 
     /// Enters a stay, in which calls are made without an entry and an exit of their own. The thread is within until it is ended, so that collections are kept out.
     ///
     /// # Errors
     ///
-    /// E13 where a thread is collecting at the entry, or has announced that it will.
+    /// That of the gate.
     ///
     /// Nothing has changed then, and the thread stands outside.
     ///

@@ -13,7 +13,7 @@ impl<S: Steps> Env<S> {
     ///
     /// # Errors
     ///
-    /// E16 where the memory for the units was refused, of which an empty text needs none; E13 where a thread is collecting at the entry, or has announced that it will; E9 where no local place is free; E10 with how many words are reserved, where so many more don't fit; E12 with how many words were looked at and how many were found, where another thread reserved some in between; E11 where every object number was present at one moment of the call.
+    /// E16 where the memory for the units was refused, of which an empty text needs none; that of the gate; E9 where no local place is free; those of space.
     ///
     /// Nothing has changed then, and the thread stands outside; but after E11 the words of the string stay reserved until the next collection.
     ///
@@ -31,7 +31,7 @@ impl<S: Steps> Env<S> {
     ///
     /// # Errors
     ///
-    /// E13 where a thread is collecting at the entry, or has announced that it will; E2 where the handle is malformed or lies outside the room; E3 where it is a local one of another thread; E2 where its reference does not stand; E1 where it is to null; E4 where it is to no string; E16 where the memory for the units or the text was refused, of which an empty string needs none.
+    /// That of the gate; those of a handle to an object; E4 where it is to no string; E16 where the memory for the units or the text was refused, of which an empty string needs none.
     ///
     /// Nothing has changed then, and the thread stands outside.
     ///

@@ -13,11 +13,12 @@ impl<S: Steps> Stay<'_, S> {
     ghost use Rattle.jr_env.specs.Deeds.{release_answer, release_within};
     ghost use Rattle.jr_env.specs.LentStays.{DoesWithin};
 
-    /// Releases copied elements by a mode. To copy writes them to the whole array, one after the other, rising, and gives them up; to commit writes them and hands them back, as they were; to abort gives them up, enters no gate, looks at no reference and is never refused. (JNI Specification, chapter 4, "Release<PrimitiveType>ArrayElements Routines")
+    /// Releases copied elements by a mode. To copy writes them to the whole array, one after the other, rising, and gives them up; to commit writes them and hands them back, as they were;
+    /// to abort gives them up, enters no gate, looks at no reference and is never refused. (JNI Specification, chapter 4, "Release<PrimitiveType>ArrayElements Routines")
     ///
     /// # Errors
     ///
-    /// E2 where the handle is malformed or lies outside the room; E3 where it is a local one of another thread; E2 where its reference does not stand; E1 where it is to null; E5 where it is to a plain object or a string; E6 where it is to an array of other elements; E7 where the array has another number of elements.
+    /// Those of a handle to an object; E5 where it is to a plain object or a string; E6 where it is to an array of other elements; E7 where the array has another number of elements.
     ///
     /// The elements are handed back as they were, nothing is written, and the stay stands.
     ///

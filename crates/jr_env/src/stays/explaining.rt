@@ -49,7 +49,8 @@ impl<S: Steps> Stay<'_, S> {
     ghost use Rattle.jr_env.specs.LentStays.{DoesWithin};
     ghost use Rattle.jr_env.specs.Words.{explaining};
 
-    /// What a word is that native code hands in as a handle: NULL, malformed, outside the room, another thread's local one, standing (of which kind, and for an object of which kind or cleared), of another kind than the reference that stands under its serial, given and gone, or not given yet. What it tells of the room was so at its one look. It changes nothing.
+    /// What a word is that native code hands in as a handle: NULL, malformed, outside the room, another thread's local one, standing (of which kind, and for an object of which kind or cleared),
+    /// of another kind than the reference that stands under its serial, given and gone, or not given yet. What it tells of the room was so at its one look. It changes nothing.
     ///
     /// # Errors
     ///

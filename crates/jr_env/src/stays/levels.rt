@@ -15,11 +15,12 @@ impl<'e, S: Steps> Stay<'e, S> {
     ghost use Rattle.jr_env.specs.LentStays.{env_in};
     ghost use Rattle.jr_env.specs.StayLevels.{WasNotOpenedIn, WasOpenedIn};
 
-    /// Opens a critical region in the stay, with the array at its first level. `into_stay` of the region gives the stay back; where its first level is released the stay ends with it. (JNI Specification, chapter 4, "GetPrimitiveArrayCritical")
+    /// Opens a critical region in the stay, with the array at its first level. `into_stay` of the region gives the stay back; where its first level is released the stay ends with it.
+    /// (JNI Specification, chapter 4, "GetPrimitiveArrayCritical")
     ///
     /// # Errors
     ///
-    /// E2 where the handle is malformed or lies outside the room; E3 where it is a local one of another thread; E2 where its reference does not stand; E1 where it is to null; E5 where it is to a plain object or a string; E6 where it is to an array of objects.
+    /// Those of a handle to an object; E5 where it is to a plain object or a string; E6 where it is to an array of objects.
     ///
     /// The stay is handed back, and stands.
     ///
@@ -40,11 +41,12 @@ impl<'e, S: Steps> Stay<'e, S> {
         }
     }
 
-    /// Opens a critical region in the stay, with the string at its first level. `into_stay` of the region gives the stay back; where its first level is released the stay ends with it. (JNI Specification, chapter 4, "GetStringCritical")
+    /// Opens a critical region in the stay, with the string at its first level. `into_stay` of the region gives the stay back; where its first level is released the stay ends with it.
+    /// (JNI Specification, chapter 4, "GetStringCritical")
     ///
     /// # Errors
     ///
-    /// E2 where the handle is malformed or lies outside the room; E3 where it is a local one of another thread; E2 where its reference does not stand; E1 where it is to null; E4 where it is to no string.
+    /// Those of a handle to an object; E4 where it is to no string.
     ///
     /// The stay is handed back, and stands.
     ///

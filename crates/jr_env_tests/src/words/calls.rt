@@ -1,5 +1,6 @@
 //! Each call that takes a reference, and with what it is refused.
 
+use assertions::assert_same;
 use jr_elements::{Elements, elements_of};
 use jr_env::{Env, NativeInterface, levels_beside};
 use jr_model::Mode;
@@ -10,7 +11,7 @@ use std::mem;
 use std::process::Abort;
 
 /// A call that takes a reference.
-#[derive(Clone, Copy)]
+#[derive(Clone, Copy, Debug)]
 pub(crate) enum CallOfReference {
     Delete(RefKind),
     Of(OfReference),
@@ -20,7 +21,7 @@ pub(crate) enum CallOfReference {
 }
 
 /// The calls that ask no more of a reference than that it stands, or is NULL.
-#[derive(Clone, Copy)]
+#[derive(Clone, Copy, Debug)]
 pub(crate) enum OfReference {
     NewGlobal,
     NewWeakGlobal,
@@ -32,9 +33,10 @@ pub(crate) enum OfReference {
     NewArray,
 }
 
-/// The calls that look at an object.
-#[derive(Clone, Copy)]
+/// The calls that ask for an object.
+#[derive(Clone, Copy, Debug)]
 pub(crate) enum OfObject {
+    Identity,
     Kind,
     ArrayLength,
     StringLength,
@@ -49,7 +51,7 @@ pub(crate) enum OfObject {
 }
 
 /// The calls that copy all elements of an object, out or in.
-#[derive(Clone, Copy)]
+#[derive(Clone, Copy, Debug)]
 pub(crate) enum OfCopy {
     Ints,
     Chars,
@@ -58,7 +60,7 @@ pub(crate) enum OfCopy {
 }
 
 /// The calls that open a region, or add a level to one.
-#[derive(Clone, Copy)]
+#[derive(Clone, Copy, Debug)]
 pub(crate) enum OfRegion {
     Array,
     String,
@@ -78,7 +80,8 @@ pub(crate) const DELETIONS: [CallOfReference; 3] = [
 ];
 
 /// All that open no region in a region, and delete nothing. Of those the last one alone makes something of NULL.
-pub(crate) const CALLS: [CallOfReference; 20] = [
+pub(crate) const CALLS: [CallOfReference; 21] = [
+    CallOfReference::Object(OfObject::Identity),
     CallOfReference::Object(OfObject::Kind),
     CallOfReference::Object(OfObject::ArrayLength),
     CallOfReference::Object(OfObject::StringLength),
@@ -214,6 +217,7 @@ fn object_refused<S: Steps>(
     other: Handle,
 ) -> Option<Fault> {
     match call {
+        OfObject::Identity => env.identity_of(word).err(),
         OfObject::Kind => env.kind_of(word).err(),
         OfObject::ArrayLength => env.get_array_length(word).err(),
         OfObject::StringLength => env.get_string_length(word).err(),
@@ -226,7 +230,7 @@ fn object_refused<S: Steps>(
 
 /// Where a release is refused, or keeps the elements, they are as they were.
 fn are_kept(rt: &impl Abort, ints: &Elements<i32>) {
-    assert!(rt; ints.as_slice() == INTS.as_slice());
+    assert_same!(rt; ints.as_slice(), INTS.as_slice());
 }
 
 /// With what a copy of ints is refused. One that is made is discarded.

@@ -35,7 +35,7 @@ enum Asks {
 fn asked_by(call: CallOfReference) -> Asks {
     match call {
         CallOfReference::Delete(_) | CallOfReference::Of(_) => Asks::Nothing,
-        CallOfReference::Object(OfObject::Kind) => Asks::Object,
+        CallOfReference::Object(OfObject::Identity | OfObject::Kind) => Asks::Object,
         CallOfReference::Object(OfObject::ArrayLength) => Asks::Array,
         CallOfReference::Object(OfObject::GetElement | OfObject::SetElement) => Asks::Objects,
         CallOfReference::Object(OfObject::GetInts | OfObject::SetInts) => Asks::Ints,

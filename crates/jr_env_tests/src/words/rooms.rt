@@ -4,6 +4,7 @@ use crate::words::calls::{
     CALLS, CallOfReference, DELETIONS, Given, INTS, NESTING, OF_TWO, refused_by,
 };
 use crate::words::known::Known;
+use assertions::assert_same;
 use jr_env::{Env, NativeInterface};
 use jr_fixtures::{LAST, NoPass, closed, collects, has_type, made, next_env, next_pass, plain_env};
 use jr_model::Summary;
@@ -29,7 +30,8 @@ const OTHER: Config = Config {
     ..Config::LEAST
 };
 
-/// Words that no single bit makes: all ones, with each kind; references with index 65,535; a place past the last of this thread, of another, and of no thread; the second reference of a place; and a slot past the last.
+/// Words that no single bit makes: all ones, with each kind; references with index 65,535; a place past the last of this thread, of another, and of no thread; the second reference of a place;
+/// and a slot past the last.
 const WORDS: [Handle; 14] = [
     Handle(u64::MAX),
     Handle(u64::MAX - 1),
@@ -141,7 +143,7 @@ fn leave_behind<S: Steps>(
 ) -> Result<(), Fail> {
     let gone = env.new_plain()?;
     let deleted = made(env.new_global_ref(gone))?;
-    assert!(rt; deleted == FIRST_GLOBAL);
+    assert_same!(rt; deleted, FIRST_GLOBAL);
     let cleared = made(env.new_weak_global_ref(gone))?;
     env.delete_global_ref(deleted)?;
     env.delete_local_ref(gone)?;
@@ -168,14 +170,15 @@ fn name_again<S: Steps>(
         Kind::Objects,
     )?;
     let again = names(known, words, env.new_global_ref(objects), Kind::Objects)?;
-    assert!(rt; again == SECOND_GLOBAL);
+    assert_same!(rt; again, SECOND_GLOBAL);
     for _ in 0..6 {
         names(known, words, env.new_local_ref(ints), Kind::Int)?;
     }
     Ok(())
 }
 
-/// Makes objects of each kind and references of each, until no slot, no local place, no number and no word is free. The first slot, and the place of a deleted local reference, are given again. An array by which a region can be opened.
+/// Makes objects of each kind and references of each, until no slot, no local place, no number and no word is free. The first slot, and the place of a deleted local reference, are given again.
+/// An array by which a region can be opened.
 fn fill<S: Steps>(
     rt: &impl Abort,
     alloc: Global,
@@ -207,7 +210,7 @@ fn is_answered<S: Steps>(
     if refused == Some(Fault::Memory) {
         return Err(Fault::Memory);
     }
-    assert_eq!(rt; refused, known.refusal(call, words));
+    assert_same!(rt; refused, known.refusal(call, words); at (call, words));
     Ok(())
 }
 
@@ -398,7 +401,7 @@ fn tries<S: Steps>(
     if !is_full {
         return in_an_empty_room(rt, alloc, env, given, words);
     }
-    assert!(rt; foreign.new_plain()? == FOREIGN);
+    assert_same!(rt; foreign.new_plain()?, FOREIGN);
     in_a_full_room(rt, alloc, env, given, words)?;
     has_type(foreign, FOREIGN, 1)
 }
@@ -428,12 +431,12 @@ fn in_a_room(rt: &impl Abort, alloc: Global, is_full: bool, left: Summary) -> Re
     let foreign = next_env(&room, &mut passes);
     let env = next_env(&room, &mut passes);
     tries_all(rt, alloc, env, foreign, is_full)?;
-    assert!(rt; closed(room, closing) == Some(left));
+    assert_same!(rt; closed(room, closing), Some(left));
     Ok(())
 }
 
 #[test]
-fn words_as_references_in_an_empty_room(rt: HostRuntime) -> Result<(), Fail> {
+fn each_call_refuses_each_word_in_an_empty_room(rt: HostRuntime) -> Result<(), Fail> {
     let left = Summary {
         globals: 0,
         weaks: 0,
@@ -444,7 +447,7 @@ fn words_as_references_in_an_empty_room(rt: HostRuntime) -> Result<(), Fail> {
 }
 
 #[test]
-fn words_as_references_in_a_full_room(rt: HostRuntime) -> Result<(), Fail> {
+fn each_call_answers_each_word_in_a_full_room(rt: HostRuntime) -> Result<(), Fail> {
     let left = Summary {
         globals: 0,
         weaks: 0,

@@ -4,9 +4,10 @@ ghost use Rattle.jr_model.specs.declared.event.Role.TheVariants.{Outside};
 ghost use Rattle.jr_env.specs.Collections.{FitsRoom};
 ghost use Rattle.jr_env.specs.Envs.{IsOutside};
 
-use crate::shared::{Case, in_a_room};
+use crate::shared::{RoomTest, in_a_room, in_a_room_for_good};
+use assertions::assert_same;
 use jr_env::{Env, NativeInterface};
-use jr_fixtures::{is_refused, made};
+use jr_fixtures::{made, refusal};
 use jr_gate::{announce, enter};
 use jr_steps::Steps;
 use jr_weak::{Collected, Marker};
@@ -76,7 +77,7 @@ fn collects<S: Steps>(
     ensures room { FitsRoom marker.new env.new }
     ensures outside { IsOutside env.new }
 {
-    assert!(rt; collection(env, marker, tries) == wanted);
+    assert_same!(rt; collection(env, marker, tries), wanted; at tries);
 }
 
 /// A word names an array of so many elements.
@@ -86,7 +87,7 @@ fn has_length<S: Steps>(
     word: Handle,
     wanted: u32,
 ) -> Result<(), Fail> {
-    assert!(rt; env.get_array_length(word)? == wanted);
+    assert_same!(rt; env.get_array_length(word)?, wanted);
     Ok(())
 }
 
@@ -94,7 +95,7 @@ fn has_length<S: Steps>(
 fn is_as_filled<S: Steps>(rt: &impl Abort, env: &mut Env<S>, filled: Filled) -> Result<(), Fail> {
     assert!(rt; !env.is_same_object(filled.gone_weak, Handle::NULL)?);
     has_length(rt, env, filled.gone_weak, 3)?;
-    assert!(rt; is_refused(env.new_array::<i32>(6), Some(Fault::SpaceFull(5))));
+    assert_same!(rt; refusal(env.new_array::<i32>(6)), Some(Fault::SpaceFull(5)));
     Ok(())
 }
 
@@ -113,8 +114,8 @@ fn is_kept_out<S: Steps>(rt: &impl Abort, env: &mut Env<S>, marker: &mut Marker,
 /// A call is barred. What it would answer else need not be dropped then, so that no proof of its drop is asked for.
 fn is_barred<A>(rt: &impl Abort, answer: Result<A, Fault>) {
     match answer {
-        Ok(_) => panic!(rt; "a call goes in"),
-        Err(fault) => assert!(rt; fault == Fault::Barred),
+        Ok(_) => panic!(rt; "wanted {:?}, and a call goes in", Fault::Barred),
+        Err(fault) => assert_same!(rt; fault, Fault::Barred),
     }
 }
 
@@ -130,6 +131,8 @@ fn bars_references<S: Steps>(rt: &impl Abort, env: &mut Env<S>, word: Handle) {
     is_barred(rt, env.get_object_ref_type(word));
     is_barred(rt, env.pop_local_frame(word));
     is_barred(rt, env.free_locals());
+    is_barred(rt, env.identity_of(word));
+    is_barred(rt, env.words_used());
 }
 
 /// Each call on objects that goes in is barred.
@@ -151,37 +154,39 @@ fn bars_objects<S: Steps>(rt: &impl Abort, alloc: Global, env: &mut Env<S>, word
     is_barred(rt, env.get_string_critical(word));
 }
 
-/// While a thread announces, first beside one that is inside, and then alone, no other collects, and no call goes in. Once it has taken the announcement back, calls go in and find all as it was, and the other collects, with the marker that was refused.
-pub(crate) fn is_barred_by_who_announces<S: Steps>(
-    rt: &impl Abort,
-    alloc: Global,
-    first: &mut S,
-    second: &mut S,
-    env: &mut Env<S>,
-    other: &mut Env<S>,
-) -> Result<(), Fail>
-    requires first { (S.facts first.old).stands.role ≡ Outside }
-    requires second { (S.facts second.old).stands.role ≡ Outside }
-{
-    let filled = fill(env)?;
-    let mut marker = Marker::new(alloc, env.held.steps.config())?;
-    let Ok(stay) = enter(first) else {
-        return Err("nobody keeps the gate closed")?;
-    };
-    match announce(second) {
-        Ok(announced) => {
-            is_kept_out(rt, env, &mut marker, 2);
-            stay.leave(first);
-            is_kept_out(rt, env, &mut marker, 1);
-            bars_references(rt, other, filled.kept);
-            bars_objects(rt, alloc, other, filled.kept);
-            announced.cancel(second);
+/// While a thread announces, first beside one that is inside, and then alone, no other collects, and no call goes in.
+/// Once it has taken the announcement back, calls go in and find all as it was, and the other collects, with the marker that was refused.
+struct BarsAllOthers;
+
+impl RoomTest for BarsAllOthers {
+    fn run<S: Steps + Drop, R: Abort>(
+        rt: &R,
+        alloc: Global,
+        first: &mut S,
+        mut second: S,
+        env: &mut Env<S>,
+        other: &mut Env<S>,
+    ) -> Result<(), Fail> {
+        let filled = fill(env)?;
+        let mut marker = Marker::new(alloc, env.held.steps.config())?;
+        let Ok(stay) = enter(first) else {
+            return Err("nobody keeps the gate closed")?;
+        };
+        match announce(&mut second) {
+            Ok(announced) => {
+                is_kept_out(rt, env, &mut marker, 2);
+                stay.leave(first);
+                is_kept_out(rt, env, &mut marker, 1);
+                bars_references(rt, other, filled.kept);
+                bars_objects(rt, alloc, other, filled.kept);
+                announced.cancel(&mut second);
+            }
+            Err(_) => panic!(rt; "nobody keeps the gate closed"),
         }
-        Err(_) => panic!(rt; "nobody keeps the gate closed"),
+        is_as_filled(rt, other, filled)?;
+        collects(rt, env, &mut marker, Some(1), Ok(OF_FILLED));
+        Ok(())
     }
-    is_as_filled(rt, other, filled)?;
-    collects(rt, env, &mut marker, Some(1), Ok(OF_FILLED));
-    Ok(())
 }
 
 /// The steps of a thread are dropped while it announces.
@@ -213,27 +218,31 @@ fn is_barred_for_good<S: Steps>(
 }
 
 /// A thread whose steps are dropped while it announces bars the others for good.
-pub(crate) fn bars_for_good<S: Steps + Drop>(
-    rt: &impl Abort,
-    alloc: Global,
-    announcer: S,
-    env: &mut Env<S>,
-) -> Result<(), Fail>
-    requires { (S.facts announcer).stands.role ≡ Outside }
-{
-    let filled = fill(env)?;
-    drop_while_announcing(announcer)?;
-    is_barred_for_good(rt, alloc, env, filled.kept)
+struct BarsForGood;
+
+impl RoomTest for BarsForGood {
+    fn run<S: Steps + Drop, R: Abort>(
+        rt: &R,
+        alloc: Global,
+        _first: &mut S,
+        second: S,
+        env: &mut Env<S>,
+        _other: &mut Env<S>,
+    ) -> Result<(), Fail> {
+        let filled = fill(env)?;
+        drop_while_announcing(second)?;
+        is_barred_for_good(rt, alloc, env, filled.kept)
+    }
 }
 
 /// One thread announces at a time, and from then on no other goes in.
 #[test]
 fn an_announcement_bars_calls_and_collections(rt: HostRuntime) -> Result<(), Fail> {
-    in_a_room(&rt, rt.alloc(), Case::Cancels)
+    in_a_room::<BarsAllOthers, _>(&rt, rt.alloc())
 }
 
 /// Where a thread's pass is dropped while it announces, entries are barred for good, and the room is not closed any more: who announced is counted.
 #[test]
 fn a_pass_dropped_while_announcing_bars_all_calls(rt: HostRuntime) -> Result<(), Fail> {
-    in_a_room(&rt, rt.alloc(), Case::DroppedAnnouncing)
+    in_a_room_for_good::<BarsForGood, _>(&rt, rt.alloc())
 }

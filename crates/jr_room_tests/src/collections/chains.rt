@@ -1,11 +1,12 @@
 //! Chains of as many arrays as there may be, each of which names the one before, followed without recursion.
 
-use crate::plain::{Case, try_plain};
+use crate::plain::{EnvTest, alone};
 use jr_env::{Env, NativeInterface};
 use jr_fixtures::{collects, has_type, made};
 use jr_steps::Steps;
 use jr_word::{Config, Handle};
 use std::alloc::Global;
+use std::process::Abort;
 use std::test::Fail;
 
 /// How many arrays a chain has.
@@ -41,33 +42,41 @@ fn close<S: Steps>(env: &mut Env<S>, first: Handle, last: Handle) -> Result<(), 
 }
 
 /// A chain stands while its last is named, and is dropped then.
-pub(crate) fn reaches_a_chain<S: Steps>(alloc: Global, env: &mut Env<S>) -> Result<(), Fail> {
-    let first = env.new_object_array(1, Handle::NULL)?;
-    let last = chain(env, first, LINKS)?;
-    collects(alloc, env, [0, 0, 60_000])?;
-    env.delete_local_ref(last)?;
-    collects(alloc, env, [0, 60_000, 0])
+struct ReachesAChain;
+
+impl EnvTest for ReachesAChain {
+    fn run<S: Steps, R: Abort>(_rt: &R, alloc: Global, env: &mut Env<S>) -> Result<(), Fail> {
+        let first = env.new_object_array(1, Handle::NULL)?;
+        let last = chain(env, first, LINKS)?;
+        collects(alloc, env, [0, 0, 60_000])?;
+        env.delete_local_ref(last)?;
+        collects(alloc, env, [0, 60_000, 0])
+    }
 }
 
 #[test]
 fn a_chain_is_reached_from_its_last(rt: HostRuntime) -> Result<(), Fail> {
-    try_plain(&rt, rt.alloc(), LONG, Case::Chain)
+    alone::<ReachesAChain, _>(&rt, rt.alloc(), LONG)
 }
 
 /// A cycle stands while one of it is named, and is dropped then.
-pub(crate) fn reaches_a_cycle<S: Steps>(alloc: Global, env: &mut Env<S>) -> Result<(), Fail> {
-    let first = env.new_object_array(1, Handle::NULL)?;
-    let kept = made(env.new_global_ref(first))?;
-    let word = made(env.new_weak_global_ref(first))?;
-    let last = chain(env, first, LINKS)?;
-    close(env, kept, last)?;
-    collects(alloc, env, [0, 0, 60_000])?;
-    env.delete_global_ref(kept)?;
-    collects(alloc, env, [1, 60_000, 0])?;
-    has_type(env, word, 3)
+struct ReachesACycle;
+
+impl EnvTest for ReachesACycle {
+    fn run<S: Steps, R: Abort>(_rt: &R, alloc: Global, env: &mut Env<S>) -> Result<(), Fail> {
+        let first = env.new_object_array(1, Handle::NULL)?;
+        let kept = made(env.new_global_ref(first))?;
+        let word = made(env.new_weak_global_ref(first))?;
+        let last = chain(env, first, LINKS)?;
+        close(env, kept, last)?;
+        collects(alloc, env, [0, 0, 60_000])?;
+        env.delete_global_ref(kept)?;
+        collects(alloc, env, [1, 60_000, 0])?;
+        has_type(env, word, 3)
+    }
 }
 
 #[test]
 fn a_cycle_is_reached_from_any_and_else_dropped(rt: HostRuntime) -> Result<(), Fail> {
-    try_plain(&rt, rt.alloc(), LONG, Case::Cycle)
+    alone::<ReachesACycle, _>(&rt, rt.alloc(), LONG)
 }

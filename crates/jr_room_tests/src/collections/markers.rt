@@ -1,6 +1,7 @@
+use assertions::assert_same;
 use jr_env::calls::NewPlain;
 use jr_env::{Env, NativeInterface, Patience};
-use jr_fixtures::{is_refused, plain_env};
+use jr_fixtures::{plain_env, refusal};
 use jr_steps::Steps;
 use jr_weak::Marker;
 use jr_word::{Config, Fault, Handle};
@@ -17,7 +18,7 @@ fn room_of(objects: u32) -> Config {
 }
 
 #[test]
-fn a_marker_of_one_object(rt: HostRuntime) -> Result<(), Fail> {
+fn a_new_marker_of_one_object_has_no_mark(rt: HostRuntime) -> Result<(), Fail> {
     let marker = Marker::new(rt.alloc(), room_of(1))?;
     assert!(rt; marker.found().is_empty());
     assert!(rt; !marker.is_marked(0));
@@ -27,7 +28,7 @@ fn a_marker_of_one_object(rt: HostRuntime) -> Result<(), Fail> {
 }
 
 #[test]
-fn a_marker_of_as_many_objects_as_there_may_be(rt: HostRuntime) -> Result<(), Fail> {
+fn a_new_marker_of_most_objects_has_no_mark(rt: HostRuntime) -> Result<(), Fail> {
     let marker = Marker::new(rt.alloc(), room_of(65_535))?;
     assert!(rt; marker.found().is_empty());
     assert!(rt; !marker.is_marked(1));
@@ -36,26 +37,26 @@ fn a_marker_of_as_many_objects_as_there_may_be(rt: HostRuntime) -> Result<(), Fa
 }
 
 #[test]
-fn rooms_beyond_the_limits(rt: HostRuntime) -> Result<(), Fail> {
+fn no_marker_is_made_for_a_room_beyond_the_limits(rt: HostRuntime) -> Result<(), Fail> {
     for objects in [0, 65_536] {
         let Err(fault) = Marker::new(rt.alloc(), room_of(objects)) else {
             return Err("a marker for no room")?;
         };
-        assert!(rt; fault == Fault::Size);
+        assert_same!(&rt; fault, Fault::Size);
     }
     Ok(())
 }
 
 /// Checks that each collection by this marker is refused, with nothing changed.
 fn fits_no_collection<S: Steps>(rt: &impl Abort, env: &mut Env<S>, marker: &mut Marker) {
-    assert!(rt; is_refused(env.collect(marker), Some(Fault::Size)));
-    assert!(rt; is_refused(env.collect_announced(marker, 3), Some(Fault::Size)));
+    assert_same!(rt; refusal(env.collect(marker)), Some(Fault::Size));
+    assert_same!(rt; refusal(env.collect_announced(marker, 3)), Some(Fault::Size));
     let few = Patience::of(3);
-    assert!(rt; is_refused(env.collect_in_turn(marker, 3, few), Some(Fault::Size)));
+    assert_same!(rt; refusal(env.collect_in_turn(marker, 3, few)), Some(Fault::Size));
     let made = env.retry_collecting(marker, NewPlain, few);
-    assert!(rt; is_refused(made, Some(Fault::Size)));
+    assert_same!(rt; refusal(made), Some(Fault::Size));
     let made = env.retry_collecting_in_turn(marker, 3, NewPlain, few);
-    assert!(rt; is_refused(made, Some(Fault::Size)));
+    assert_same!(rt; refusal(made), Some(Fault::Size));
 }
 
 /// Deletes the reference to an object, which the next collection drops.
@@ -67,7 +68,7 @@ fn drops_one<S: Steps>(
 ) -> Result<(), Fail> {
     env.delete_local_ref(object)?;
     let collected = env.collect(marker)?;
-    assert!(rt; collected.dropped == 1);
+    assert_same!(rt; collected.dropped, 1);
     Ok(())
 }
 
@@ -79,7 +80,7 @@ fn drops_none<S: Steps>(
 ) -> Result<(), Fail> {
     env.new_plain()?;
     let collected = env.collect_announced(marker, 3)?;
-    assert!(rt; collected.dropped == 0);
+    assert_same!(rt; collected.dropped, 0);
     Ok(())
 }
 
@@ -112,7 +113,7 @@ fn both_collect<S: Steps + Drop>(
 }
 
 #[test]
-fn a_marker_for_another_number_of_objects(rt: HostRuntime) -> Result<(), Fail> {
+fn a_marker_serves_no_other_number_of_objects(rt: HostRuntime) -> Result<(), Fail> {
     let small = plain_env(rt.alloc(), room_of(2));
     let large = plain_env(rt.alloc(), room_of(3));
     both_collect(&rt, rt.alloc(), small, large)

@@ -1,11 +1,12 @@
 //! The words that a collection leaves.
 
-use crate::plain::{Case, leaves_words};
+use crate::plain::{EnvTest, leaves_words};
 use jr_env::{Env, NativeInterface};
 use jr_fixtures::{collects, made};
 use jr_steps::Steps;
 use jr_word::Config;
 use std::alloc::Global;
+use std::process::Abort;
 use std::test::Fail;
 
 /// A room with two slots, two objects and eight words. Its row has 30 words: the gate, the top, the slots from 2 on, the local places from 4 on, the headers from 20 on, and the elements from 22 on.
@@ -18,7 +19,7 @@ const PAIR: Config = Config {
 };
 
 /// Makes two arrays, of which no reference but a weak one names the first.
-pub(crate) fn fills<S: Steps>(env: &mut Env<S>) -> Result<(), Fail> {
+fn fills<S: Steps>(env: &mut Env<S>) -> Result<(), Fail> {
     let gone = env.new_array::<i32>(1)?;
     env.set_array_region(gone, 0, &[9])?;
     made(env.new_weak_global_ref(gone))?;
@@ -28,10 +29,23 @@ pub(crate) fn fills<S: Steps>(env: &mut Env<S>) -> Result<(), Fail> {
     Ok(())
 }
 
-/// Makes them, and collects.
-pub(crate) fn fills_and_collects<S: Steps>(alloc: Global, env: &mut Env<S>) -> Result<(), Fail> {
-    fills(env)?;
-    collects(alloc, env, [1, 1, 2])
+/// They are made.
+struct Filled;
+
+impl EnvTest for Filled {
+    fn run<S: Steps, R: Abort>(_rt: &R, _alloc: Global, env: &mut Env<S>) -> Result<(), Fail> {
+        fills(env)
+    }
+}
+
+/// They are made, and a collection behind it.
+struct FilledAndCollected;
+
+impl EnvTest for FilledAndCollected {
+    fn run<S: Steps, R: Abort>(_rt: &R, alloc: Global, env: &mut Env<S>) -> Result<(), Fail> {
+        fills(env)?;
+        collects(alloc, env, [1, 1, 2])
+    }
 }
 
 /// The weak reference is cleared and its array dropped, and the other array has moved by one place, over its own elements. What stood behind them is left, and is no array's.
@@ -46,12 +60,12 @@ fn a_collection_leaves_these_words(rt: HostRuntime) -> Result<(), Fail> {
     row[22] = 9;
     row[23] = 5;
     row[24] = 0xFFFF_FFFF_FFFF_FFFA;
-    leaves_words(&rt, rt.alloc(), PAIR, Case::Filled, &row)?;
+    leaves_words::<Filled, _>(&rt, rt.alloc(), PAIR, &row)?;
     row[1] = 2;
     row[2] = 3;
     row[20] = 0;
     row[21] = 0x27;
     row[22] = 5;
     row[23] = 0xFFFF_FFFF_FFFF_FFFA;
-    leaves_words(&rt, rt.alloc(), PAIR, Case::Collected, &row)
+    leaves_words::<FilledAndCollected, _>(&rt, rt.alloc(), PAIR, &row)
 }

@@ -2,6 +2,7 @@
 ghost use Rattle.std.specs.Prelude.{All};
 ghost use Rattle.jr_rule.specs.Passes.{IsOpened};
 
+use assertions::assert_same;
 use jr_env::calls::{DeleteGlobalRef, DeleteLocalRef, GetObjectRefType, SetArrayRegion};
 use jr_env::{Env, NativeInterface, Patience, is_short_of_room, with_patience};
 use jr_fixtures::{LAST, NoPass, closed, collected, next_env, next_pass};
@@ -243,7 +244,7 @@ fn leaves_arrays<S: Steps>(
     arrays: u32,
 ) -> Result<u32, Fail> {
     let [cleared, _, used] = collected(alloc, env)?;
-    assert!(rt; (cleared, used / 2) == (0, arrays));
+    assert_same!(rt; (cleared, used / 2), (0, arrays));
     Ok(used)
 }
 
@@ -283,7 +284,7 @@ fn has_arrays(
         live: arrays,
         used,
     };
-    assert!(rt; closed(room, pass) == Some(summary));
+    assert_same!(rt; closed(room, pass), Some(summary));
     Ok(())
 }
 
@@ -334,7 +335,7 @@ fn done_by<R: Threads + Wait, S: Steps + Drop + Send>(
 /// Each job was done as often as it was to be.
 fn is_each_done(rt: &impl Abort, jobs: [Duty; 5], done: [Option<u32>; 5]) {
     for at in 0..5 {
-        assert!(rt; done[at] == Some(jobs[at].times()));
+        assert_same!(rt; done[at], Some(jobs[at].times()); at at);
     }
 }
 
@@ -358,7 +359,7 @@ fn all_do<R: Threads + Wait + Abort>(
 
 /// Four threads make, write, read and drop arrays beside one that collects.
 #[test]
-fn four_threads_and_one_that_collects(rt: HostRuntime) -> Result<(), Fail> {
+fn four_threads_read_what_they_wrote_beside_one_that_collects(rt: HostRuntime) -> Result<(), Fail> {
     let replace = Duty::Replace(How::Plain, ROUNDS);
     let collect = Duty::Collect(How::Plain, COLLECTIONS);
     let jobs = [replace, replace, replace, replace, collect];
@@ -367,7 +368,9 @@ fn four_threads_and_one_that_collects(rt: HostRuntime) -> Result<(), Fail> {
 
 /// The same, where each collection is announced, also those of threads that find no room: each thread reads what it wrote, and each collection comes in.
 #[test]
-fn four_threads_and_one_that_announces(rt: HostRuntime) -> Result<(), Fail> {
+fn four_threads_read_what_they_wrote_beside_one_that_announces(
+    rt: HostRuntime,
+) -> Result<(), Fail> {
     let replace = Duty::Replace(How::Few, ROUNDS);
     let collect = Duty::Collect(How::Many, ANNOUNCED);
     let jobs = [replace, replace, replace, replace, collect];
@@ -376,7 +379,7 @@ fn four_threads_and_one_that_announces(rt: HostRuntime) -> Result<(), Fail> {
 
 /// Four threads make, find and delete global references, one at a time each, beside one that collects.
 #[test]
-fn global_references_beside_one_that_collects(rt: HostRuntime) -> Result<(), Fail> {
+fn global_references_are_found_beside_one_that_collects(rt: HostRuntime) -> Result<(), Fail> {
     let renew = Duty::Renew(How::Plain, ROUNDS);
     let collect = Duty::Collect(How::Plain, COLLECTIONS);
     all_do(&rt, rt.alloc(), [renew, renew, renew, renew, collect], 4)
@@ -384,7 +387,7 @@ fn global_references_beside_one_that_collects(rt: HostRuntime) -> Result<(), Fai
 
 /// The same, where each collection is announced.
 #[test]
-fn global_references_beside_one_that_announces(rt: HostRuntime) -> Result<(), Fail> {
+fn global_references_are_found_beside_one_that_announces(rt: HostRuntime) -> Result<(), Fail> {
     let renew = Duty::Renew(How::Few, ROUNDS);
     let collect = Duty::Collect(How::Many, ANNOUNCED);
     all_do(&rt, rt.alloc(), [renew, renew, renew, renew, collect], 4)
@@ -392,7 +395,7 @@ fn global_references_beside_one_that_announces(rt: HostRuntime) -> Result<(), Fa
 
 /// One thread announces its collections and one doesn't, beside threads that make arrays.
 #[test]
-fn announced_collections_beside_plain_ones(rt: HostRuntime) -> Result<(), Fail> {
+fn announced_collections_end_beside_plain_ones(rt: HostRuntime) -> Result<(), Fail> {
     let jobs = [
         Duty::Replace(How::Plain, ROUNDS),
         Duty::Replace(How::Few, ROUNDS),
@@ -405,7 +408,7 @@ fn announced_collections_beside_plain_ones(rt: HostRuntime) -> Result<(), Fail> 
 
 /// One thread comes in and goes, or knocks, without a break: announced collections come in nevertheless.
 #[test]
-fn announced_collections_beside_one_that_knocks(rt: HostRuntime) -> Result<(), Fail> {
+fn announced_collections_end_beside_one_that_knocks(rt: HostRuntime) -> Result<(), Fail> {
     let replace = Duty::Replace(How::Few, ROUNDS);
     let jobs = [
         replace,

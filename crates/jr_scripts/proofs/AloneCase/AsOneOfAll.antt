@@ -14,7 +14,7 @@ use Rattle.jr_syntax.specs.declared.script.Script.{Script}
 use Rattle.jr_syntax.specs.declared.thread.ThreadPart.{ThreadPart}
 use Rattle.jr_syntax.specs.Script.{all_apart, posted, posts_of}
 use Rattle.jr_scripts.specs.Commands.{gives_up}
-use Rattle.jr_scripts.specs.Posted.{IsOfPosts}
+use Rattle.jr_scripts.specs.PostedNames.{IsOfPosts}
 use Rattle.jr_scripts.specs.Runs.{IsRun}
 use Rattle.jr_scripts.specs.Text.{ending, heading}
 use Rattle.jr_scripts.specs.Together.{MeansTogether}

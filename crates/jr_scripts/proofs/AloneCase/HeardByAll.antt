@@ -18,7 +18,7 @@ use Rattle.jr_world.specs.Board.{word_under}
 use Rattle.jr_scripts.specs.Names.{Names, word_posted}
 use Rattle.jr_scripts.specs.Places.{Place}
 use Rattle.jr_scripts.specs.Explains.{Explains, nothing, then}
-use Rattle.jr_scripts.specs.Posted.{IsOfPosts, IsPosted}
+use Rattle.jr_scripts.specs.PostedNames.{IsOfPosts, IsPosted}
 use Rattle.jr_scripts.specs.Posting.{IsAnswered, ThreadWords, said, said_alone, words_after}
 use Rattle.jr_scripts.proofs.AloneHistories.{all_map}
 use Rattle.jr_scripts.proofs.LoneWords.{itself, same_name}

@@ -24,7 +24,7 @@ use Rattle.jr_syntax.specs.declared.verb.OnName.TheVariants as on_name
 use Rattle.jr_syntax.specs.declared.script.Script.{Script}
 use Rattle.jr_syntax.specs.declared.thread.ThreadPart.{ThreadPart}
 use Rattle.jr_scripts.specs.Commands.{gives_up}
-use Rattle.jr_scripts.specs.Posted.{IsPosted, commands_of}
+use Rattle.jr_scripts.specs.PostedNames.{IsPosted, commands_of}
 use Rattle.jr_scripts.specs.Text.{ending, text_of_parts}
 use Rattle.jr_scripts.specs.Together.{thread_of}
 use Rattle.jr_scripts.specs.AllRuns.{ArePartsOf, IsRunOfAll, MeansAll}

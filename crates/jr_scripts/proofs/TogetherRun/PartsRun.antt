@@ -4,7 +4,7 @@ use Rattle.jr_word.specs.Config.{in_limits}
 use Rattle.jr_model.specs.State.{summary}
 use Rattle.jr_model.specs.History.{History, IsLegal, state}
 use Rattle.jr_syntax.specs.declared.script.Script.{Script}
-use Rattle.jr_scripts.specs.Posted.{IsOfPosts, commands_of}
+use Rattle.jr_scripts.specs.PostedNames.{IsOfPosts, commands_of}
 use Rattle.jr_scripts.specs.Text.{ending, text_of_parts}
 use Rattle.jr_scripts.specs.AllRuns.{ArePartsOf, IsRunOfAll}
 

@@ -44,7 +44,7 @@ use Rattle.jr_scripts.specs.Explains.{Explained, Explains, nothing as no_command
 use Rattle.jr_scripts.specs.Commands.{gives_up}
 use Rattle.jr_scripts.specs.Names.{Names, name_order, or_nothing, word_posted}
 use Rattle.jr_scripts.specs.Places.{Place, nowhere, place_after}
-use Rattle.jr_scripts.specs.Posted.{IsPosted}
+use Rattle.jr_scripts.specs.PostedNames.{IsPosted}
 use Rattle.jr_scripts.specs.Posting.{ThreadWords, said, words_after}
 use Rattle.jr_scripts.specs.RegionCommands.{deed_at, giving_up, giving_up_all}
 use Rattle.jr_scripts.specs.Runs.{IsFreed}

@@ -26,7 +26,7 @@ use Rattle.jr_scripts.specs.Explains.{Explains, nothing, then}
 use Rattle.jr_scripts.specs.Together.{summary_of}
 use Rattle.jr_scripts.specs.Commands.{gives_up}
 use Rattle.jr_scripts.specs.Places.{Place}
-use Rattle.jr_scripts.specs.Posted.{commands_of}
+use Rattle.jr_scripts.specs.PostedNames.{commands_of}
 use Rattle.jr_scripts.specs.Posting.{Speech, ThreadWords, said}
 use Rattle.jr_scripts.specs.AllRuns.{ArePartsOf, IsPartOf, closing_acts, opening_of}
 use Rattle.jr_scripts.proofs.TogetherRun.Moments.{Counts, HasLeft, IsPass, Settles, deleted_in, times}

@@ -10,7 +10,8 @@ ghost use Rattle.jr_scripts.specs.Advancing.{level_names, objects_in, opened_ove
 ghost use Rattle.jr_scripts.specs.Commands.{deed, opening_by, opening_levels, tried};
 ghost use Rattle.jr_scripts.specs.Places.{levels_after, objects_after};
 ghost use Rattle.jr_world.specs.World.{all_but_last};
-ghost use Rattle.jr_scripts.specs.RegionCommands.{deed_within, giving_up, giving_up_all, nesting, read_kind as kind_read, level_reading, reading_as, reading_at, reading_by, level_writing, writing_as, writing_at, writing_by};
+ghost use Rattle.jr_scripts.specs.RegionCommands.{deed_within, giving_up, giving_up_all, nesting, read_kind as kind_read, level_reading, reading_as, reading_at, reading_by, level_writing, writing_as};
+ghost use Rattle.jr_scripts.specs.RegionCommands.{writing_at, writing_by};
 
 use crate::ask::{no_more, patience_for};
 use crate::names::Names;

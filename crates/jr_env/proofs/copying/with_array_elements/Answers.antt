@@ -1,6 +1,6 @@
 use Rattle.std.proofs.Common.{of_calls, refl, sym, subst, length, Err}
 use Rattle.std.specs.List.{refill}
-use Rattle.jr_env.specs.Turns.{WasReleased}
+use Rattle.jr_env.specs.Retried.{WasReleased}
 use Rattle.jr_env.proofs.copying.with_array_elements.Goals as goal
 
 pub returns-in-Ok-retry_release-clause-done : goal.returns-in-Ok-retry_release-clause-done

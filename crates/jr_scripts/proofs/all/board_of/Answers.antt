@@ -1,5 +1,5 @@
 use Rattle.std.proofs.Common.{[], rules, sym, subst}
-use Rattle.jr_scripts.specs.Posted.{AddsPosted}
+use Rattle.jr_scripts.specs.PostedNames.{AddsPosted}
 use Rattle.jr_scripts.proofs.NamedCells.{adds_none, adds_part}
 use Rattle.jr_scripts.proofs.all.board_of.Goals as goal
 

@@ -1,6 +1,6 @@
 use Rattle.std.proofs.Common.{◌≡◌, ◌<◌, ◌++◌, List, lit<, length, rules, sym, ap, subst, ◌∙◌}
 use Rattle.jr_syntax.specs.declared.thread.ThreadPart.{ThreadPart}
-use Rattle.jr_scripts.specs.Posted.{IsOfPosts, commands_of}
+use Rattle.jr_scripts.specs.PostedNames.{IsOfPosts, commands_of}
 use Rattle.jr_scripts.specs.Text.{ending}
 use Rattle.jr_scripts.specs.Jobs.{AreJobsOf, AreTold}
 use Rattle.jr_scripts.proofs.JobHandles.{taken}

@@ -2,7 +2,7 @@ use Rattle.std.proofs.Common.{◌≡◌, ◌≤◌, ◌++◌, List, [], ◌∷�
 use Rattle.std.proofs.lemmas.List.Elements.{All-head, All-rest, All-same}
 use Rattle.std.specs.List.{AllByRecursion}
 use Rattle.jr_scripts.specs.Layouts.{Layout, layout_of}
-use Rattle.jr_scripts.specs.Noting.{HasAllOf}
+use Rattle.jr_scripts.specs.NotedWords.{HasAllOf}
 use Rattle.jr_scripts.specs.Jobs.{IsOver, IsToldBy, board_noted, rank_noted}
 use Rattle.jr_scripts.proofs.Noted.{told_by_board}
 use Rattle.jr_scripts.specs.declared.part.ThreadRun.{ThreadRun}

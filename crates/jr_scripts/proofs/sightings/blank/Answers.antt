@@ -1,5 +1,5 @@
 use Rattle.std.proofs.Common.{◌≡◌, ◌++◌, [], ◌∷◌, None, rules, sym, subst}
-use Rattle.jr_scripts.specs.Noting.{IsBlank}
+use Rattle.jr_scripts.specs.NotedWords.{IsBlank}
 use Rattle.jr_scripts.proofs.Noted.{blank_more, blank_none}
 use Rattle.jr_scripts.proofs.sightings.blank.Goals as goal
 

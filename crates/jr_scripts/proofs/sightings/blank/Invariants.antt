@@ -1,4 +1,4 @@
-use Rattle.jr_scripts.specs.Noting.{IsBlank}
+use Rattle.jr_scripts.specs.NotedWords.{IsBlank}
 use Rattle.jr_scripts.proofs.sightings.blank.Given as goal
 
 abbrev pub invariant-loop : goal.invariant-loop

@@ -1,13 +1,41 @@
-use Rattle.std.proofs.Common.{IfErr, subst}
+use Rattle.std.proofs.Common.{◌∷◌, IfErr, map, rules, subst, sym}
+use Rattle.jr_word.specs.declared.config.Config.{Config}
+use Rattle.jr_rule.proofs.Parted.{all_at}
+use Rattle.jr_rule.specs.Passes.{ClosesAll, HasEachPass, known_of}
 use Rattle.jr_rule.specs.Rooms.{AreLeft}
+use Rattle.jr_threads.proofs.Swept.{closes_swept, same_each, same_known, same_outside, swept_thread}
 use Rattle.jr_threads.proofs.closing.close.Goals as goal
+
+pub close_all-requires : goal.close_all-requires
+close_all-requires c =
+    let others = all_at c.args.room.row c.args.others.items c.sweep-first.result.1.items c.sweep-first.ensures.others
+    c.requires.others in search rules
 
 pub unreachable-requires : goal.unreachable-requires
 unreachable-requires c =
-    let left : AreLeft c.args.room c.args.first c.args.others.items c.in_default.field-0 =
-    subst (λ r. IfErr r (λ l. AreLeft c.args.room c.args.first c.args.others.items l)) c.in_default.is
-    c.close_all.ensures.err in
-    left.somebody c.requires.each c.requires.outside
+    let first = c.sweep-first.result.0 in
+    let others = c.sweep-first.result.1 in
+    let left : AreLeft c.args.room first others.items c.in_default.field-0 =
+    subst (λ r. IfErr r (λ l. AreLeft c.args.room first others.items l)) c.in_default.is c.close_all.ensures.err in
+    let same = same_known c.args.others.items others.items c.sweep-first.ensures.others in
+    let thread = swept_thread (known_of c.args.first) (known_of first) (map known_of c.args.others.items)
+    c.sweep-first.ensures.swept in
+    left.somebody (same_each c.args.room.row.config (known_of c.args.first) (known_of first)
+    (map known_of c.args.others.items) (map known_of others.items) thread same c.requires.each) (
+      c.sweep-first.ensures.outside,
+      same_outside c.args.others.items others.items c.sweep-first.ensures.others c.requires.outside.1,
+    )
 
 pub returns : goal.returns
-returns c = c.in-Ok.ensures.ok
+returns c =
+    let first = c.sweep-first.result.0 in
+    let others = c.sweep-first.result.1 in
+    let same = same_known c.args.others.items others.items c.sweep-first.ensures.others in
+    let ks = map known_of c.args.others.items in
+    let swept = c.sweep-first.ensures.swept in
+    let thread = swept_thread (known_of c.args.first) (known_of first) ks swept in
+    let each = same_each c.args.room.row.config (known_of c.args.first) (known_of first) ks ks thread (λ i. ks)
+    c.requires.each in
+    closes_swept (known_of c.args.first) (known_of first) ks swept c.in-Ok.summary
+    (subst (λ l. ClosesAll (known_of first) l c.in-Ok.summary) same c.in-Ok.ensures.ok)
+    (subst (λ (d : Config). HasEachPass d (known_of first ∷ ks)) (sym c.sweep-first.ensures.first.config) each)

@@ -1,4 +1,4 @@
-use Rattle.std.proofs.Common.{◌≡◌, ◌≤◌, ◌∙◌, ◌∷◌, All, ap, drop, length, map, rules, subst, sym, vec_capacity}
+use Rattle.std.proofs.Common.{◌≡◌, ◌≤◌, ◌∙◌, ◌∷◌, All, ap, drop, length, map, refl, rules, subst, sym, vec_capacity}
 use Rattle.std.proofs.lemmas.List.{take_at}
 use Rattle.std.proofs.lemmas.Slice.Zip.{AllZip-long}
 use Rattle.jr_rule.specs.Passes.{known_of}
@@ -7,6 +7,7 @@ use Rattle.jr_threads.specs.Sites.{answers_in, ended_in, passes_in, ThreadRan, P
 use Rattle.jr_threads.proofs.OneHistory.{have_run}
 use Rattle.jr_threads.proofs.Passes.{AreBack, backs_of, each_has, each_out, first_at, others_at, some_left, taken}
 use Rattle.jr_threads.proofs.Places.{all_over, all_ran, all_wait}
+use Rattle.jr_threads.proofs.Swept.{same_each}
 use Rattle.jr_threads.proofs.running.run_in.Goals as goal
 
 pub run_threads-requires-clause-wait : goal.run_threads-requires-clause-wait
@@ -79,6 +80,7 @@ close-requires g c =
       others = others_at r _ _ _ back;
       each = each_has r _ _ _ c.requires.opened back;
       outside = each_out r _ _ _ back;
+      marker = c.requires.marker;
     }
 
 pub returns-clause-run : goal.returns-clause-run
@@ -124,11 +126,16 @@ returns-clause-summary g c =
     let back : AreBack r ps (first ∷ others) =
     subst (AreBack r ps) (sym left ∙ is) (backs_of tells deed r ps (ended_in new) ran) in
     let at = first_at r _ _ _ back in
+    let closed = c.close.ensures in
+    let did = closed.collects.did in
+    let ks = map known_of others in
     record {
-      first = known_of first;
-      others = map known_of others;
-      sizes = at.config;
-      serials = at.last;
-      each = each_has r _ _ _ c.requires.opened back;
-      closes = c.close.ensures;
+      first = closed.swept;
+      others = ks;
+      sizes = did.config ∙ at.config;
+      serials = did.last ∙ at.last;
+      each = same_each r.config (known_of first) closed.swept ks ks did.thread refl
+          (each_has r _ _ _ c.requires.opened back);
+      closes = closed.closes;
+      nothing = closed.nothing;
     }

@@ -1,10 +1,6 @@
-use Rattle.jr_weak.proofs.AnnouncedCollects.{collects_act_by_act, makes_announced}
+use Rattle.jr_weak.proofs.AnnouncedCollects.{made_announced_plain}
 use Rattle.jr_weak.proofs.collecting.collect_announced.Goals as goal
 
 pub returns-clause-ok : goal.returns-clause-ok
 returns-clause-ok g c =
-    makes_announced g.S.Steps.facts c.requires.outside c.in_ok-shut.ensures.ok c.finish.ensures.all
-
-pub returns-clause-counted : goal.returns-clause-counted
-returns-clause-counted g c =
-    collects_act_by_act g.S.Steps.facts c.in_ok-shut.ensures.ok c.finish.ensures.all
+    made_announced_plain g.S.Steps.facts _ _ c.args.tries _ _ _ c.collect_announced_listing.ensures.ok

@@ -47,7 +47,7 @@ pub const fn fault_text(fault: u32) -> &'static str {
         19 => "the command is not allowed where the thread stands",
         20 => "the turns ran out",
         21 => {
-            "no room or no env that may be used stands behind the pointer, or a room has no env left"
+            "no room or no env that may be used stands behind the pointer, no env of a room is free, or no thread is attached to it"
         }
         22 => "other threads kept the room from being closed",
         23 => "a thread went in or out before the announcement",
@@ -163,22 +163,36 @@ unsafe extern "C" {
     ///
     /// Refused: E17 where the sizes are beyond their limits; E16 where memory was refused.
     pub fn luthrady_open(sizes: Sizes, out: *mut *mut u8) -> Reply;
-    /// Makes the env of the next thread, and writes the pointer to it.
+    /// Attaches a thread with an env that no other thread holds, and writes the pointer to it. The thread has no local reference. (JNI Specification, chapter 5, "AttachCurrentThread")
     ///
-    /// Refused: E21 where no room stands behind the handle, each of its threads has one, or it was released; E16 where memory was refused.
+    /// Refused: E21 where no room stands behind the handle, no env of it is free, or it was released; E16 where memory was refused.
     ///
-    /// At E21 nothing has changed. At E16 the env of the next thread is gone, and no other.
+    /// Nothing has changed then.
     pub fn luthrady_attach(room: *mut RoomHandle, out: *mut *mut u8) -> Reply;
-    /// Lets go of the envs of threads that were not attached, and of the place that the envs had. No further thread is attached then.
+    /// Lets go of the envs that no thread holds. No further thread is attached then, and the last one that is detached closes the room.
     ///
     /// Refused: E21 where no room stands behind the handle.
     ///
     /// Nothing has changed then.
     pub fn luthrady_release(room: *mut RoomHandle) -> Reply;
-    /// Detaches a thread: no env stands behind the handle then. Its local references stay, and keep what they name. Where it closed the room it answers 1, and writes what stood there; else 0.
+    /// Detaches a thread from the room that it was attached to. Its local references are freed, and no env stands behind its handle then. The room has the env for the next thread. Where the room was released, the last thread closes it: it answers 1, and writes what stood there; else it answers 0. (JNI Specification, chapter 5, "DetachCurrentThread")
     ///
-    /// Refused: E21 where no env stands behind the handle; E22 with how many threads were inside, knocking, announcing or collecting as it closed the room, at least 1.
-    pub fn luthrady_detach(env: *mut EnvHandle, out: *mut Stood) -> Reply;
+    /// Refused: E21 where no room stands behind the room's handle, no thread is attached to it, or no env stands behind the env's handle; E13 where a thread is collecting, or has announced that it will; E22 with how many threads were inside, knocking, announcing or collecting as the last one closed the room, at least 1.
+    ///
+    /// At E21 nothing has changed. At E13 the thread is still attached, with its local references. At E22 it is detached, and the room can't be closed any more.
+    pub fn luthrady_detach(room: *mut RoomHandle, env: *mut EnvHandle, out: *mut Stood) -> Reply;
+    /// Frees the place of a thread's env, and leaves NULL in its handle.
+    ///
+    /// Refused: E21 where no place of an env stands behind the handle; E19 where the thread is attached.
+    ///
+    /// Nothing has changed then.
+    pub fn luthrady_free_env(env: *mut EnvHandle) -> Reply;
+    /// Frees the place of a room, with the envs that no thread holds, and leaves NULL in its handle.
+    ///
+    /// Refused: E21 where no room stands behind the handle; E22 with how many threads are attached, at least 1.
+    ///
+    /// Nothing has changed then.
+    pub fn luthrady_free_room(room: *mut RoomHandle) -> Reply;
     /// A new global reference to what the word names, NULL to null. (JNI Specification, chapter 4, "NewGlobalRef")
     ///
     /// Refused: E21 where no env stands behind the handle; E13 where a thread is collecting at the entry, or has announced that it will; E2 where the handle is malformed or lies outside the room; E3 where it is a local one of another thread; E2 where its reference does not stand; E8 where each slot was occupied when it was tried, or later in the call.

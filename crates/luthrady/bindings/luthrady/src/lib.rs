@@ -2,13 +2,16 @@
 //!
 //! What is proved ends at the entry of each function. This file answers for the rest:
 //! - a handle is what `luthrady_open` or `luthrady_attach` wrote;
-//! - each handle is in one call at a time (`&mut self`);
-//! - a handle's memory stays, so that a call after a detach is E21.
+//! - each handle is in one call at a time: an env's by `&mut self`, a room's by a lock;
+//! - a thread is detached from the room that it was attached to;
+//! - an env's place is freed when its value is dropped, so that a call after a detach is E21;
+//! - a room's place is freed with the last value that holds it.
 //!
 //! Each declaration of `luthrady_sys` is made of the function that it is of.
 
 use luthrady_sys as sys;
-use std::{error, fmt, ptr};
+use std::sync::{Arc, Mutex, MutexGuard, PoisonError};
+use std::{error, fmt, ptr, thread};
 
 pub use sys::{Counts, Operation, Sizes, Stood};
 
@@ -67,6 +70,9 @@ impl fmt::Display for Fault {
 
 impl error::Error for Fault {}
 
+/// The number of a refusal that ends by itself: a collection keeps threads from coming in.
+const BARRED: u32 = 13;
+
 /// What a call answers.
 pub type Answer<T> = Result<T, Fault>;
 
@@ -85,36 +91,57 @@ fn nothing(reply: sys::Reply) -> Answer<()> {
     value(reply).map(|_| ())
 }
 
+/// The place of a room, which is freed once nobody holds it.
+#[derive(Debug)]
+struct Place(sys::RoomHandle);
+
+/// A place that threads share.
+#[derive(Clone, Debug)]
+struct Shared(Arc<Mutex<Place>>);
+
 /// A room. Where it is dropped it is released.
 #[derive(Debug)]
-pub struct Room(sys::RoomHandle);
+pub struct Room(Shared);
 
 /// A thread's env. Where it is dropped the thread is detached.
 #[derive(Debug)]
-pub struct Env(sys::EnvHandle);
+pub struct Env(sys::EnvHandle, Shared);
 
 // SAFETY: the library proves that what stands behind the pointers may go to another thread.
-unsafe impl Send for Room {}
+unsafe impl Send for Place {}
 unsafe impl Send for Env {}
+
+impl Shared {
+    fn lock(&self) -> MutexGuard<'_, Place> {
+        self.0.lock().unwrap_or_else(PoisonError::into_inner)
+    }
+}
+
+impl Drop for Place {
+    fn drop(&mut self) {
+        let _ = unsafe { sys::luthrady_free_room(&mut self.0) };
+    }
+}
 
 impl Room {
     /// Opens a room.
     pub fn open(sizes: Sizes) -> Answer<Room> {
         let mut at = ptr::null_mut();
         nothing(unsafe { sys::luthrady_open(sizes, &mut at) })?;
-        Ok(Room(sys::RoomHandle { at }))
+        let place = Place(sys::RoomHandle { at });
+        Ok(Room(Shared(Arc::new(Mutex::new(place)))))
     }
 
-    /// The env of the next thread. E21 where each has one.
-    pub fn attach(&mut self) -> Answer<Env> {
+    /// An env that no other thread holds. E21 where none is free.
+    pub fn attach(&self) -> Answer<Env> {
         let mut at = ptr::null_mut();
-        nothing(unsafe { sys::luthrady_attach(&mut self.0, &mut at) })?;
-        Ok(Env(sys::EnvHandle { at }))
+        nothing(unsafe { sys::luthrady_attach(&mut self.0.lock().0, &mut at) })?;
+        Ok(Env(sys::EnvHandle { at }, self.0.clone()))
     }
 
-    /// Lets go of the envs of threads that were not attached: each later attach is E21.
-    pub fn release(&mut self) {
-        let _ = unsafe { sys::luthrady_release(&mut self.0) };
+    /// Lets go of the envs that no thread holds: each later attach is E21, and the last thread that is detached closes the room.
+    pub fn release(&self) {
+        let _ = unsafe { sys::luthrady_release(&mut self.0.lock().0) };
     }
 }
 
@@ -174,10 +201,13 @@ element!(
 );
 
 impl Env {
-    /// Detaches the thread: each later call is E21. The last one of a room that was released closes it, and tells what stood there.
+    /// Frees the thread's local references and detaches it: each later call is E21. At E13 it is still attached. The last one of a room that was released closes it, and tells what stood there.
     pub fn detach(&mut self) -> Answer<Option<Stood>> {
         let mut stood = Stood::default();
-        let closed = value(unsafe { sys::luthrady_detach(&mut self.0, &mut stood) })?;
+        let room = self.1.clone();
+        let closed = value(unsafe {
+            sys::luthrady_detach(&mut room.lock().0, &mut self.0, &mut stood)
+        })?;
         Ok((closed == 1).then_some(stood))
     }
 
@@ -294,6 +324,9 @@ impl Env {
 
 impl Drop for Env {
     fn drop(&mut self) {
-        let _ = self.detach();
+        while self.detach().is_err_and(|fault| fault.number == BARRED) {
+            thread::yield_now();
+        }
+        let _ = unsafe { sys::luthrady_free_env(&mut self.0) };
     }
 }

@@ -14,7 +14,7 @@ const SIZES: Sizes = Sizes {
 
 #[test]
 fn a_refusal_is_an_error_with_text_and_numbers() -> Result<(), Box<dyn Error>> {
-    let mut room = Room::open(SIZES)?;
+    let room = Room::open(SIZES)?;
     let mut env = room.attach()?;
     env.new_array::<i32>(3)?;
     let full = env.new_array::<i64>(6).unwrap_err();
@@ -30,7 +30,7 @@ fn a_refusal_is_an_error_with_text_and_numbers() -> Result<(), Box<dyn Error>> {
 
 #[test]
 fn elements_come_back_and_a_refused_read_leaves_the_slice() -> Answer<()> {
-    let mut room = Room::open(SIZES)?;
+    let room = Room::open(SIZES)?;
     let mut env = room.attach()?;
     let array = env.new_array::<i8>(4)?;
     env.set(array, 1, &[-7i8, 9])?;
@@ -45,7 +45,7 @@ fn elements_come_back_and_a_refused_read_leaves_the_slice() -> Answer<()> {
 
 #[test]
 fn a_batch_answers_each_call() -> Answer<()> {
-    let mut room = Room::open(SIZES)?;
+    let room = Room::open(SIZES)?;
     let mut env = room.attach()?;
     let object = env.new_plain()?;
     let mut calls = [
@@ -63,7 +63,7 @@ fn a_batch_answers_each_call() -> Answer<()> {
 
 #[test]
 fn a_dropped_env_is_detached_and_the_last_one_closes_the_room() -> Answer<()> {
-    let mut room = Room::open(SIZES)?;
+    let room = Room::open(SIZES)?;
     let mut first = room.attach()?;
     let mut second = room.attach()?;
     assert_eq!(room.attach().unwrap_err(), Fault::new(21, 0));
@@ -76,6 +76,20 @@ fn a_dropped_env_is_detached_and_the_last_one_closes_the_room() -> Answer<()> {
     assert_eq!((stood.globals, stood.live), (1, 1));
     assert_eq!(second.new_plain(), Err(Fault::new(21, 0)));
     assert_eq!(second.detach().unwrap_err(), Fault::new(21, 0));
+    Ok(())
+}
+
+#[test]
+fn a_room_of_two_serves_many_threads_one_after_the_other() -> Answer<()> {
+    let room = Room::open(SIZES)?;
+    for _ in 0..1000 {
+        let mut env = room.attach()?;
+        env.collect()?;
+        let left = env.new_plain()?;
+        assert_eq!(env.ref_type(left), Ok(1));
+    }
+    let mut env = room.attach()?;
+    assert_eq!(env.collect()?.dropped, 1);
     Ok(())
 }
 

@@ -1,10 +1,9 @@
-use Rattle.std.proofs.Common.{◌≡◌, ◌∙◌, Bool, Err, ap, refl, subst, sym}
-use Rattle.std.specs.Prelude.{IfErr}
+use Rattle.std.proofs.Common.{◌∙◌, Bool, Err, ap, refl, subst, sym}
 use Rattle.jr_word.specs.declared.fault.Fault.TheVariants.{NotFresh}
 use Rattle.luthrady.specs.Behind.{with_room_of}
 use Rattle.luthrady.specs.declared.handles.RoomHandle.{RoomHandle}
 use Rattle.luthrady.specs.declared.held.Opened.{Opened}
-use Rattle.luthrady.specs.Threads.{ByPlace, IsRefusedAtNone, IsRefusedElse, TakesNext}
+use Rattle.luthrady.specs.Threads.{ByPlace, IsAttached}
 use Rattle.luthrady.proofs.rooms.luthrady_attach.Goals as goal
 
 -- src/rooms.rt
@@ -15,7 +14,6 @@ returns-then-not-is_room c =
       Err NotFresh,
       c.of_nothing.ensures,
       ap (λ (x : RoomHandle). x.at) same,
-      (tt, tt),
       subst (λ (b : Bool). ByPlace b c.args.room.now c.is_room.new.handle (Err NotFresh)) (sym is) (refl, same),
     )
 
@@ -25,13 +23,10 @@ returns c =
     let is = sym c.is_room.ensures.value ∙ c.if-not-is_room.false in
     let same = c.is_room.ensures.unchanged in
     let now = c.attach.new.self in
-    let there = subst (λ (o : Opened). TakesNext o now a × IsRefusedAtNone o now a × IfErr a (IsRefusedElse o now)
-    × (now.mark ≡ o.mark))
-    (c.room_of.ensures.value ∙ ap (λ (x : RoomHandle). x.value) same)
-    (c.attach.ensures.next, c.attach.ensures.none, c.attach.ensures.refused, c.attach.ensures.mark) in (
+    let there = subst (λ (o : Opened). IsAttached o now a)
+    (c.room_of.ensures.value ∙ ap (λ (x : RoomHandle). x.value) same) c.attach.ensures in (
       a,
       c.attached.ensures,
       ap (λ (x : RoomHandle). x.at) same,
-      (c.attach.ensures.there, c.attach.ensures.fits),
       subst (λ (b : Bool). ByPlace b c.args.room.now (with_room_of c.is_room.new.handle now) a) (sym is) there,
     )

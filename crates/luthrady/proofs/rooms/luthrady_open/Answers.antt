@@ -8,5 +8,4 @@ returns c = (
   c.open_room.ensures.size,
   c.open_room.ensures.memory,
   c.open_room.ensures.opened,
-  c.open_room.ensures.marked,
 )

@@ -10,5 +10,6 @@ returns-in_default-clause-call g c = unrefused _ _
 
 pub returns-in-Err-clause-call : goal.returns-in-Err-clause-call
 returns-in-Err-clause-call g c =
-    refused _ _ (search rules) c.copy_part-answer.ensures.call refl refl c.tell.ensures.same_reference (search rules)
-    refl c.tell.ensures.told
+    refused _ _ (search rules) c.copy_part-answer.ensures.call refl refl c.tell_watcher.ensures.same_reference
+    (search rules)
+    refl c.tell_watcher.ensures.told

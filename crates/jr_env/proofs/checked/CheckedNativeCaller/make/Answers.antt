@@ -7,5 +7,5 @@ returns-in_default g c = unrefused _ _ c.in_default.is c.make-answer.ensures ref
 
 pub returns-in-Err : goal.returns-in-Err
 returns-in-Err g c =
-    refused _ _ c.in-Err.is c.make-answer.ensures refl refl c.tell.ensures.same_reference c.name-name.ensures
-    c.handed-handed.ensures c.tell.ensures.told
+    refused _ _ c.in-Err.is c.make-answer.ensures refl refl c.tell_watcher.ensures.same_reference c.name-name.ensures
+    c.handed-handed.ensures c.tell_watcher.ensures.told

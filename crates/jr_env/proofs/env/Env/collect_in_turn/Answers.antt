@@ -1,36 +1,9 @@
-use Rattle.std.proofs.Common.{◌∙◌, sym, ap, refl, rules, arith}
-use Rattle.jr_word.specs.declared.config.Config.{Config}
-use Rattle.jr_env.proofs.EnvCalls.{does_more, same_room}
-use Rattle.jr_env.proofs.GivingBack.{all_left, not_of_size, refused_at, served_at, tried_at}
+use Rattle.jr_env.proofs.AnnouncedCollections.{plain_announced}
+use Rattle.jr_env.proofs.EnvCalls.{does_more}
+use Rattle.jr_env.proofs.GivingBack.{until_each}
 use Rattle.jr_env.proofs.env.Env.collect_in_turn.Goals as goal
-
-pub loop-init : goal.loop-init
-loop-init g c =
-    (search rules, refl, refl, λ answer last after t. does_more (λ p q x. all_left c.args.patience.more x) t)
-
-pub loop-preserved : goal.loop-preserved
-loop-preserved g c =
-    let so = c.loop.invariant in
-    let call = c.in-Err.ensures.call so.0 in (
-      c.in-Err.ensures.room ∙ so.0 ∙ sym (ap (λ (z : Config). z.objects) (same_room call)),
-      c.in-Err.ensures.kept ∙ so.1,
-      same_room call ∙ so.2,
-      λ answer last after t. so.3 answer last after
-          (refused_at c.args.patience.more c.loop.counter (omega arith) call t),
-    )
-
-pub returns-in-Ok-clause-call : goal.returns-in-Ok-clause-call
-returns-in-Ok-clause-call g c fits =
-    let so = c.loop.invariant in so.3 _ _ _ (served_at _ (c.in-Ok.ensures.call so.0))
 
 pub returns-clause-call : goal.returns-clause-call
 returns-clause-call g c fits =
-    let so = c.loop.invariant in
-    so.3 _ _ _ (tried_at c.args.patience.more c.loop.counter (omega arith) (c.collect_announced-2.ensures.call so.0))
-
-pub returns-clause-size : goal.returns-clause-size
-returns-clause-size g c =
-    let so = c.loop.invariant in (
-      λ is. absurd (not_of_size c.collect_announced-2.result (c.collect_announced-2.ensures.refused so.0) is),
-      λ no. absurd (no (search rules)),
-    )
+    does_more (λ p q z. until_each (λ p' q' r y. plain_announced c.args.tries _ _ p' q' r y) z)
+    (c.collect_in_turn_listing.ensures.call fits)

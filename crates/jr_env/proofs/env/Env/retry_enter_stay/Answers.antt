@@ -1,6 +1,6 @@
 use Rattle.std.proofs.Common.{rules, of_calls}
 use Rattle.jr_elements.specs.Copies.{answer_in}
-use Rattle.jr_env.specs.Turns.{TriesToStay}
+use Rattle.jr_env.specs.Retried.{TriesToStay}
 use Rattle.jr_env.proofs.MadeAgain.{tries_by, tries_formed, tries_last}
 use Rattle.jr_env.proofs.env.Env.retry_enter_stay.Goals as goal
 

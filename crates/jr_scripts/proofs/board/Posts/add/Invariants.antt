@@ -1,5 +1,5 @@
 use Rattle.std.proofs.Common.{take}
-use Rattle.jr_scripts.specs.Posted.{AddsPosted}
+use Rattle.jr_scripts.specs.PostedNames.{AddsPosted}
 use Rattle.jr_scripts.proofs.board.Posts.add.Given as goal
 
 abbrev pub invariant-loop-command : goal.invariant-loop-command

@@ -1,5 +1,5 @@
 use Rattle.std.proofs.Common.{subst}
-use Rattle.jr_env.specs.Turns.{TriesAgainToOpen}
+use Rattle.jr_env.specs.Retried.{TriesAgainToOpen}
 use Rattle.jr_scripts.proofs.Retries.{tried_in_turns, tried_never}
 use Rattle.jr_scripts.proofs.Within.{did_tries, has_tried}
 use Rattle.jr_scripts.proofs.commands.regions.open.Goals as goal

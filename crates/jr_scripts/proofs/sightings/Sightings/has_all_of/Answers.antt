@@ -1,7 +1,7 @@
 use Rattle.std.proofs.Common.{◌<◌, ◌≤◌, None, length, rules, sym, ap, ◌∙◌}
 use Rattle.std.proofs.lemmas.List.{get_or_read}
 use Rattle.jr_scripts.specs.Layouts.{Layout}
-use Rattle.jr_scripts.specs.Noting.{cell_at}
+use Rattle.jr_scripts.specs.NotedWords.{cell_at}
 use Rattle.jr_scripts.proofs.Noted.{has_all}
 use Rattle.jr_scripts.proofs.sightings.Sightings.has_all_of.Goals as goal
 

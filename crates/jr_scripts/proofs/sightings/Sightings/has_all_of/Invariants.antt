@@ -1,5 +1,5 @@
 use Rattle.std.proofs.Common.{◌≡◌, ◌<◌, ℕ, Some, None, get_or}
-use Rattle.jr_scripts.specs.Noting.{posted_in}
+use Rattle.jr_scripts.specs.NotedWords.{posted_in}
 use Rattle.jr_scripts.proofs.sightings.Sightings.has_all_of.Given as goal
 
 abbrev pub invariant-loop-number : goal.invariant-loop-number

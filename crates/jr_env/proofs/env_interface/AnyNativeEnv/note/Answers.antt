@@ -1,0 +1,6 @@
+use Rattle.jr_env.proofs.TellingCalls.{leaves_env}
+use Rattle.jr_env.proofs.env_interface.AnyNativeEnv.note.Goals as goal
+
+pub returns-clause-same : goal.returns-clause-same
+returns-clause-same g c =
+    leaves_env _ _ _ _ c.env.result.now c.env.ensures.value c.note.new.self c.note.ensures.same

@@ -1,0 +1,4 @@
+pub mod Refusals
+pub mod Drawing
+pub mod Laws
+pub mod Stressing
