@@ -145,6 +145,24 @@ def unread(code, items, at=0, end=None):
     return found[0] if found else behind if behind < end else None
 
 
+def parameters_of(code, item):
+    """Returns how many parameters a function of a file that is blanked has, `self` among them."""
+    depth, count, are_begun, is_next = 0, 0, False, True
+    for found in re.compile(r"->|\S").finditer(code, item.named, item.first):
+        if are_begun and is_next and found[0] not in ",)":
+            count, is_next = count + 1, False
+        if found[0] in "<([":
+            depth += 1
+            are_begun = are_begun or (found[0], depth) == ("(", 1)
+        elif found[0] in ">)]":
+            depth -= 1
+            if are_begun and depth == 0:
+                break
+        elif found[0] == "," and depth == 1:
+            is_next = True
+    return count
+
+
 def ways_to(items, above=()):
     """Yields each function of some items, behind the items that it stands in."""
     for it in items:

@@ -29,16 +29,19 @@ static void *come_and_go(void *given) {
     struct luthrady_stood stood;
     for (int i = 0; i < TIMES; i++) {
         struct luthrady_env env;
-        while (attach(&env).fault == LUTHRADY_FAULT_NOT_FRESH) sched_yield();
+        struct luthrady_reply reply;
+        while ((reply = attach(&env)).fault == LUTHRADY_FAULT_NOT_FRESH) sched_yield();
+        if (reply.fault != 0) return NULL;
         struct luthrady_reply made = luthrady_new_int_array(&env, 100);
         while (made.fault != 0) {
             struct luthrady_counts counts;
+            if (made.fault == LUTHRADY_FAULT_NOT_FRESH) return NULL;
             if (made.fault != LUTHRADY_FAULT_BARRED) luthrady_collect_announced(&env, 100, &counts);
             sched_yield();
             made = luthrady_new_int_array(&env, 100);
         }
-        while (detach(&env, &stood).fault == LUTHRADY_FAULT_BARRED) sched_yield();
-        if (luthrady_free_env(&env).fault != 0) return NULL;
+        while ((reply = detach(&env, &stood)).fault == LUTHRADY_FAULT_BARRED) sched_yield();
+        if (reply.fault != 0 || luthrady_free_env(&env).fault != 0) return NULL;
     }
     return given;
 }
@@ -54,8 +57,7 @@ int main(void) {
         if (pthread_create(&threads[i], NULL, come_and_go, &room) != 0) return 1;
     for (int i = 0; i < THREADS; i++) {
         void *answer;
-        pthread_join(threads[i], &answer);
-        done += answer == &room;
+        done += pthread_join(threads[i], &answer) == 0 && answer == &room;
     }
     printf("%d threads came %d times each to a room of %u\n", done, TIMES, sizes.threads);
     if (luthrady_attach(&room, &env.at).fault != 0 || luthrady_collect(&env, &counts).fault != 0) return 1;

@@ -154,7 +154,8 @@ fn run(number: u32, env: Env, to: &Mail, from: &Mail, rounds: i32) -> Tally {
     }
 }
 
-fn opened() -> Vec<Env> {
+/// A room that was released, and its envs.
+fn opened() -> (Room, Vec<Env>) {
     let sizes = Sizes {
         threads: THREADS,
         slots: 64,
@@ -174,7 +175,7 @@ fn opened() -> Vec<Env> {
     let envs = (0..THREADS).map(|_| room.attach().unwrap()).collect();
     assert_eq!(room.attach().err(), Some(Fault::new(21, 0)));
     room.release();
-    envs
+    (room, envs)
 }
 
 fn main() {
@@ -182,7 +183,9 @@ fn main() {
         .nth(1)
         .map_or(1_000, |it| it.parse().unwrap());
     let mail: Arc<Vec<Mail>> = Arc::new((0..THREADS).map(|_| Mail::default()).collect());
-    let starts = opened().into_iter().enumerate().map(|(number, env)| {
+    // It outlives the threads: ThreadSanitizer doesn't see the fence by which the last `Arc` is dropped.
+    let (_room, envs) = opened();
+    let starts = envs.into_iter().enumerate().map(|(number, env)| {
         let mail = Arc::clone(&mail);
         let next = (number + 1) % THREADS as usize;
         thread::spawn(move || run(number as u32, env, &mail[next], &mail[number], rounds))

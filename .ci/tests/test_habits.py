@@ -91,6 +91,14 @@ class Habits(unittest.TestCase):
         self.habits.MOST_LINES_OF_A_BODY = 1
         self.assertEqual(self.found(self.habits.long_bodies, self.paths[2]), ["crates/jr_word/src/place.rt:4: the body of place has 2 lines (1 at the most)"])
 
+    def test_functions_with_many_parameters(self):
+        eight = "pub fn eight<'a, T: Fn(u8, u8) -> u8, const N: usize>(\n    a: T,\n    (b, c): (u8, u8),\n    d: [u8; N],\n" + "".join(f"    {it}: &'a u8,\n" for it in "efghi") + ") -> (u8, u8)\n    requires { a }\n{}\n"
+        method = "trait One {\n    fn seven(&self, a: A<B, C>, c: u8, d: u8, e: u8, f: u8, g: u8) -> (u8, u8);\n    fn none() {}\n}\n"
+        path = "crates/jr_word/src/one.rt"
+        with repository({path: method + eight}):
+            found = [*self.habits.many_parameters(path)]
+        self.assertEqual(found, [f"{path}:5: eight has 8 parameters (7 at the most): make a struct of those that go together"])
+
     def test_what_has_no_sentence(self):
         self.assertEqual(self.found(self.habits.without_sentence, self.paths[2]), ["crates/jr_word/src/place.rt:9: lacks a sentence (`///`): pub struct Taken {}"])
 

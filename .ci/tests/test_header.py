@@ -58,7 +58,7 @@ pub struct Reply {
 pub struct EnvHandle {
     pub(crate) at: *mut u8,
     alloc: Global,
-    ghost value: { Attached },
+    ghost value: { EnvPlace },
 }
 
 /// Looks at an array.
@@ -74,13 +74,19 @@ pub extern "C" fn luthrady_look(alloc: Global, env: &mut EnvHandle, array: u64, 
 }
 """
 BATCHES = "impl Operation {\n    fn of(number: u32) -> Option<Self> {\n        match number {\n            1 => Some(Operation::Look),\n            _ => None,\n        }\n    }\n}\n"
+KIND = "impl Kind {\n    pub fn code(self) -> u64\n    {\n        match self {\n            Kind::Plain => 1,\n        }\n    }\n}\n"
+TELLING = "fn number_of(explanation: Explanation) -> u32 {\n    match explanation {\n        Explanation::Gone => 6,\n        Explanation::Standing { .. } => 7,\n    }\n}\n"
+COPIES = "fn mode_of(number: u32) -> Option<Mode> {\n    match number {\n        2 => Some(Mode::Abort),\n        _ => None,\n    }\n}\n"
 FILES = {
     "crates/jr_word/src/fault.rt": FAULT,
+    "crates/jr_word/src/kind.rt": KIND,
     "crates/jr_word/src/handle.rt": HANDLE,
     "crates/jr_word/src/config.rt": CONFIG,
     "crates/jr_env/src/native_interface.rt": ENV,
     "crates/luthrady/src/rooms.rt": ROOMS,
     "crates/luthrady/src/batches.rt": BATCHES,
+    "crates/luthrady/src/telling.rt": TELLING,
+    "crates/luthrady/src/copies.rt": COPIES,
     "crates/luthrady/VERSION": "3.4.5\n",
     "crates/luthrady/include/owed.txt": "/* What is owed. */\n",
 }
@@ -147,7 +153,7 @@ class Made(unittest.TestCase):
 
     def test_names_texts_bounds_and_version(self):
         text = self.texts()[self.header.HEADER]
-        for part in ("LUTHRADY_FAULT_RACED = 12", 'case 12: return "another thread was there";', "#define LUTHRADY_MOST_THREADS 1064u", "LUTHRADY_REF_LOCAL = 1\n", "LUTHRADY_LOOK = 1\n", '#define LUTHRADY_VERSION "3.4.5"', "#define LUTHRADY_VERSION_PATCH 5"):
+        for part in ("LUTHRADY_FAULT_RACED = 12", 'case 12: return "another thread was there";', "#define LUTHRADY_MOST_THREADS 1064u", "LUTHRADY_REF_LOCAL = 1\n", "LUTHRADY_KIND_PLAIN = 1\n", "LUTHRADY_WORD_STANDING = 7\n", "LUTHRADY_LOOK = 1\n", "LUTHRADY_MODE_ABORT = 2\n", '#define LUTHRADY_VERSION "3.4.5"', "#define LUTHRADY_VERSION_PATCH 5"):
             self.assertIn(part, text)
 
     def test_each_change_of_a_source_changes_what_is_made(self):

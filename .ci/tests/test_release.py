@@ -1,16 +1,12 @@
-"""Tries what keeps a release from being handed out."""
+"""Tries what keeps a release from being handed out, and how the static library in it is made."""
 
-import importlib.machinery
-import importlib.util
 import os
 import subprocess
 import unittest
 
-from shared import CI, repository
+from shared import CI, repository, script
 
-LOADER = importlib.machinery.SourceFileLoader("release", f"{CI}/../release")
-RELEASE = importlib.util.module_from_spec(importlib.util.spec_from_loader("release", LOADER))
-LOADER.exec_module(RELEASE)
+RELEASE, ARCHIVE = script("../release"), script("../crates/luthrady/archive")
 FILES = {"crates.txt": "one:\n", "crates/one/src/lib.rt": "", "CHANGELOG.md": "# Changes\n\n## 1.2.3\n", ".gitignore": "out/\n", RELEASE.ARCHIVE: ""}
 GATE = "logic=proved functions=1 sum=abc\n3 passed, 0 failed\n"
 
@@ -47,3 +43,26 @@ class InTheWay(unittest.TestCase):
 
     def test_a_library_that_is_older_than_a_source_is_told(self):
         self.assertIn("older than a source", self.told(change="crates/one/src/lib.rt")[-1])
+
+
+class Archive(unittest.TestCase):
+    """The static library over a library of a small repository."""
+
+    def command(self, *built, changed=None):
+        """Returns the command that makes it, where these libraries stand and then a text is changed."""
+        with repository({"crates.txt": "low:\nhigh: low\nluthrady staticlib: high\n", **{f"crates/{it}/src/lib.rt": "" for it in ("low", "high", "luthrady")}}):
+            for at, name in enumerate(built):
+                os.makedirs(f"crates/{name}/out/rlib/{name}.rlib")
+                os.utime(f"crates/{name}/out/rlib/{name}.rlib", (2e9 + at, 2e9 + at))
+            if changed:
+                os.utime(changed, (2.1e9, 2.1e9))
+            return ARCHIVE.command()
+
+    def test_it_stands_over_the_libraries_that_stand(self):
+        words = self.command("low", "high")
+        self.assertEqual(words[1], "build")
+        self.assertTrue(any(it.startswith("high=") for it in words) and "staticlib" in words)
+
+    def test_else_all_are_proved(self):
+        for built, changed in ((("low",), None), (("high", "low"), None), (("low", "high"), "crates/low/src/lib.rt")):
+            self.assertEqual(self.command(*built, changed=changed), ["rt", "lib"])

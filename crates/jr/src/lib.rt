@@ -6,10 +6,11 @@ pub use jr_census::{Census, KindCounts, Objects, Slots, WordCounts};
 pub use jr_elements::{Elements, discard_left, text_of, utf16_of};
 pub use jr_env::{
     Checked, CriticalRegion, Demand, Env, Evidence, Examined, Explains, Explanation, Handed,
-    LocalCounts, LocalFrames, NativeCall, NativeCaller, NativeEnv, NativeInterface, OverEnv,
-    Patience, Refusal, Region, Stay, TellsRefusals, TriesCalls, Unreleased, Unscoped, Watcher,
-    calls, is_made_again, is_short_of_room, with_array_elements, with_critical, with_local_frame,
-    with_local_frame_returning, with_patience,
+    LocalCounts, LocalFrames, LogWatcher, Missed, NativeCall, NativeCaller, NativeEnv,
+    NativeInterface, OverEnv, Patience, Refusal, Region, Span, Stay, TellsRefusals, TriesCalls,
+    Unreleased, Unscoped, Watcher, call_beneath, calls, is_made_again, is_short_of_room,
+    with_array_elements, with_critical, with_local_frame, with_local_frame_returning,
+    with_patience,
 };
 pub use jr_model::{Mode, Summary};
 pub use jr_rule::{
@@ -27,7 +28,10 @@ pub use jr_word::{
 // Native threads in a room.
 pub use jr_owned::{
     Attached, AttachedOver, EnvPool, OwnedCells, OwnedCode, OwnedEnv, OwnedSteps, OwnedStepsOf,
-    OwnedThreads, PoolOver, PoolRoom, RunsCode, close_collected, close_owned, end_owner,
-    last_owner, of_any_site, of_site, open_envs, open_owned, owned_steps, spawn_owned,
+    OwnedThreads, PoolOver, PoolRoom, RunsCode, close_collected, close_collected_listing,
+    close_owned, end_owner, last_owner, of_any_site, of_site, open_envs, open_owned, owned_steps,
+    spawn_owned,
 };
-pub use jr_threads::{HandedOn, NativeCode, NoMessage, QueueEnd, Ran, run_native};
+pub use jr_threads::{
+    HandedOn, NativeCode, NoMessage, QueueEnd, Ran, run_native, run_native_listing,
+};

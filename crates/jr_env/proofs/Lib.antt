@@ -33,3 +33,4 @@ pub mod OpenStays
 pub mod WithinStays
 pub mod StayLevels
 pub mod TellingCalls
+pub mod TellingRemedies

@@ -1,5 +1,6 @@
 pub mod Requests
 pub mod Demands
+pub mod Spans
 pub mod Deeds
 pub mod Envs
 pub mod StandingRegions
@@ -21,6 +22,7 @@ pub mod UsedWords
 pub mod Watching
 pub mod TellingCalls
 pub mod TellingRegions
+pub mod TellingRemedies
 pub mod LentStays
 pub mod Moving
 pub mod Identities

@@ -14,7 +14,7 @@ use Rattle.jr_model.specs.Programs.{AnswerKind, AnswerOf, Program, Which, at_bot
 use Rattle.jr_model.specs.Programs.{handed_one, names, object, one, wants}
 use Rattle.jr_model.specs.CallPrograms as programs
 use Rattle.jr_env.specs.declared.native_call.Handed.{Handed}
-use Rattle.jr_env.specs.declared.native_call.Handed.TheVariants.{Nothing, One, Both}
+use Rattle.jr_env.specs.declared.native_call.Handed.TheVariants.{Nothing, One, Both, OneAt, BothAt}
 
 -- the word of a handle, as native code holds it
 abbrev pub packed : Handle → HandleWord
@@ -61,6 +61,8 @@ abbrev pub handed_words : Handed → List ℕ
 handed_words Nothing = []
 handed_words (One h) = h.0 ∷ []
 handed_words (Both g h) = g.0 ∷ h.0 ∷ []
+handed_words (OneAt h s) = h.0 ∷ []
+handed_words (BothAt g h s) = g.0 ∷ h.0 ∷ []
 
 -- what a primitive type is called in the names of calls
 abbrev pub type_name : Kind → List ℕ

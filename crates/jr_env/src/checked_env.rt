@@ -1,4 +1,4 @@
-//! A checked env has all that the env beneath has: each refusal is told to its watcher.
+//! A checked env makes calls of the env beneath: each refusal is told to its watcher.
 
 use crate::checked::{Checked, Explains, Watcher};
 use crate::native_call::{Handed, NativeCall};
@@ -9,6 +9,7 @@ use jr_steps::Steps;
 use jr_word::{Fault, Handle};
 
 impl<E, N: OverEnv<E>, W> OverEnv<E> for Checked<'_, N, W> {
+    ghost use Rattle.std.proofs.Common.{ap};
     ghost use Rattle.jr_env.specs.Watching.{with_caller};
 
     ghost env_in = { λ checked. N.env_in checked.caller.now };
@@ -21,12 +22,14 @@ impl<E, N: OverEnv<E>, W> OverEnv<E> for Checked<'_, N, W> {
     }
 
     ghost reads_back = { λ checked left. N.reads_back checked.caller.now left };
+
+    ghost puts_back = { λ checked. ap (with_caller checked) (N.puts_back checked.caller.now) };
 }
 
 impl<N: TellsRefusals + Explains, W: Watcher> TellsRefusals for Checked<'_, N, W> {
     ghost use Rattle.jr_env.specs.Watching.{TellsBoth};
 
-    ghost told = { λ old new name words fault. TellsBoth N.explained N.thread W.hears N.told old new name words fault };
+    ghost told = { λ old new name words span fault. TellsBoth N.explained N.measured N.thread W.hears N.told old new name words span fault };
 
     #[inline(always)]
     fn tell(&mut self, call: &'static str, handed: Handed, fault: Fault) {
@@ -38,13 +41,14 @@ impl<N: TellsRefusals + Explains, W: Watcher> TellsRefusals for Checked<'_, N, W
 impl<N: Explains, W: Watcher> Checked<'_, N, W> {
     ghost use Rattle.std.specs.Prelude.{◌≡◌};
     ghost use Rattle.jr_env.specs.Requests.{handed_words};
+    ghost use Rattle.jr_env.specs.Spans.{handed_span};
     ghost use Rattle.jr_env.specs.Watching.{TellsOf};
 
     /// Where an answer is a refusal the watcher is told.
     #[inline(always)]
     fn watch<A>(&mut self, call: &'static str, handed: Handed, answer: &Result<A, Fault>)
         ensures same_reference { self.new.caller.ghost_name ≡ self.old.caller.ghost_name }
-        ensures told { TellsOf N.explained N.thread W.hears self.old self.new call.now (handed_words handed) answer.now }
+        ensures told { TellsOf N.explained N.measured N.thread W.hears self.old self.new call.now (handed_words handed) (handed_span handed) answer.now }
     {
         if let Err(fault) = answer {
             self.tell_watcher(call, handed, *fault);
@@ -56,9 +60,10 @@ impl<N: LocalFrames + Explains, W: Watcher> LocalFrames for Checked<'_, N, W> {
     ghost use Rattle.std.specs.Prelude.{[], ◌∷◌, codes};
     ghost use Rattle.jr_env.specs.Watching.{WatchedBeneath};
 
-    ghost opens = { λ old new n answer. WatchedBeneath N.explained N.thread W.hears (λ before behind. N.opens before behind n answer) old new (codes "PushLocalFrame") [] answer };
+    ghost opens = { λ old new n answer. WatchedBeneath N.explained N.measured N.thread W.hears (λ before behind. N.opens before behind n answer) old new (codes "PushLocalFrame") [] answer };
 
-    ghost closes = { λ p old new w answer. WatchedBeneath N.explained N.thread W.hears (λ before behind. N.closes p before behind w answer) old new (codes "PopLocalFrame") (w ∷ []) answer };
+    ghost closes = { λ p old new w answer. WatchedBeneath N.explained N.measured N.thread W.hears
+        (λ before behind. N.closes p before behind w answer) old new (codes "PopLocalFrame") (w ∷ []) answer };
 
     fn open_frame(&mut self, capacity: u32) -> Result<(), Fault> {
         let answer = self.caller.open_frame(capacity);
@@ -76,7 +81,7 @@ impl<N: LocalFrames + Explains, W: Watcher> LocalFrames for Checked<'_, N, W> {
 impl<S: Steps, N: TriesCalls<S> + Explains, W: Watcher> TriesCalls<S> for Checked<'_, N, W> {
     ghost use Rattle.jr_env.specs.Watching.{ActsBeneath};
 
-    ghost approached = { λ old new answer. ActsBeneath (λ before behind. N.approached before behind answer) old new };
+    ghost approached = { λ old new. ActsBeneath N.approached old new };
 
     ghost tried = { λ old new request answer. ActsBeneath (λ before behind. N.tried before behind request answer) old new };
 
@@ -86,7 +91,7 @@ impl<S: Steps, N: TriesCalls<S> + Explains, W: Watcher> TriesCalls<S> for Checke
     }
 
     #[inline(always)]
-    fn approach(&mut self) -> Result<(), Fault> {
-        self.caller.approach()
+    fn approach(&mut self) {
+        self.caller.approach();
     }
 }

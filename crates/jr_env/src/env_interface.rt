@@ -1,39 +1,35 @@
 //! The calls of an env by their names, over whoever stands over one: an env, and one that is checked or stressed. The calls of native code that enter the gate are in `native_interface`.
-ghost use Rattle.std.specs.Prelude.{◌≡◌, [], ◌∷◌, IfOk};
+ghost use Rattle.std.specs.Prelude.{IfOk};
 ghost use Rattle.jr_critical.specs.Levels.{StandOver};
-ghost use Rattle.jr_env.specs.Requests.{handed_words};
-ghost use Rattle.jr_env.specs.TellingCalls.{RefusalTold};
 ghost use Rattle.jr_env.specs.TellingRegions.{OpensBeneath, OpensTold};
 
+use crate::calls::copies::CopyBack;
+use crate::calls::{DeleteWeakGlobalRef, IsSameObject};
 use crate::critical_region::Region;
 use crate::env::Env;
 use crate::levels_beside;
 use crate::levels_beside::First;
 use crate::native_call::{Handed, NativeCall};
-use crate::native_env::{OverEnv, TellsRefusals, TriesCalls};
-use crate::patience::{Patience, with_patience};
+use crate::native_env::{OverEnv, TriesCalls};
+use crate::patience::Patience;
+use crate::remedies_over::{try_again, try_collecting};
+use crate::telling::tell_refusal;
 use jr_critical::Levels;
-use jr_frames::Explanation;
+use jr_elements::Elements;
+use jr_frames::{Explanation, LocalCounts};
+use jr_model::Mode;
 use jr_rule::{NoteOf, PinnedNoteOf, Site, StepsIn};
 use jr_steps::Steps;
 use jr_weak::{Collected, Marker};
-use jr_word::{Fault, Handle};
+use jr_word::{Elem, Fault, Handle};
 use std::alloc::Global;
 
-/// Where an answer is a refusal it is told.
-#[inline(always)]
-fn tell_refusal<N: TellsRefusals, A>(
-    caller: &mut N,
-    call: &'static str,
-    handed: Handed,
-    answer: &Result<A, Fault>,
-)
-    ensures { RefusalTold N.told caller.old caller.new call.now (handed_words handed) answer.now }
-{
-    if let Err(fault) = answer {
-        caller.tell(call, handed, *fault);
-    }
-}
+/// No further try.
+const ONCE: Patience = Patience {
+    more: 0,
+    yields: false,
+    waits_for_room: false,
+};
 
 /// Opens a region: what comes before it, and the call of the env beneath.
 fn open_beneath<S: Steps, N: TriesCalls<S> + OverEnv<Env<S>>>(
@@ -44,7 +40,7 @@ fn open_beneath<S: Steps, N: TriesCalls<S> + OverEnv<Env<S>>>(
     ensures tried { OpensBeneath N.approached N.env_in N.with_env patience first caller.old result caller.new }
     ensures stand { IfOk result (λ levels. StandOver levels (N.env_in caller.new).held) }
 {
-    caller.approach()?;
+    caller.approach();
     levels_beside::retry_open(caller.env(), first, patience)
 }
 
@@ -62,28 +58,33 @@ fn open_told<S: Steps, N: TriesCalls<S> + OverEnv<Env<S>>>(
     answer
 }
 
-/// All that an env has beside the calls of `NativeInterface`, over whoever stands over an env.
+/// Calls of an env beside those of `NativeInterface`, over whoever stands over an env.
 /// Native code that is generic over it, and over `OverEnv<Env<S>>`, runs over an env, and over one that is checked or stressed. Each call is the one of `Env` of its name;
-/// where it is refused, that is told.
+/// where it is refused, that is told. `call_beneath` makes each other call of `Env`, but one that enters a stay.
 pub trait NativeEnv<S: Steps>: TriesCalls<S> {
-    ghost use Rattle.std.specs.Prelude.{◌≡◌, ◌↔◌, ◌≤◌, ◌+◌, [], ◌∷◌, true, false, ℕ, codes, Ok, Err, IsOk, IfOk, IfErr, OnErr};
-    ghost use Rattle.jr_word.specs.declared.fault.Fault.TheVariants.{Busy, Memory, Size};
+    ghost use Rattle.std.specs.Prelude.{◌≡◌, ◌≢◌, ◌≤◌, ◌+◌, [], ◌∷◌, true, false, ℕ, codes, map, None, Some, Err, IsOk, IfOk, IfErr, OnErr};
+    ghost use Rattle.jr_word.specs.declared.fault.Fault.TheVariants.{Busy, Memory};
     ghost use Rattle.jr_steps.specs.Knowing.{Took, anything, keeps};
     ghost use Rattle.jr_rule.specs.Notes.{HasSeen, HasSeenJust, IsUnchanged};
     ghost use Rattle.jr_rule.specs.Rooms.{joints_of_note, joints_of_pinned, seen_by_note, seen_by_pinned};
+    ghost use Rattle.jr_weak.specs.Counting.{sweeping_steps};
     ghost use Rattle.jr_weak.specs.Marks.{IsMarked};
     ghost use Rattle.jr_weak.specs.Markers.{marks_of, room_of};
-    ghost use Rattle.jr_env.specs.Collections.{FitsRoom, IsNoTurn, announced_collection, collection};
-    ghost use Rattle.jr_env.specs.Criticals.{env_of, levels_of};
-    ghost use Rattle.jr_env.specs.Deeds.{ensure_local_capacity, push_local_frame};
+    ghost use Rattle.jr_env.specs.Collections.{CallShutsActByAct, FitsRoom, IsNoTurn, announced_collection, collection};
+    ghost use Rattle.jr_elements.specs.Copies.{kept};
+    ghost use Rattle.jr_frames.specs.Counted.{AreCounted};
+    ghost use Rattle.jr_model.specs.declared.frames.Mode.TheVariants.{Abort};
+    ghost use Rattle.jr_env.specs.Deeds.{ensure_local_capacity, push_local_frame, release_answer};
     ghost use Rattle.jr_env.specs.Envs.{Does};
     ghost use Rattle.jr_env.specs.Remedies.{collection_in_turn};
-    ghost use Rattle.jr_env.specs.TellingCalls.{CollectsIfFits, DidBeneath, LeavesEnv, TriedAgain};
-    ghost use Rattle.jr_env.specs.TellingRegions.{OpensTold};
-    ghost use Rattle.jr_env.specs.Retried.{first_call, first_word};
+    ghost use Rattle.jr_env.specs.TellingCalls.{DidBeneath, DoesIfFits, LeavesEnv, TriedAgain};
+    ghost use Rattle.jr_env.specs.TellingRemedies.{CollectsBeneath, DeletesCleared, TriedCollecting, written_answer};
+    ghost use Rattle.jr_env.specs.TellingRegions.{OpenedOver, OpensTold, once};
+    ghost use Rattle.jr_env.specs.Requests.{for_copy_back};
+    ghost use Rattle.jr_env.specs.Retried.{releasing_again};
+    ghost use Rattle.jr_env.specs.UsedWords.{words_used};
     ghost use Rattle.jr_env.specs.Words.{explain as explanation};
     ghost use Rattle.jr_env.specs.declared.levels_beside.First.TheVariants.{Array, Text};
-    ghost use Rattle.jr_env.specs.declared.patience.Patience.{Patience};
 
     /// Makes a call as `Env::retry` does. The last refusal alone is told.
     ///
@@ -91,17 +92,82 @@ pub trait NativeEnv<S: Steps>: TriesCalls<S> {
     ///
     /// Those of the call at its last try.
     ///
-    /// What stands then is what the call leaves, and the thread stands outside.
+    /// What stands then is what the call leaves, and what was told of it.
     ///
     /// # Operations
     ///
-    /// Those of each try.
+    /// Those of each try, and of `tell` where the last is refused.
     fn retry<C: NativeCall<S> + Copy>(
         &mut self,
         call: C,
         patience: Patience,
     ) -> Result<C::Answer, Fault>
         ensures { TriedAgain Self.told Self.tried patience self.old self.new (C.request call) result };
+
+    /// Makes a call as `Env::retry_collecting` does: each try is made as `retry` makes it, and the collection is the env's. The last refusal alone is told, by the call's name.
+    ///
+    /// # Errors
+    ///
+    /// E17 where the marker was made for another number of objects than the room has: then no try is made. E14 where the collection was kept out;
+    /// else those of the call at its last try.
+    ///
+    /// What stands then is what the last of these leaves, and what was told of it.
+    ///
+    /// # Operations
+    ///
+    /// Those of each try, of the collection, and of `tell` where it is refused.
+    fn retry_collecting<C: NativeCall<S> + Copy>(
+        &mut self,
+        marker: &mut Marker,
+        call: C,
+        patience: Patience,
+    ) -> Result<C::Answer, Fault>
+    where
+        Self: OverEnv<Env<S>>,
+        ensures call { TriedCollecting Self.told Self.tried (CollectsBeneath Self.OverEnv.env_in Self.OverEnv.with_env marker.old None patience.more)
+            (FitsRoom marker.old (Self.OverEnv.env_in self.old)) patience self.old self.new (C.request call) result }
+        ensures room { room_of marker.new ≡ room_of marker.old };
+
+    /// Makes a call as `Env::retry_collecting_in_turn` does: each try is made as `retry` makes it, and the collections are the env's. The last refusal alone is told, by the call's name.
+    ///
+    /// # Errors
+    ///
+    /// E17 where the marker was made for another number of objects than the room has: then no try is made. E14 or E23 where the collection got no turn;
+    /// else those of the call at its last try.
+    ///
+    /// What stands then is what the last of these leaves, and what was told of it.
+    ///
+    /// # Operations
+    ///
+    /// Those of each try, of each announcement, and of `tell` where it is refused.
+    fn retry_collecting_in_turn<C: NativeCall<S> + Copy>(
+        &mut self,
+        marker: &mut Marker,
+        tries: u32,
+        call: C,
+        patience: Patience,
+    ) -> Result<C::Answer, Fault>
+    where
+        Self: OverEnv<Env<S>>,
+        requires { 1 ≤ tries }
+        ensures call { TriedCollecting Self.told Self.tried (CollectsBeneath Self.OverEnv.env_in Self.OverEnv.with_env marker.old (Some tries) patience.more)
+            (FitsRoom marker.old (Self.OverEnv.env_in self.old)) patience self.old self.new (C.request call) result }
+        ensures room { room_of marker.new ≡ room_of marker.old };
+
+    /// Deletes a weak global reference where it is cleared, as `Env::delete_cleared` does, by `retry` of both calls.
+    ///
+    /// # Errors
+    ///
+    /// Those of `is_same_object` with NULL at its last try, and where the reference is cleared those of `delete_weak_global_ref` at its last try.
+    /// Each is told by the name of the call that was refused.
+    ///
+    /// What stands then is what was told, and else nothing has changed.
+    ///
+    /// # Operations
+    ///
+    /// Those of each try of the two calls, and of `tell` where one is refused.
+    fn delete_cleared(&mut self, weak: Handle, patience: Patience) -> Result<bool, Fault>
+        ensures { DeletesCleared Self.told Self.tried Self.tried patience weak.0 self.old self.new result };
 
     /// A marker for the collections of the room, as `Env::marker`.
     ///
@@ -120,7 +186,7 @@ pub trait NativeEnv<S: Steps>: TriesCalls<S> {
         ensures memory { IfErr result (λ e. e ≡ Memory) }
         ensures room { IfOk result (λ m. FitsRoom m (Self.OverEnv.env_in self.old)) }
         ensures none { IfOk result (λ m. (o : ℕ) → ¬ (IsMarked (marks_of m) o)) }
-        ensures same { self.new ≡ Self.OverEnv.with_env self.old (Self.OverEnv.env_in self.old) };
+        ensures same { self.new ≡ self.old };
 
     /// Collects as `Env::collect` does.
     ///
@@ -132,14 +198,15 @@ pub trait NativeEnv<S: Steps>: TriesCalls<S> {
     ///
     /// # Operations
     ///
-    /// Those of `Env::collect`.
+    /// Those of `Env::collect`, and of `tell` where it is refused.
     fn collect(&mut self, marker: &mut Marker) -> Result<Collected, Fault>
     where
         Self: OverEnv<Env<S>>,
-        ensures call { DidBeneath Self.told Self.OverEnv.env_in Self.OverEnv.with_env (λ before behind. CollectsIfFits marker.old before behind collection result) self.old self.new
-            (codes "Collect") [] result }
+        ensures call { DidBeneath Self.told Self.OverEnv.env_in Self.OverEnv.with_env (λ before behind. DoesIfFits marker.old before behind collection result) self.old self.new
+            (codes "Collect") [] None result }
         ensures room { room_of marker.new ≡ room_of marker.old }
         ensures kept { OnErr result (marker.new ≡ marker.old) }
+        ensures busy { FitsRoom marker.old (Self.OverEnv.env_in self.old) → IfErr result (λ e. (n : ℕ) × (e ≡ Busy n) × (1 ≤ n)) }
         ensures alone { FitsRoom marker.old (Self.OverEnv.env_in self.old) → (S.facts (Self.OverEnv.env_in self.old).held.steps).stands.config.threads ≡ 1 → IsOk result };
 
     /// Collects as `Env::collect_announced` does.
@@ -154,15 +221,16 @@ pub trait NativeEnv<S: Steps>: TriesCalls<S> {
     ///
     /// # Operations
     ///
-    /// Those of `Env::collect_announced`.
+    /// Those of `Env::collect_announced`, and of `tell` where it is refused.
     fn collect_announced(&mut self, marker: &mut Marker, tries: u32) -> Result<Collected, Fault>
     where
         Self: OverEnv<Env<S>>,
         requires { 1 ≤ tries }
-        ensures call { DidBeneath Self.told Self.OverEnv.env_in Self.OverEnv.with_env (λ before behind. CollectsIfFits marker.old before behind (announced_collection tries) result) self.old self.new
-            (codes "CollectAnnounced") [] result }
+        ensures call { DidBeneath Self.told Self.OverEnv.env_in Self.OverEnv.with_env (λ before behind. DoesIfFits marker.old before behind (announced_collection tries) result
+            × IfOk result (λ _. CallShutsActByAct before behind tries (λ c. sweeping_steps c + 1))) self.old self.new (codes "CollectAnnounced") [] None result }
         ensures room { room_of marker.new ≡ room_of marker.old }
         ensures kept { OnErr result (marker.new ≡ marker.old) }
+        ensures refused { FitsRoom marker.old (Self.OverEnv.env_in self.old) → IfErr result IsNoTurn }
         ensures alone { FitsRoom marker.old (Self.OverEnv.env_in self.old) → (S.facts (Self.OverEnv.env_in self.old).held.steps).stands.config.threads ≡ 1 → IsOk result };
 
     /// Collects as `Env::collect_in_turn` does.
@@ -177,7 +245,7 @@ pub trait NativeEnv<S: Steps>: TriesCalls<S> {
     ///
     /// # Operations
     ///
-    /// Those of `Env::collect_in_turn`.
+    /// Those of `Env::collect_in_turn`, and of `tell` where it is refused.
     fn collect_in_turn(
         &mut self,
         marker: &mut Marker,
@@ -188,9 +256,10 @@ pub trait NativeEnv<S: Steps>: TriesCalls<S> {
         Self: OverEnv<Env<S>>,
         requires { 1 ≤ tries }
         ensures call { DidBeneath Self.told Self.OverEnv.env_in Self.OverEnv.with_env
-            (λ before behind. CollectsIfFits marker.old before behind (collection_in_turn tries patience.more) result) self.old self.new (codes "CollectInTurn") [] result }
+            (λ before behind. DoesIfFits marker.old before behind (collection_in_turn tries patience.more) result) self.old self.new (codes "CollectInTurn") [] None result }
         ensures room { room_of marker.new ≡ room_of marker.old }
         ensures kept { OnErr result (marker.new ≡ marker.old) }
+        ensures refused { FitsRoom marker.old (Self.OverEnv.env_in self.old) → IfErr result IsNoTurn }
         ensures alone { FitsRoom marker.old (Self.OverEnv.env_in self.old) → (S.facts (Self.OverEnv.env_in self.old).held.steps).stands.config.threads ≡ 1 → IsOk result };
 
     /// Tells whether so many more local references can be made, as `Env::ensure_local_capacity`. (JNI Specification, chapter 4, "EnsureLocalCapacity")
@@ -199,16 +268,16 @@ pub trait NativeEnv<S: Steps>: TriesCalls<S> {
     ///
     /// E9 where fewer places are free.
     ///
-    /// Nothing has changed then.
+    /// What stands then is what was told, and else nothing has changed.
     ///
     /// # Operations
     ///
-    /// None.
+    /// None, but those of `tell` where it is refused.
     fn ensure_local_capacity(&mut self, capacity: u32) -> Result<(), Fault>
     where
         Self: OverEnv<Env<S>>,
         ensures { DidBeneath Self.told Self.OverEnv.env_in Self.OverEnv.with_env (λ before behind. Does before behind (ensure_local_capacity capacity) result) self.old self.new
-            (codes "EnsureLocalCapacity") [] result };
+            (codes "EnsureLocalCapacity") [] None result };
 
     /// Opens a frame, as `Env::push_local_frame`. (JNI Specification, chapter 4, "PushLocalFrame")
     ///
@@ -216,16 +285,16 @@ pub trait NativeEnv<S: Steps>: TriesCalls<S> {
     ///
     /// E9 where 256 frames are open, or fewer places are free.
     ///
-    /// Nothing has changed then.
+    /// What stands then is what was told, and else nothing has changed.
     ///
     /// # Operations
     ///
-    /// None.
+    /// None, but those of `tell` where it is refused.
     fn push_local_frame(&mut self, capacity: u32) -> Result<(), Fault>
     where
         Self: OverEnv<Env<S>>,
         ensures { DidBeneath Self.told Self.OverEnv.env_in Self.OverEnv.with_env (λ before behind. Does before behind (push_local_frame capacity) result) self.old self.new
-            (codes "PushLocalFrame") [] result };
+            (codes "PushLocalFrame") [] None result };
 
     /// What a word is, as `Env::explain` tells.
     ///
@@ -233,16 +302,70 @@ pub trait NativeEnv<S: Steps>: TriesCalls<S> {
     ///
     /// That of the gate.
     ///
-    /// Nothing has changed then.
+    /// What stands then is what was told, and else nothing has changed.
     ///
     /// # Operations
     ///
-    /// Those of `Env::explain`.
+    /// Those of `Env::explain`, and of `tell` where it is refused.
     fn explain(&mut self, handle: Handle) -> Result<Explanation, Fault>
     where
         Self: OverEnv<Env<S>>,
         ensures { DidBeneath Self.told Self.OverEnv.env_in Self.OverEnv.with_env (λ before behind. Does before behind (explanation handle.0) result) self.old self.new (codes "Explain")
-            (handle.0 ∷ []) result };
+            (handle.0 ∷ []) None result };
+
+    /// How many words of array space are used, as `Env::words_used`.
+    ///
+    /// # Errors
+    ///
+    /// That of the gate.
+    ///
+    /// What stands then is what was told, and else nothing has changed.
+    ///
+    /// # Operations
+    ///
+    /// Those of `Env::words_used`, and of `tell` where it is refused.
+    fn words_used(&mut self) -> Result<u32, Fault>
+    where
+        Self: OverEnv<Env<S>>,
+        ensures { DidBeneath Self.told Self.OverEnv.env_in Self.OverEnv.with_env (λ before behind. Does before behind words_used result) self.old self.new (codes "WordsUsed") [] None result };
+
+    /// How many local references the thread has, as `Env::local_counts`.
+    ///
+    /// # Operations
+    ///
+    /// None.
+    fn local_counts(&mut self) -> LocalCounts
+    where
+        Self: OverEnv<Env<S>>,
+        ensures counted { AreCounted (Self.OverEnv.env_in self.old).held.frames result }
+        ensures same { self.new ≡ self.old };
+
+    /// Releases copied elements as `Env::retry_release` does: a write is tried as `retry` makes it. (JNI Specification, chapter 4, "Release<PrimitiveType>ArrayElements Routines")
+    ///
+    /// # Errors
+    ///
+    /// Those of a handle to an object; E5 where it is to a plain object or a string; E6 where it is to an array of other elements; E7 where the array has another number of elements.
+    /// The last alone is told.
+    ///
+    /// The elements are handed back as they were, nothing is written, and what stands is what was told.
+    ///
+    /// # Operations
+    ///
+    /// Those of each try, and of `tell` where the last is refused. To abort takes none.
+    fn retry_release<E: Elem>(
+        &mut self,
+        array: Handle,
+        elements: Elements<E>,
+        mode: Mode,
+        patience: Patience,
+    ) -> Result<Option<Elements<E>>, (Elements<E>, Fault)>
+    where
+        Self: OverEnv<Env<S>>,
+        ensures writes { mode ≢ Abort → TriedAgain Self.told Self.tried patience self.old self.new (for_copy_back E.KIND array.0 (map E.word_of elements)) (written_answer result) }
+        ensures aborts { mode ≡ Abort → LeavesEnv Self.OverEnv.env_in Self.OverEnv.with_env
+            (λ before behind. Does before behind (releasing_again patience E.KIND array.0 (map E.word_of elements) mode) (release_answer (map E.word_of) result)) self.old self.new }
+        ensures ok { IfOk result (λ left. left ≡ kept mode elements) }
+        ensures err { IfErr result (λ refused. refused.0 ≡ elements) };
 
     /// A note of all that the thread has seen until now, as `Env::note`.
     ///
@@ -254,7 +377,7 @@ pub trait NativeEnv<S: Steps>: TriesCalls<S> {
         S: StepsIn<Q>,
         Self: OverEnv<Env<S>>,
         ensures same { LeavesEnv Self.OverEnv.env_in Self.OverEnv.with_env (λ before behind. IsUnchanged S.facts before.held.steps behind.held.steps × (behind.held.frames ≡ before.held.frames)
-            × (behind.numbers ≡ before.numbers)) self.old self.new }
+            × (behind.numbers ≡ before.numbers) × (S.joints behind.held.steps ≡ S.joints before.held.steps + 1) × (joints_of_note result.note ≡ 0)) self.old self.new }
         ensures note { HasSeenJust S.facts (Self.OverEnv.env_in self.old).held.steps (seen_by_note result.note) };
 
     /// Learns all that a note of the room says, as `Env::learn`.
@@ -267,7 +390,36 @@ pub trait NativeEnv<S: Steps>: TriesCalls<S> {
         S: StepsIn<Q>,
         Self: OverEnv<Env<S>>,
         ensures { LeavesEnv Self.OverEnv.env_in Self.OverEnv.with_env (λ before behind. Took S.facts before.held.steps behind.held.steps [] anything keeps
-            × HasSeen S.facts behind.held.steps (seen_by_note note.note) × (behind.held.frames ≡ before.held.frames) × (behind.numbers ≡ before.numbers)) self.old self.new };
+            × HasSeen S.facts behind.held.steps (seen_by_note note.note) × (S.joints behind.held.steps ≡ S.joints before.held.steps + joints_of_note note.note + 1)
+            × (behind.held.frames ≡ before.held.frames) × (behind.numbers ≡ before.numbers)) self.old self.new };
+
+    /// A pinned note of all that the thread has seen until now, as `Env::pin`.
+    ///
+    /// # Operations
+    ///
+    /// Those of `Env::pin`.
+    fn pin<Q: Site>(&mut self) -> PinnedNoteOf<Q>
+    where
+        S: StepsIn<Q>,
+        Self: OverEnv<Env<S>>,
+        ensures same { LeavesEnv Self.OverEnv.env_in Self.OverEnv.with_env (λ before behind. IsUnchanged S.facts before.held.steps behind.held.steps × (behind.held.frames ≡ before.held.frames)
+            × (behind.numbers ≡ before.numbers) × (S.joints behind.held.steps ≡ S.joints before.held.steps + 1) × (joints_of_pinned result.pinned ≡ 0)) self.old self.new }
+        ensures note { HasSeenJust S.facts (Self.OverEnv.env_in self.old).held.steps (seen_by_pinned result.pinned) };
+
+    /// Learns all that a pinned note of the room says, as `Env::learn_pinned`; or answers false, where another thread was just learning it.
+    ///
+    /// # Operations
+    ///
+    /// Those of `Env::learn_pinned`.
+    fn learn_pinned<Q: Site>(&mut self, pinned: &PinnedNoteOf<Q>) -> bool
+    where
+        S: StepsIn<Q>,
+        Self: OverEnv<Env<S>>,
+        ensures { LeavesEnv Self.OverEnv.env_in Self.OverEnv.with_env (λ before behind. (result ≡ true → Took S.facts before.held.steps behind.held.steps [] anything keeps
+            × HasSeen S.facts behind.held.steps (seen_by_pinned pinned.now.pinned)
+            × (S.joints behind.held.steps ≡ S.joints before.held.steps + joints_of_pinned pinned.now.pinned + 2))
+            × (result ≡ false → IsUnchanged S.facts before.held.steps behind.held.steps × (S.joints behind.held.steps ≡ S.joints before.held.steps))
+            × (behind.held.frames ≡ before.held.frames) × (behind.numbers ≡ before.numbers)) self.old self.new };
 
     /// Opens a critical region as `Env::get_array_critical` does. (JNI Specification, chapter 4, "GetPrimitiveArrayCritical")
     ///
@@ -275,14 +427,16 @@ pub trait NativeEnv<S: Steps>: TriesCalls<S> {
     ///
     /// Those of `Env::get_array_critical`.
     ///
+    /// What stands then is what was told, and else nothing has changed but what came before.
+    ///
     /// # Operations
     ///
-    /// Those of `Env::get_array_critical`.
+    /// Those of `approach`; those of `Env::get_array_critical`, and of `tell` where it is refused.
     fn get_array_critical(&mut self, array: Handle) -> Result<Region<'_, S>, Fault>
     where
         Self: OverEnv<Env<S>>,
-        ensures { IfOk result (λ r. (left : Self) × (once : Patience) × (once.more ≡ 0)
-            × OpensTold Self.told Self.approached Self.OverEnv.env_in Self.OverEnv.with_env once (Array array) self.old left (Ok (levels_of r)) × ((env_of r).now ≡ Self.OverEnv.env_in left)) };
+        ensures opened { IfOk result (λ r. (left : Self) × OpenedOver Self.told Self.approached Self.OverEnv.env_in Self.OverEnv.with_env once (Array array) self.old left r) }
+        ensures refused { IfErr result (λ e. (left : Self) × OpensTold Self.told Self.approached Self.OverEnv.env_in Self.OverEnv.with_env once (Array array) self.old left (Err e)) };
 
     /// Opens a critical region as `Env::retry_array_critical` does. The last refusal alone is told.
     ///
@@ -290,9 +444,11 @@ pub trait NativeEnv<S: Steps>: TriesCalls<S> {
     ///
     /// Those of `Env::retry_array_critical`.
     ///
+    /// What stands then is what was told, and else nothing has changed but what came before.
+    ///
     /// # Operations
     ///
-    /// Those of each try.
+    /// Those of `approach`; those of each try, and of `tell` where the last is refused.
     fn retry_array_critical(
         &mut self,
         array: Handle,
@@ -300,8 +456,8 @@ pub trait NativeEnv<S: Steps>: TriesCalls<S> {
     ) -> Result<Region<'_, S>, Fault>
     where
         Self: OverEnv<Env<S>>,
-        ensures { IfOk result (λ r. (left : Self) × OpensTold Self.told Self.approached Self.OverEnv.env_in Self.OverEnv.with_env patience (Array array) self.old left (Ok (levels_of r))
-            × ((env_of r).now ≡ Self.OverEnv.env_in left)) };
+        ensures opened { IfOk result (λ r. (left : Self) × OpenedOver Self.told Self.approached Self.OverEnv.env_in Self.OverEnv.with_env patience (Array array) self.old left r) }
+        ensures refused { IfErr result (λ e. (left : Self) × OpensTold Self.told Self.approached Self.OverEnv.env_in Self.OverEnv.with_env patience (Array array) self.old left (Err e)) };
 
     /// Opens a critical region as `Env::get_string_critical` does. (JNI Specification, chapter 4, "GetStringCritical")
     ///
@@ -309,14 +465,16 @@ pub trait NativeEnv<S: Steps>: TriesCalls<S> {
     ///
     /// Those of `Env::get_string_critical`.
     ///
+    /// What stands then is what was told, and else nothing has changed but what came before.
+    ///
     /// # Operations
     ///
-    /// Those of `Env::get_string_critical`.
+    /// Those of `approach`; those of `Env::get_string_critical`, and of `tell` where it is refused.
     fn get_string_critical(&mut self, string: Handle) -> Result<Region<'_, S>, Fault>
     where
         Self: OverEnv<Env<S>>,
-        ensures { IfOk result (λ r. (left : Self) × (once : Patience) × (once.more ≡ 0)
-            × OpensTold Self.told Self.approached Self.OverEnv.env_in Self.OverEnv.with_env once (Text string) self.old left (Ok (levels_of r)) × ((env_of r).now ≡ Self.OverEnv.env_in left)) };
+        ensures opened { IfOk result (λ r. (left : Self) × OpenedOver Self.told Self.approached Self.OverEnv.env_in Self.OverEnv.with_env once (Text string) self.old left r) }
+        ensures refused { IfErr result (λ e. (left : Self) × OpensTold Self.told Self.approached Self.OverEnv.env_in Self.OverEnv.with_env once (Text string) self.old left (Err e)) };
 
     /// Opens a critical region as `Env::retry_string_critical` does. The last refusal alone is told.
     ///
@@ -324,9 +482,11 @@ pub trait NativeEnv<S: Steps>: TriesCalls<S> {
     ///
     /// Those of `Env::retry_string_critical`.
     ///
+    /// What stands then is what was told, and else nothing has changed but what came before.
+    ///
     /// # Operations
     ///
-    /// Those of each try.
+    /// Those of `approach`; those of each try, and of `tell` where the last is refused.
     fn retry_string_critical(
         &mut self,
         string: Handle,
@@ -334,8 +494,8 @@ pub trait NativeEnv<S: Steps>: TriesCalls<S> {
     ) -> Result<Region<'_, S>, Fault>
     where
         Self: OverEnv<Env<S>>,
-        ensures { IfOk result (λ r. (left : Self) × OpensTold Self.told Self.approached Self.OverEnv.env_in Self.OverEnv.with_env patience (Text string) self.old left (Ok (levels_of r))
-            × ((env_of r).now ≡ Self.OverEnv.env_in left)) };
+        ensures opened { IfOk result (λ r. (left : Self) × OpenedOver Self.told Self.approached Self.OverEnv.env_in Self.OverEnv.with_env patience (Text string) self.old left r) }
+        ensures refused { IfErr result (λ e. (left : Self) × OpensTold Self.told Self.approached Self.OverEnv.env_in Self.OverEnv.with_env patience (Text string) self.old left (Err e)) };
 }
 
 impl<S: Steps, N: TriesCalls<S>> NativeEnv<S> for N {
@@ -344,9 +504,46 @@ impl<S: Steps, N: TriesCalls<S>> NativeEnv<S> for N {
         call: C,
         patience: Patience,
     ) -> Result<C::Answer, Fault> {
-        let answer = with_patience(self, patience, |caller| caller.attempt(call));
+        let answer = try_again(self, call, patience);
         tell_refusal(self, call.name(), call.handed(), &answer);
         answer
+    }
+
+    fn retry_collecting<C: NativeCall<S> + Copy>(
+        &mut self,
+        marker: &mut Marker,
+        call: C,
+        patience: Patience,
+    ) -> Result<C::Answer, Fault>
+    where
+        Self: OverEnv<Env<S>>,
+    {
+        let answer = try_collecting(self, marker, None, call, patience);
+        tell_refusal(self, call.name(), call.handed(), &answer);
+        answer
+    }
+
+    fn retry_collecting_in_turn<C: NativeCall<S> + Copy>(
+        &mut self,
+        marker: &mut Marker,
+        tries: u32,
+        call: C,
+        patience: Patience,
+    ) -> Result<C::Answer, Fault>
+    where
+        Self: OverEnv<Env<S>>,
+    {
+        let answer = try_collecting(self, marker, Some(tries), call, patience);
+        tell_refusal(self, call.name(), call.handed(), &answer);
+        answer
+    }
+
+    fn delete_cleared(&mut self, weak: Handle, patience: Patience) -> Result<bool, Fault> {
+        if self.retry(IsSameObject(weak, Handle::NULL), patience)? {
+            self.retry(DeleteWeakGlobalRef(weak), patience)?;
+            return Ok(true);
+        }
+        Ok(false)
     }
 
     fn marker(&mut self, alloc: Global) -> Result<Marker, Fault>
@@ -415,6 +612,45 @@ impl<S: Steps, N: TriesCalls<S>> NativeEnv<S> for N {
         answer
     }
 
+    fn words_used(&mut self) -> Result<u32, Fault>
+    where
+        Self: OverEnv<Env<S>>,
+    {
+        let answer = Env::words_used(self.env());
+        tell_refusal(self, "WordsUsed", Handed::Nothing, &answer);
+        answer
+    }
+
+    fn local_counts(&mut self) -> LocalCounts
+    where
+        Self: OverEnv<Env<S>>,
+    {
+        Env::local_counts(self.env())
+    }
+
+    fn retry_release<E: Elem>(
+        &mut self,
+        array: Handle,
+        elements: Elements<E>,
+        mode: Mode,
+        patience: Patience,
+    ) -> Result<Option<Elements<E>>, (Elements<E>, Fault)>
+    where
+        Self: OverEnv<Env<S>>,
+    {
+        if !mode.copies_back() {
+            return Env::retry_release(self.env(), array, elements, mode, patience);
+        }
+        let call = CopyBack {
+            array,
+            elements: &elements,
+        };
+        match self.retry(call, patience) {
+            Ok(()) => Ok(elements.kept(mode)),
+            Err(fault) => Err((elements, fault)),
+        }
+    }
+
     fn note<Q: Site>(&mut self) -> NoteOf<Q>
     where
         S: StepsIn<Q>,
@@ -431,11 +667,27 @@ impl<S: Steps, N: TriesCalls<S>> NativeEnv<S> for N {
         Env::learn(self.env(), note);
     }
 
+    fn pin<Q: Site>(&mut self) -> PinnedNoteOf<Q>
+    where
+        S: StepsIn<Q>,
+        Self: OverEnv<Env<S>>,
+    {
+        Env::pin(self.env())
+    }
+
+    fn learn_pinned<Q: Site>(&mut self, pinned: &PinnedNoteOf<Q>) -> bool
+    where
+        S: StepsIn<Q>,
+        Self: OverEnv<Env<S>>,
+    {
+        Env::learn_pinned(self.env(), pinned)
+    }
+
     fn get_array_critical(&mut self, array: Handle) -> Result<Region<'_, S>, Fault>
     where
         Self: OverEnv<Env<S>>,
     {
-        self.retry_array_critical(array, Patience::of(0))
+        self.retry_array_critical(array, ONCE)
     }
 
     fn retry_array_critical(
@@ -454,7 +706,7 @@ impl<S: Steps, N: TriesCalls<S>> NativeEnv<S> for N {
     where
         Self: OverEnv<Env<S>>,
     {
-        self.retry_string_critical(string, Patience::of(0))
+        self.retry_string_critical(string, ONCE)
     }
 
     fn retry_string_critical(

@@ -73,8 +73,9 @@ pub enum First {
 }
 
 impl First {
-    ghost use Rattle.std.specs.Prelude.{◌≡◌, [], ◌∷◌};
+    ghost use Rattle.std.specs.Prelude.{◌≡◌, [], ◌∷◌, None};
     ghost use Rattle.jr_env.specs.Requests.{handed_words};
+    ghost use Rattle.jr_env.specs.Spans.{handed_span};
     ghost use Rattle.jr_env.specs.TellingRegions.{opening_name};
     ghost use Rattle.jr_env.specs.Retried.{first_word};
 
@@ -90,7 +91,8 @@ impl First {
 
     /// What that call is handed.
     pub(crate) fn handed(self) -> Handed
-        ensures { handed_words result ≡ first_word self ∷ [] }
+        ensures words { handed_words result ≡ first_word self ∷ [] }
+        ensures span { handed_span result ≡ None }
     {
         let (First::Array(word) | First::Text(word)) = self;
         Handed::One(word)

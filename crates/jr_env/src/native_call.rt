@@ -1,13 +1,14 @@
 //! A call of native code as a value, and who makes it: an env, and a stay.
 
 use crate::demand::Demand;
+use crate::span::Span;
 use jr_frames::Frames;
 use jr_gate::Inside;
 use jr_heap::Numbers;
 use jr_steps::Steps;
 use jr_word::{Elem, Fault, Handle};
 
-/// The words that a call is handed as references, in their order.
+/// The words that a call is handed as references, in their order, and which elements it asks of the object of the first.
 #[derive(Clone, Copy, Debug, PartialEq, Eq)]
 pub enum Handed {
     /// None.
@@ -16,6 +17,10 @@ pub enum Handed {
     One(Handle),
     /// Two.
     Both(Handle, Handle),
+    /// One, and elements of its object.
+    OneAt(Handle, Span),
+    /// Two, and elements of the first one's object.
+    BothAt(Handle, Handle, Span),
 }
 
 /// A call of native code, with the words that it is handed. One of the calls of `calls`, or one of your own: what it asks for is its `request`.
@@ -26,6 +31,7 @@ pub trait NativeCall<S: Steps> {
     ghost use Rattle.std.specs.Prelude.{◌≡◌};
     ghost use Rattle.jr_env.specs.Demands.{Demands};
     ghost use Rattle.jr_env.specs.Requests.{Request, handed_words, request_name, request_words};
+    ghost use Rattle.jr_env.specs.Spans.{Spans, handed_span};
     ghost use Rattle.jr_env.specs.Works.{Serves};
 
     /// What it answers.
@@ -37,9 +43,10 @@ pub trait NativeCall<S: Steps> {
     fn name(&self) -> &'static str
         ensures { result.now ≡ request_name (request self.now) };
 
-    /// The words that it is handed as references. Of a request that reads more by what these say, they are the first.
+    /// The words that it is handed as references. Of a request that reads more by what these say, they are the first. Where it says which elements it asks, it asks these.
     fn handed(&self) -> Handed
-        ensures { handed_words result ≡ request_words (request self.now) };
+        ensures words { handed_words result ≡ request_words (request self.now) }
+        ensures span { Spans (request self.now) (handed_span result) };
 
     /// What it asks of the room, and may be refused for want of. A call that makes no global or weak reference and no object asks for nothing.
     fn demand(&self) -> Demand

@@ -1,4 +1,4 @@
-//! Who has all that an env has: the env itself, and one that is checked or stressed. What each of them does in its own way stands here; the calls by their names are in `env_interface`.
+//! Who stands over an env: the env itself, and one that is checked or stressed. What each of them does in its own way stands here; the calls by their names are in `env_interface`.
 
 use crate::env::Env;
 use crate::native_call::{Handed, NativeCall, NativeCaller};
@@ -21,15 +21,19 @@ pub trait OverEnv<E>: Sized {
         ensures value { result.now ≡ env_in self.old };
 
     ghost reads_back: { (caller : Self) (env : E) → env_in (with_env caller env) ≡ env };
+
+    ghost puts_back: { (caller : Self) → with_env caller (env_in caller) ≡ caller };
 }
 
 /// Who tells of refused calls: a checked env its watcher, and an env nobody.
 pub trait TellsRefusals: Sized {
-    ghost use Rattle.std.specs.Prelude.{ℕ, List};
+    ghost use Rattle.std.specs.Prelude.{ℕ, List, Option};
     ghost use Rattle.jr_word.specs.declared.fault.Fault.{Fault};
+    ghost use Rattle.jr_env.specs.declared.span.Span.{Span};
     ghost use Rattle.jr_env.specs.Requests.{handed_words};
+    ghost use Rattle.jr_env.specs.Spans.{handed_span};
 
-    ghost told: { Self → Self → List ℕ → List ℕ → Fault → Type 0 };
+    ghost told: { Self → Self → List ℕ → List ℕ → Option Span → Fault → Type 0 };
 
     /// Tells that a call was refused: by its name, the words that it was handed as references, and why.
     ///
@@ -37,7 +41,7 @@ pub trait TellsRefusals: Sized {
     ///
     /// None of an env. Of a checked one those of `explain` for each word.
     fn tell(&mut self, call: &'static str, handed: Handed, fault: Fault)
-        ensures { told self.old self.new call.now (handed_words handed) fault };
+        ensures { told self.old self.new call.now (handed_words handed) (handed_span handed) fault };
 }
 
 /// Who makes calls one try at a time, and tells of a refusal apart from it. So of a call that is made again the last refusal alone is told.
@@ -46,7 +50,7 @@ pub trait TriesCalls<S: Steps>: NativeCaller<S> + TellsRefusals + LocalFrames {
     ghost use Rattle.jr_word.specs.declared.fault.Fault.{Fault};
     ghost use Rattle.jr_env.specs.Requests.{Request};
 
-    ghost approached: { Self → Self → Result (Unit {0}) Fault → Type 0 };
+    ghost approached: { Self → Self → Type 0 };
 
     ghost tried: { {A : Type 0} → Self → Self → Request A → Result A Fault → Type 0 };
 
@@ -62,15 +66,13 @@ pub trait TriesCalls<S: Steps>: NativeCaller<S> + TellsRefusals + LocalFrames {
     fn attempt<C: NativeCall<S> + Drop>(&mut self, call: C) -> Result<C::Answer, Fault>
         ensures { tried self.old self.new (C.request call) result };
 
-    /// What comes before a region is opened. Of an env and of a checked one nothing does. Who stresses its caller may collect here, or refuse it; a refusal here is not tried again.
+    /// What comes before the first try to open a region: of an env nothing, and a checked caller lets the one beneath do what comes before it there. Who stresses its caller may collect.
     ///
-    /// # Errors
+    /// # Operations
     ///
-    /// None of an env and of a checked one; that of the gate of who stresses its caller.
-    ///
-    /// Nothing has changed then but what it did.
-    fn approach(&mut self) -> Result<(), Fault>
-        ensures { approached self.old self.new result };
+    /// None of an env; those of a collection of who collects.
+    fn approach(&mut self)
+        ensures { approached self.old self.new };
 }
 
 impl<S: Steps> OverEnv<Env<S>> for Env<S> {
@@ -86,23 +88,25 @@ impl<S: Steps> OverEnv<Env<S>> for Env<S> {
     }
 
     ghost reads_back = { λ caller env. refl };
+
+    ghost puts_back = { λ caller. refl };
 }
 
 impl<S: Steps> TellsRefusals for Env<S> {
     ghost use Rattle.std.specs.Prelude.{◌≡◌};
 
-    ghost told = { λ old new name words fault. new ≡ old };
+    ghost told = { λ old new name words span fault. new ≡ old };
 
     #[inline(always)]
     fn tell(&mut self, _call: &'static str, _handed: Handed, _fault: Fault) {}
 }
 
 impl<S: Steps> TriesCalls<S> for Env<S> {
-    ghost use Rattle.std.specs.Prelude.{◌≡◌, Ok};
+    ghost use Rattle.std.specs.Prelude.{◌≡◌};
     ghost use Rattle.jr_env.specs.Envs.{Does};
     ghost use Rattle.jr_env.specs.Deeds.{whole};
 
-    ghost approached = { λ old new answer. (new ≡ old) × (answer ≡ Ok tt) };
+    ghost approached = { λ old new. new ≡ old };
 
     ghost tried = { λ old new request answer. Does old new (whole request) answer };
 
@@ -112,7 +116,5 @@ impl<S: Steps> TriesCalls<S> for Env<S> {
     }
 
     #[inline(always)]
-    fn approach(&mut self) -> Result<(), Fault> {
-        Ok(())
-    }
+    fn approach(&mut self) {}
 }

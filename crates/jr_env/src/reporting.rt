@@ -1,5 +1,6 @@
 //! A refused call as a line of a log.
-use crate::checked::{Evidence, Examined, Refusal};
+use crate::checked::{Evidence, Examined, Missed, Refusal};
+use crate::span::Span;
 use jr_frames::Explanation;
 use jr_word::{Fault, Kind, RefKind};
 use std::fmt;
@@ -66,6 +67,31 @@ impl fmt::Display for Examined {
     }
 }
 
+/// An element by its index, and else how many elements from which index on.
+impl fmt::Display for Span {
+    fn fmt<W: fmt::Write>(&self, f: &mut fmt::Formatter<W>) -> fmt::Result {
+        let Span { start, count } = *self;
+        match count {
+            1 => write!(f, "index {start}"),
+            _ => write!(f, "{count} elements from index {start} on"),
+        }
+    }
+}
+
+/// Which elements were asked, and how many there are.
+impl fmt::Display for Missed {
+    fn fmt<W: fmt::Write>(&self, f: &mut fmt::Formatter<W>) -> fmt::Result {
+        let Missed { span, length } = *self;
+        match length {
+            Ok(length) => write!(f, " (asked: {span}; length: {length})"),
+            Err(fault) => write!(
+                f,
+                " (asked: {span}; the length was not looked at ({fault}))"
+            ),
+        }
+    }
+}
+
 /// The counts that a refusal has, behind what it means.
 fn write_counts<W: fmt::Write>(f: &mut fmt::Formatter<W>, fault: Fault) -> fmt::Result {
     match fault {
@@ -86,14 +112,22 @@ fn write_counts<W: fmt::Write>(f: &mut fmt::Formatter<W>, fault: Fault) -> fmt::
 impl fmt::Display for Refusal {
     fn fmt<W: fmt::Write>(&self, f: &mut fmt::Formatter<W>) -> fmt::Result {
         let Refusal {
+            caller,
             thread,
             call,
             evidence,
             fault,
+            missed,
         } = *self;
+        if let Some(caller) = caller {
+            write!(f, "{caller}: ")?;
+        }
         let meaning = fault.meaning();
         write!(f, "thread {thread}: {call}: {fault}, {meaning}")?;
         write_counts(f, fault)?;
+        if let Some(missed) = missed {
+            write!(f, "{missed}")?;
+        }
         match evidence {
             Evidence::Nothing => Ok(()),
             Evidence::One(word) => write!(f, "; {word}"),

@@ -1,6 +1,7 @@
 //! Refusals, as a watcher is told them.
 
-use jr_env::calls::{GetArrayLength, NewArray};
+use assertions::assert_same;
+use jr_env::calls::{GetArrayLength, NewArray, SetArrayRegion};
 use jr_env::{
     Checked, Env, NativeEnv, NativeInterface, OverEnv, Patience, Refusal, Watcher, with_local_frame,
 };
@@ -55,7 +56,8 @@ pub(crate) fn are_told<S: Steps>(
     env: &mut Env<S>,
 ) -> Result<(), Fail> {
     calls_are_told(rt, alloc, env)?;
-    all_are_told(rt, alloc, env)
+    all_are_told(rt, alloc, env)?;
+    elements_are_told(rt, alloc, env)
 }
 
 /// Each refused call is told with what its words are, and one that is not refused isn't.
@@ -120,19 +122,71 @@ fn refused_calls<S: Steps, N: NativeEnv<S> + OverEnv<Env<S>>>(
     Ok(refused)
 }
 
-/// Of a call that is made again, of a frame and of a region the last refusal is told, once.
+/// Of a call that is made again, of a frame and of a region the last refusal is told, once, by the name of the checked env.
 fn all_are_told<S: Steps>(rt: &impl Abort, alloc: Global, env: &mut Env<S>) -> Result<(), Fail> {
     let string = env.new_string(&[7])?;
     assert!(rt; refused_calls(env, string)? == 3);
-    let mut checked = Checked::new(env, nothing_told());
+    let mut checked = Checked::named(env, nothing_told(), "loader");
     assert!(rt; refused_calls(&mut checked, string)? == 3);
     said(
         rt,
         alloc,
         checked.watcher().last,
-        "thread 0: PushLocalFrame: E9, the thread has too little room for local references",
+        "loader: thread 0: PushLocalFrame: E9, the thread has too little room for local references",
     )?;
     let (_env, tally) = checked.into_parts();
     assert!(rt; tally.counts[5] == 2 && tally.counts[9] == 1);
+    Ok(())
+}
+
+/// A call by the index of an element, or of a part: each is refused by E7 here.
+fn asks_elements<S: Steps, N: NativeEnv<S>>(
+    rt: &impl Abort,
+    checked: &mut N,
+    ints: Handle,
+    objects: Handle,
+    asked: usize,
+) {
+    let refused = match asked {
+        0 => checked.get_array_region(ints, 2, &mut [0i32, 0]),
+        1 => checked.set_array_region(ints, 3, &[7i32]),
+        2 => checked.get_object_array_element(objects, 2).map(|_| ()),
+        3 => checked.set_object_array_element(objects, 9, Handle::NULL),
+        4 => checked.retry(SetArrayRegion(ints, 4, &[] as &[i32]), Patience::of(3)),
+        _ => Err(Fault::Range),
+    };
+    assert_same!(rt; refused, Err(Fault::Range); at asked);
+}
+
+/// What is told of each of these, behind the call's name.
+const ASKED: [&str; 5] = [
+    "thread 0: GetIntArrayRegion: E7, an index, a part or a length doesn't fit the object (asked: 2 elements from index 2 on; length: 3); 0x1400000001 is a local reference to an int[]",
+    "thread 0: SetIntArrayRegion: E7, an index, a part or a length doesn't fit the object (asked: index 3; length: 3); 0x1400000001 is a local reference to an int[]",
+    "thread 0: GetObjectArrayElement: E7, an index, a part or a length doesn't fit the object (asked: index 2; length: 2); 0x1800000001 is a local reference to an Object[]",
+    "thread 0: SetObjectArrayElement: E7, an index, a part or a length doesn't fit the object (asked: index 9; length: 2); 0x1800000001 is a local reference to an Object[]; 0x0 is NULL",
+    "thread 0: SetIntArrayRegion: E7, an index, a part or a length doesn't fit the object (asked: 0 elements from index 4 on; length: 3); 0x1400000001 is a local reference to an int[]",
+];
+
+/// Of a call that is refused by E7 it is told which elements it asked, and how many there are; of another refusal of it neither.
+fn elements_are_told<S: Steps>(
+    rt: &impl Abort,
+    alloc: Global,
+    env: &mut Env<S>,
+) -> Result<(), Fail> {
+    let ints = env.new_array::<i32>(3)?;
+    let objects = env.new_object_array(2, ints)?;
+    let mut checked = Checked::new(env, nothing_told());
+    for asked in 0..ASKED.len() {
+        asks_elements(rt, &mut checked, ints, objects, asked);
+        said(rt, alloc, checked.watcher().last, ASKED[asked])?;
+    }
+    let refused = checked.get_array_region(ints, 2, &mut [0i64, 0]);
+    assert_same!(rt; refused, Err(Fault::WrongElement));
+    assert!(rt;
+        checked
+            .watcher()
+            .last
+            .is_some_and(|last| last.missed.is_none())
+    );
     Ok(())
 }

@@ -1,12 +1,10 @@
 -- A room that its last owner closes, once he has collected.
-use Rattle.std.proofs.Common.{◌≡◌, ◌⊎◌, inl, inr, ◌<◌, ℕ, Result, Ok, Err, IfOk, IfErr, sym, subst}
+use Rattle.std.proofs.Common.{inl, inr, ℕ, Result, Ok, Err, IfOk, IfErr, sym, subst}
 use mathlib.Core.Logic.{dite}
 use native.Mathlib.Decide.{ℕ_discrete}
 use Rattle.jr_model.specs.declared.summary.Summary.{Summary}
-use Rattle.jr_model.specs.History.{mine}
 use Rattle.jr_steps.specs.declared.known.Known.{Known}
-use Rattle.jr_steps.specs.Knowing.{Facts, view}
-use Rattle.jr_weak.specs.Collecting.{MakesCollection}
+use Rattle.jr_steps.specs.Knowing.{view}
 use Rattle.jr_rule.specs.declared.closing.Left.{Left}
 use Rattle.jr_rule.specs.declared.pass.Pass.{Pass}
 use Rattle.jr_rule.specs.declared.room.Room.{Room}
@@ -15,28 +13,13 @@ use Rattle.jr_rule.specs.Rooms.{IsLeft}
 use Rattle.jr_threads.specs.Closing.{ClosesCollected, HasNoGarbage, HasSweptAll}
 use Rattle.jr_owned.specs.Owners.{IsLeftCollecting}
 use Rattle.jr_threads.proofs.Closed.{same_end}
-use Rattle.jr_threads.proofs.Garbage.{leaves_nothing}
-
--- a collection that was made left nothing
-pub swept_made : {S : Type 0} (facts : S → Facts) (just : S → Known) (a b : S)
-    → ((k : Known) → (facts b).knows k → k ≡ just b) → (facts a).knows (just a) → {cleared dropped used : ℕ}
-    → MakesCollection facts a b cleared dropped used → HasSweptAll (view (just a)) (view (just b))
-swept_made facts just a b only knows {used = used} made =
-    let x = made.went.leads (just a) knows tt in
-    subst (λ k. HasSweptAll (view (just a)) (view k)) (only x.0 x.1) (record {
-      cleared = made.cleared;
-      dropped = made.dropped;
-      used = used;
-      did = x.2.did;
-      nothing = leaves_nothing (view (just a)) (view x.0) made.cleared made.dropped used x.2 x.3.1.0 x.3.1.1;
-    })
 
 closes_so : (k swept : Known) (s : Summary) → HasSweptAll (view k) (view swept) → Closes swept s → ClosesCollected k s
 closes_so k swept s h closes = record {
   swept = swept;
   collects = h;
   closes = closes;
-  nothing = λ done. subst HasNoGarbage (sym (same_end swept closes.met closes.ends.whole closes.goes
+  nothing = λ done. subst (HasNoGarbage swept.config) (sym (same_end swept closes.met closes.ends.whole closes.goes
       closes.ends.begins closes.ends.own closes.ends.legal (λ t l. dite (ℕ_discrete swept.thread t)
       (λ e. inl e) (λ ne. inr (done t l (λ e. ne (sym e))))))) h.nothing;
 }

@@ -1,3 +1,4 @@
 mod Collected
+mod Dumped
 mod Owners
 mod Pools

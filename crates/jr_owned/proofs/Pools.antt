@@ -6,7 +6,6 @@ use Rattle.std.proofs.Props.{props}
 use Rattle.atomic_table.specs.Seated.{TableId}
 use Rattle.jr_word.specs.declared.fault.Fault.{Fault}
 use Rattle.jr_word.specs.declared.fault.Fault.TheVariants.{Barred}
-use Rattle.jr_model.specs.declared.summary.Summary.{Summary}
 use Rattle.jr_model.specs.declared.event.Act.{Act}
 use Rattle.jr_model.specs.Frames.{Frames}
 use Rattle.jr_model.specs.Calls.{entered}
@@ -23,6 +22,7 @@ use Rattle.jr_env.specs.Envs.{Does}
 use Rattle.jr_env.specs.Tries.{made_again}
 use Rattle.jr_env.proofs.EnvCalls.{outside_or}
 use Rattle.jr_env.proofs.MadeAgain.{tries_last}
+use Rattle.jr_owned.specs.Listing.{IsLeftListing, IsLeftListingAt}
 use Rattle.jr_owned.specs.Owners.{IsEnvOver, IsLeftByOwner, IsLeftCollecting}
 use Rattle.jr_owned.specs.Pools.{FreesLocals, IsIdle, IsLeftAt, IsLeftCollectingAt}
 
@@ -74,13 +74,13 @@ module _ {S : Type 0} {G : Ghosts S} where
       record { outside = over.outside; frames = ap (λ (f : Frames). f.frames) over.frames }
 
 -- what holds of each summary, and of each room that was not closed
-pub if_closed : {L : Type 0} {W V : Summary → Type 0} → ((s : Summary) → W s → V s) → (r : Result (Option Summary) L)
+pub if_closed : {X L : Type 0} {W V : X → Type 0} → ((x : X) → W x → V x) → (r : Result (Option X) L)
     → IfOk r (λ o. IfSome o W) → IfOk r (λ o. IfSome o V)
 if_closed f (Ok (Some s)) w = f s w
 if_closed f (Ok None) w = tt
 if_closed f (Err l) w = tt
 
-pub if_left : {L : Type 0} {W V : L → Type 0} → ((l : L) → W l → V l) → (r : Result (Option Summary) L) → IfErr r W
+pub if_left : {X L : Type 0} {W V : L → Type 0} → ((l : L) → W l → V l) → (r : Result (Option X) L) → IfErr r W
     → IfErr r V
 if_left f (Ok o) w = tt
 if_left f (Err l) w = f l w
@@ -102,4 +102,13 @@ left_collecting_at site owner fits r l at d = record {
   site_is = ap (λ (z : Room 4294967295). Some z.row.table.shared.table_id) d.same ∙ at;
   owner = owner;
   left = subst (λ (z : Room 4294967295). IsLeftCollecting fits z owner l) (sym d.same) d;
+}
+
+-- and where he was to take a dump, too
+pub left_listing_at : (site : Option TableId) (owner : Holder) (fits : ℕ) (r : Room 4294967295) (l : Left 4294967295)
+    → Some r.row.table.shared.table_id ≡ site → IsLeftListing fits r owner l → IsLeftListingAt site fits l
+left_listing_at site owner fits r l at d = record {
+  site_is = ap (λ (z : Room 4294967295). Some z.row.table.shared.table_id) d.same ∙ at;
+  owner = owner;
+  left = subst (λ (z : Room 4294967295). IsLeftListing fits z owner l) (sym d.same) d;
 }

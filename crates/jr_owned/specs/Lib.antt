@@ -1,3 +1,4 @@
+pub mod Listing
 pub mod Owners
 pub mod PoolRooms
 pub mod Pools

@@ -4,6 +4,7 @@
 mod code;
 mod collecting;
 mod envs;
+mod listing;
 mod owned;
 mod pool;
 mod pool_room;
@@ -12,6 +13,7 @@ mod site;
 pub use code::{OwnedCode, OwnedThreads, RunsCode, spawn_owned};
 pub use collecting::close_collected;
 pub use envs::{OwnedEnv, open_envs};
+pub use listing::close_collected_listing;
 pub use owned::{
     OwnedCells, OwnedSteps, close_owned, end_owner, last_owner, open_owned, owned_steps,
 };

@@ -5,14 +5,17 @@ ghost use Rattle.jr_word.specs.declared.fault.Fault.TheVariants.{Memory};
 ghost use Rattle.jr_rule.specs.Passes.{IsOpened};
 ghost use Rattle.jr_owned.specs.Pools.{ClosesAt, ClosesCollectedAt, IsIdle, IsLeftAt, IsLeftCollectingAt};
 ghost use Rattle.jr_weak.specs.Markers.{room_of};
+ghost use Rattle.jr_owned.specs.Listing.{ClosesListedAt, IsLeftListingAt};
 ghost use Rattle.jr_owned.specs.PoolRooms.{IsRoomOfSite};
 
 use crate::LAST;
 use crate::collecting::close_collected;
 use crate::envs::env_over;
+use crate::listing::close_collected_listing;
 use crate::owned::{close_owned, owned_steps};
 use crate::pool_room::PoolRoom;
 use crate::site::{OwnedStepsOf, of_any_site, of_site};
+use jr_alive::Dump;
 use jr_env::calls::FreeLocals;
 use jr_env::{Env, Patience};
 use jr_model::Summary;
@@ -124,6 +127,21 @@ fn end_collected<Q: Site>(
     let owner = Box::into_inner(idle.env);
     let steps = of_any_site(owner.into_pass());
     close_collected(steps, marker)
+}
+
+/// Ends an env that no thread holds, and collects, notes what was left and closes as `close_collected_listing`.
+fn end_listing<Q: Site>(
+    alloc: Global,
+    idle: Idle<OwnedStepsOf<Q>>,
+    marker: &mut Marker,
+) -> Result<Option<(Summary, Dump)>, Left<LAST>>
+    ensures marker { room_of marker.new ≡ room_of marker.old }
+    ensures closed { IfOk result (λ o. IfSome o (λ r. ClosesListedAt Q.room r.0 r.1)) }
+    ensures left { IfErr result (IsLeftListingAt Q.room (room_of marker.old)) }
+{
+    let owner = Box::into_inner(idle.env);
+    let steps = of_any_site(owner.into_pass());
+    close_collected_listing(alloc, steps, marker)
 }
 
 impl<S: Steps + Drop> PoolOver<S> {
@@ -238,6 +256,40 @@ impl<Q: Site> PoolOver<OwnedStepsOf<Q>> {
                 match end_collected(idle, marker) {
                     Ok(None) => {}
                     told => return told,
+                }
+            }
+        }
+        Ok(None)
+    }
+
+    /// Ends all envs as `close_collected` does, and notes what was left, as `close_collected_listing` of an owner. By its type no thread is attached any more.
+    /// `None` where an env was taken out of the pool, whose holder owns the room still: then all others are gone.
+    ///
+    /// # Errors
+    ///
+    /// E16 where the dump's memory was refused; E17 where the marker was made for another number of objects;
+    /// E14 with how many threads were inside, knocking, announcing or collecting at the shut of the collection or of the dump, at least 1;
+    /// E22 as `close` has it, with how many were there behind the dump.
+    ///
+    /// The room is handed back as `close_collected_listing` of an owner does it.
+    ///
+    /// # Operations
+    ///
+    /// Those of `close_collected_listing`.
+    pub fn close_collected_listing(
+        self,
+        alloc: Global,
+        marker: &mut Marker,
+    ) -> Result<Option<(Summary, Dump)>, Left<LAST>>
+        ensures marker { room_of marker.new ≡ room_of marker.old }
+        ensures closed { IfOk result (λ o. IfSome o (λ r. ClosesListedAt Q.room r.0 r.1)) }
+        ensures left { IfErr result (IsLeftListingAt Q.room (room_of marker.old)) }
+    {
+        for place in self.places {
+            if let Some(idle) = place.into_inner() {
+                match end_listing(alloc, idle, marker) {
+                    Ok(None) => {}
+                    listed => return listed,
                 }
             }
         }

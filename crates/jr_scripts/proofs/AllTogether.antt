@@ -117,13 +117,14 @@ job_played : {Q : Type 0} {G : Ghosts Q} (board : List ℕ → Option (ℕ × Hi
     → r.last ≡ last → IsOpened r p → IsJobOf turns line p q j → HasSaid board rank j x → IsDone x → x.pass ≡ p'
     → Played board rank turns last c p.thread (line + 1) q.commands x.text.items (known_of p')
 job_played board rank turns last c r line p p' q j x config_is last_is o i ran done is =
-    let one : RanPass (said board rank) j.turns j.first j.part.now.commands p x.pass x.answer x.text.items = subst
-    (λ z. RanPass (said board rank) j.turns j.first j.part.now.commands z x.pass x.answer x.text.items) i.pass ran in
-    let two : RanPass (said board rank) j.turns j.first q.commands p x.pass x.answer x.text.items =
-    subst (λ (z : ThreadPart). RanPass (said board rank) j.turns j.first z.commands p x.pass x.answer x.text.items)
-    i.part one in
-    let three : RanPass (said board rank) j.turns (line + 1) q.commands p x.pass x.answer x.text.items =
-    subst (λ n. RanPass (said board rank) j.turns n q.commands p x.pass x.answer x.text.items) i.line_is two in
+    let one : RanPass (said board rank) j.task.turns j.task.first j.task.commands.now p x.pass x.answer x.text.items =
+    subst (λ z. RanPass (said board rank) j.task.turns j.task.first j.task.commands.now z x.pass x.answer x.text.items)
+    i.pass ran in
+    let two : RanPass (said board rank) j.task.turns j.task.first q.commands p x.pass x.answer x.text.items =
+    subst (λ cs. RanPass (said board rank) j.task.turns j.task.first cs p x.pass x.answer x.text.items) i.commands
+    one in
+    let three : RanPass (said board rank) j.task.turns (line + 1) q.commands p x.pass x.answer x.text.items =
+    subst (λ n. RanPass (said board rank) j.task.turns n q.commands p x.pass x.answer x.text.items) i.line_is two in
     let four : RanPass (said board rank) turns (line + 1) q.commands p x.pass x.answer x.text.items =
     subst (λ n. RanPass (said board rank) n (line + 1) q.commands p x.pass x.answer x.text.items) i.same_turns three in
     let five : RanPass (said board rank) turns (line + 1) q.commands p p' x.answer x.text.items =
@@ -228,7 +229,7 @@ jobs_for r turns line [] [] [] o jobs = tt
 jobs_for r turns line (p ∷ ps) (q ∷ qs) (j ∷ js) o jobs =
     let i = jobs.0 in
     let first = i.line_is in
-    let long : length j.part.now.commands ≡ length q.commands = ap (λ (z : ThreadPart). length z.commands) i.part in
+    let long : length j.task.commands.now ≡ length q.commands = ap length i.commands in
     let few = i.fits in (
       record { opened = subst (IsOpened r) (sym i.pass) o.0; fits = omega arith },
       jobs_for r turns (line + 1 + length q.commands) ps qs js o.1 jobs.1,
@@ -356,7 +357,8 @@ pub all_said : {Q : Type 0} {G : Ghosts Q} (board : List ℕ → Option (ℕ × 
 all_said board rank [] [] ran told = tt
 all_said board rank (j ∷ js) (x ∷ xs) ran told = (
   pass_still {u = said board rank} (carried (account_in x).posted _ (account_in x).heard _ _ _ (told.0).posted
-      (told.0).heard (λ n v. tt)) j.turns j.first j.part.now.commands j.pass x.pass x.answer x.text.items ran.0,
+      (told.0).heard (λ n v. tt)) j.task.turns j.task.first j.task.commands.now j.pass x.pass x.answer x.text.items
+      ran.0,
   all_said board rank js xs ran.1 told.1,
 )
 all_said board rank _ _ ran told = absurd ran

@@ -142,14 +142,16 @@ module _ {S : Type 0} {facts : S → Facts} where
       (same : had ≡ words) (region left : Option NamedLevels)
       {answer : Result Reply Fault} {out out' out'' : List ℕ} where
     pub went_on : (r : Result (Unit {0}) AllocError) → i < length commands → get_or commands i c ≡ c
-        → Going facts old mid f g earlier turns first (take i commands) out out' names words region
+        → Going facts old mid f g earlier turns first (take i commands) out out' names had region
         → CarriedOut facts mid new g h (role_with left) (KnowsWith region g) (KnowsWith left h)
         (deed_spoken talk turns (place_with names region) had c) answer
         → between ≡ buffers_after c answer names → level_names left ≡ levels_after c answer (level_names region)
         → objects_in left ≡ objects_after c answer (objects_in region)
         → WritesDown (first + i) c answer between names' words words' r out' out'' → r ≡ Ok tt
         → Going facts old new f h talk turns first (take (i + 1) commands) out out'' names' words' left
-    went_on r small is d done changed levels objects kept good =
+    went_on r small is so_far done changed levels objects kept good =
+        let d = subst (λ ws. Going facts old mid f g earlier turns first (take i commands) out out' names ws region)
+        same so_far in
         let does = with_words talk turns c names had words region left same done in
         let w : WritesDown (first + i) c answer between names' words words' (Ok tt) out' out'' =
         subst (λ r. WritesDown (first + i) c answer between names' words words' r out' out'') good kept in
@@ -188,7 +190,7 @@ module _ {S : Type 0} {facts : S → Facts} where
 
     pub cut_off : {last : S} {j : Frames} (r : Result (Unit {0}) AllocError) (e : AllocError)
         → (facts old).stands.role ≡ Outside → i < length commands → get_or commands i c ≡ c
-        → Going facts old mid f g earlier turns first (take i commands) out out' names words region
+        → Going facts old mid f g earlier turns first (take i commands) out out' names had region
         → CarriedOut facts mid new g h (role_with left) (KnowsWith region g) (KnowsWith left h)
         (deed_spoken talk turns (place_with names region) had c) answer
         → objects_in left ≡ objects_after c answer (objects_in region)
@@ -196,7 +198,9 @@ module _ {S : Type 0} {facts : S → Facts} where
         → CarriedOut facts new last h j Outside (KnowsWith left h) (Holds j) (giving_up_all (objects_in left)) (Ok tt)
         → (text : List ℕ) × (out'' ≡ out ++ text)
         × DoesDeed facts old last f j (running talk turns first commands text) (Err fault.Memory)
-    cut_off {last} {j} r e outside small is d done objects kept bad ended =
+    cut_off {last} {j} r e outside small is so_far done objects kept bad ended =
+        let d = subst (λ ws. Going facts old mid f g earlier turns first (take i commands) out out' names ws region)
+        same so_far in
         let does = with_words talk turns c names had words region left same done in
         let w : WritesDown (first + i) c answer between names' words words' (Err e) out' out'' =
         subst (λ r. WritesDown (first + i) c answer between names' words words' r out' out'') bad kept in (

@@ -23,8 +23,10 @@ Thread {Q} G = PromisedHandle (ThreadRun Q G) (Doing Q G)
 
 -- the job that a thread was given
 abbrev pub given_to : {Q : Type 0} {G : Ghosts Q} → Thread G → Job
-given_to h =
-    record { first = h.promise.first; turns = h.promise.turns; part = h.promise.part; pass = h.promise.pass.value }
+given_to h = record {
+  task = record { first = h.promise.first; turns = h.promise.turns; commands = h.promise.commands };
+  pass = h.promise.pass.value;
+}
 
 -- one more thread was started
 pub given_more : {Q : Type 0} {G : Ghosts Q} (hs hs' : List (Thread G)) (h : Thread G) (js js' all : List Job) (j : Job)
@@ -32,15 +34,18 @@ pub given_more : {Q : Type 0} {G : Ghosts Q} (hs hs' : List (Thread G)) (h : Thr
     → map given_to hs' ++ js' ≡ all
 given_more hs hs' h js js' all j more is given so =
     let one : given_to h ≡ j =
-    λ i. record { first = given.first i; turns = given.turns i; part = given.part i; pass = given.pass i } in
+    λ i. record {
+      task = record { first = given.first i; turns = given.turns i; commands = given.commands i };
+      pass = given.pass i;
+    } in
     ap (λ z. map given_to z ++ js') more ∙ (ap (λ z. z ++ js') (map-append given_to hs (h ∷ []))
     ∙ (append_assoc (map given_to hs) (given_to h ∷ []) js'
     ∙ (ap (λ z. map given_to hs ++ z ∷ js') one ∙ (ap (λ z. map given_to hs ++ z) (sym is) ∙ so))))
 
 -- what a thread promised
 abbrev DidIt : {Q : Type 0} {G : Ghosts Q} → Doing Q G → ThreadRun Q G → Type 0
-DidIt d r = RanPass (talk_told r.notes.is_lost r.notes.posts.now.numbers.entries r.notes.notes.items) d.turns d.first
-    d.part.now.commands d.pass.value r.pass r.answer r.text.items
+DidIt d r = RanPass (talk_told r.notes.is_lost r.notes.posts.now.numbers.entries r.notes.notes.items) d.turns
+    d.first d.commands.now d.pass.value r.pass r.answer r.text.items
 
 kept_each : {Q : Type 0} {G : Ghosts Q} (kept : Doing Q G → ThreadRun Q G → Type 0)
     → ((p : Doing Q G) (r : ThreadRun Q G) → kept p r → DidIt p r) → (hs : List (Thread G)) (rs : List (ThreadRun Q G))

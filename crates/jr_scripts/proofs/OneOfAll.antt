@@ -15,13 +15,12 @@ use Rattle.jr_scripts.proofs.ToEnd.{ran_still}
 
 -- the run of steps is a run of their pass
 pub ran_pass : {S : Type 0} (holder : S → Holder) (made a b : S) (p q : Pass) (f g : Frames) (talk : Speech)
-    (turns first : ℕ) (commands commands' : List Command) (answer : Result (Unit {0}) Fault) (out text : List ℕ)
+    (turns first : ℕ) (commands : List Command) (answer : Result (Unit {0}) Fault) (out text : List ℕ)
     → Spent (λ s. facts_of (holder s)) made a → (holder b).fresh ≡ false
     → DoesDeed (λ s. facts_of (holder s)) a b f g (running_to_end talk turns first commands text) answer
     → holder made ≡ holder_of p → holder_of q ≡ holder b → f ≡ fresh_frames (standing_of p).config.locals
-    → commands ≡ commands' → out ≡ text → RanPass talk turns first commands' p q answer out
-ran_pass holder made a b p q f g talk turns first commands commands' answer out text spent used r old new fresh same
-    whole =
+    → out ≡ text → RanPass talk turns first commands p q answer out
+ran_pass holder made a b p q f g talk turns first commands answer out text spent used r old new fresh whole =
     let here : DoesDeed facts_of (holder a) (holder b) f g (running_to_end talk turns first commands text) answer =
     record { stands_is = r.stands_is; did = r.did } in
     let spends : Spent facts_of (holder made) (holder a) =
@@ -32,13 +31,11 @@ ran_pass holder made a b p q f g talk turns first commands commands' answer out 
       used_up = ap (λ (h : Holder). h.fresh) new ∙ used;
       frames = g;
       ran = subst (λ t. DoesDeed facts_of (holder a) (holder_of q) (fresh_frames (standing_of p).config.locals) g
-          (running_to_end talk turns first commands' t) answer) (sym whole)
-          (subst (λ cs. DoesDeed facts_of (holder a) (holder_of q) (fresh_frames (standing_of p).config.locals) g
-          (running_to_end talk turns first cs text) answer) same
+          (running_to_end talk turns first commands t) answer) (sym whole)
           (subst (λ h.
           DoesDeed facts_of (holder a) (holder_of q) h g (running_to_end talk turns first commands text) answer) fresh
           (subst (λ z. DoesDeed facts_of (holder a) z f g (running_to_end talk turns first commands text) answer)
-          (sym new) here)));
+          (sym new) here));
     }
 
 -- what else may be told of it

@@ -354,15 +354,12 @@ module _ {S B : Type 0} {G : Ghosts S} {layout : B → Layout} {tells : B → Ac
 
   -- a command that makes calls, and opens no region
   pub called : {old new : Env S G} {names names' : Names} {board : B} {answer : Result Reply Fault} (c d : Command)
-      (region : Option NamedLevels) → c ≡ d → region ≡ None → IsOutside old
-      → is_speaking d ≡ false → follows board words
+      → c ≡ d → IsOutside old → is_speaking d ≡ false → follows board words
       → WasDone old new (deed turns names d) answer → [] ≡ levels_after d answer [] → [] ≡ objects_after d answer []
       → names' ≡ buffers_after d answer names
-      → DidCommand layout tells looked follows turns c words old new names names' None region board board answer
-  called {old} {new} {names} {names'} {board} {answer} c d region is none stood silent has did levels objects changed =
-      subst (λ r. DidCommand layout tells looked follows turns c words old new names names' None r board board answer)
-      (sym none)
-      (outside c d is silent has (did_in_role stood did) (did.stands_is.role ∙ stood) levels objects changed)
+      → DidCommand layout tells looked follows turns c words old new names names' None None board board answer
+  called c d is stood silent has did levels objects changed =
+      outside c d is silent has (did_in_role stood did) (did.stands_is.role ∙ stood) levels objects changed
 
   -- one by which they do, wherever the thread stands
   pub spoken : AreOf G.facts → {old new : Env S G} {names : Names} {region : Option NamedLevels} {board board' : B}
@@ -387,17 +384,22 @@ module _ {S B : Type 0} {G : Ghosts S} {layout : B → Layout} {tells : B → Ac
 
   -- a wait
   pub waited : AreOf G.facts → {old new : Env S G} {names : Names} {region : Option NamedLevels} {board board' : B}
-      {answer : Result Reply Fault} {n : List ℕ} (c : Command) (region' : Option NamedLevels) → region' ≡ region
+      {answer : Result Reply Fault} {n : List ℕ} {had : ThreadWords} (c : Command) (region' : Option NamedLevels)
+      → region' ≡ region → had ≡ words
       → StandsWith region old → c ≡ commands.Make make.Wait n → new.held.frames ≡ old.held.frames
-      → HasWaited G.facts old.held.steps new.held.steps (tells board') (WasInVain looked turns n) n (word_under words n)
-      answer → (found : Option ℕ) × (answer ≡ reply_to_wait found) × follows board' (words_found n found words)
+      → HasWaited G.facts old.held.steps new.held.steps (tells board') (WasInVain looked turns n) n (word_under had n)
+      answer → (found : Option ℕ) × (answer ≡ reply_to_wait found) × follows board' (words_found n found had)
       → Keeps layout tells board board'
       → DidCommand layout tells looked follows turns c words old new names names region region' board board' answer
-  waited fits {names = names} {board' = board'} {answer = answer} {n = n} c region' same stood is frames w has kept =
+  waited fits {old} {new} {names} {board' = board'} {answer = answer} {n = n} c region' same these stood is frames w has
+      kept =
       spoken fits c region' same stood (ap is_speaking is) frames
-      (spoke_waiting G.facts tells looked turns board' names words c make.Wait answer is (ap is_speaking is) w)
+      (spoke_waiting G.facts tells looked turns board' names words c make.Wait answer is (ap is_speaking is)
+      (subst (λ ws. HasWaited G.facts old.held.steps new.held.steps (tells board') (WasInVain looked turns n) n
+      (word_under ws n) answer) these w))
       (subst (follows board') (sym (ap (λ d. words_after names d answer words) is
-      ∙ found_words names n has.0 answer words has.1)) has.2)
+      ∙ found_words names n has.0 answer words has.1))
+      (subst (λ ws. follows board' (words_found n has.0 ws)) these has.2))
       kept
 
   -- a post

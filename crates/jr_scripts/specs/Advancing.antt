@@ -1,5 +1,5 @@
 -- For the crate's own functions: where a thread stands with its region, and what it did there.
-use Rattle.std.specs.Prelude.{◌≡◌, ℕ, List, [], length, Option, Some, None, Result, Ok, Err}
+use Rattle.std.specs.Prelude.{◌≡◌, ℕ, List, [], length, Option, Some, None, Result, Ok, Err, Bool, true, false}
 use Rattle.jr_word.specs.declared.handle.Handle.{Handle}
 use Rattle.jr_word.specs.declared.fault.Fault.{Fault}
 use Rattle.jr_word.specs.declared.fault.Fault.TheVariants as fault
@@ -52,6 +52,11 @@ answer_without_call names (commands.OnNameAt v n i) =
 answer_without_call names (commands.PutAt v n i x) =
     put_by v (answer_in (λ _. replies.Done) (putting i x (binding names n)))
 answer_without_call names _ = Err fault.InCritical
+
+-- whether a command opens a level
+abbrev pub is_opening : Command → Bool
+is_opening (commands.OpenLevel v n r) = true
+is_opening _ = false
 
 -- what a command does where the thread stands, with what it says and hears
 abbrev pub deed_spoken : Speech → ℕ → Place → ThreadWords → Command → Deed Reply

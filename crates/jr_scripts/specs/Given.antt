@@ -6,7 +6,7 @@ use Rattle.jr_rule.specs.declared.site.Site.{Ghosts}
 
 -- the promise is of this job
 pub record IsGiven {Q : Type 0} {G : Ghosts Q} (d : Doing Q G) (j : Job) : Type 0 where
-  pub first : d.first ≡ j.first
-  pub turns : d.turns ≡ j.turns
-  pub part : d.part ≡ j.part
+  pub first : d.first ≡ j.task.first
+  pub turns : d.turns ≡ j.task.turns
+  pub commands : d.commands ≡ j.task.commands
   pub pass : d.pass.value ≡ j.pass

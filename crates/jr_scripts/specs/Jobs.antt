@@ -3,6 +3,7 @@ use Rattle.std.specs.List.{All, AllByRecursion, AllZip}
 use mathlib.Core.List.{IsPrefix}
 use Rattle.std.specs.Prelude.{◌≡◌, ◌+◌, ◌<◌, ◌^◌, ℕ, Option, Some, None, List, [], ◌∷◌, ◌++◌, length, Ok, IsSome}
 use Rattle.jr_model.specs.History.{History}
+use Rattle.jr_syntax.specs.declared.command.Command.{Command}
 use Rattle.jr_syntax.specs.declared.thread.ThreadPart.{ThreadPart}
 use Rattle.jr_rule.specs.declared.pass.Pass.{Pass}
 use Rattle.jr_rule.specs.declared.row.Row.{Row}
@@ -29,13 +30,13 @@ module _ {Q : Type 0} {G : Ghosts Q} where
 
   -- the thread did its job, with what its notes tell
   abbrev pub HasRun : Job → ThreadRun Q G → Type 0
-  HasRun j r = RanPass (talk_told r.notes.is_lost r.notes.posts.now.numbers.entries r.notes.notes.items) j.turns j.first
-      j.part.now.commands j.pass r.pass r.answer r.text.items
+  HasRun j r = RanPass (talk_told r.notes.is_lost r.notes.posts.now.numbers.entries r.notes.notes.items) j.task.turns
+      j.task.first j.task.commands.now j.pass r.pass r.answer r.text.items
 
   -- the thread did its job, with what the board has
   abbrev pub HasSaid : (List ℕ → Option (ℕ × History)) → (List ℕ → ℕ) → Job → ThreadRun Q G → Type 0
   HasSaid board rank j r =
-      RanPass (said board rank) j.turns j.first j.part.now.commands j.pass r.pass r.answer r.text.items
+      RanPass (said board rank) j.task.turns j.task.first j.task.commands.now j.pass r.pass r.answer r.text.items
 
   -- what the thread's notes tell is what the board has
   pub record IsToldBy (board : List ℕ → Option (ℕ × History)) (rank : List ℕ → ℕ) (r : ThreadRun Q G) : Type 0 where
@@ -53,22 +54,22 @@ module _ {Q : Type 0} {G : Ghosts Q} where
     pub each : AllZip HasRun js rs
     pub over : All (IsOver layout) rs
 
--- the part can be run in the room with this pass
-pub record IsForPart (r : Row) (first : ℕ) (part : ThreadPart) (p : Pass) : Type 0 where
+-- the commands can be run in the room with this pass
+pub record IsForCommands (r : Row) (first : ℕ) (commands : List Command) (p : Pass) : Type 0 where
   pub opened : IsOpened r p
-  pub fits : first + length part.commands < 2 ^ 64
+  pub fits : first + length commands < 2 ^ 64
 
 -- the job can be done in the room
 abbrev pub IsFor : Row → Job → Type 0
-IsFor r j = IsForPart r j.first j.part.now j.pass
+IsFor r j = IsForCommands r j.task.first j.task.commands.now j.pass
 
 -- the job is this part's, with this pass
 pub record IsJobOf (turns line : ℕ) (p : Pass) (q : ThreadPart) (j : Job) : Type 0 where
   pub pass : j.pass ≡ p
-  pub part : j.part.now ≡ q
-  pub line_is : j.first ≡ line + 1
+  pub commands : j.task.commands.now ≡ q.commands
+  pub line_is : j.task.first ≡ line + 1
   pub fits : line + 1 + length q.commands < 2 ^ 64
-  pub same_turns : j.turns ≡ turns
+  pub same_turns : j.task.turns ≡ turns
 
 -- the jobs of the parts, of which the first stands on this line
 abbrev pub AreJobsOf : ℕ → ℕ → List Pass → List ThreadPart → List Job → Type 0

@@ -2,57 +2,40 @@
 
 ghost use Rattle.std.specs.Prelude.{◌≡◌, None, Some};
 ghost use Rattle.jr_env.specs.Collections.{FitsRoom};
+ghost use Rattle.jr_env.specs.Envs.{IsOutside};
 ghost use Rattle.jr_weak.specs.Markers.{room_of};
 ghost use Rattle.jr_scripts.specs.Advancing.{DidCommand, StandsIn, StandsWith};
 
 use crate::board::Board;
 use crate::commands::posting::{post, wait};
-use crate::commands::regions::{close, nest, read_by, write_by};
-use crate::names::Names;
+use crate::commands::regions::{close, nest, open_region, read_by, write_by};
+use crate::ledger::Ledger;
+use crate::outcome::{Outcome, in_none, still};
 use crate::perform::perform;
 use crate::region::NamedLevels;
 use crate::reply::Reply;
 use jr_env::Env;
 use jr_steps::Steps;
-use jr_syntax::{Command, Make, Name};
+use jr_syntax::{Command, Make};
 use jr_weak::Marker;
 use jr_word::Fault;
-use std::alloc::Global;
-
-/// What a command leaves, and its answer.
-pub(crate) struct Outcome {
-    /// The region in which the thread stands then, if it does in one.
-    pub(crate) region: Option<NamedLevels>,
-    /// The reply, or the refusal.
-    pub(crate) answer: Result<Reply, Fault>,
-}
-
-/// The answer of a command behind which the region stands still.
-fn still(region: NamedLevels, answer: Result<Reply, Fault>) -> Outcome
-    ensures region { result.region ≡ Some region }
-    ensures answer { result.answer ≡ answer }
-{
-    Outcome {
-        region: Some(region),
-        answer,
-    }
-}
 
 /// What a command does in a region: E19 where it is none of a region, `post` or `wait`.
 fn within<S: Steps, B: Board<S>>(
     env: &mut Env<S>,
-    names: &Names,
+    ledger: &Ledger,
     mut region: NamedLevels,
-    words: &[(Name, u64)],
     board: &mut B,
     turns: u64,
     command: &Command,
 ) -> Outcome
     requires stand { StandsIn region env.old }
     requires there { (B.tells board.old).serves (S.facts env.old.held.steps).stands.room }
-    requires follows { B.follows board.old words.now }
-    ensures { DidCommand B.layout B.tells B.looked B.follows turns command.now words.now env.old env.new names.now names.now (Some region) result.region board.old board.new result.answer }
+    requires follows { B.follows board.old ledger.now.words.items }
+    ensures { DidCommand B.layout B.tells B.looked B.follows turns command.now ledger.now.words.items
+        env.old env.new ledger.now.names ledger.now.names (Some region) result.region board.old board.new result.answer }
 {
+    let names = &ledger.names;
     match command {
         Command::OpenLevel { verb, name, target } => {
             let answer = nest(env, names, &mut region, *verb, name, target);
@@ -77,21 +60,46 @@ fn within<S: Steps, B: Board<S>>(
         }
         Command::OnName { name, .. } => { still(region, post(board, env, name, names.word(name))) }
         Command::Make { verb, name } => match verb {
-            Make::Wait => still(region, wait(board, env, words, name, turns)),
+            Make::Wait => still(
+                region,
+                wait(board, env, ledger.words.as_slice(), name, turns),
+            ),
             Make::Plain => still(region, Err(Fault::InCritical)),
         },
         _ => still(region, Err(Fault::InCritical)),
     }
 }
 
+/// What a command does where no region stands: it opens one, or makes its calls.
+fn outside<S: Steps, B: Board<S>>(
+    env: &mut Env<S>,
+    ledger: &mut Ledger,
+    marker: &mut Marker,
+    board: &mut B,
+    turns: u64,
+    command: &Command,
+) -> Outcome
+    requires outside { IsOutside env.old }
+    requires room { FitsRoom marker.old env.old }
+    requires there { (B.tells board.old).serves (S.facts env.old.held.steps).stands.room }
+    requires follows { B.follows board.old ledger.old.words.items }
+    ensures did { DidCommand B.layout B.tells B.looked B.follows turns command.now ledger.old.words.items
+        env.old env.new ledger.old.names ledger.new.names None result.region board.old board.new result.answer }
+    ensures words { ledger.new.words.items ≡ ledger.old.words.items }
+    ensures room { room_of marker.new ≡ room_of marker.old }
+{
+    if let Command::OpenLevel { verb, name, target } = command {
+        return open_region(env, &ledger.names, turns, *verb, name, target);
+    }
+    in_none(perform(env, ledger, marker, board, turns, command))
+}
+
 /// What a command does where the thread stands.
 pub(crate) fn advance<S: Steps, B: Board<S>>(
-    alloc: Global,
     env: &mut Env<S>,
-    names: &mut Names,
+    ledger: &mut Ledger,
     marker: &mut Marker,
     region: Option<NamedLevels>,
-    words: &[(Name, u64)],
     board: &mut B,
     turns: u64,
     command: &Command,
@@ -99,24 +107,14 @@ pub(crate) fn advance<S: Steps, B: Board<S>>(
     requires stand { StandsWith region env.old }
     requires room { FitsRoom marker.old env.old }
     requires there { (B.tells board.old).serves (S.facts env.old.held.steps).stands.room }
-    requires follows { B.follows board.old words.now }
-    ensures did { DidCommand B.layout B.tells B.looked B.follows turns command.now words.now env.old env.new names.old names.new region result.region board.old board.new result.answer }
+    requires follows { B.follows board.old ledger.old.words.items }
+    ensures did { DidCommand B.layout B.tells B.looked B.follows turns command.now ledger.old.words.items
+        env.old env.new ledger.old.names ledger.new.names region result.region board.old board.new result.answer }
+    ensures words { ledger.new.words.items ≡ ledger.old.words.items }
     ensures room { room_of marker.new ≡ room_of marker.old }
 {
-    if let Some(region) = region {
-        return within(env, names, region, words, board, turns, command);
+    match region {
+        Some(region) => within(env, ledger, region, board, turns, command),
+        None => outside(env, ledger, marker, board, turns, command),
     }
-    let mut region = None;
-    let answer = perform(
-        alloc,
-        env,
-        names,
-        marker,
-        &mut region,
-        words,
-        board,
-        turns,
-        command,
-    );
-    Outcome { region, answer }
 }

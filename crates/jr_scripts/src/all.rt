@@ -16,6 +16,7 @@ use crate::part::Job;
 use crate::printed::ending;
 use crate::runnable::{FIRST_PART, can_be_run};
 use crate::starting::run_threads;
+use crate::task::Task;
 use jr_rule::{Pass, PinnedNoteOf, Room, Site, Summary};
 use jr_syntax::{Script, ThreadPart};
 use jr_word::{Fault, LAST_SERIAL};
@@ -64,13 +65,13 @@ fn jobs_of(
             return Err(Fault::Memory);
         }
         let pass = passes.remove(0);
-        jobs.push_reserved(Job {
+        let task = Task {
             first: line + 1,
             turns,
-            part,
-            pass,
-        });
-        line += 1 + part.commands.as_slice().len();
+            commands: part.commands.as_slice(),
+        };
+        jobs.push_reserved(Job { task, pass });
+        line += 1 + task.commands.len();
     }
     Ok(jobs)
 }

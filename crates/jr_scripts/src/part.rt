@@ -5,24 +5,22 @@ ghost use Rattle.jr_scripts.specs.Layouts.{layout_of};
 ghost use Rattle.jr_scripts.specs.Telling.{talk_told};
 ghost use Rattle.jr_rule.specs.Rooms.{IsOfRoom};
 ghost use Rattle.std.specs.Prelude.{◌≡◌, Some};
-ghost use Rattle.jr_scripts.specs.Jobs.{IsForPart};
+ghost use Rattle.jr_scripts.specs.Jobs.{IsFor};
 
 use crate::board::Posts;
 use crate::hold::Hold;
 use crate::opening::opened_env;
 use crate::sightings::Sightings;
+use crate::task::Task;
 use crate::to_end::run_to_end;
 use jr_rule::{Pass, PinnedNoteOf, Room, RoomSteps, Site};
-use jr_syntax::ThreadPart;
 use jr_word::Fault;
 use std::alloc::Global;
 
-/// What a thread is given: its pass, its part of the script, the line of its first command, and how often a call is made.
+/// What a thread is given: what it runs, and its pass.
 #[derive(Drop)]
 pub(crate) struct Job<'a> {
-    pub(crate) first: usize,
-    pub(crate) turns: u64,
-    pub(crate) part: &'a ThreadPart,
+    pub(crate) task: Task<'a>,
     pub(crate) pass: Pass,
 }
 
@@ -41,24 +39,18 @@ pub(crate) fn run_job<'a, Q: Site, H: Hold, const LAST: u32>(
     room: &Room<LAST>,
     board: &'a Posts<PinnedNoteOf<Q>>,
     hold: &H,
-    first: usize,
-    turns: u64,
-    part: &ThreadPart,
-    pass: Pass,
+    job: Job<'_>,
 ) -> ThreadRun<'a, Q>
-    requires part { IsForPart room.now.row first part.now pass }
+    requires job { IsFor room.now.row job }
     requires site { Some room.now.row.table.shared.table_id ≡ Q.room }
-    ensures ran { RanPass (talk_told result.notes.is_lost result.notes.posts.now.numbers.entries result.notes.notes.items) turns first part.now.commands pass result.pass result.answer
-        result.text.items }
+    ensures ran { RanPass (talk_told result.notes.is_lost result.notes.posts.now.numbers.entries result.notes.notes.items)
+        job.entry.task.turns job.entry.task.first job.entry.task.commands.now job.entry.pass result.pass result.answer result.text.items }
     ensures over { layout_of result.notes.posts.now ≡ layout_of board.now }
 {
     let mut text = Vec::new(alloc);
-    let mut env = opened_env(RoomSteps::new(room, pass));
+    let mut env = opened_env(RoomSteps::new(room, job.pass));
     let mut notes = Sightings::new(alloc, board);
-    let commands = part.commands.as_slice();
-    let answer = run_to_end(
-        alloc, &mut env, first, commands, &mut notes, hold, turns, &mut text,
-    );
+    let answer = run_to_end(alloc, &mut env, job.task, &mut notes, hold, &mut text);
     let steps = env.into_pass();
     ThreadRun {
         pass: steps.into_pass(),

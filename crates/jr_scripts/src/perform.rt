@@ -7,9 +7,9 @@ ghost use Rattle.jr_scripts.specs.declared.reply.Reply.TheVariants as replies;
 ghost use Rattle.jr_env.specs.Deeds.{answered_by, new_array};
 ghost use Rattle.jr_env.specs.Collections.{FitsRoom};
 ghost use Rattle.jr_env.specs.Envs.{WasDone, IsOutside};
-ghost use Rattle.std.specs.Prelude.{◌≡◌, None};
+ghost use Rattle.std.specs.Prelude.{◌≡◌, None, false};
 ghost use Rattle.jr_weak.specs.Markers.{room_of};
-ghost use Rattle.jr_scripts.specs.Advancing.{answer_without_call, DidCommand};
+ghost use Rattle.jr_scripts.specs.Advancing.{answer_without_call, is_opening, DidCommand};
 ghost use Rattle.jr_scripts.specs.Text.{buffers_after};
 ghost use Rattle.jr_scripts.specs.Commands.{deletion, type_of as type_deed, kind_made, made_of, makes_new, making_room, filling, referring_to, deed};
 
@@ -19,9 +19,8 @@ use crate::commands::collections::{collect, collect_announced};
 use crate::commands::copies::{copy, copy_units, get_by, put_by, release};
 use crate::commands::elements::{load, store};
 use crate::commands::posting::{post, wait};
-use crate::commands::regions::open_region;
+use crate::ledger::Ledger;
 use crate::names::Names;
-use crate::region::NamedLevels;
 use crate::reply::{IntoReply, Reply};
 use jr_env::Env;
 use jr_env::calls::{
@@ -32,7 +31,7 @@ use jr_env::calls::{
 use jr_frames::Reference;
 use jr_steps::Steps;
 use jr_syntax::Command::{CloseLevel, OnNameAt, PutAt};
-use jr_syntax::{Command, Make, MakeFrom, MakeSized, Name, On, Reference as Target, WithCount};
+use jr_syntax::{Command, Make, MakeFrom, MakeSized, On, Reference as Target, WithCount};
 use jr_weak::Marker;
 use jr_word::{Fault, Handle, RefKind};
 use std::alloc::Global;
@@ -229,30 +228,31 @@ fn without_call(names: &mut Names, command: &Command) -> Result<Reply, Fault>
     }
 }
 
-/// What a command does where no region stands: it makes its calls, hands over a word, or opens a region.
-pub fn perform<S: Steps, B: Board<S>>(
-    alloc: Global,
+/// What a command that opens no region does where none stands: it makes its calls, or hands over a word.
+pub(crate) fn perform<S: Steps, B: Board<S>>(
     env: &mut Env<S>,
-    names: &mut Names,
+    ledger: &mut Ledger,
     marker: &mut Marker,
-    region: &mut Option<NamedLevels>,
-    words: &[(Name, u64)],
     board: &mut B,
     turns: u64,
     command: &Command,
 ) -> Result<Reply, Fault>
     requires outside { IsOutside env.old }
-    requires none { region.old ≡ None }
+    requires opens_none { is_opening command.now ≡ false }
     requires room { FitsRoom marker.old env.old }
     requires there { (B.tells board.old).serves (S.facts env.old.held.steps).stands.room }
-    requires follows { B.follows board.old words.now }
-    ensures did { DidCommand B.layout B.tells B.looked B.follows turns command.now words.now env.old env.new names.old names.new None region.new board.old board.new result }
+    requires follows { B.follows board.old ledger.old.words.items }
+    ensures did { DidCommand B.layout B.tells B.looked B.follows turns command.now ledger.old.words.items
+        env.old env.new ledger.old.names ledger.new.names None None board.old board.new result }
+    ensures words { ledger.new.words.items ≡ ledger.old.words.items }
     ensures room { room_of marker.new ≡ room_of marker.old }
 {
+    let alloc = ledger.alloc;
+    let names = &mut ledger.names;
     match command {
         Command::Make { verb, name } => match verb {
             Make::Plain => ask(env, turns, NewPlain),
-            Make::Wait => wait(board, env, words, name, turns),
+            Make::Wait => wait(board, env, ledger.words.as_slice(), name, turns),
         },
         Command::MakeFrom { verb, target, .. } => make_of(alloc, env, names, turns, *verb, target),
         Command::On { verb, target } => on(alloc, env, names, turns, *verb, target),
@@ -282,9 +282,7 @@ pub fn perform<S: Steps, B: Board<S>>(
             mode,
             ..
         } => release(env, names, turns, name, target, *mode),
-        Command::OpenLevel { verb, name, target } => {
-            open_region(env, names, region, turns, *verb, name, target)
-        }
+        Command::OpenLevel { .. } => unreachable!(),
         Command::OfRoom { .. } => collect(env, marker),
         Command::WithTries { tries, .. } => collect_announced(env, marker, turns, *tries),
         OnNameAt { .. } | PutAt { .. } | CloseLevel { .. } => without_call(names, command),

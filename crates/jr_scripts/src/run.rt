@@ -9,14 +9,17 @@ ghost use Rattle.jr_scripts.specs.Text.{sets, names_set, binding_made as made_to
 ghost use Rattle.jr_scripts.specs.Posting.{talk_of, Keeps};
 ghost use Rattle.jr_scripts.specs.Runs.{RanThread, WritesDown};
 
-use crate::advance::{Outcome, advance};
+use crate::advance::advance;
 use crate::binding::Binding;
 use crate::board::Board;
 use crate::commands::regions::end;
 use crate::hold::Hold;
+use crate::ledger::Ledger;
 use crate::names::Names;
+use crate::outcome::Outcome;
 use crate::printed::printed;
 use crate::reply::Reply;
+use crate::task::Task;
 use crate::words::keep_word;
 use jr_env::Env;
 use jr_steps::Steps;
@@ -73,24 +76,22 @@ fn settle(
 
 /// Writes the line of a command, keeps its word, and sets its name.
 fn record(
-    alloc: Global,
-    names: &mut Names,
-    words: &mut Vec<(Name, u64)>,
+    ledger: &mut Ledger,
     line: usize,
     command: &Command,
     answer: Result<Reply, Fault>,
     out: &mut Vec<u8>,
 ) -> Result<(), AllocError>
-    ensures { WritesDown line command.now answer names.old names.new words.old.items words.new.items result out.old.items out.new.items }
+    ensures { WritesDown line command.now answer ledger.old.names ledger.new.names ledger.old.words.items ledger.new.words.items result out.old.items out.new.items }
 {
-    let text = printed(alloc, line, command, &answer)?;
-    keep_word(words, names, command, &answer)?;
-    settle(names, command, answer)?;
+    let text = printed(ledger.alloc, line, command, &answer)?;
+    keep_word(&mut ledger.words, &ledger.names, command, &answer)?;
+    settle(&mut ledger.names, command, answer)?;
     out.extend_from_slice(&text)?;
     Ok(())
 }
 
-/// Runs the commands of a thread, of which the first stands on this line of the script, and appends what they print. A call that is raced or barred is made again, up to `turns` calls in all.
+/// Runs the commands of a thread, and appends what they print. A call that is raced or barred is made again, up to `turns` calls in all.
 /// The hold is called around each command. The marker, made for the env's room, serves all collections. The thread has to stand outside, and stands there afterwards in any case:
 /// a region that stands at the end is ended.
 ///
@@ -103,48 +104,36 @@ pub fn run_thread<S: Steps, B: Board<S>, H: Hold>(
     alloc: Global,
     env: &mut Env<S>,
     marker: &mut Marker,
-    first: usize,
-    commands: &[Command],
+    task: Task<'_>,
     board: &mut B,
     hold: &H,
-    turns: u64,
     out: &mut Vec<u8>,
 ) -> Result<(), Fault>
-    requires lines { first + length commands.now < 2 ^ 64 }
+    requires lines { task.first + length task.commands.now < 2 ^ 64 }
     requires outside { IsOutside env.old }
     requires room { FitsRoom marker.old env.old }
     requires there { (B.tells board.old).serves (S.facts env.old.held.steps).stands.room }
     requires follows { B.follows board.old [] }
-    ensures explained { (text : List ℕ) × (out.new.items ≡ out.old.items ++ text) × RanThread env.old env.new (talk_of B.tells B.looked turns board.new) turns first commands.now result text }
+    ensures explained { (text : List ℕ) × (out.new.items ≡ out.old.items ++ text)
+        × RanThread env.old env.new (talk_of B.tells B.looked task.entry.turns board.new) task.entry.turns task.entry.first task.entry.commands.now result text }
     ensures kept { Keeps B.layout B.tells board.old board.new }
     ensures outside { IsOutside env.new }
     ensures memory { IfErr result (λ e. e ≡ Memory) }
     ensures room { room_of marker.new ≡ room_of marker.old }
 {
-    let mut names = Names::new(alloc);
-    let mut words = Vec::new(alloc);
+    let mut ledger = Ledger::new(alloc);
     let mut region = None;
-    for (i, command) in commands.iter().enumerate() {
-        let line = first + i;
+    for (i, command) in task.commands.iter().enumerate() {
+        let line = task.first + i;
         hold.before(env.held.steps.thread(), line);
-        let outcome = advance(
-            alloc,
-            env,
-            &mut names,
-            marker,
-            region,
-            words.as_slice(),
-            board,
-            turns,
-            command,
-        );
+        let outcome = advance(env, &mut ledger, marker, region, board, task.turns, command);
         let Outcome {
             region: stands,
             answer,
         } = outcome;
         hold.after(env.held.steps.thread(), line, &answer);
         region = stands;
-        let Ok(()) = record(alloc, &mut names, &mut words, line, command, answer, out) else {
+        let Ok(()) = record(&mut ledger, line, command, answer, out) else {
             end(env, region);
             return Err(Fault::Memory);
         };

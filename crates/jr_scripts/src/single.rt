@@ -11,6 +11,7 @@ use crate::hold::NoHold;
 use crate::nobody::Nobody;
 use crate::opening::opened_env;
 use crate::printed::{ending, heading};
+use crate::task::Task;
 use crate::to_end::run_to_end;
 use jr_rule::PlainSteps;
 use jr_syntax::{Script, ThreadPart};
@@ -39,17 +40,12 @@ fn run_part(alloc: Global, config: Config, part: &ThreadPart, turns: u64) -> Res
     let mut text = heading(alloc, &part.name).map_err(out_of_memory)?;
     let steps = PlainSteps::<LAST_SERIAL>::new(alloc, config)?;
     let mut env = opened_env(steps);
-    let commands = part.commands.as_slice();
-    run_to_end(
-        alloc,
-        &mut env,
-        FIRST_COMMAND,
-        commands,
-        &mut Nobody,
-        &NoHold,
+    let task = Task {
+        first: FIRST_COMMAND,
         turns,
-        &mut text,
-    )?;
+        commands: part.commands.as_slice(),
+    };
+    run_to_end(alloc, &mut env, task, &mut Nobody, &NoHold, &mut text)?;
     let summary = env.held.steps.summary();
     let end = ending(alloc, summary).map_err(out_of_memory)?;
     text.extend_from_slice(&end).map_err(out_of_memory)?;

@@ -2,7 +2,7 @@
 
 ghost use Rattle.std.specs.Prelude.{◌≡◌, Err, Some, IfSome, MatchResult, All, length};
 ghost use Rattle.jr_word.specs.declared.fault.Fault.TheVariants.{Memory};
-ghost use Rattle.jr_scripts.specs.Jobs.{HaveRun, HaveTold, IsFor, IsForPart};
+ghost use Rattle.jr_scripts.specs.Jobs.{HaveRun, HaveTold, IsFor, IsForCommands};
 ghost use Rattle.jr_scripts.specs.AllRuns.{RanPass};
 ghost use Rattle.jr_scripts.specs.Given.{IsGiven};
 ghost use Rattle.jr_scripts.specs.Layouts.{layout_of};
@@ -12,8 +12,9 @@ use crate::board::Posts;
 use crate::gathering::told;
 use crate::hold::Hold;
 use crate::part::{Job, ThreadRun, run_job};
+use crate::task::Task;
 use jr_rule::{Pass, PinnedNoteOf, Room, Site};
-use jr_syntax::ThreadPart;
+use jr_syntax::{Command, ThreadPart};
 use jr_word::Fault;
 use std::alloc::Global;
 use std::snapshot::Snapshot;
@@ -26,13 +27,13 @@ use std::thread::{Promise, PromisedHandle, Scope, Threads};
 pub(crate) struct Doing<'a, Q: Site> {
     first: usize,
     turns: u64,
-    part: &'a ThreadPart,
+    commands: &'a [Command],
     pass: Snapshot<Pass>,
     board: &'a Posts<PinnedNoteOf<Q>>,
 }
 
 impl<'a, 'b, Q: Site> Promise<ThreadRun<'b, Q>> for Doing<'a, Q> {
-    ghost kept_by = { λ p r. RanPass (talk_told r.notes.is_lost r.notes.posts.now.numbers.entries r.notes.notes.items) p.turns p.first p.part.now.commands p.pass.value r.pass r.answer r.text.items
+    ghost kept_by = { λ p r. RanPass (talk_told r.notes.is_lost r.notes.posts.now.numbers.entries r.notes.notes.items) p.turns p.first p.commands.now p.pass.value r.pass r.answer r.text.items
         × (layout_of r.notes.posts.now ≡ layout_of p.board.now) };
 }
 
@@ -50,24 +51,32 @@ fn start<'s, 'b: 's, Q: Site + Send + Sync, E, H: Hold + Sync, const LAST: u32>(
     ensures given { IfSome result (λ h. IsGiven h.promise job.entry) }
     ensures over { IfSome result (λ h. h.promise.board.now ≡ board.now) }
 {
-    let Job {
+    let Job { task, pass } = job;
+    let Task {
         first,
         turns,
-        part,
-        pass,
-    } = job;
+        commands,
+    } = task;
     let promise = Doing {
         first,
         turns,
-        part,
+        commands,
         pass: Snapshot::of(&pass),
         board,
     };
     let there = move || -> ThreadRun<Q>
-        requires { IsForPart room.now.row first part.now pass × (Some room.now.row.table.shared.table_id ≡ Q.room) }
-        ensures { RanPass (talk_told result.notes.is_lost result.notes.posts.now.numbers.entries result.notes.notes.items) turns first part.entry.now.commands pass result.pass result.answer
-            result.text.items × (layout_of result.notes.posts.now ≡ layout_of board.entry.now) }
-    { run_job(alloc, room, board, hold, first, turns, part, pass) };
+        requires { IsForCommands room.now.row first commands.now pass × (Some room.now.row.table.shared.table_id ≡ Q.room) }
+        ensures { RanPass (talk_told result.notes.is_lost result.notes.posts.now.numbers.entries result.notes.notes.items)
+            turns first commands.entry.now pass result.pass result.answer result.text.items
+            × (layout_of result.notes.posts.now ≡ layout_of board.entry.now) }
+    {
+        let task = Task {
+            first,
+            turns,
+            commands,
+        };
+        run_job(alloc, room, board, hold, Job { task, pass })
+    };
     scope.spawn_with(promise, there).ok()
 }
 
@@ -115,6 +124,13 @@ fn run_jobs<'s, 'b: 's, Q: Site + Send + Sync, E, H: Hold + Sync, const LAST: u3
     }
 }
 
+/// The parts of a script, and what the thread of each is given.
+#[derive(Drop)]
+struct ScriptJobs<'a> {
+    parts: &'a [ThreadPart],
+    jobs: Vec<Job<'a>>,
+}
+
 /// The same, and gives the threads' passes and what they print. Each of them has ended then.
 fn told_jobs<'s, 'b: 's, Q: Site + Send + Sync, E, H: Hold + Sync, const LAST: u32, R: Threads>(
     rt: &R,
@@ -123,14 +139,14 @@ fn told_jobs<'s, 'b: 's, Q: Site + Send + Sync, E, H: Hold + Sync, const LAST: u
     room: &'s Room<LAST>,
     board: &'b Posts<PinnedNoteOf<Q>>,
     hold: &'s H,
-    parts: &[ThreadPart],
-    jobs: Vec<Job<'s>>,
+    all: ScriptJobs<'s>,
 ) -> Result<(Vec<Pass>, Vec<u8>), Fault>
-    requires long { length jobs.items ≡ length parts.now }
-    requires jobs { All (λ j. IsFor room.now.row j) jobs.items }
+    requires long { length all.jobs.items ≡ length all.parts.now }
+    requires jobs { All (λ j. IsFor room.now.row j) all.jobs.items }
     requires site { Some room.now.row.table.shared.table_id ≡ Q.room }
-    ensures { MatchResult result (λ r. HaveTold board.now jobs.entry.items parts.now r.0.items r.1.items) (λ e. e ≡ Memory) }
+    ensures { MatchResult result (λ r. HaveTold board.now all.entry.jobs.items all.entry.parts.now r.0.items r.1.items) (λ e. e ≡ Memory) }
 {
+    let ScriptJobs { parts, jobs } = all;
     let runs = run_jobs(rt, alloc, scope, room, board, hold, jobs)?;
     told(alloc, parts, board, runs)
 }
@@ -162,6 +178,16 @@ pub(crate) fn run_threads<
         move |scope| -> Result<(Vec<Pass>, Vec<u8>), Fault>
             requires { (length jobs.items ≡ length parts.now) × All (λ j. IsFor room.now.row j) jobs.items × (Some room.now.row.table.shared.table_id ≡ Q.room) }
             ensures { MatchResult result (λ r. HaveTold board.entry.now jobs.entry.items parts.entry.now r.0.items r.1.items) (λ e. e ≡ Memory) }
-        { told_jobs(rt, alloc, scope, room, board, hold, parts, jobs) },
+        {
+            told_jobs(
+                rt,
+                alloc,
+                scope,
+                room,
+                board,
+                hold,
+                ScriptJobs { parts, jobs },
+            )
+        },
     )
 }

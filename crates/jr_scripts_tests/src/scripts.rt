@@ -6,7 +6,7 @@ use crate::printing::{BEFORE, TURNS, leaves};
 use crate::thread_ends::plain_env;
 use assertions::{Text, assert_same};
 use jr_env::Env;
-use jr_scripts::{Hold, NoHold, Posts, Reply, Sightings, run_all, run_one, run_thread};
+use jr_scripts::{Hold, NoHold, Posts, Reply, Sightings, Task, run_all, run_one, run_thread};
 use jr_steps::Steps;
 use jr_syntax::{Command, Name, Script, Sequence, ThreadPart, is_name, parse};
 use jr_weak::Marker;
@@ -76,17 +76,13 @@ fn run_from_line_10<S: Steps>(
 {
     let board = Posts::<()>::new(alloc);
     let mut marker = Marker::new(alloc, env.held.steps.config())?;
-    run_thread(
-        alloc,
-        env,
-        &mut marker,
-        10,
-        commands,
-        &mut Sightings::new(alloc, &board),
-        &NoHold,
+    let task = Task {
+        first: 10,
         turns,
-        out,
-    )
+        commands,
+    };
+    let mut notes = Sightings::new(alloc, &board);
+    run_thread(alloc, env, &mut marker, task, &mut notes, &NoHold, out)
 }
 
 /// A script of one thread.

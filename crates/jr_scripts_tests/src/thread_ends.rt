@@ -8,7 +8,7 @@ use assertions::{Text, assert_same};
 use jr_env::{Env, NativeInterface};
 use jr_model::Summary;
 use jr_rule::PlainSteps;
-use jr_scripts::{NoHold, Posts, Sightings, run_to_end};
+use jr_scripts::{NoHold, Posts, Sightings, Task, run_to_end};
 use jr_steps::Steps;
 use jr_word::{Fault, Handle};
 use std::alloc::Global;
@@ -33,7 +33,12 @@ fn ends<S: Steps>(rt: &impl Abort, alloc: Global, env: &mut Env<S>, turns: u64) 
     let posts = Posts::<()>::new(alloc);
     let mut notes = Sightings::new(alloc, &posts);
     let mut out = Vec::from_slice(alloc, BEFORE)?;
-    run_to_end(alloc, env, 3, &[], &mut notes, &NoHold, turns, &mut out)?;
+    let task = Task {
+        first: 3,
+        turns,
+        commands: &[],
+    };
+    run_to_end(alloc, env, task, &mut notes, &NoHold, &mut out)?;
     assert_same!(rt; Text(out.as_slice()), Text(BEFORE));
     Ok(())
 }

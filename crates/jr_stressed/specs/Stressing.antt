@@ -28,6 +28,7 @@ pub record CollectsUnwatched {N W : Type 0} (collected : N → N → Result Coll
     (old new : Checked N W) (answer : Result Collected Fault) : Type 0 where
   pub same_reference : new.caller.ghost_name ≡ old.caller.ghost_name
   pub watcher : new.watcher ≡ old.watcher
+  pub same_name : new.name ≡ old.name
   pub call : collected old.caller.now new.caller.now answer
 
 -- how a call goes on by the refusal that was drawn for it, if any

@@ -1,4 +1,4 @@
-//! A stressed env has all that the env beneath has: each try of a call is stressed by itself.
+//! A stressed env makes calls of the env beneath: each try of a call is stressed by itself.
 
 use crate::stressable::Stressable;
 use crate::stressed::Stressed;
@@ -10,6 +10,7 @@ use jr_steps::Steps;
 use jr_word::{Fault, Handle};
 
 impl<E, N: OverEnv<E>> OverEnv<E> for Stressed<'_, N> {
+    ghost use Rattle.std.proofs.Common.{ap};
     ghost use Rattle.jr_stressed.specs.Stressing.{over_caller};
 
     ghost env_in = { λ s. N.env_in s.caller.now };
@@ -22,12 +23,14 @@ impl<E, N: OverEnv<E>> OverEnv<E> for Stressed<'_, N> {
     }
 
     ghost reads_back = { λ s env. N.reads_back s.caller.now env };
+
+    ghost puts_back = { λ s. ap (over_caller s) (N.puts_back s.caller.now) };
 }
 
 impl<N: TellsRefusals> TellsRefusals for Stressed<'_, N> {
     ghost use Rattle.jr_stressed.specs.Stressing.{Beneath};
 
-    ghost told = { λ old new name words fault. Beneath (λ a b. N.told a b name words fault) old new };
+    ghost told = { λ old new name words span fault. Beneath (λ a b. N.told a b name words span fault) old new };
 
     fn tell(&mut self, call: &'static str, handed: Handed, fault: Fault) {
         self.caller.tell(call, handed, fault);
@@ -55,13 +58,13 @@ impl<S: Steps, N: TriesCalls<S> + Stressable> TriesCalls<S> for Stressed<'_, N> 
     ghost use Rattle.jr_env.specs.Demands.{Demands};
     ghost use Rattle.jr_stressed.specs.Stressing.{BehindItsTurn, WasStressed};
 
-    ghost approached = { λ old new answer. BehindItsTurn N.collected (λ a b. N.approached a b answer) old new };
+    ghost approached = { λ old new. BehindItsTurn N.collected N.approached old new };
 
     ghost tried = { λ old new request answer. WasStressed N.collected N.sizes (λ a b r. N.tried a b request r) (Demands request) old new answer };
 
-    fn approach(&mut self) -> Result<(), Fault> {
+    fn approach(&mut self) {
         self.turn();
-        self.caller.approach()
+        self.caller.approach();
     }
 
     fn attempt<C: NativeCall<S> + Drop>(&mut self, call: C) -> Result<C::Answer, Fault> {
@@ -75,6 +78,8 @@ impl<N: Explains> Explains for Stressed<'_, N> {
 
     ghost explained = { λ old new w answer. Beneath (λ a b. N.explained a b w answer) old new };
 
+    ghost measured = { λ old new w answer. Beneath (λ a b. N.measured a b w answer) old new };
+
     ghost thread = { λ s. N.thread s.caller.now };
 
     fn thread(&self) -> u8 {
@@ -83,5 +88,9 @@ impl<N: Explains> Explains for Stressed<'_, N> {
 
     fn examine(&mut self, handle: Handle) -> Result<Explanation, Fault> {
         self.caller.examine(handle)
+    }
+
+    fn measure(&mut self, array: Handle) -> Result<u32, Fault> {
+        self.caller.measure(array)
     }
 }

@@ -24,7 +24,7 @@ nil_front [] ys e = refl
 nil_front (x ∷ xs) ys e = absurd cc
 
 -- a thread that did nothing since a moment did nothing since a later one
-done_later : (xs ys zs : History) (t : ℕ) → IsPrefix xs ys → IsPrefix ys zs → mine zs t ≡ mine xs t
+pub done_later : (xs ys zs : History) (t : ℕ) → IsPrefix xs ys → IsPrefix ys zs → mine zs t ≡ mine xs t
     → mine zs t ≡ mine ys t
 done_later xs ys zs t p q done =
     let a : mine ys t ≡ mine xs t ++ mine p.0 t = ap (λ es. mine es t) (sym p.1) ∙ mine_append xs p.0 t in
@@ -46,7 +46,7 @@ no_more c last xs ys legal p done =
     sym p.1 ∙ (ap (λ l. xs ++ l) none ∙ append-nil xs)
 
 -- others, of whom all was seen, did nothing since
-others_done : (whole seen later : History) (t : ℕ) (ks : List Known) → IsPrefix seen later → IsPrefix later whole
+pub others_done : (whole seen later : History) (t : ℕ) (ks : List Known) → IsPrefix seen later → IsPrefix later whole
     → AllByRecursion (IsSeenIn whole) ks → AllByRecursion (λ (j : Known). IsPrefix j.seen seen) ks → HasPass ks t
     → mine whole t ≡ mine later t
 others_done whole seen later t [] p q s a h = absurd h

@@ -27,7 +27,7 @@ use Rattle.jr_model.proofs.Updates.{at_number_self, eq_self}
 use Rattle.jr_threads.specs.Closing.{HasNoGarbage}
 
 -- the gate's acts change nothing that is reached
-same_tables : (s s' : State) → s'.refs ≡ s.refs → s'.locals ≡ s.locals → s'.objects ≡ s.objects → IsKeptFrom s s'
+pub same_tables : (s s' : State) → s'.refs ≡ s.refs → s'.locals ≡ s.locals → s'.objects ≡ s.objects → IsKeptFrom s s'
 same_tables s s' refs locals objects = record {
   globals = λ h o g r. ap (λ f. f h) refs ∙ r;
   locals = λ t p o r. ap (λ f. f t p) locals ∙ r;
@@ -47,7 +47,7 @@ push_not_none [] x e = absurd cc
 push_not_none (y ∷ xs) x e = absurd cc
 
 -- an own event is an own act
-own_first : (t : ℕ) (a : Act) (es : History) → mine (by t a ∷ es) t ≡ a ∷ mine es t
+pub own_first : (t : ℕ) (a : Act) (es : History) → mine (by t a ∷ es) t ≡ a ∷ mine es t
 own_first t a es = ap (λ b. cond b (a ∷ mine es t) (mine es t)) (eq_self t)
 
 sweeping_on : (cleared : List Handle) (dropped : List ℕ) (used : ℕ)
@@ -119,11 +119,12 @@ module _ (c : Config) (last t : ℕ) where
             let none = subst IsSome gone p in absurd cc
 
     -- NOTHING IS LEFT right behind a collection
-    pub nothing_left : HasNoGarbage (state end)
-    nothing_left = subst HasNoGarbage (sym is) (record {
+    pub nothing_left : HasNoGarbage c (state end)
+    nothing_left = subst (HasNoGarbage c) (sym is) (record {
       objects = λ o p. reached_mono (state met) (after (state met) (by t (Gate Reopen))) kept (reached_there o p);
       weaks = λ h o k r. reached_mono (state met) (after (state met) (by t (Gate Reopen))) kept
           (reached_there o ((named_is_present c last met legal_met).0 h o r));
+      words = keeps.used_is ∙ sym keeps.words_are;
     }) where
       is : state end ≡ after (state met) (by t (Gate Reopen))
       is = state_push met (by t (Gate Reopen))
@@ -177,7 +178,7 @@ module _ (old new : PassView) (cleared : List Handle) (dropped : List ℕ) (used
           no_length r (omega arith)
 
   -- A COLLECTION LEAVES NOTHING that is not reached
-  pub leaves_nothing : HasNoGarbage (state new.seen)
+  pub leaves_nothing : HasNoGarbage new.config (state new.seen)
   leaves_nothing =
       let p = collects.place in
       let t = old.thread in
@@ -189,5 +190,6 @@ module _ (old new : PassView) (cleared : List Handle) (dropped : List ℕ) (used
       is ∙ (seen.is ∙ ap (λ u. seen.before ++ by u (Gate Reopen) ∷ []) collects.did.thread) in
       let none = last_own t (Gate Reopen) front p.rest seen.before own none_behind in
       let same : new.seen ≡ front = sym is ∙ (ap (λ l. front ++ l) none ∙ append-nil front) in
-      subst (λ es. HasNoGarbage (state es)) (sym same) (nothing_left old.config old.last t p.before p.inside cleared
+      subst (λ (z : Config × History). HasNoGarbage z.0 (state z.1)) (λ i. (sym collects.did.config i, sym same i))
+      (nothing_left old.config old.last t p.before p.inside cleared
       dropped used (subst (IsLegal old.config old.last) same collects.did.legal) p.own collects.whole)

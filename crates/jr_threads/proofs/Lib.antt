@@ -1,6 +1,9 @@
 pub mod Closed
 pub mod Coming
 pub mod Garbage
+pub mod GivenBack
+pub mod Listed
+pub mod Dumped
 pub mod OneHistory
 pub mod Passes
 pub mod Places

@@ -10,9 +10,8 @@ use native.Mathlib.Decide.{ℕ_discrete}
 use Rattle.jr_word.specs.declared.config.Config.{Config}
 use Rattle.jr_model.specs.declared.event.Act.{Act}
 use Rattle.jr_model.specs.declared.event.Act.TheVariants.{Meet}
-use Rattle.jr_model.specs.CollectionCalls.{collection_acts}
 use Rattle.jr_model.specs.declared.summary.Summary.{Summary}
-use Rattle.jr_model.specs.State.{not_outside, summary}
+use Rattle.jr_model.specs.State.{Handle, not_outside, summary}
 use Rattle.jr_model.specs.History.{History, Did, IsLegal, mine, state}
 use Rattle.jr_model.specs.Frames.{fresh_frames}
 use Rattle.jr_model.proofs.Moments.{prefix_trans}
@@ -26,9 +25,9 @@ use Rattle.jr_rule.specs.Rule.{stepping_pass}
 use Rattle.jr_rule.specs.Passes.{Holder, facts_of, holder_of, known_of, numbers_below}
 use Rattle.jr_rule.specs.Passes.{standing_of, AreOpened, ClosesAll, EndsAll, IsOpened, IsSeenIn}
 use Rattle.jr_env.specs.Deeds.{Deed}
-use Rattle.jr_threads.specs.Closing.{ClosesSwept}
+use Rattle.jr_threads.specs.Closing.{ClosesBy, ClosesSwept, HasNoGarbage}
 use Rattle.jr_threads.specs.declared.native.Ended.{Ended}
-use Rattle.jr_threads.specs.Parts.{closing, DidWithPass, IsThreadPart, RanTogether, ComesOfDeed}
+use Rattle.jr_threads.specs.Parts.{closing, DidWithPass, IsThreadPart, RanBy, RanTogether, ComesOfDeed}
 use Rattle.jr_threads.specs.Sites.{answers_in, passes_in, ThreadRan, ThreadsRan, IsBack}
 use Rattle.jr_threads.specs.Starting.{HaveDoneNothing}
 use Rattle.jr_threads.proofs.Passes.{numbers_long, passes_long}
@@ -97,31 +96,35 @@ number_at (suc n) i below = dite (ℕ_discrete n i)
     (λ ne. let less : i < n = omega arith in get_or_append_left (numbers_below n) (n ∷ []) 0 i
     (subst (λ z. i < z) (sym (numbers_long n)) less) ∙ number_at n i less)
 
--- ALL THREADS HAVE RUN
-pub have_run : {A : Type 0} (tells : A → Bool) (deed : ℕ → Deed A) (r : Row) (ps : List Pass) (es : List (Ended A))
-    (first : Pass) (others : List Pass) (s : Summary)
-    → AreOpened r.config r.last r ps → ThreadsRan tells deed r ps es → first ∷ others ≡ passes_in es
-    → ClosesSwept (known_of first) (map known_of others) s → RanTogether tells deed r.config r.last (answers_in es) s
-have_run tells deed r [] [] first others s o ran is closes = absurd cc
-have_run tells deed r [] (e ∷ es) first others s o ran is closes = absurd ran
-have_run tells deed r (p ∷ ps) [] first others s o ran is closes = absurd ran
-have_run {A} tells deed r (p ∷ ps) (e ∷ es) first others s o ran is closes = all where
+-- all threads have run, and what is so of the history of the close is so of theirs
+pub have_run_so : {A : Type 0} {acts : List Handle → List ℕ → ℕ → List Act} (so : History → Type 0) (tells : A → Bool)
+    (deed : ℕ → Deed A) (r : Row) (ps : List Pass) (es : List (Ended A)) (first : Pass) (others : List Pass)
+    (s : Summary) → AreOpened r.config r.last r ps → ThreadsRan tells deed r ps es → first ∷ others ≡ passes_in es
+    → (x : ClosesBy acts (known_of first) (map known_of others) s) × so x.closes.ends.whole
+    → (z : RanBy acts tells deed r.config r.last (answers_in es) s) × so z.whole
+have_run_so so tells deed r [] [] first others s o ran is closes = absurd cc
+have_run_so so tells deed r [] (e ∷ es) first others s o ran is closes = absurd ran
+have_run_so so tells deed r (p ∷ ps) [] first others s o ran is closes = absurd ran
+have_run_so {A} {acts} so tells deed r (p ∷ ps) (e ∷ es) first others s o ran is closes = (all, told.1) where
   front : first ≡ e.pass
   front = cc
 
   behind : others ≡ passes_in es
   behind = cc
 
-  behind_sweep : ClosesSwept (known_of e.pass) (map known_of (passes_in es)) s
-  behind_sweep =
-      subst (λ (z : Pass × List Pass). ClosesSwept (known_of z.0) (map known_of z.1) s)
+  told : (x : ClosesBy acts (known_of e.pass) (map known_of (passes_in es)) s) × so x.closes.ends.whole
+  told = subst
+      (λ (z : Pass × List Pass). (x : ClosesBy acts (known_of z.0) (map known_of z.1) s) × so x.closes.ends.whole)
       (λ i. (front i, behind i)) closes
+
+  behind_sweep : ClosesBy acts (known_of e.pass) (map known_of (passes_in es)) s
+  behind_sweep = told.0
 
   ends : ClosesAll behind_sweep.swept (map known_of (passes_in es)) s
   ends = behind_sweep.closes
 
   sweep : List Act
-  sweep = collection_acts behind_sweep.collects.cleared behind_sweep.collects.dropped behind_sweep.collects.used
+  sweep = acts behind_sweep.cleared behind_sweep.dropped behind_sweep.used
 
   opened : AllByRecursion (IsOpened r) (p ∷ ps)
   opened = recursion_from_All (IsOpened r) (p ∷ ps) o.each
@@ -136,7 +139,7 @@ have_run {A} tells deed r (p ∷ ps) (e ∷ es) first others s o ran is closes =
   own_number = number 0 (let all = long in omega arith)
 
   d : Did (view (known_of e.pass)) (view ends.met) (sweep ++ Meet ∷ [])
-  d = did_then sweep (Meet ∷ []) behind_sweep.collects.did (goes_did ends.goes)
+  d = did_then sweep (Meet ∷ []) behind_sweep.did (goes_did ends.goes)
 
   back : IsBack r p e.pass
   back = (ran.0).back
@@ -165,24 +168,33 @@ have_run {A} tells deed r (p ∷ ps) (e ∷ es) first others s o ran is closes =
   parts (suc i) x below = parts_of_others tells deed sweep end.whole r ps es ran.1 opened.1 end.others i (suc i) x
       (let all = long in omega arith) (number (suc i) below) refl
 
-  all : RanTogether tells deed r.config r.last (answers_in (e ∷ es)) s
+  all : RanBy acts tells deed r.config r.last (answers_in (e ∷ es)) s
   all = record {
     whole = end.whole;
     legal = subst (λ (z : Config × ℕ). IsLegal z.0 z.1 end.whole) (λ i. (config_is i, last_is i)) end.legal;
     lawful = end.lawful;
     count = length-map (e ∷ es) (λ (z : Ended A). z.answer)
         ∙ (AllZip-long (ThreadRan tells deed r) (p ∷ ps) (e ∷ es) ran ∙ long);
-    cleared = behind_sweep.collects.cleared;
-    dropped = behind_sweep.collects.dropped;
-    used = behind_sweep.collects.used;
+    cleared = behind_sweep.cleared;
+    dropped = behind_sweep.dropped;
+    used = behind_sweep.used;
     parts = parts;
     looked = record {
       seen = (ends.met).seen;
       begins = (end.first).begins;
       own = subst (λ t. mine end.whole t ≡ mine (ends.met).seen t) (d.thread ∙ is_of) (end.first).own;
       nobody = subst (λ c. not_outside c (state (ends.met).seen) ≡ 0)
-          (behind_sweep.collects.did.config ∙ (back.at).config) ends.nobody;
+          (behind_sweep.did.config ∙ (back.at).config) ends.nobody;
     };
-    nothing = behind_sweep.nothing;
+    nothing = subst (λ c. HasNoGarbage c (state end.whole)) (behind_sweep.did.config ∙ (back.at).config)
+        behind_sweep.nothing;
     is = end.is ∙ ap (λ (z : Config × ℕ). summary z.0 z.1 (state end.whole)) (λ i. (config_is i, last_is i));
   }
+
+-- ALL THREADS HAVE RUN
+pub have_run : {A : Type 0} (tells : A → Bool) (deed : ℕ → Deed A) (r : Row) (ps : List Pass) (es : List (Ended A))
+    (first : Pass) (others : List Pass) (s : Summary)
+    → AreOpened r.config r.last r ps → ThreadsRan tells deed r ps es → first ∷ others ≡ passes_in es
+    → ClosesSwept (known_of first) (map known_of others) s → RanTogether tells deed r.config r.last (answers_in es) s
+have_run tells deed r ps es first others s o ran is closes =
+    (have_run_so (λ h. Unit {0}) tells deed r ps es first others s o ran is (closes, tt)).0

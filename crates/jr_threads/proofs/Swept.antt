@@ -56,7 +56,7 @@ learns_more k j m xs ys p is goes first rest =
     }
 
 -- what was done behind the learning was done
-learned_did : (k m k' : Known) (ks : List Known) (acts : List Act) → LearnsAll k m ks → Did (view m) (view k') acts
+pub learned_did : (k m k' : Known) (ks : List Known) (acts : List Act) → LearnsAll k m ks → Did (view m) (view k') acts
     → Did (view k) (view k') acts
 learned_did k m k' ks acts l d = record {
   config = d.config ∙ l.config;
@@ -94,21 +94,27 @@ knows_own id m {role = role} s = (
   },
 )
 
+-- a collection that was made left nothing
+pub swept_made : {S : Type 0} (facts : S → Facts) (just : S → Known) (a b : S)
+    → ((k : Known) → (facts b).knows k → k ≡ just b) → (facts a).knows (just a) → {cleared dropped used : ℕ}
+    → MakesCollection facts a b cleared dropped used → HasSweptAll (view (just a)) (view (just b))
+swept_made facts just a b only knows {used = used} made =
+    let x = made.went.leads (just a) knows tt in
+    subst (λ k. HasSweptAll (view (just a)) (view k)) (only x.0 x.1) (record {
+      cleared = made.cleared;
+      dropped = made.dropped;
+      used = used;
+      did = x.2.did;
+      nothing = leaves_nothing (view (just a)) (view x.0) made.cleared made.dropped used x.2 x.3.1.0 x.3.1.1;
+    })
+
 -- a collection was made, or refused
 pub swept_or : {S : Type 0} (facts : S → Facts) (just : S → Known) (a b : S) (r : Result Collected Fault)
     → ((k : Known) → (facts b).knows k → k ≡ just b) → (facts a).knows (just a)
     → IfOk r (λ c. MakesCollection facts a b c.cleared c.dropped c.used)
     → IfErr r (λ e. (n : ℕ) × (e ≡ Busy n) × (1 ≤ n) × Took facts a b (ShutBusy n ∷ []) anything keeps)
     → HasSweptAll (view (just a)) (view (just b)) ⊎ WasKeptOut (just a) (just b)
-swept_or facts just a b (Ok c) only knows made none =
-    let x = made.went.leads (just a) knows tt in
-    inl (subst (λ k. HasSweptAll (view (just a)) (view k)) (only x.0 x.1) (record {
-      cleared = made.cleared;
-      dropped = made.dropped;
-      used = c.used;
-      did = x.2.did;
-      nothing = leaves_nothing (view (just a)) (view x.0) made.cleared made.dropped c.used x.2 x.3.1.0 x.3.1.1;
-    }))
+swept_or facts just a b (Ok c) only knows made none = inl (swept_made facts just a b only knows made)
 swept_or facts just a b (Err e) only knows none kept =
     let x = kept.3.goes (just a) knows tt in
     inr (subst (λ k. WasKeptOut (just a) k) (only x.0 x.1) (record { count = kept.0; some = kept.2; goes = x.2 }))
@@ -153,16 +159,13 @@ module _ (k k' : Known) (ks : List Known) (w : LearnsAndSweeps k k' ks) where
     go : HasSweptAll (view w.learned) (view k') ⊎ WasKeptOut w.learned k' → ClosesSwept k ks s
     go (inl h) =
         let all = all_later (w.learned).seen k'.seen ks h.did.begins w.learns.all in record {
+          cleared = h.cleared;
+          dropped = h.dropped;
+          used = h.used;
           swept = k';
-          collects = record {
-            cleared = h.cleared;
-            dropped = h.dropped;
-            used = h.used;
-            did = learned_did k w.learned k' ks _ w.learns h.did;
-            nothing = h.nothing;
-          };
+          did = learned_did k w.learned k' ks _ w.learns h.did;
           closes = closes;
-          nothing = subst HasNoGarbage (sym (end_state k' ks s closes each all)) h.nothing;
+          nothing = subst (HasNoGarbage k'.config) (sym (end_state k' ks s closes each all)) h.nothing;
         }
     go (inr b) =
         let all = all_later (w.learned).seen k'.seen ks (goes_did b.goes).begins w.learns.all in

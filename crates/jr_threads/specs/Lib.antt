@@ -1,4 +1,5 @@
 pub mod Closing
+pub mod Listing
 pub mod Parts
 pub mod Sites
 pub mod Starting

@@ -18,7 +18,9 @@ use Rattle.jr_gate.specs.Performing.{ThreadState}
 use Rattle.jr_rule.specs.declared.pass.Pass.{Pass}
 use Rattle.jr_rule.specs.Passes.{Holder, facts_of, holder_of, standing_of}
 use Rattle.jr_env.specs.Deeds.{Deed, DoesDeed}
+use Rattle.jr_alive.specs.declared.dump.Dump.{Dump}
 use Rattle.jr_threads.specs.Closing.{HasNoGarbage}
+use Rattle.jr_threads.specs.Listing.{TellsLeft, listing_acts}
 
 -- a pass of the thread, in a room of these sizes and this last serial, that has seen this
 abbrev pub pass_that_saw : Config → ℕ → ℕ → History → PassView
@@ -67,10 +69,11 @@ pub record IsLookedAt (c : Config) (whole : History) : Type 0 where
   pub nobody : not_outside c (state seen) ≡ 0
 
 -- THE THREADS HAVE RUN: of one legal history, which keeps the laws, each thread of the room has
--- its part, with the answer at the place of its number. Behind its own part thread 0 collects and looks at the
--- gate, so that no object is left to collect at the history's end; and the summary is of that end
-pub record RanTogether {A : Type 0} (tells : A → Bool) (deed : ℕ → Deed A) (c : Config) (last : ℕ) (answers : List A)
-    (s : Summary) : Type 0 where
+-- its part, with the answer at the place of its number. Behind its own part thread 0 does these acts, those of a
+-- collection that cleared and dropped so, and any behind it, and looks at the gate. Nothing is left to collect at the
+-- history's end; and the summary is of that end
+pub record RanBy {A : Type 0} (acts : List Handle → List ℕ → ℕ → List Act) (tells : A → Bool) (deed : ℕ → Deed A)
+    (c : Config) (last : ℕ) (answers : List A) (s : Summary) : Type 0 where
   pub whole : History
   pub legal : IsLegal c last whole
   pub lawful : KeepsTheLaws whole
@@ -79,10 +82,20 @@ pub record RanTogether {A : Type 0} (tells : A → Bool) (deed : ℕ → Deed A)
   pub dropped : List ℕ
   pub used : ℕ
   pub parts : (t : ℕ) (d : A) → t < c.threads
-      → IsThreadPart tells deed c last (collection_acts cleared dropped used) whole t (slice_index_or answers t d)
+      → IsThreadPart tells deed c last (acts cleared dropped used) whole t (slice_index_or answers t d)
   pub looked : IsLookedAt c whole
-  pub nothing : HasNoGarbage (state whole)
+  pub nothing : HasNoGarbage c (state whole)
   pub is : s ≡ summary c last (state whole)
+
+-- and thread 0 collects alone
+abbrev pub RanTogether : {A : Type 0} → (A → Bool) → (ℕ → Deed A) → Config → ℕ → List A → Summary → Type 0
+RanTogether = RanBy collection_acts
+
+-- THE THREADS HAVE RUN, and thread 0 collects, and then takes this dump, which tells what was left at the end
+pub record RanListing {A : Type 0} (tells : A → Bool) (deed : ℕ → Deed A) (c : Config) (last : ℕ) (answers : List A)
+    (s : Summary) (d : Dump) : Type 0 where
+  pub ran : RanBy listing_acts tells deed c last answers s
+  pub left : TellsLeft c last (state ran.whole) d
 
 -- with its pass, which was spent first, a thread did this and nothing else, with this answer, and now has this
 pub record DidWithPass {A : Type 0} (deed : Deed A) (old : Pass) (now : Holder) (x : A) : Type 0 where

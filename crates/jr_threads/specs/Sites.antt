@@ -11,6 +11,7 @@ use Rattle.jr_rule.specs.declared.pass.Pass.{Pass}
 use Rattle.jr_threads.specs.declared.native.Ended.{Ended}
 use Rattle.jr_threads.specs.declared.native.Place.{Place}
 use Rattle.jr_threads.specs.declared.closing.Places.{Places}
+use Rattle.jr_threads.specs.declared.running.Returned.{Returned}
 use Rattle.jr_rule.specs.declared.room.Room.{Room}
 use Rattle.jr_rule.specs.declared.row.Row.{Row}
 use Rattle.jr_rule.specs.Passes.{known_of, holder_of, ClosesAll, HasEachPass, IsAt, IsOpened}
@@ -44,6 +45,15 @@ passes_in es = map (λ e. e.pass) es
 abbrev pub answers_in : {A : Type 0} → List (Ended A) → List A
 answers_in es = map (λ e. e.answer) es
 
+-- THE THREADS HAVE RUN with these passes of the row: what each answered, in their order, and
+-- the passes that came back, the first apart
+pub record HasRunEach {A : Type 0} (tells : A → Bool) (deed : ℕ → Deed A) (r : Row) (ps : List Pass) (x : Returned A)
+    : Type 0 where
+  pub ended : List (Ended A)
+  pub ran : AllZip (ThreadRan tells deed r) ps ended
+  pub answers : x.answers.items ≡ answers_in ended
+  pub passes : x.first ∷ x.others.items ≡ passes_in ended
+
 -- the threads have run, each with the pass at its place
 abbrev pub ThreadsRan : {A : Type 0} → (A → Bool) → (ℕ → Deed A) → Row → List Pass → List (Ended A) → Type 0
 ThreadsRan tells deed r ps es = AllZip (ThreadRan tells deed r) ps es
@@ -59,7 +69,7 @@ pub record IsClosedBehind (c : Config) (last : ℕ) (s : Summary) : Type 0 where
   pub serials : first.last ≡ last
   pub each : HasEachPass c (first ∷ others)
   pub closes : ClosesAll first others s
-  pub nothing : HasNoGarbage (state closes.ends.whole)
+  pub nothing : HasNoGarbage c (state closes.ends.whole)
 
 -- THE THREAD WAITS at its place, with this pass
 pub record IsWaiting {A : Type 0} (r : Row) (p : Place A) : Type 0 where

@@ -87,7 +87,7 @@ fn learn_from(steps: &mut RoomSteps<'_, LAST>, other: Pass) -> Pass
 }
 
 /// The thread of steps learns all that the holders of other passes of the room have seen, which get them back as they were.
-fn learn_all(steps: &mut RoomSteps<'_, LAST>, mut others: Vec<Pass>) -> Vec<Pass>
+pub(crate) fn learn_all(steps: &mut RoomSteps<'_, LAST>, mut others: Vec<Pass>) -> Vec<Pass>
     requires { All (λ p. IsOfRoom steps.old.place.now p) others.items }
     ensures room { steps.new.place ≡ steps.old.place }
     ensures stands { (facts_of (holder_over steps.new)).stands ≡ (facts_of (holder_over steps.old)).stands }

@@ -21,16 +21,20 @@
      attached thread is E21.
    - Threads that attach and detach by one room's handle take a lock, since a handle is in one call at a time.
    - luthrady_free_env and luthrady_free_room free a place. No copy of the handle is in a call from then on.
-   - Each handle is in one call at a time. Whoever hands one to another thread orders that by a lock, by a
-     thread's start or join, or by a sequentially consistent atomic.
+   - Each handle, with its copies, is in one call at a time. Whoever hands one to another thread orders that
+     by a lock, by a thread's start or join, or by a sequentially consistent atomic.
    - A word of one room is not handed to another room. It can stand there for something else.
    - `count` elements lie at a pointer with a count. What a call writes to overlaps nothing else.
+   - A `bool` is 0 or 1, also one that a call writes to: memory that was never written may hold neither.
    - malloc, realloc and free are of one allocator, which aligns to 16.
    - No call is made in a signal handler, nor in a forked child of a process with threads.
-   - The stack has room: 139 KB were measured for an open of 64 threads, 54 KB for an attach, and less than
-     1 KB for each other call that was tried. */
+   - The stack has room: 139 KB were measured for an open of 64 threads, 101 KB for an attach, 51 KB for a
+     detach, and less than 1 KB for each other call that was tried. */
 #ifndef LUTHRADY_H
 #define LUTHRADY_H
+#ifndef __cplusplus
+#include <stdbool.h>
+#endif
 #include <stddef.h>
 #include <stdint.h>
 
@@ -87,6 +91,33 @@ enum luthrady_ref_type {
     LUTHRADY_REF_WEAK = 3
 };
 
+/* The kinds of objects, as luthrady_kind_of answers them. */
+enum luthrady_kind {
+    LUTHRADY_KIND_PLAIN = 1,
+    LUTHRADY_KIND_BOOLEAN = 2,
+    LUTHRADY_KIND_BYTE = 3,
+    LUTHRADY_KIND_CHAR = 4,
+    LUTHRADY_KIND_SHORT = 5,
+    LUTHRADY_KIND_INT = 6,
+    LUTHRADY_KIND_LONG = 7,
+    LUTHRADY_KIND_OBJECTS = 8,
+    LUTHRADY_KIND_TEXT = 9
+};
+
+/* What a word is, as luthrady_explain tells it: NULL; neither that nor a word that a call answers; beyond
+   the room; a local reference of another thread; one that stands; one under whose serial one of the other
+   type stands; one that was deleted; one that was not given yet. */
+enum luthrady_explanation {
+    LUTHRADY_WORD_NULL = 1,
+    LUTHRADY_WORD_MALFORMED = 2,
+    LUTHRADY_WORD_OUTSIDE = 3,
+    LUTHRADY_WORD_FOREIGN = 4,
+    LUTHRADY_WORD_STANDING = 5,
+    LUTHRADY_WORD_OTHER_KIND = 6,
+    LUTHRADY_WORD_GONE = 7,
+    LUTHRADY_WORD_NOT_GIVEN = 8
+};
+
 /* Which call a call of a batch is. */
 enum luthrady_operation {
     LUTHRADY_NEW_GLOBAL_REF = 1,
@@ -101,6 +132,13 @@ enum luthrady_operation {
     LUTHRADY_GET_STRING_LENGTH = 10,
     LUTHRADY_GET_OBJECT_ARRAY_ELEMENT = 11,
     LUTHRADY_SET_OBJECT_ARRAY_ELEMENT = 12
+};
+
+/* What becomes of a copy that is released: it is written back, or nothing is done. */
+enum luthrady_mode {
+    LUTHRADY_MODE_COPY = 0,
+    LUTHRADY_MODE_COMMIT = 1,
+    LUTHRADY_MODE_ABORT = 2
 };
 
 /* A call's answer. */
@@ -128,6 +166,56 @@ struct luthrady_call {
     uint64_t second;
     /* What it answered. */
     struct luthrady_reply reply;
+};
+
+/* How many objects there are, by their kinds. */
+struct luthrady_population {
+    /* How many have no elements. */
+    uint32_t plain;
+    /* How many arrays of booleans there are. */
+    uint32_t booleans;
+    /* How many arrays of bytes there are. */
+    uint32_t bytes;
+    /* How many arrays of chars there are. */
+    uint32_t chars;
+    /* How many arrays of shorts there are. */
+    uint32_t shorts;
+    /* How many arrays of ints there are. */
+    uint32_t ints;
+    /* How many arrays of longs there are. */
+    uint32_t longs;
+    /* How many arrays of objects there are. */
+    uint32_t objects;
+    /* How many strings there are. */
+    uint32_t strings;
+    /* How many there are of all kinds. */
+    uint32_t live;
+    /* How many words of array space they have. */
+    uint32_t words;
+};
+
+/* What stands in a room. */
+struct luthrady_inventory {
+    /* How many global references stand. */
+    uint32_t globals;
+    /* How many weak references stand, cleared ones too. */
+    uint32_t weaks;
+    /* How many of these are cleared. */
+    uint32_t cleared;
+    /* How many slots are used no more, since each gave its last reference. */
+    uint32_t retired;
+    /* The objects that are present. */
+    struct luthrady_population present;
+    /* Those of them that nothing reaches, which a collection would drop. */
+    struct luthrady_population unreached;
+    /* How many words are used. */
+    uint32_t used;
+    /* How many of these no object has: creations reserved them that were refused afterwards. */
+    uint32_t lost;
+    /* How many of these a collection would leave used. */
+    uint32_t reached;
+    /* How many of these a collection would free. */
+    uint32_t freed;
 };
 
 /* What a collection did. */
@@ -174,6 +262,28 @@ struct luthrady_stood {
     uint32_t live;
     /* How many words were used. */
     uint32_t used;
+};
+
+/* What a word is. */
+struct luthrady_explained {
+    /* What it is, a luthrady_explanation. */
+    uint32_t explanation;
+    /* The type of the reference that stands there, a luthrady_ref_type, 0 where none stands. */
+    uint32_t reference;
+    /* The kind of the reference's object, a luthrady_kind, 0 where none stands or it is cleared. */
+    uint32_t kind;
+};
+
+/* How many local references a thread has, and how many places for them. */
+struct luthrady_locals {
+    /* How many frames there are, with the base frame. */
+    uint64_t frames;
+    /* How many references stand, in all frames together. */
+    uint32_t standing;
+    /* How many places are free: so many more references can be made. */
+    uint32_t free;
+    /* How many places have ever given a reference. No more stood at any moment. */
+    uint32_t given;
 };
 
 /* Opens a room of these sizes, and writes the pointer to it.
@@ -276,6 +386,34 @@ struct luthrady_reply luthrady_is_same_object(struct luthrady_env *env, uint64_t
    has announced that it will. */
 struct luthrady_reply luthrady_get_object_ref_type(struct luthrady_env *env, uint64_t object);
 
+/* A local reference to what a weak one names, NULL where that is cleared. (JNI Specification, chapter 4,
+   "NewLocalRef")
+   Refused: E21 where no env stands behind the handle; E13 where a thread is collecting at the entry, or
+   has announced that it will; E2 where the handle is malformed or lies outside the room; E3 where it is a
+   local one of another thread; E2 where its reference does not stand; E9 where no local place is free.
+   Nothing has changed then. */
+struct luthrady_reply luthrady_upgrade_local(struct luthrady_env *env, uint64_t weak);
+
+/* A global reference to what a weak one names, NULL where that is cleared. (JNI Specification, chapter 4,
+   "NewGlobalRef")
+   Refused: E21 where no env stands behind the handle; E13 where a thread is collecting at the entry, or
+   has announced that it will; E2 where the handle is malformed or lies outside the room; E3 where it is a
+   local one of another thread; E2 where its reference does not stand; E8 where each slot was occupied when
+   it was tried, or later in the call.
+   Nothing has changed then. */
+struct luthrady_reply luthrady_upgrade_global(struct luthrady_env *env, uint64_t weak);
+
+/* Deletes a weak global reference where it is cleared, and tells whether it was, 1 or 0: a comparison with
+   NULL, and then the deletion, each by an entry of its own. NULL answers 1, and a word that is no weak
+   reference 0. Behind a collection it gives slots back, where all were held (E8). The Java Native
+   Interface has no such call.
+   Refused: E21 where no env stands behind the handle; E13 where a thread is collecting at an entry, or has
+   announced that it will; E2 where the handle is malformed or lies outside the room; E3 where it is a
+   local one of another thread; E2 where its reference does not stand, at the comparison or at the
+   deletion.
+   Nothing has changed then. */
+struct luthrady_reply luthrady_delete_cleared(struct luthrady_env *env, uint64_t weak);
+
 /* Ensures that so many local references can be made in the current frame. (JNI Specification, chapter 4,
    "EnsureLocalCapacity")
    Refused: E21 where no env stands behind the handle; E9 where fewer places are free.
@@ -310,6 +448,15 @@ struct luthrady_reply luthrady_free_locals(struct luthrady_env *env);
    Nothing has changed then. */
 struct luthrady_reply luthrady_new_plain(struct luthrady_env *env);
 
+/* An array of booleans, each false, and a local reference to it. (JNI Specification, chapter 4,
+   "New<PrimitiveType>Array Routines")
+   Refused: E21 where no env stands behind the handle; E13 where a thread is collecting at the entry, or
+   has announced that it will; E9 where no local place is free; E10 with how many words are reserved, where
+   so many more don't fit; E12 with how many words were looked at and how many were found, where another
+   thread reserved some in between; E11 where every object number was present at one moment of the call.
+   Nothing has changed then; but after E11 the words of the array stay reserved until the next collection. */
+struct luthrady_reply luthrady_new_boolean_array(struct luthrady_env *env, uint32_t length);
+
 /* An array of bytes, each zero, and a local reference to it. (JNI Specification, chapter 4,
    "New<PrimitiveType>Array Routines")
    Refused: E21 where no env stands behind the handle; E13 where a thread is collecting at the entry, or
@@ -318,6 +465,24 @@ struct luthrady_reply luthrady_new_plain(struct luthrady_env *env);
    thread reserved some in between; E11 where every object number was present at one moment of the call.
    Nothing has changed then; but after E11 the words of the array stay reserved until the next collection. */
 struct luthrady_reply luthrady_new_byte_array(struct luthrady_env *env, uint32_t length);
+
+/* An array of chars, each zero, and a local reference to it. (JNI Specification, chapter 4,
+   "New<PrimitiveType>Array Routines")
+   Refused: E21 where no env stands behind the handle; E13 where a thread is collecting at the entry, or
+   has announced that it will; E9 where no local place is free; E10 with how many words are reserved, where
+   so many more don't fit; E12 with how many words were looked at and how many were found, where another
+   thread reserved some in between; E11 where every object number was present at one moment of the call.
+   Nothing has changed then; but after E11 the words of the array stay reserved until the next collection. */
+struct luthrady_reply luthrady_new_char_array(struct luthrady_env *env, uint32_t length);
+
+/* An array of shorts, each zero, and a local reference to it. (JNI Specification, chapter 4,
+   "New<PrimitiveType>Array Routines")
+   Refused: E21 where no env stands behind the handle; E13 where a thread is collecting at the entry, or
+   has announced that it will; E9 where no local place is free; E10 with how many words are reserved, where
+   so many more don't fit; E12 with how many words were looked at and how many were found, where another
+   thread reserved some in between; E11 where every object number was present at one moment of the call.
+   Nothing has changed then; but after E11 the words of the array stay reserved until the next collection. */
+struct luthrady_reply luthrady_new_short_array(struct luthrady_env *env, uint32_t length);
 
 /* An array of ints, each zero, and a local reference to it. (JNI Specification, chapter 4,
    "New<PrimitiveType>Array Routines")
@@ -394,6 +559,17 @@ struct luthrady_reply luthrady_get_object_array_element(
 struct luthrady_reply luthrady_set_object_array_element(
     struct luthrady_env *env, uint64_t array, uint32_t index, uint64_t value);
 
+/* Copies booleans into a part of an array, from an index on. (JNI Specification, chapter 4,
+   "Set<PrimitiveType>ArrayRegion Routines")
+   Refused: E21 where no env stands behind the handle; E13 where a thread is collecting at the entry, or
+   has announced that it will; E2 where the handle is malformed or lies outside the room; E3 where it is a
+   local one of another thread; E2 where its reference does not stand; E1 where it is to null; E5 where it
+   is to a plain object or a string; E6 where it is to an array of other elements; E7 where the part does
+   not lie in the array.
+   Nothing is written then. */
+struct luthrady_reply luthrady_set_boolean_array_region(
+    struct luthrady_env *env, uint64_t array, uint32_t start, const bool *elements, size_t count);
+
 /* Copies bytes into a part of an array, from an index on. (JNI Specification, chapter 4,
    "Set<PrimitiveType>ArrayRegion Routines")
    Refused: E21 where no env stands behind the handle; E13 where a thread is collecting at the entry, or
@@ -404,6 +580,28 @@ struct luthrady_reply luthrady_set_object_array_element(
    Nothing is written then. */
 struct luthrady_reply luthrady_set_byte_array_region(
     struct luthrady_env *env, uint64_t array, uint32_t start, const int8_t *elements, size_t count);
+
+/* Copies chars into a part of an array, from an index on. (JNI Specification, chapter 4,
+   "Set<PrimitiveType>ArrayRegion Routines")
+   Refused: E21 where no env stands behind the handle; E13 where a thread is collecting at the entry, or
+   has announced that it will; E2 where the handle is malformed or lies outside the room; E3 where it is a
+   local one of another thread; E2 where its reference does not stand; E1 where it is to null; E5 where it
+   is to a plain object or a string; E6 where it is to an array of other elements; E7 where the part does
+   not lie in the array.
+   Nothing is written then. */
+struct luthrady_reply luthrady_set_char_array_region(
+    struct luthrady_env *env, uint64_t array, uint32_t start, const uint16_t *elements, size_t count);
+
+/* Copies shorts into a part of an array, from an index on. (JNI Specification, chapter 4,
+   "Set<PrimitiveType>ArrayRegion Routines")
+   Refused: E21 where no env stands behind the handle; E13 where a thread is collecting at the entry, or
+   has announced that it will; E2 where the handle is malformed or lies outside the room; E3 where it is a
+   local one of another thread; E2 where its reference does not stand; E1 where it is to null; E5 where it
+   is to a plain object or a string; E6 where it is to an array of other elements; E7 where the part does
+   not lie in the array.
+   Nothing is written then. */
+struct luthrady_reply luthrady_set_short_array_region(
+    struct luthrady_env *env, uint64_t array, uint32_t start, const int16_t *elements, size_t count);
 
 /* Copies ints into a part of an array, from an index on. (JNI Specification, chapter 4,
    "Set<PrimitiveType>ArrayRegion Routines")
@@ -427,6 +625,17 @@ struct luthrady_reply luthrady_set_int_array_region(
 struct luthrady_reply luthrady_set_long_array_region(
     struct luthrady_env *env, uint64_t array, uint32_t start, const int64_t *elements, size_t count);
 
+/* Copies a part of an array of booleans out, from an index on: as many elements as there is room for. (JNI
+   Specification, chapter 4, "Get<PrimitiveType>ArrayRegion Routines")
+   Refused: E21 where no env stands behind the handle; E13 where a thread is collecting at the entry, or
+   has announced that it will; E2 where the handle is malformed or lies outside the room; E3 where it is a
+   local one of another thread; E2 where its reference does not stand; E1 where it is to null; E5 where it
+   is to a plain object or a string; E6 where it is to an array of other elements; E7 where the part does
+   not lie in the array.
+   The slice is as it was, and nothing has changed. */
+struct luthrady_reply luthrady_get_boolean_array_region(
+    struct luthrady_env *env, uint64_t array, uint32_t start, bool *elements, size_t count);
+
 /* Copies a part of an array of bytes out, from an index on: as many elements as there is room for. (JNI
    Specification, chapter 4, "Get<PrimitiveType>ArrayRegion Routines")
    Refused: E21 where no env stands behind the handle; E13 where a thread is collecting at the entry, or
@@ -437,6 +646,28 @@ struct luthrady_reply luthrady_set_long_array_region(
    The slice is as it was, and nothing has changed. */
 struct luthrady_reply luthrady_get_byte_array_region(
     struct luthrady_env *env, uint64_t array, uint32_t start, int8_t *elements, size_t count);
+
+/* Copies a part of an array of chars out, from an index on: as many elements as there is room for. (JNI
+   Specification, chapter 4, "Get<PrimitiveType>ArrayRegion Routines")
+   Refused: E21 where no env stands behind the handle; E13 where a thread is collecting at the entry, or
+   has announced that it will; E2 where the handle is malformed or lies outside the room; E3 where it is a
+   local one of another thread; E2 where its reference does not stand; E1 where it is to null; E5 where it
+   is to a plain object or a string; E6 where it is to an array of other elements; E7 where the part does
+   not lie in the array.
+   The slice is as it was, and nothing has changed. */
+struct luthrady_reply luthrady_get_char_array_region(
+    struct luthrady_env *env, uint64_t array, uint32_t start, uint16_t *elements, size_t count);
+
+/* Copies a part of an array of shorts out, from an index on: as many elements as there is room for. (JNI
+   Specification, chapter 4, "Get<PrimitiveType>ArrayRegion Routines")
+   Refused: E21 where no env stands behind the handle; E13 where a thread is collecting at the entry, or
+   has announced that it will; E2 where the handle is malformed or lies outside the room; E3 where it is a
+   local one of another thread; E2 where its reference does not stand; E1 where it is to null; E5 where it
+   is to a plain object or a string; E6 where it is to an array of other elements; E7 where the part does
+   not lie in the array.
+   The slice is as it was, and nothing has changed. */
+struct luthrady_reply luthrady_get_short_array_region(
+    struct luthrady_env *env, uint64_t array, uint32_t start, int16_t *elements, size_t count);
 
 /* Copies a part of an array of ints out, from an index on: as many elements as there is room for. (JNI
    Specification, chapter 4, "Get<PrimitiveType>ArrayRegion Routines")
@@ -459,6 +690,235 @@ struct luthrady_reply luthrady_get_int_array_region(
    The slice is as it was, and nothing has changed. */
 struct luthrady_reply luthrady_get_long_array_region(
     struct luthrady_env *env, uint64_t array, uint32_t start, int64_t *elements, size_t count);
+
+/* Copies a part of a string's UTF-16 units out, from an index on: as many as there is room for. It is one
+   critical region. (JNI Specification, chapter 4, "GetStringRegion")
+   Refused: E21 where no env stands behind the handle; E13 where a thread is collecting at the entry, or
+   has announced that it will; E2 where the handle is malformed or lies outside the room; E3 where it is a
+   local one of another thread; E2 where its reference does not stand; E1 where it is to null; E4 where it
+   is to no string; E7 where the part does not lie in the string.
+   The units are as they were, and nothing has changed. */
+struct luthrady_reply luthrady_get_string_region(
+    struct luthrady_env *env, uint64_t string, uint32_t start, uint16_t *units, size_t count);
+
+/* A string of a text in UTF-8, and a local reference to it. The Java Native Interface's is of modified
+   UTF-8. (JNI Specification, chapter 4, "NewStringUTF")
+   Refused: E21 where no env stands behind the handle; E18 where the bytes are no UTF-8; E16 where memory
+   was refused; E13 where a thread is collecting at the entry, or has announced that it will; E9 where no
+   local place is free; E10 with how many words are reserved, where so many more don't fit; E12 with how
+   many words were looked at and how many were found, where another thread reserved some in between; E11
+   where every object number was present at one moment of the call.
+   Nothing has changed then; but after E11 the words of the string stay reserved until the next collection. */
+struct luthrady_reply luthrady_new_string_utf8(struct luthrady_env *env, const uint8_t *text, size_t count);
+
+/* Reads a string as a text in UTF-8, and answers how many bytes that has. They stand in front then, where
+   there is room for all of them, and else the bytes are as they were. (JNI Specification, chapter 4,
+   "GetStringUTFRegion", "GetStringUTFLength")
+   Refused: E21 where no env stands behind the handle; E13 where a thread is collecting at the entry, or
+   has announced that it will; E2 where the handle is malformed or lies outside the room; E3 where it is a
+   local one of another thread; E2 where its reference does not stand; E1 where it is to null; E4 where it
+   is to no string; E16 where memory was refused; E18 where a surrogate among the units has no partner.
+   The bytes are as they were, and nothing has changed. */
+struct luthrady_reply luthrady_get_string_utf8(
+    struct luthrady_env *env, uint64_t string, uint8_t *bytes, size_t count);
+
+/* Copies all elements of an array of booleans out. It is one critical region. (JNI Specification, chapter
+   4, "Get<PrimitiveType>ArrayElements Routines")
+   Refused: E21 where no env stands behind the handle; E13 where a thread is collecting at the entry, or
+   has announced that it will; E2 where the handle is malformed or lies outside the room; E3 where it is a
+   local one of another thread; E2 where its reference does not stand; E1 where it is to null; E5 where it
+   is to a plain object or a string; E6 where it is to an array of other elements; E7 where the array has
+   another number of elements.
+   The elements are as they were, and nothing has changed. */
+struct luthrady_reply luthrady_get_boolean_array_elements(
+    struct luthrady_env *env, uint64_t array, bool *elements, size_t count);
+
+/* Copies all elements of an array of bytes out. It is one critical region. (JNI Specification, chapter 4,
+   "Get<PrimitiveType>ArrayElements Routines")
+   Refused: E21 where no env stands behind the handle; E13 where a thread is collecting at the entry, or
+   has announced that it will; E2 where the handle is malformed or lies outside the room; E3 where it is a
+   local one of another thread; E2 where its reference does not stand; E1 where it is to null; E5 where it
+   is to a plain object or a string; E6 where it is to an array of other elements; E7 where the array has
+   another number of elements.
+   The elements are as they were, and nothing has changed. */
+struct luthrady_reply luthrady_get_byte_array_elements(
+    struct luthrady_env *env, uint64_t array, int8_t *elements, size_t count);
+
+/* Copies all elements of an array of chars out. It is one critical region. (JNI Specification, chapter 4,
+   "Get<PrimitiveType>ArrayElements Routines")
+   Refused: E21 where no env stands behind the handle; E13 where a thread is collecting at the entry, or
+   has announced that it will; E2 where the handle is malformed or lies outside the room; E3 where it is a
+   local one of another thread; E2 where its reference does not stand; E1 where it is to null; E5 where it
+   is to a plain object or a string; E6 where it is to an array of other elements; E7 where the array has
+   another number of elements.
+   The elements are as they were, and nothing has changed. */
+struct luthrady_reply luthrady_get_char_array_elements(
+    struct luthrady_env *env, uint64_t array, uint16_t *elements, size_t count);
+
+/* Copies all elements of an array of shorts out. It is one critical region. (JNI Specification, chapter 4,
+   "Get<PrimitiveType>ArrayElements Routines")
+   Refused: E21 where no env stands behind the handle; E13 where a thread is collecting at the entry, or
+   has announced that it will; E2 where the handle is malformed or lies outside the room; E3 where it is a
+   local one of another thread; E2 where its reference does not stand; E1 where it is to null; E5 where it
+   is to a plain object or a string; E6 where it is to an array of other elements; E7 where the array has
+   another number of elements.
+   The elements are as they were, and nothing has changed. */
+struct luthrady_reply luthrady_get_short_array_elements(
+    struct luthrady_env *env, uint64_t array, int16_t *elements, size_t count);
+
+/* Copies all elements of an array of ints out. It is one critical region. (JNI Specification, chapter 4,
+   "Get<PrimitiveType>ArrayElements Routines")
+   Refused: E21 where no env stands behind the handle; E13 where a thread is collecting at the entry, or
+   has announced that it will; E2 where the handle is malformed or lies outside the room; E3 where it is a
+   local one of another thread; E2 where its reference does not stand; E1 where it is to null; E5 where it
+   is to a plain object or a string; E6 where it is to an array of other elements; E7 where the array has
+   another number of elements.
+   The elements are as they were, and nothing has changed. */
+struct luthrady_reply luthrady_get_int_array_elements(
+    struct luthrady_env *env, uint64_t array, int32_t *elements, size_t count);
+
+/* Copies all elements of an array of longs out. It is one critical region. (JNI Specification, chapter 4,
+   "Get<PrimitiveType>ArrayElements Routines")
+   Refused: E21 where no env stands behind the handle; E13 where a thread is collecting at the entry, or
+   has announced that it will; E2 where the handle is malformed or lies outside the room; E3 where it is a
+   local one of another thread; E2 where its reference does not stand; E1 where it is to null; E5 where it
+   is to a plain object or a string; E6 where it is to an array of other elements; E7 where the array has
+   another number of elements.
+   The elements are as they were, and nothing has changed. */
+struct luthrady_reply luthrady_get_long_array_elements(
+    struct luthrady_env *env, uint64_t array, int64_t *elements, size_t count);
+
+/* Releases a copy of all elements of an array of booleans by the number of a mode: to copy (0) and to
+   commit (1) write them to the array, in one critical region. To abort (2) looks at nothing. (JNI
+   Specification, chapter 4, "Release<PrimitiveType>ArrayElements Routines")
+   Refused: E21 where no env stands behind the handle; E7 where no mode has the number; E13 where a thread
+   is collecting at the entry, or has announced that it will; E2 where the handle is malformed or lies
+   outside the room; E3 where it is a local one of another thread; E2 where its reference does not stand;
+   E1 where it is to null; E5 where it is to a plain object or a string; E6 where it is to an array of
+   other elements; E7 where the array has another number of elements.
+   Nothing is written then. */
+struct luthrady_reply luthrady_release_boolean_array_elements(
+    struct luthrady_env *env, uint64_t array, const bool *elements, size_t count, uint32_t mode);
+
+/* Releases a copy of all elements of an array of bytes by the number of a mode: to copy (0) and to commit
+   (1) write them to the array, in one critical region. To abort (2) looks at nothing. (JNI Specification,
+   chapter 4, "Release<PrimitiveType>ArrayElements Routines")
+   Refused: E21 where no env stands behind the handle; E7 where no mode has the number; E13 where a thread
+   is collecting at the entry, or has announced that it will; E2 where the handle is malformed or lies
+   outside the room; E3 where it is a local one of another thread; E2 where its reference does not stand;
+   E1 where it is to null; E5 where it is to a plain object or a string; E6 where it is to an array of
+   other elements; E7 where the array has another number of elements.
+   Nothing is written then. */
+struct luthrady_reply luthrady_release_byte_array_elements(
+    struct luthrady_env *env, uint64_t array, const int8_t *elements, size_t count, uint32_t mode);
+
+/* Releases a copy of all elements of an array of chars by the number of a mode: to copy (0) and to commit
+   (1) write them to the array, in one critical region. To abort (2) looks at nothing. (JNI Specification,
+   chapter 4, "Release<PrimitiveType>ArrayElements Routines")
+   Refused: E21 where no env stands behind the handle; E7 where no mode has the number; E13 where a thread
+   is collecting at the entry, or has announced that it will; E2 where the handle is malformed or lies
+   outside the room; E3 where it is a local one of another thread; E2 where its reference does not stand;
+   E1 where it is to null; E5 where it is to a plain object or a string; E6 where it is to an array of
+   other elements; E7 where the array has another number of elements.
+   Nothing is written then. */
+struct luthrady_reply luthrady_release_char_array_elements(
+    struct luthrady_env *env, uint64_t array, const uint16_t *elements, size_t count, uint32_t mode);
+
+/* Releases a copy of all elements of an array of shorts by the number of a mode: to copy (0) and to commit
+   (1) write them to the array, in one critical region. To abort (2) looks at nothing. (JNI Specification,
+   chapter 4, "Release<PrimitiveType>ArrayElements Routines")
+   Refused: E21 where no env stands behind the handle; E7 where no mode has the number; E13 where a thread
+   is collecting at the entry, or has announced that it will; E2 where the handle is malformed or lies
+   outside the room; E3 where it is a local one of another thread; E2 where its reference does not stand;
+   E1 where it is to null; E5 where it is to a plain object or a string; E6 where it is to an array of
+   other elements; E7 where the array has another number of elements.
+   Nothing is written then. */
+struct luthrady_reply luthrady_release_short_array_elements(
+    struct luthrady_env *env, uint64_t array, const int16_t *elements, size_t count, uint32_t mode);
+
+/* Releases a copy of all elements of an array of ints by the number of a mode: to copy (0) and to commit
+   (1) write them to the array, in one critical region. To abort (2) looks at nothing. (JNI Specification,
+   chapter 4, "Release<PrimitiveType>ArrayElements Routines")
+   Refused: E21 where no env stands behind the handle; E7 where no mode has the number; E13 where a thread
+   is collecting at the entry, or has announced that it will; E2 where the handle is malformed or lies
+   outside the room; E3 where it is a local one of another thread; E2 where its reference does not stand;
+   E1 where it is to null; E5 where it is to a plain object or a string; E6 where it is to an array of
+   other elements; E7 where the array has another number of elements.
+   Nothing is written then. */
+struct luthrady_reply luthrady_release_int_array_elements(
+    struct luthrady_env *env, uint64_t array, const int32_t *elements, size_t count, uint32_t mode);
+
+/* Releases a copy of all elements of an array of longs by the number of a mode: to copy (0) and to commit
+   (1) write them to the array, in one critical region. To abort (2) looks at nothing. (JNI Specification,
+   chapter 4, "Release<PrimitiveType>ArrayElements Routines")
+   Refused: E21 where no env stands behind the handle; E7 where no mode has the number; E13 where a thread
+   is collecting at the entry, or has announced that it will; E2 where the handle is malformed or lies
+   outside the room; E3 where it is a local one of another thread; E2 where its reference does not stand;
+   E1 where it is to null; E5 where it is to a plain object or a string; E6 where it is to an array of
+   other elements; E7 where the array has another number of elements.
+   Nothing is written then. */
+struct luthrady_reply luthrady_release_long_array_elements(
+    struct luthrady_env *env, uint64_t array, const int64_t *elements, size_t count, uint32_t mode);
+
+/* The kind of what the word names, by its number: 1 plain, 2 to 7 an array of booleans, bytes, chars,
+   shorts, ints, longs, 8 an array of objects, 9 a string. The Java Native Interface has no such call.
+   Refused: E21 where no env stands behind the handle; E13 where a thread is collecting at the entry, or
+   has announced that it will; E2 where the handle is malformed or lies outside the room; E3 where it is a
+   local one of another thread; E2 where its reference does not stand; E1 where it is to null.
+   Nothing has changed then. */
+struct luthrady_reply luthrady_kind_of(struct luthrady_env *env, uint64_t object);
+
+/* The identity of what the word names: a number, at least 1, that all references to one object share, and
+   that no other object has while that one is present. A collection leaves it. Once a collection has
+   dropped the object, another may have its number. The Java Native Interface has no such call.
+   Refused: E21 where no env stands behind the handle; E13 where a thread is collecting at the entry, or
+   has announced that it will; E2 where the handle is malformed or lies outside the room; E3 where it is a
+   local one of another thread; E2 where its reference does not stand; E1 where it is to null.
+   Nothing has changed then. */
+struct luthrady_reply luthrady_identity_of(struct luthrady_env *env, uint64_t object);
+
+/* What a word is that is handed in as a reference, whatever word it is. What is told of the room was so at
+   the call's one look. It changes nothing.
+   Refused: E21 where no env stands behind the handle; E13 where a thread is collecting at the entry, or
+   has announced that it will.
+   Nothing has changed then. */
+struct luthrady_reply luthrady_explain(
+    struct luthrady_env *env, uint64_t word, struct luthrady_explained *out);
+
+/* How many words of array space are used: reserved, be it for objects that stand or for such as nothing
+   reaches. Others may go on meanwhile.
+   Refused: E21 where no env stands behind the handle; E13 where a thread is collecting at the entry, or
+   has announced that it will.
+   Nothing has changed then. */
+struct luthrady_reply luthrady_words_used(struct luthrady_env *env);
+
+/* How many local references the thread has, and how many places for them. It enters no gate.
+   Refused: E21 where no env stands behind the handle.
+   Nothing has changed then, and nothing is written. */
+struct luthrady_reply luthrady_local_counts(struct luthrady_env *env, struct luthrady_locals *out);
+
+/* Counts what stands in the room, at one step that shuts the gate for it, and changes nothing. It writes
+   the counts, and how many local references each thread has, by the thread's number: as many of these as
+   there is room for, and 64 at the most. A thread that the room doesn't have has none.
+   Refused: E21 where no env stands behind the handle; E17 exactly where the marker was made for another
+   number of objects; E14 with how many threads were inside, knocking, announcing or collecting at its one
+   step, at least 1.
+   Nothing has changed then, and the marker is as it was. At E14 the thread stands outside, and at E17 it
+   has taken no step. Over one thread a marker that fits is never refused. */
+struct luthrady_reply luthrady_census(
+    struct luthrady_env *env, uint32_t *locals, size_t count, struct luthrady_inventory *out);
+
+/* Counts as `luthrady_census` does, but announces it first, and tries so many times to shut the gate, at
+   least once.
+   Refused: E21 where no env stands behind the handle; E17 exactly where the marker was made for another
+   number of objects; E14 with how many threads were inside, knocking, announcing or collecting, at least
+   1, where another thread kept the gate closed already; E23 with two counts of the open gate, where
+   another thread went in or out between the look at it and the announcement; E14 with how many other
+   threads were inside or knocking at the last try, at least 1.
+   Nothing has changed then, and the marker is as it was. At E14 and E23 the thread stands outside, and at
+   E17 it has taken no step. Over one thread a marker that fits is never refused. */
+struct luthrady_reply luthrady_census_announced(
+    struct luthrady_env *env, uint32_t tries, uint32_t *locals, size_t count, struct luthrady_inventory *out);
 
 /* Collects, by the thread's own marker, and writes what it did.
    Refused: E21 where no env stands behind the handle; E17 exactly where the marker was made for another
@@ -608,6 +1068,21 @@ static inline struct luthrady_reply luthrady_checked_get_object_ref_type(
     return env == NULL ? luthrady_refused_null() : luthrady_get_object_ref_type(env, object);
 }
 
+static inline struct luthrady_reply luthrady_checked_upgrade_local(struct luthrady_env *env, uint64_t weak)
+{
+    return env == NULL ? luthrady_refused_null() : luthrady_upgrade_local(env, weak);
+}
+
+static inline struct luthrady_reply luthrady_checked_upgrade_global(struct luthrady_env *env, uint64_t weak)
+{
+    return env == NULL ? luthrady_refused_null() : luthrady_upgrade_global(env, weak);
+}
+
+static inline struct luthrady_reply luthrady_checked_delete_cleared(struct luthrady_env *env, uint64_t weak)
+{
+    return env == NULL ? luthrady_refused_null() : luthrady_delete_cleared(env, weak);
+}
+
 static inline struct luthrady_reply luthrady_checked_ensure_local_capacity(
     struct luthrady_env *env, uint32_t capacity)
 {
@@ -635,9 +1110,26 @@ static inline struct luthrady_reply luthrady_checked_new_plain(struct luthrady_e
     return env == NULL ? luthrady_refused_null() : luthrady_new_plain(env);
 }
 
+static inline struct luthrady_reply luthrady_checked_new_boolean_array(
+    struct luthrady_env *env, uint32_t length)
+{
+    return env == NULL ? luthrady_refused_null() : luthrady_new_boolean_array(env, length);
+}
+
 static inline struct luthrady_reply luthrady_checked_new_byte_array(struct luthrady_env *env, uint32_t length)
 {
     return env == NULL ? luthrady_refused_null() : luthrady_new_byte_array(env, length);
+}
+
+static inline struct luthrady_reply luthrady_checked_new_char_array(struct luthrady_env *env, uint32_t length)
+{
+    return env == NULL ? luthrady_refused_null() : luthrady_new_char_array(env, length);
+}
+
+static inline struct luthrady_reply luthrady_checked_new_short_array(
+    struct luthrady_env *env, uint32_t length)
+{
+    return env == NULL ? luthrady_refused_null() : luthrady_new_short_array(env, length);
 }
 
 static inline struct luthrady_reply luthrady_checked_new_int_array(struct luthrady_env *env, uint32_t length)
@@ -690,12 +1182,36 @@ static inline struct luthrady_reply luthrady_checked_set_object_array_element(
         : luthrady_set_object_array_element(env, array, index, value);
 }
 
+static inline struct luthrady_reply luthrady_checked_set_boolean_array_region(
+    struct luthrady_env *env, uint64_t array, uint32_t start, const bool *elements, size_t count)
+{
+    return env == NULL || (count != 0 && elements == NULL)
+        ? luthrady_refused_null()
+        : luthrady_set_boolean_array_region(env, array, start, elements, count);
+}
+
 static inline struct luthrady_reply luthrady_checked_set_byte_array_region(
     struct luthrady_env *env, uint64_t array, uint32_t start, const int8_t *elements, size_t count)
 {
     return env == NULL || (count != 0 && elements == NULL)
         ? luthrady_refused_null()
         : luthrady_set_byte_array_region(env, array, start, elements, count);
+}
+
+static inline struct luthrady_reply luthrady_checked_set_char_array_region(
+    struct luthrady_env *env, uint64_t array, uint32_t start, const uint16_t *elements, size_t count)
+{
+    return env == NULL || (count != 0 && elements == NULL)
+        ? luthrady_refused_null()
+        : luthrady_set_char_array_region(env, array, start, elements, count);
+}
+
+static inline struct luthrady_reply luthrady_checked_set_short_array_region(
+    struct luthrady_env *env, uint64_t array, uint32_t start, const int16_t *elements, size_t count)
+{
+    return env == NULL || (count != 0 && elements == NULL)
+        ? luthrady_refused_null()
+        : luthrady_set_short_array_region(env, array, start, elements, count);
 }
 
 static inline struct luthrady_reply luthrady_checked_set_int_array_region(
@@ -714,12 +1230,36 @@ static inline struct luthrady_reply luthrady_checked_set_long_array_region(
         : luthrady_set_long_array_region(env, array, start, elements, count);
 }
 
+static inline struct luthrady_reply luthrady_checked_get_boolean_array_region(
+    struct luthrady_env *env, uint64_t array, uint32_t start, bool *elements, size_t count)
+{
+    return env == NULL || (count != 0 && elements == NULL)
+        ? luthrady_refused_null()
+        : luthrady_get_boolean_array_region(env, array, start, elements, count);
+}
+
 static inline struct luthrady_reply luthrady_checked_get_byte_array_region(
     struct luthrady_env *env, uint64_t array, uint32_t start, int8_t *elements, size_t count)
 {
     return env == NULL || (count != 0 && elements == NULL)
         ? luthrady_refused_null()
         : luthrady_get_byte_array_region(env, array, start, elements, count);
+}
+
+static inline struct luthrady_reply luthrady_checked_get_char_array_region(
+    struct luthrady_env *env, uint64_t array, uint32_t start, uint16_t *elements, size_t count)
+{
+    return env == NULL || (count != 0 && elements == NULL)
+        ? luthrady_refused_null()
+        : luthrady_get_char_array_region(env, array, start, elements, count);
+}
+
+static inline struct luthrady_reply luthrady_checked_get_short_array_region(
+    struct luthrady_env *env, uint64_t array, uint32_t start, int16_t *elements, size_t count)
+{
+    return env == NULL || (count != 0 && elements == NULL)
+        ? luthrady_refused_null()
+        : luthrady_get_short_array_region(env, array, start, elements, count);
 }
 
 static inline struct luthrady_reply luthrady_checked_get_int_array_region(
@@ -736,6 +1276,169 @@ static inline struct luthrady_reply luthrady_checked_get_long_array_region(
     return env == NULL || (count != 0 && elements == NULL)
         ? luthrady_refused_null()
         : luthrady_get_long_array_region(env, array, start, elements, count);
+}
+
+static inline struct luthrady_reply luthrady_checked_get_string_region(
+    struct luthrady_env *env, uint64_t string, uint32_t start, uint16_t *units, size_t count)
+{
+    return env == NULL || (count != 0 && units == NULL)
+        ? luthrady_refused_null()
+        : luthrady_get_string_region(env, string, start, units, count);
+}
+
+static inline struct luthrady_reply luthrady_checked_new_string_utf8(
+    struct luthrady_env *env, const uint8_t *text, size_t count)
+{
+    return env == NULL || (count != 0 && text == NULL)
+        ? luthrady_refused_null()
+        : luthrady_new_string_utf8(env, text, count);
+}
+
+static inline struct luthrady_reply luthrady_checked_get_string_utf8(
+    struct luthrady_env *env, uint64_t string, uint8_t *bytes, size_t count)
+{
+    return env == NULL || (count != 0 && bytes == NULL)
+        ? luthrady_refused_null()
+        : luthrady_get_string_utf8(env, string, bytes, count);
+}
+
+static inline struct luthrady_reply luthrady_checked_get_boolean_array_elements(
+    struct luthrady_env *env, uint64_t array, bool *elements, size_t count)
+{
+    return env == NULL || (count != 0 && elements == NULL)
+        ? luthrady_refused_null()
+        : luthrady_get_boolean_array_elements(env, array, elements, count);
+}
+
+static inline struct luthrady_reply luthrady_checked_get_byte_array_elements(
+    struct luthrady_env *env, uint64_t array, int8_t *elements, size_t count)
+{
+    return env == NULL || (count != 0 && elements == NULL)
+        ? luthrady_refused_null()
+        : luthrady_get_byte_array_elements(env, array, elements, count);
+}
+
+static inline struct luthrady_reply luthrady_checked_get_char_array_elements(
+    struct luthrady_env *env, uint64_t array, uint16_t *elements, size_t count)
+{
+    return env == NULL || (count != 0 && elements == NULL)
+        ? luthrady_refused_null()
+        : luthrady_get_char_array_elements(env, array, elements, count);
+}
+
+static inline struct luthrady_reply luthrady_checked_get_short_array_elements(
+    struct luthrady_env *env, uint64_t array, int16_t *elements, size_t count)
+{
+    return env == NULL || (count != 0 && elements == NULL)
+        ? luthrady_refused_null()
+        : luthrady_get_short_array_elements(env, array, elements, count);
+}
+
+static inline struct luthrady_reply luthrady_checked_get_int_array_elements(
+    struct luthrady_env *env, uint64_t array, int32_t *elements, size_t count)
+{
+    return env == NULL || (count != 0 && elements == NULL)
+        ? luthrady_refused_null()
+        : luthrady_get_int_array_elements(env, array, elements, count);
+}
+
+static inline struct luthrady_reply luthrady_checked_get_long_array_elements(
+    struct luthrady_env *env, uint64_t array, int64_t *elements, size_t count)
+{
+    return env == NULL || (count != 0 && elements == NULL)
+        ? luthrady_refused_null()
+        : luthrady_get_long_array_elements(env, array, elements, count);
+}
+
+static inline struct luthrady_reply luthrady_checked_release_boolean_array_elements(
+    struct luthrady_env *env, uint64_t array, const bool *elements, size_t count, uint32_t mode)
+{
+    return env == NULL || (count != 0 && elements == NULL)
+        ? luthrady_refused_null()
+        : luthrady_release_boolean_array_elements(env, array, elements, count, mode);
+}
+
+static inline struct luthrady_reply luthrady_checked_release_byte_array_elements(
+    struct luthrady_env *env, uint64_t array, const int8_t *elements, size_t count, uint32_t mode)
+{
+    return env == NULL || (count != 0 && elements == NULL)
+        ? luthrady_refused_null()
+        : luthrady_release_byte_array_elements(env, array, elements, count, mode);
+}
+
+static inline struct luthrady_reply luthrady_checked_release_char_array_elements(
+    struct luthrady_env *env, uint64_t array, const uint16_t *elements, size_t count, uint32_t mode)
+{
+    return env == NULL || (count != 0 && elements == NULL)
+        ? luthrady_refused_null()
+        : luthrady_release_char_array_elements(env, array, elements, count, mode);
+}
+
+static inline struct luthrady_reply luthrady_checked_release_short_array_elements(
+    struct luthrady_env *env, uint64_t array, const int16_t *elements, size_t count, uint32_t mode)
+{
+    return env == NULL || (count != 0 && elements == NULL)
+        ? luthrady_refused_null()
+        : luthrady_release_short_array_elements(env, array, elements, count, mode);
+}
+
+static inline struct luthrady_reply luthrady_checked_release_int_array_elements(
+    struct luthrady_env *env, uint64_t array, const int32_t *elements, size_t count, uint32_t mode)
+{
+    return env == NULL || (count != 0 && elements == NULL)
+        ? luthrady_refused_null()
+        : luthrady_release_int_array_elements(env, array, elements, count, mode);
+}
+
+static inline struct luthrady_reply luthrady_checked_release_long_array_elements(
+    struct luthrady_env *env, uint64_t array, const int64_t *elements, size_t count, uint32_t mode)
+{
+    return env == NULL || (count != 0 && elements == NULL)
+        ? luthrady_refused_null()
+        : luthrady_release_long_array_elements(env, array, elements, count, mode);
+}
+
+static inline struct luthrady_reply luthrady_checked_kind_of(struct luthrady_env *env, uint64_t object)
+{
+    return env == NULL ? luthrady_refused_null() : luthrady_kind_of(env, object);
+}
+
+static inline struct luthrady_reply luthrady_checked_identity_of(struct luthrady_env *env, uint64_t object)
+{
+    return env == NULL ? luthrady_refused_null() : luthrady_identity_of(env, object);
+}
+
+static inline struct luthrady_reply luthrady_checked_explain(
+    struct luthrady_env *env, uint64_t word, struct luthrady_explained *out)
+{
+    return env == NULL || out == NULL ? luthrady_refused_null() : luthrady_explain(env, word, out);
+}
+
+static inline struct luthrady_reply luthrady_checked_words_used(struct luthrady_env *env)
+{
+    return env == NULL ? luthrady_refused_null() : luthrady_words_used(env);
+}
+
+static inline struct luthrady_reply luthrady_checked_local_counts(
+    struct luthrady_env *env, struct luthrady_locals *out)
+{
+    return env == NULL || out == NULL ? luthrady_refused_null() : luthrady_local_counts(env, out);
+}
+
+static inline struct luthrady_reply luthrady_checked_census(
+    struct luthrady_env *env, uint32_t *locals, size_t count, struct luthrady_inventory *out)
+{
+    return env == NULL || (count != 0 && locals == NULL) || out == NULL
+        ? luthrady_refused_null()
+        : luthrady_census(env, locals, count, out);
+}
+
+static inline struct luthrady_reply luthrady_checked_census_announced(
+    struct luthrady_env *env, uint32_t tries, uint32_t *locals, size_t count, struct luthrady_inventory *out)
+{
+    return env == NULL || (count != 0 && locals == NULL) || out == NULL
+        ? luthrady_refused_null()
+        : luthrady_census_announced(env, tries, locals, count, out);
 }
 
 static inline struct luthrady_reply luthrady_checked_collect(
@@ -772,12 +1475,18 @@ static inline struct luthrady_reply luthrady_checked_batch(
 #define luthrady_delete_local_ref(...) luthrady_checked_delete_local_ref(__VA_ARGS__)
 #define luthrady_is_same_object(...) luthrady_checked_is_same_object(__VA_ARGS__)
 #define luthrady_get_object_ref_type(...) luthrady_checked_get_object_ref_type(__VA_ARGS__)
+#define luthrady_upgrade_local(...) luthrady_checked_upgrade_local(__VA_ARGS__)
+#define luthrady_upgrade_global(...) luthrady_checked_upgrade_global(__VA_ARGS__)
+#define luthrady_delete_cleared(...) luthrady_checked_delete_cleared(__VA_ARGS__)
 #define luthrady_ensure_local_capacity(...) luthrady_checked_ensure_local_capacity(__VA_ARGS__)
 #define luthrady_push_local_frame(...) luthrady_checked_push_local_frame(__VA_ARGS__)
 #define luthrady_pop_local_frame(...) luthrady_checked_pop_local_frame(__VA_ARGS__)
 #define luthrady_free_locals(...) luthrady_checked_free_locals(__VA_ARGS__)
 #define luthrady_new_plain(...) luthrady_checked_new_plain(__VA_ARGS__)
+#define luthrady_new_boolean_array(...) luthrady_checked_new_boolean_array(__VA_ARGS__)
 #define luthrady_new_byte_array(...) luthrady_checked_new_byte_array(__VA_ARGS__)
+#define luthrady_new_char_array(...) luthrady_checked_new_char_array(__VA_ARGS__)
+#define luthrady_new_short_array(...) luthrady_checked_new_short_array(__VA_ARGS__)
 #define luthrady_new_int_array(...) luthrady_checked_new_int_array(__VA_ARGS__)
 #define luthrady_new_long_array(...) luthrady_checked_new_long_array(__VA_ARGS__)
 #define luthrady_new_object_array(...) luthrady_checked_new_object_array(__VA_ARGS__)
@@ -786,12 +1495,40 @@ static inline struct luthrady_reply luthrady_checked_batch(
 #define luthrady_get_string_length(...) luthrady_checked_get_string_length(__VA_ARGS__)
 #define luthrady_get_object_array_element(...) luthrady_checked_get_object_array_element(__VA_ARGS__)
 #define luthrady_set_object_array_element(...) luthrady_checked_set_object_array_element(__VA_ARGS__)
+#define luthrady_set_boolean_array_region(...) luthrady_checked_set_boolean_array_region(__VA_ARGS__)
 #define luthrady_set_byte_array_region(...) luthrady_checked_set_byte_array_region(__VA_ARGS__)
+#define luthrady_set_char_array_region(...) luthrady_checked_set_char_array_region(__VA_ARGS__)
+#define luthrady_set_short_array_region(...) luthrady_checked_set_short_array_region(__VA_ARGS__)
 #define luthrady_set_int_array_region(...) luthrady_checked_set_int_array_region(__VA_ARGS__)
 #define luthrady_set_long_array_region(...) luthrady_checked_set_long_array_region(__VA_ARGS__)
+#define luthrady_get_boolean_array_region(...) luthrady_checked_get_boolean_array_region(__VA_ARGS__)
 #define luthrady_get_byte_array_region(...) luthrady_checked_get_byte_array_region(__VA_ARGS__)
+#define luthrady_get_char_array_region(...) luthrady_checked_get_char_array_region(__VA_ARGS__)
+#define luthrady_get_short_array_region(...) luthrady_checked_get_short_array_region(__VA_ARGS__)
 #define luthrady_get_int_array_region(...) luthrady_checked_get_int_array_region(__VA_ARGS__)
 #define luthrady_get_long_array_region(...) luthrady_checked_get_long_array_region(__VA_ARGS__)
+#define luthrady_get_string_region(...) luthrady_checked_get_string_region(__VA_ARGS__)
+#define luthrady_new_string_utf8(...) luthrady_checked_new_string_utf8(__VA_ARGS__)
+#define luthrady_get_string_utf8(...) luthrady_checked_get_string_utf8(__VA_ARGS__)
+#define luthrady_get_boolean_array_elements(...) luthrady_checked_get_boolean_array_elements(__VA_ARGS__)
+#define luthrady_get_byte_array_elements(...) luthrady_checked_get_byte_array_elements(__VA_ARGS__)
+#define luthrady_get_char_array_elements(...) luthrady_checked_get_char_array_elements(__VA_ARGS__)
+#define luthrady_get_short_array_elements(...) luthrady_checked_get_short_array_elements(__VA_ARGS__)
+#define luthrady_get_int_array_elements(...) luthrady_checked_get_int_array_elements(__VA_ARGS__)
+#define luthrady_get_long_array_elements(...) luthrady_checked_get_long_array_elements(__VA_ARGS__)
+#define luthrady_release_boolean_array_elements(...) luthrady_checked_release_boolean_array_elements(__VA_ARGS__)
+#define luthrady_release_byte_array_elements(...) luthrady_checked_release_byte_array_elements(__VA_ARGS__)
+#define luthrady_release_char_array_elements(...) luthrady_checked_release_char_array_elements(__VA_ARGS__)
+#define luthrady_release_short_array_elements(...) luthrady_checked_release_short_array_elements(__VA_ARGS__)
+#define luthrady_release_int_array_elements(...) luthrady_checked_release_int_array_elements(__VA_ARGS__)
+#define luthrady_release_long_array_elements(...) luthrady_checked_release_long_array_elements(__VA_ARGS__)
+#define luthrady_kind_of(...) luthrady_checked_kind_of(__VA_ARGS__)
+#define luthrady_identity_of(...) luthrady_checked_identity_of(__VA_ARGS__)
+#define luthrady_explain(...) luthrady_checked_explain(__VA_ARGS__)
+#define luthrady_words_used(...) luthrady_checked_words_used(__VA_ARGS__)
+#define luthrady_local_counts(...) luthrady_checked_local_counts(__VA_ARGS__)
+#define luthrady_census(...) luthrady_checked_census(__VA_ARGS__)
+#define luthrady_census_announced(...) luthrady_checked_census_announced(__VA_ARGS__)
 #define luthrady_collect(...) luthrady_checked_collect(__VA_ARGS__)
 #define luthrady_collect_announced(...) luthrady_checked_collect_announced(__VA_ARGS__)
 #define luthrady_batch(...) luthrady_checked_batch(__VA_ARGS__)

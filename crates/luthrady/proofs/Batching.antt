@@ -10,7 +10,7 @@ use Rattle.jr_steps.specs.declared.steps.Steps.{Ghosts}
 use Rattle.jr_env.specs.declared.stay.Stay.{Stay}
 use Rattle.luthrady.specs.declared.batches.Call.{Call}
 use Rattle.luthrady.specs.declared.handles.EnvHandle.{EnvHandle}
-use Rattle.luthrady.specs.declared.held.Attached.{Attached}
+use Rattle.luthrady.specs.declared.held.EnvPlace.{EnvPlace}
 use Rattle.luthrady.specs.declared.held.Native.{Native}
 use Rattle.luthrady.specs.declared.reply.Reply.{Reply}
 use Rattle.luthrady.specs.Behind.{with_env_of}
@@ -82,7 +82,7 @@ by_thread_in_stay cs calls answer old new o n m k is left same stayed marker =
     (m, left, there.0, there.1)
 
 -- where no env stands, the batch is refused, and nothing has changed
-pub batches_nobody : (cs : List Call) (h h' : EnvHandle) (a : Attached) → is_env h ≡ true → h' ≡ h → a ≡ h'.value
+pub batches_nobody : (cs : List Call) (h h' : EnvHandle) (a : EnvPlace) → is_env h ≡ true → h' ≡ h → a ≡ h'.value
     → a.native ≡ None
     → (h'.at ≡ h.at) × ByThreadInStay h (with_env_of h' a) (native_behind h) cs cs (Err NotFresh)
 batches_nobody cs h h' a is same lent none = (

@@ -2,5 +2,9 @@ pub mod Pointers
 pub mod Lending
 pub mod Asking
 pub mod ThroughPointers
+pub mod DoingBy
+pub mod OwnRegions
+pub mod AllElements
 pub mod Batching
 pub mod Pooling
+pub mod ClearedOnce

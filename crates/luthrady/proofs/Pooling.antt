@@ -1,6 +1,6 @@
 -- How threads come to the place of a room, and go.
 use Rattle.std.proofs.Common.{◌≡◌, ◌∙◌, ◌==◌, ◌+◌, ◌↔◌, ℕ, zero, suc, Bool, true, false, List, [], ◌∷◌}
-use Rattle.std.proofs.Common.{◌++◌, length, map}
+use Rattle.std.proofs.Common.{length}
 use Rattle.std.proofs.Common.{Result, Ok, Err, Option, None, ⊎_elim, Some, ap, arith, refl, rules, subst, sym}
 use Rattle.std.proofs.Math.Logic.{∥∥₁_elim}
 use Rattle.std.proofs.Props.{props}
@@ -112,7 +112,8 @@ ends_beside others n some =
     subst (λ (b : Bool). EndsAs b n (Ok None)) (sym apart) refl
 
 pub ends_last : (others : ℕ) (n : Native) (answer : Result (Option Summary) Fault) → others ≡ 0
-    → WasClosedBy n answer → IfErr answer LeavesSome → EndsAs (others == 0) n answer
+    → WasClosedBy n answer → IfErr answer (λ e. LeavesSome n.env.held.steps e)
+    → EndsAs (others == 0) n answer
 ends_last others n answer none closed left =
     subst (λ (k : ℕ). EndsAs (k == 0) n answer) (sym none) (closed, left)
 

@@ -4,19 +4,12 @@ use Rattle.std.specs.Global.{Box}
 use Rattle.jr_word.specs.declared.fault.Fault.{Fault}
 use Rattle.jr_word.specs.declared.fault.Fault.TheVariants.{NotFresh}
 use Rattle.jr_env.specs.Envs.{Does}
-use Rattle.jr_env.specs.Deeds.{Deed, ensure_local_capacity, push_local_frame, read_answer}
-use Rattle.luthrady.specs.declared.frames.FrameCall.{FrameCall}
-use Rattle.luthrady.specs.declared.frames.FrameCall.TheVariants.{Ensure, Push}
+use Rattle.jr_env.specs.Deeds.{Deed, read_answer}
 use Rattle.luthrady.specs.declared.handles.EnvHandle.{EnvHandle}
 use Rattle.luthrady.specs.declared.held.Native.{Native}
 use Rattle.luthrady.specs.declared.reply.Reply.{Reply}
 use Rattle.luthrady.specs.Places.{native_behind}
 use Rattle.luthrady.specs.Replies.{reply_of, nothing_told}
-
--- a call for room for so many local references
-abbrev pub for_so_many : FrameCall → ℕ → Deed (Unit {0})
-for_so_many Ensure n = ensure_local_capacity n
-for_so_many Push n = push_local_frame n
 
 -- the env that stood there did the deed, and still stands, with the marker as it was;
 -- where none stood, it is E21, and nothing has changed

@@ -19,17 +19,17 @@ use Rattle.luthrady.specs.Replies.{reply_of}
 abbrev pub at_least_one : ℕ → ℕ
 at_least_one n = if n == 0 then 1 else n
 
--- the env that stood there made the collection, where its marker fits the room, as it does from the attaching on;
+-- the env that stood there did the deed, where its marker fits the room, as it does from the attaching on;
 -- the marker stays one of a room of so many objects; where no env stood, it is E21, and nothing has changed
-abbrev pub ByCollector : EnvHandle → EnvHandle → Option (Box Native) → Deed Collected → Result Collected Fault → Type 0
-ByCollector old new None deed answer = (answer ≡ Err NotFresh) × (new ≡ old)
-ByCollector old new (Some n) deed answer = (m : Box Native) × (native_behind new ≡ Some m)
+abbrev pub ByMarker : {A : Type 0} → EnvHandle → EnvHandle → Option (Box Native) → Deed A → Result A Fault → Type 0
+ByMarker old new None deed answer = (answer ≡ Err NotFresh) × (new ≡ old)
+ByMarker old new (Some n) deed answer = (m : Box Native) × (native_behind new ≡ Some m)
     × (FitsRoom n.value.marker n.value.env → Does n.value.env m.value.env deed answer)
     × (room_of m.value.marker ≡ room_of n.value.marker)
 
--- THE COLLECTION WAS MADE by the env behind the handle, with this answer; the handle points where it did
-abbrev pub WasCollected : EnvHandle → EnvHandle → Deed Collected → Result Collected Fault → Type 0
-WasCollected old new deed answer = (new.at ≡ old.at) × ByCollector old new (native_behind old) deed answer
+-- THE CALL WAS MADE WITH ITS MARKER by the env behind the handle, with this answer; the handle points where it did
+abbrev pub WasMadeMarking : {A : Type 0} → EnvHandle → EnvHandle → Deed A → Result A Fault → Type 0
+WasMadeMarking old new deed answer = (new.at ≡ old.at) × ByMarker old new (native_behind old) deed answer
 
 -- what is told of an answer: what the collection did; of a refusal, nothing
 abbrev pub counts_of : Result Collected Fault → Counts → Counts
@@ -40,4 +40,4 @@ counts_of (Err e) before = before
 abbrev pub CountsReplied : EnvHandle → EnvHandle → Deed Collected → Reply → Counts → Counts → Type 0
 CountsReplied old new deed reply before after =
     (answer : Result Collected Fault) × (reply ≡ reply_of (λ (c : Collected). 0) answer)
-    × (after ≡ counts_of answer before) × WasCollected old new deed answer
+    × (after ≡ counts_of answer before) × WasMadeMarking old new deed answer

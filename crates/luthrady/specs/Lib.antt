@@ -4,5 +4,12 @@ pub mod Calls
 pub mod Collecting
 pub mod Threads
 pub mod Opening
+pub mod Telling
+pub mod Clearing
+pub mod Counting
 pub mod Batches
+pub mod Doings
+pub mod InRegions
+pub mod Strings
+pub mod Copies
 pub mod Behind

@@ -4,7 +4,6 @@ use Rattle.std.specs.Global.{Box}
 use denote.RawPtr.{Ptr, block_ptr, null_ptr}
 use Rattle.luthrady.specs.declared.handles.EnvHandle.{EnvHandle}
 use Rattle.luthrady.specs.declared.handles.RoomHandle.{RoomHandle}
-use Rattle.luthrady.specs.declared.held.Attached.{Attached}
 use Rattle.luthrady.specs.declared.held.Native.{Native}
 
 -- what the place of a room begins with, and that of an env: eight letters in ASCII, `luthroom` and `luthrenv`

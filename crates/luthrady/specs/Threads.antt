@@ -1,19 +1,25 @@
 -- How threads come to a room, and leave it.
 use Rattle.std.specs.Prelude.{◌≡◌, ◌==◌, ℕ, Bool, true, false, [], ◌∷◌, ◌++◌, Option, Some, None, Result, Ok, Err}
-use Rattle.std.specs.Prelude.{◌≤◌, ◌<◌, ◌+◌, ◌⊎◌, length, IfErr, IfOk, IfSome}
+use Rattle.std.specs.Prelude.{◌<◌, ◌+◌, ◌⊎◌, length, IfErr, IfOk, IfSome}
+use Rattle.std.specs.Arc.{arc_value}
 use Rattle.std.specs.Global.{Box}
 use Rattle.jr_word.specs.declared.fault.Fault.{Fault}
 use Rattle.jr_word.specs.declared.fault.Fault.TheVariants.{InCritical, LeftInside, Memory, NotFresh}
 use Rattle.jr_model.specs.declared.summary.Summary.{Summary}
+use Rattle.jr_rule.specs.declared.cells.Cells.{Ghosts}
+use Rattle.jr_rule.specs.declared.closing.Left.{Left}
+use Rattle.jr_rule.specs.declared.over.StepsOver.{StepsOver}
+use Rattle.jr_rule.specs.declared.owned_cells.OwnedCells.{OwnedCells}
 use Rattle.jr_rule.specs.Passes.{Closes}
 use Rattle.jr_rule.specs.Rule.{stepping_pass}
+use Rattle.jr_owned.specs.Owners.{IsLeftByOwner, owner_of}
 use Rattle.jr_owned.specs.Pools.{IsIdle}
 use Rattle.jr_env.specs.Envs.{Does}
 use Rattle.jr_env.specs.Deeds.{free_locals}
 use Rattle.jr_env.specs.Collections.{FitsRoom}
 use Rattle.luthrady.specs.declared.handles.EnvHandle.{EnvHandle}
 use Rattle.luthrady.specs.declared.handles.RoomHandle.{RoomHandle}
-use Rattle.luthrady.specs.declared.held.Attached.{Attached}
+use Rattle.luthrady.specs.declared.held.EnvPlace.{EnvPlace}
 use Rattle.luthrady.specs.declared.held.Native.{Native}
 use Rattle.luthrady.specs.declared.held.Opened.{Opened}
 use Rattle.luthrady.specs.declared.reply.Reply.{Reply}
@@ -22,7 +28,7 @@ use Rattle.luthrady.specs.Places.{env_mark, has_attached, is_env, is_null, is_ro
 use Rattle.luthrady.specs.Replies.{reply_of, nothing_told, the_number}
 
 -- AN ENV STANDS IN ITS PLACE, with a marker that fits its room
-abbrev pub IsPlaced : Box Native → Attached → Type 0
+abbrev pub IsPlaced : Box Native → EnvPlace → Type 0
 IsPlaced n a = (a.native ≡ Some n) × (a.mark ≡ env_mark) × FitsRoom n.value.marker n.value.env
 
 -- the place of a room has the same envs, so many attached threads, and is released or not, as before
@@ -32,7 +38,7 @@ IsSamePlace old new = (new.envs.items ≡ old.envs.items) × (new.attached ≡ o
 
 -- AN ENV THAT NO THREAD HELD WAS HANDED OUT, idle, and the others stay, in their order;
 -- it is E21 just where there is none, and else E16 alone; then nothing has changed
-abbrev pub IsAttached : Opened → Opened → Result (Box Attached) Fault → Type 0
+abbrev pub IsAttached : Opened → Opened → Result (Box EnvPlace) Fault → Type 0
 IsAttached old new (Ok a) = (n : Box Native) × IsPlaced n a.value × IsIdle n.value.env
     × (old.envs.items ≡ new.envs.items ++ n.value.env ∷ []) × (new.attached ≡ old.attached + 1)
     × (new.released ≡ old.released) × (new.mark ≡ old.mark)
@@ -40,7 +46,7 @@ IsAttached old new (Err e) = IsSamePlace old new
     × (((e ≡ NotFresh) × (old.envs.items ≡ [])) ⊎ ((e ≡ Memory) × (0 < length old.envs.items)))
 
 -- by the place of a room; where none stands behind the handle, it is E21, and nothing has changed
-abbrev pub ByPlace : Bool → RoomHandle → RoomHandle → Result (Box Attached) Fault → Type 0
+abbrev pub ByPlace : Bool → RoomHandle → RoomHandle → Result (Box EnvPlace) Fault → Type 0
 ByPlace true old new answer = IsAttached old.value new.value answer
 ByPlace false old new answer = (answer ≡ Err NotFresh) × (new ≡ old)
 
@@ -51,7 +57,7 @@ elsewhere x = 0
 -- A THREAD WAS ATTACHED, or was refused, as the reply tells
 abbrev pub AttachReplied : RoomHandle → RoomHandle → Reply → Type 0
 AttachReplied old new reply =
-    (answer : Result (Box Attached) Fault) × (reply ≡ reply_of elsewhere answer) × (new.at ≡ old.at)
+    (answer : Result (Box EnvPlace) Fault) × (reply ≡ reply_of elsewhere answer) × (new.at ≡ old.at)
     × ByPlace (is_room old) old new answer
 
 -- no env waits any more in the place of a room, and none will
@@ -88,13 +94,16 @@ abbrev pub WasClosedBy : Native → Result (Option Summary) Fault → Type 0
 WasClosedBy n closed =
     IfOk closed (λ o. IfSome o (λ s. Closes (stepping_pass n.env.held.steps.cells.cells.seat.me) s))
 
--- some threads were left inside
-abbrev pub LeavesSome : Fault → Type 0
-LeavesSome e = (n : ℕ) × (1 ≤ n) × (e ≡ LeftInside n)
+-- so many threads were left inside, some, as the thread of these steps found at its last look;
+-- and the room is as it was
+abbrev pub LeavesSome : {P : Type 0} {G : Ghosts (OwnedCells 4294967295) P} → StepsOver (OwnedCells 4294967295) P G
+    → Fault → Type 0
+LeavesSome s e =
+    (l : Left 4294967295) × (e ≡ l.fault) × IsLeftByOwner (arc_value s.cells.room) (owner_of s) l
 
 -- of an env that is let go: where no thread is attached any more, it closes the room, and else it does not
 abbrev pub EndsAs : Bool → Native → Result (Option Summary) Fault → Type 0
-EndsAs true n answer = WasClosedBy n answer × IfErr answer LeavesSome
+EndsAs true n answer = WasClosedBy n answer × IfErr answer (λ e. LeavesSome n.env.held.steps e)
 EndsAs false n answer = answer ≡ Ok None
 
 -- the env of a thread that goes lies behind the others; of a room that was released it is let go

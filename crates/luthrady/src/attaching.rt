@@ -12,7 +12,7 @@ ghost use Rattle.luthrady.specs.declared.held.Native.{Native};
 ghost use Rattle.luthrady.specs.Opening.{IsPlaceOpened};
 ghost use Rattle.luthrady.specs.Threads.{IsAttached, IsLetGo, IsPlaced, LeavesSome, TakesBack};
 
-use crate::held::{Attached, ENV_MARK, Native, Opened, ROOM_MARK};
+use crate::held::{ENV_MARK, EnvPlace, Native, Opened, ROOM_MARK};
 use jr_model::Summary;
 use jr_owned::{OwnedEnv, close_owned, open_envs};
 use jr_word::{Config, Fault};
@@ -49,7 +49,7 @@ impl Opened {
     /// E21 where no env is free; E16 where memory was refused.
     ///
     /// No env is gone then.
-    pub(crate) fn attach(&mut self, alloc: Global) -> Result<Box<Attached>, Fault>
+    pub(crate) fn attach(&mut self, alloc: Global) -> Result<Box<EnvPlace>, Fault>
         ensures { IsAttached self.old self.new result }
     {
         let Some(env) = self.envs.pop() else {
@@ -103,11 +103,11 @@ impl Opened {
 /// # Errors
 ///
 /// The env, where memory was refused.
-fn place_of(alloc: Global, env: OwnedEnv) -> Result<Box<Attached>, OwnedEnv>
+fn place_of(alloc: Global, env: OwnedEnv) -> Result<Box<EnvPlace>, OwnedEnv>
     ensures placed { IfOk result (λ a. (n : Box Native) × IsPlaced n a.value × (n.value.env ≡ env)) }
     ensures back { IfErr result (λ e. e ≡ env) }
 {
-    let nobody = Attached {
+    let nobody = EnvPlace {
         mark: ENV_MARK,
         native: None,
     };
@@ -152,7 +152,7 @@ fn native_of(alloc: Global, env: OwnedEnv) -> Result<Box<Native>, OwnedEnv>
 /// E22 where threads are left inside.
 fn closed(env: OwnedEnv) -> Result<Option<Summary>, Fault>
     ensures closed { IsOutside env → IfOk result (λ o. IfSome o (λ s. Closes (stepping_pass env.held.steps.cells.cells.seat.me) s)) }
-    ensures left { IfErr result LeavesSome }
+    ensures left { IsOutside env → IfErr result (λ e. LeavesSome env.held.steps e) }
 {
     match close_owned(env.into_pass()) {
         Ok(summary) => Ok(summary),

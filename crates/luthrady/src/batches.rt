@@ -6,7 +6,7 @@ ghost use Rattle.luthrady.specs.Batches.{operation_number, AreMade, BatchReplied
 use crate::behind::{env_of, is_env};
 use crate::handles::EnvHandle;
 use crate::held::Native;
-use crate::reply::{Reply, of_bool, of_byte, of_nothing, of_number, of_optional};
+use crate::reply::{Reply, bool_reply, byte_reply, nothing_reply, number_reply, optional_reply};
 use jr_env::{Env, NativeInterface, Stay};
 use jr_steps::Steps;
 use jr_word::{Fault, Handle};
@@ -91,7 +91,7 @@ impl Operation {
 pub extern "C" fn luthrady_batch(env: &mut EnvHandle, calls: &mut [Call]) -> Reply
     ensures { BatchReplied env.old env.new calls.old calls.new result }
 {
-    of_nothing(batch(env, calls))
+    nothing_reply(batch(env, calls))
 }
 
 /// Makes calls in one stay of the env behind a pointer.
@@ -159,24 +159,24 @@ fn make_one<S: Steps>(stay: &mut Stay<'_, S>, call: Call) -> Reply
     let first = Handle(call.first);
     let second = Handle(call.second);
     let Some(operation) = Operation::of(call.operation) else {
-        return of_nothing(Err(Fault::Range));
+        return nothing_reply(Err(Fault::Range));
     };
     match operation {
-        Operation::NewGlobalRef => of_optional(stay.new_global_ref(first)),
-        Operation::NewWeakGlobalRef => of_optional(stay.new_weak_global_ref(first)),
-        Operation::NewLocalRef => of_optional(stay.new_local_ref(first)),
-        Operation::DeleteGlobalRef => of_nothing(stay.delete_global_ref(first)),
-        Operation::DeleteWeakGlobalRef => of_nothing(stay.delete_weak_global_ref(first)),
-        Operation::DeleteLocalRef => of_nothing(stay.delete_local_ref(first)),
-        Operation::IsSameObject => of_bool(stay.is_same_object(first, second)),
-        Operation::GetObjectRefType => of_byte(stay.get_object_ref_type(first)),
-        Operation::GetArrayLength => of_number(stay.get_array_length(first)),
-        Operation::GetStringLength => of_number(stay.get_string_length(first)),
+        Operation::NewGlobalRef => optional_reply(stay.new_global_ref(first)),
+        Operation::NewWeakGlobalRef => optional_reply(stay.new_weak_global_ref(first)),
+        Operation::NewLocalRef => optional_reply(stay.new_local_ref(first)),
+        Operation::DeleteGlobalRef => nothing_reply(stay.delete_global_ref(first)),
+        Operation::DeleteWeakGlobalRef => nothing_reply(stay.delete_weak_global_ref(first)),
+        Operation::DeleteLocalRef => nothing_reply(stay.delete_local_ref(first)),
+        Operation::IsSameObject => bool_reply(stay.is_same_object(first, second)),
+        Operation::GetObjectRefType => byte_reply(stay.get_object_ref_type(first)),
+        Operation::GetArrayLength => number_reply(stay.get_array_length(first)),
+        Operation::GetStringLength => number_reply(stay.get_string_length(first)),
         Operation::GetObjectArrayElement => {
-            of_optional(stay.get_object_array_element(first, call.index))
+            optional_reply(stay.get_object_array_element(first, call.index))
         }
         Operation::SetObjectArrayElement => {
-            of_nothing(stay.set_object_array_element(first, call.index, second))
+            nothing_reply(stay.set_object_array_element(first, call.index, second))
         }
     }
 }

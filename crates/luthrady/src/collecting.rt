@@ -1,16 +1,14 @@
 //! Collections.
 ghost use Rattle.std.specs.Prelude.{◌≡◌, ◌≤◌};
 ghost use Rattle.jr_weak.specs.declared.collecting.Collected.{Collected};
-ghost use Rattle.jr_weak.specs.Markers.{room_of};
-ghost use Rattle.jr_env.specs.Collections.{collection, announced_collection, FitsRoom};
-ghost use Rattle.jr_env.specs.Envs.{Does};
-ghost use Rattle.luthrady.specs.Collecting.{WasCollected, CountsReplied, at_least_one, counts_of};
+ghost use Rattle.jr_env.specs.Collections.{collection, announced_collection};
+ghost use Rattle.luthrady.specs.Collecting.{CountsReplied, at_least_one, counts_of};
 ghost use Rattle.luthrady.specs.Replies.{reply_of};
 
-use crate::behind::{env_of, is_env};
 use crate::handles::EnvHandle;
 use crate::held::Native;
-use crate::reply::{Reply, of_nothing};
+use crate::marker_call::{MarkerCall, make_marking};
+use crate::reply::{Reply, nothing_reply};
 use jr_weak::Collected;
 use jr_word::Fault;
 
@@ -35,7 +33,7 @@ pub struct Counts {
 pub extern "C" fn luthrady_collect(env: &mut EnvHandle, out: &mut Counts) -> Reply
     ensures { CountsReplied env.old env.new collection result out.old out.new }
 {
-    told(collect(env), out)
+    told(make_marking(env, Collect), out)
 }
 
 /// Collects as `luthrady_collect` does, but announces it first, and tries so many times to shut the gate, at least once.
@@ -51,7 +49,7 @@ pub extern "C" fn luthrady_collect_announced(
 ) -> Reply
     ensures { CountsReplied env.old env.new (announced_collection (at_least_one tries)) result out.old out.new }
 {
-    told(collect_announced(env, tries), out)
+    told(make_marking(env, CollectAnnounced(tries)), out)
 }
 
 /// Tells what a collection did.
@@ -66,75 +64,46 @@ fn told(answer: Result<Collected, Fault>, out: &mut Counts) -> Reply
                 dropped: collected.dropped,
                 used: collected.used,
             };
-            of_nothing(Ok(()))
+            nothing_reply(Ok(()))
         }
-        Err(fault) => of_nothing(Err(fault)),
+        Err(fault) => nothing_reply(Err(fault)),
     }
 }
 
-/// Collects by the env behind a pointer.
-///
-/// # Errors
-///
-/// E21 where no env stands behind the handle; else those of `Env::collect`.
-fn collect(handle: &mut EnvHandle) -> Result<Collected, Fault>
-    ensures { WasCollected handle.old handle.new collection result }
-{
-    if !is_env(handle) {
-        return Err(Fault::NotFresh);
+/// A collection.
+#[derive(Clone, Copy)]
+struct Collect;
+
+impl MarkerCall for Collect {
+    type Answer = Collected;
+
+    ghost deed = { λ c. collection };
+
+    fn by(self, native: &mut Native) -> Result<Collected, Fault> {
+        native.env.collect(&mut native.marker)
     }
-    let Some(native) = &mut env_of(handle).native else {
-        return Err(Fault::NotFresh);
-    };
-    collect_by(&mut *native)
 }
 
-/// Collects by a thread's env.
-///
-/// # Errors
-///
-/// Those of `Env::collect`.
-fn collect_by(native: &mut Native) -> Result<Collected, Fault>
-    ensures call { FitsRoom native.old.marker native.old.env → Does native.old.env native.new.env collection result }
-    ensures room { room_of native.new.marker ≡ room_of native.old.marker }
-{
-    native.env.collect(&mut native.marker)
-}
+/// A collection that is announced, with so many tries, at least one.
+#[derive(Clone, Copy)]
+struct CollectAnnounced(u32);
 
-/// Collects by the env behind a pointer, and announces it.
-///
-/// # Errors
-///
-/// E21 where no env stands behind the handle; else those of `Env::collect_announced`.
-fn collect_announced(handle: &mut EnvHandle, tries: u32) -> Result<Collected, Fault>
-    ensures { WasCollected handle.old handle.new (announced_collection (at_least_one tries)) result }
-{
-    if !is_env(handle) {
-        return Err(Fault::NotFresh);
+impl MarkerCall for CollectAnnounced {
+    type Answer = Collected;
+
+    ghost deed = { λ c. announced_collection (at_least_one c.0) };
+
+    fn by(self, native: &mut Native) -> Result<Collected, Fault> {
+        native
+            .env
+            .collect_announced(&mut native.marker, some(self.0))
     }
-    let Some(native) = &mut env_of(handle).native else {
-        return Err(Fault::NotFresh);
-    };
-    collect_announced_by(&mut *native, some(tries))
 }
 
 /// So many, and at least one.
-fn some(tries: u32) -> u32
+pub(crate) fn some(tries: u32) -> u32
     ensures some { 1 ≤ result }
     ensures tries { result ≡ at_least_one tries }
 {
     if tries == 0 { 1 } else { tries }
-}
-
-/// Collects by a thread's env, and announces it.
-///
-/// # Errors
-///
-/// Those of `Env::collect_announced`.
-fn collect_announced_by(native: &mut Native, tries: u32) -> Result<Collected, Fault>
-    requires { 1 ≤ tries }
-    ensures call { FitsRoom native.old.marker native.old.env → Does native.old.env native.new.env (announced_collection tries) result }
-    ensures room { room_of native.new.marker ≡ room_of native.old.marker }
-{
-    native.env.collect_announced(&mut native.marker, tries)
 }

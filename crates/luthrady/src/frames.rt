@@ -1,15 +1,13 @@
 //! Frames of local references.
-ghost use Rattle.std.specs.Prelude.{◌≡◌};
 ghost use Rattle.jr_env.specs.Deeds.{ensure_local_capacity, free_locals, pop_local_frame, push_local_frame};
-ghost use Rattle.jr_env.specs.Envs.{Does};
-ghost use Rattle.luthrady.specs.Calls.{Replied, WasMade, for_so_many};
+ghost use Rattle.luthrady.specs.Calls.{Replied};
 ghost use Rattle.luthrady.specs.Replies.{nothing_told, word_or_null};
 
-use crate::behind::{env_of, is_env};
 use crate::calling::make;
 use crate::handles::EnvHandle;
 use crate::held::Native;
-use crate::reply::{Reply, of_nothing, of_optional};
+use crate::reply::{Reply, nothing_reply, optional_reply};
+use crate::thread_call::{ThreadCall, make_by_thread};
 use jr_env::calls::{FreeLocals, PopLocalFrame};
 use jr_word::{Fault, Handle};
 
@@ -22,7 +20,7 @@ use jr_word::{Fault, Handle};
 pub extern "C" fn luthrady_ensure_local_capacity(env: &mut EnvHandle, capacity: u32) -> Reply
     ensures { Replied nothing_told env.old env.new (ensure_local_capacity capacity) result }
 {
-    of_nothing(with_room(env, FrameCall::Ensure, capacity))
+    nothing_reply(make_by_thread(env, EnsureLocalCapacity(capacity)))
 }
 
 /// Opens a frame for so many local references. (JNI Specification, chapter 4, "PushLocalFrame")
@@ -34,7 +32,7 @@ pub extern "C" fn luthrady_ensure_local_capacity(env: &mut EnvHandle, capacity: 
 pub extern "C" fn luthrady_push_local_frame(env: &mut EnvHandle, capacity: u32) -> Reply
     ensures { Replied nothing_told env.old env.new (push_local_frame capacity) result }
 {
-    of_nothing(with_room(env, FrameCall::Push, capacity))
+    nothing_reply(make_by_thread(env, PushLocalFrame(capacity)))
 }
 
 /// Closes the current frame, and makes a reference in the one before to what the word names. (JNI Specification, chapter 4, "PopLocalFrame")
@@ -46,7 +44,7 @@ pub extern "C" fn luthrady_push_local_frame(env: &mut EnvHandle, capacity: u32) 
 pub extern "C" fn luthrady_pop_local_frame(env: &mut EnvHandle, kept: u64) -> Reply
     ensures { Replied word_or_null env.old env.new (pop_local_frame kept) result }
 {
-    of_optional(make(env, PopLocalFrame(Handle(kept))))
+    optional_reply(make(env, PopLocalFrame(Handle(kept))))
 }
 
 /// Frees all local references, as at the end of a native method. The Java Native Interface has no such call.
@@ -58,46 +56,33 @@ pub extern "C" fn luthrady_pop_local_frame(env: &mut EnvHandle, kept: u64) -> Re
 pub extern "C" fn luthrady_free_locals(env: &mut EnvHandle) -> Reply
     ensures { Replied nothing_told env.old env.new (free_locals) result }
 {
-    of_nothing(make(env, FreeLocals))
+    nothing_reply(make(env, FreeLocals))
 }
 
-/// A call for room for local references.
+/// A call that tells whether so many local references can be made.
 #[derive(Clone, Copy)]
-enum FrameCall {
-    /// It tells whether they can be made.
-    Ensure,
-    /// It opens a frame for them.
-    Push,
-}
+struct EnsureLocalCapacity(u32);
 
-/// Makes a call for room for so many local references, of the env behind a pointer.
-///
-/// # Errors
-///
-/// E21 where no env stands behind the handle; else those of the same call of `Env`.
-fn with_room(handle: &mut EnvHandle, call: FrameCall, capacity: u32) -> Result<(), Fault>
-    ensures { WasMade handle.old handle.new (for_so_many call capacity) result }
-{
-    if !is_env(handle) {
-        return Err(Fault::NotFresh);
+impl ThreadCall for EnsureLocalCapacity {
+    type Answer = ();
+
+    ghost deed = { λ e. ensure_local_capacity e.0 };
+
+    fn by(self, native: &mut Native) -> Result<(), Fault> {
+        native.env.ensure_local_capacity(self.0)
     }
-    let Some(native) = &mut env_of(handle).native else {
-        return Err(Fault::NotFresh);
-    };
-    with_room_by(&mut *native, call, capacity)
 }
 
-/// Makes a call for room for so many local references, of a thread's env.
-///
-/// # Errors
-///
-/// Those of the same call of `Env`.
-fn with_room_by(native: &mut Native, call: FrameCall, capacity: u32) -> Result<(), Fault>
-    ensures call { Does native.old.env native.new.env (for_so_many call capacity) result }
-    ensures marker { native.new.marker ≡ native.old.marker }
-{
-    match call {
-        FrameCall::Ensure => native.env.ensure_local_capacity(capacity),
-        FrameCall::Push => native.env.push_local_frame(capacity),
+/// A call that opens a frame for so many local references.
+#[derive(Clone, Copy)]
+struct PushLocalFrame(u32);
+
+impl ThreadCall for PushLocalFrame {
+    type Answer = ();
+
+    ghost deed = { λ p. push_local_frame p.0 };
+
+    fn by(self, native: &mut Native) -> Result<(), Fault> {
+        native.env.push_local_frame(self.0)
     }
 }

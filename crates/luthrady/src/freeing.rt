@@ -3,7 +3,7 @@ ghost use Rattle.std.specs.Prelude.{◌≡◌, true, false};
 ghost use Rattle.luthrady.specs.Places.{is_null};
 
 use crate::handles::{EnvHandle, RoomHandle};
-use crate::held::{Attached, Opened};
+use crate::held::{EnvPlace, Opened};
 use crate::parts::Parts;
 use std::alloc::Global;
 use std::mem;
@@ -20,19 +20,19 @@ fn no_env(alloc: Global, _like: &EnvHandle) -> EnvHandle
 }
 
 /// The place of an env's as a box's parts, by a handle that doesn't hold NULL.
-fn env_parts(handle: EnvHandle) -> Parts<Attached, Global>
+fn env_parts(handle: EnvHandle) -> Parts<EnvPlace, Global>
     requires { is_null handle.at ≡ false }
     ensures { result.value ≡ handle.value }
 {
     let EnvHandle { at, alloc } = handle;
     Parts {
-        ptr: at as *mut Attached,
+        ptr: at as *mut EnvPlace,
         alloc,
     }
 }
 
 /// Takes the place of an env's from behind a pointer that isn't NULL, and leaves NULL.
-pub(crate) fn take_env(alloc: Global, handle: &mut EnvHandle) -> Box<Attached>
+pub(crate) fn take_env(alloc: Global, handle: &mut EnvHandle) -> Box<EnvPlace>
     requires { is_null handle.old.at ≡ false }
     ensures value { result.value ≡ handle.old.value }
     ensures null { is_null handle.new.at ≡ true }

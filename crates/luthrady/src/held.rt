@@ -34,7 +34,7 @@ pub struct Native {
 /// The place of a thread's env: its mark, and the env, none once the thread was detached.
 #[repr(C)]
 #[derive(Drop)]
-pub struct Attached {
+pub struct EnvPlace {
     pub(crate) mark: u64,
     pub(crate) native: Option<Box<Native>>,
 }

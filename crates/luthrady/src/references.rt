@@ -6,7 +6,7 @@ ghost use Rattle.luthrady.specs.Replies.{nothing_told, the_number, word_or_null,
 
 use crate::calling::make;
 use crate::handles::EnvHandle;
-use crate::reply::{Reply, of_bool, of_byte, of_nothing, of_optional};
+use crate::reply::{Reply, bool_reply, byte_reply, nothing_reply, optional_reply};
 use jr_env::calls::{
     DeleteGlobalRef, DeleteLocalRef, DeleteWeakGlobalRef, GetObjectRefType, IsSameObject,
     NewGlobalRef, NewLocalRef, NewWeakGlobalRef,
@@ -22,7 +22,7 @@ use jr_word::Handle;
 pub extern "C" fn luthrady_new_global_ref(env: &mut EnvHandle, object: u64) -> Reply
     ensures { Replied word_or_null env.old env.new (new_reference Global object) result }
 {
-    of_optional(make(env, NewGlobalRef(Handle(object))))
+    optional_reply(make(env, NewGlobalRef(Handle(object))))
 }
 
 /// A new weak global reference to what the word names, NULL to null. (JNI Specification, chapter 4, "NewWeakGlobalRef")
@@ -34,7 +34,7 @@ pub extern "C" fn luthrady_new_global_ref(env: &mut EnvHandle, object: u64) -> R
 pub extern "C" fn luthrady_new_weak_global_ref(env: &mut EnvHandle, object: u64) -> Reply
     ensures { Replied word_or_null env.old env.new (new_reference Weak object) result }
 {
-    of_optional(make(env, NewWeakGlobalRef(Handle(object))))
+    optional_reply(make(env, NewWeakGlobalRef(Handle(object))))
 }
 
 /// A new local reference to what the word names, NULL to null. (JNI Specification, chapter 4, "NewLocalRef")
@@ -46,7 +46,7 @@ pub extern "C" fn luthrady_new_weak_global_ref(env: &mut EnvHandle, object: u64)
 pub extern "C" fn luthrady_new_local_ref(env: &mut EnvHandle, object: u64) -> Reply
     ensures { Replied word_or_null env.old env.new (new_local_ref object) result }
 {
-    of_optional(make(env, NewLocalRef(Handle(object))))
+    optional_reply(make(env, NewLocalRef(Handle(object))))
 }
 
 /// Deletes a global reference. (JNI Specification, chapter 4, "DeleteGlobalRef")
@@ -58,7 +58,7 @@ pub extern "C" fn luthrady_new_local_ref(env: &mut EnvHandle, object: u64) -> Re
 pub extern "C" fn luthrady_delete_global_ref(env: &mut EnvHandle, reference: u64) -> Reply
     ensures { Replied nothing_told env.old env.new (delete_reference Global reference) result }
 {
-    of_nothing(make(env, DeleteGlobalRef(Handle(reference))))
+    nothing_reply(make(env, DeleteGlobalRef(Handle(reference))))
 }
 
 /// Deletes a weak global reference. (JNI Specification, chapter 4, "DeleteWeakGlobalRef")
@@ -70,7 +70,7 @@ pub extern "C" fn luthrady_delete_global_ref(env: &mut EnvHandle, reference: u64
 pub extern "C" fn luthrady_delete_weak_global_ref(env: &mut EnvHandle, reference: u64) -> Reply
     ensures { Replied nothing_told env.old env.new (delete_reference Weak reference) result }
 {
-    of_nothing(make(env, DeleteWeakGlobalRef(Handle(reference))))
+    nothing_reply(make(env, DeleteWeakGlobalRef(Handle(reference))))
 }
 
 /// Deletes a local reference. (JNI Specification, chapter 4, "DeleteLocalRef")
@@ -82,7 +82,7 @@ pub extern "C" fn luthrady_delete_weak_global_ref(env: &mut EnvHandle, reference
 pub extern "C" fn luthrady_delete_local_ref(env: &mut EnvHandle, reference: u64) -> Reply
     ensures { Replied nothing_told env.old env.new (delete_local_ref reference) result }
 {
-    of_nothing(make(env, DeleteLocalRef(Handle(reference))))
+    nothing_reply(make(env, DeleteLocalRef(Handle(reference))))
 }
 
 /// Whether both words name the same object, 1 or 0. (JNI Specification, chapter 4, "IsSameObject")
@@ -94,7 +94,7 @@ pub extern "C" fn luthrady_delete_local_ref(env: &mut EnvHandle, reference: u64)
 pub extern "C" fn luthrady_is_same_object(env: &mut EnvHandle, left: u64, right: u64) -> Reply
     ensures { Replied zero_or_one env.old env.new (is_same_object left right) result }
 {
-    of_bool(make(env, IsSameObject(Handle(left), Handle(right))))
+    bool_reply(make(env, IsSameObject(Handle(left), Handle(right))))
 }
 
 /// The type of a reference: 0 invalid, 1 local, 2 global, 3 weak. (JNI Specification, chapter 4, "GetObjectRefType")
@@ -106,5 +106,5 @@ pub extern "C" fn luthrady_is_same_object(env: &mut EnvHandle, left: u64, right:
 pub extern "C" fn luthrady_get_object_ref_type(env: &mut EnvHandle, object: u64) -> Reply
     ensures { Replied the_number env.old env.new (get_object_ref_type object) result }
 {
-    of_byte(make(env, GetObjectRefType(Handle(object))))
+    byte_reply(make(env, GetObjectRefType(Handle(object))))
 }

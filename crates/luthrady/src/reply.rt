@@ -44,7 +44,7 @@ fn found(fault: Fault) -> u32
 }
 
 /// The answer of a call that was made.
-fn answered(value: u64) -> Reply
+pub(crate) fn answered(value: u64) -> Reply
     ensures { result ≡ reply_of the_number (Ok value) }
 {
     Reply {
@@ -56,7 +56,7 @@ fn answered(value: u64) -> Reply
 }
 
 /// The answer of a call that was refused.
-fn refused(fault: Fault) -> Reply
+pub(crate) fn refused(fault: Fault) -> Reply
     ensures { result ≡ reply_of the_number (Err fault) }
 {
     Reply {
@@ -68,7 +68,7 @@ fn refused(fault: Fault) -> Reply
 }
 
 /// The answer of a call that gives a number.
-pub(crate) fn of_number(answer: Result<u32, Fault>) -> Reply
+pub(crate) fn number_reply(answer: Result<u32, Fault>) -> Reply
     ensures { result ≡ reply_of the_number answer }
 {
     match answer {
@@ -77,8 +77,18 @@ pub(crate) fn of_number(answer: Result<u32, Fault>) -> Reply
     }
 }
 
+/// The answer of a call that gives a count.
+pub(crate) fn size_reply(answer: Result<usize, Fault>) -> Reply
+    ensures { result ≡ reply_of the_number answer }
+{
+    match answer {
+        Ok(number) => answered(number as u64),
+        Err(fault) => refused(fault),
+    }
+}
+
 /// The answer of a call that gives a kind's number.
-pub(crate) fn of_byte(answer: Result<u8, Fault>) -> Reply
+pub(crate) fn byte_reply(answer: Result<u8, Fault>) -> Reply
     ensures { result ≡ reply_of the_number answer }
 {
     match answer {
@@ -88,7 +98,7 @@ pub(crate) fn of_byte(answer: Result<u8, Fault>) -> Reply
 }
 
 /// The answer of a call that gives a reference.
-pub(crate) fn of_reference(answer: Result<Handle, Fault>) -> Reply
+pub(crate) fn reference_reply(answer: Result<Handle, Fault>) -> Reply
     ensures { result ≡ reply_of the_word answer }
 {
     match answer {
@@ -98,7 +108,7 @@ pub(crate) fn of_reference(answer: Result<Handle, Fault>) -> Reply
 }
 
 /// The answer of a call that gives a reference, or NULL.
-pub(crate) fn of_optional(answer: Result<Option<Handle>, Fault>) -> Reply
+pub(crate) fn optional_reply(answer: Result<Option<Handle>, Fault>) -> Reply
     ensures { result ≡ reply_of word_or_null answer }
 {
     match answer {
@@ -109,7 +119,7 @@ pub(crate) fn of_optional(answer: Result<Option<Handle>, Fault>) -> Reply
 }
 
 /// The answer of a call that gives a yes or a no.
-pub(crate) fn of_bool(answer: Result<bool, Fault>) -> Reply
+pub(crate) fn bool_reply(answer: Result<bool, Fault>) -> Reply
     ensures { result ≡ reply_of zero_or_one answer }
 {
     match answer {
@@ -120,7 +130,7 @@ pub(crate) fn of_bool(answer: Result<bool, Fault>) -> Reply
 }
 
 /// The answer of a call that gives nothing.
-pub(crate) fn of_nothing(answer: Result<(), Fault>) -> Reply
+pub(crate) fn nothing_reply(answer: Result<(), Fault>) -> Reply
     ensures { result ≡ reply_of nothing_told answer }
 {
     match answer {

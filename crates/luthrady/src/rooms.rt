@@ -9,8 +9,8 @@ use crate::behind::{env_of, has_attached, is_env, is_room, room_of};
 use crate::calling::make;
 use crate::freeing::{take_env, take_room};
 use crate::handles::{EnvHandle, RoomHandle, env_pointer, room_pointer};
-use crate::held::{Attached, Opened};
-use crate::reply::{Reply, of_nothing, of_number};
+use crate::held::{EnvPlace, Opened};
+use crate::reply::{Reply, nothing_reply, number_reply};
 use jr_env::calls::FreeLocals;
 use jr_model::Summary;
 use jr_word::{Config, Fault};
@@ -58,9 +58,9 @@ fn opened(answer: Result<Box<Opened>, Fault>, out: &mut *mut u8) -> Reply
     match answer {
         Ok(room) => {
             *out = room_pointer(room);
-            of_nothing(Ok(()))
+            nothing_reply(Ok(()))
         }
-        Err(fault) => of_nothing(Err(fault)),
+        Err(fault) => nothing_reply(Err(fault)),
     }
 }
 
@@ -76,21 +76,21 @@ pub extern "C" fn luthrady_attach(alloc: Global, room: &mut RoomHandle, out: &mu
     ensures { AttachReplied room.old room.new result }
 {
     if !is_room(room) {
-        return of_nothing(Err(Fault::NotFresh));
+        return nothing_reply(Err(Fault::NotFresh));
     }
     attached(room_of(room).attach(alloc), out)
 }
 
 /// Tells whether a thread was attached, and writes the pointer to its env.
-fn attached(answer: Result<Box<Attached>, Fault>, out: &mut *mut u8) -> Reply
+fn attached(answer: Result<Box<EnvPlace>, Fault>, out: &mut *mut u8) -> Reply
     ensures { result ≡ reply_of elsewhere answer }
 {
     match answer {
         Ok(made) => {
             *out = env_pointer(made);
-            of_nothing(Ok(()))
+            nothing_reply(Ok(()))
         }
-        Err(fault) => of_nothing(Err(fault)),
+        Err(fault) => nothing_reply(Err(fault)),
     }
 }
 
@@ -106,10 +106,10 @@ pub extern "C" fn luthrady_release(room: &mut RoomHandle) -> Reply
     ensures { ReleaseReplied room.old room.new result }
 {
     if !is_room(room) {
-        return of_nothing(Err(Fault::NotFresh));
+        return nothing_reply(Err(Fault::NotFresh));
     }
     room_of(room).release();
-    of_nothing(Ok(()))
+    nothing_reply(Ok(()))
 }
 
 /// What stood in a room as it was closed.
@@ -187,12 +187,12 @@ fn told(closed: Result<Option<Summary>, Fault>, out: &mut Stood) -> Reply
     ensures stood { out.new ≡ stood_of closed out.old }
 {
     match closed {
-        Ok(None) => of_number(Ok(0)),
+        Ok(None) => number_reply(Ok(0)),
         Ok(Some(summary)) => {
             *out = told_of(summary);
-            of_number(Ok(1))
+            number_reply(Ok(1))
         }
-        Err(fault) => of_number(Err(fault)),
+        Err(fault) => number_reply(Err(fault)),
     }
 }
 
@@ -208,13 +208,13 @@ pub extern "C" fn luthrady_free_env(alloc: Global, env: &mut EnvHandle) -> Reply
     ensures { FreeEnvReplied env.old env.new result }
 {
     if !is_env(env) {
-        return of_nothing(Err(Fault::NotFresh));
+        return nothing_reply(Err(Fault::NotFresh));
     }
     if env_of(env).native.is_some() {
-        return of_nothing(Err(Fault::InCritical));
+        return nothing_reply(Err(Fault::InCritical));
     }
     drop(take_env(alloc, env));
-    of_nothing(Ok(()))
+    nothing_reply(Ok(()))
 }
 
 /// Frees the place of a room, with the envs that no thread holds, and leaves NULL in its handle.
@@ -229,12 +229,12 @@ pub extern "C" fn luthrady_free_room(alloc: Global, room: &mut RoomHandle) -> Re
     ensures { FreeRoomReplied room.old room.new result }
 {
     if !is_room(room) {
-        return of_nothing(Err(Fault::NotFresh));
+        return nothing_reply(Err(Fault::NotFresh));
     }
     let attached = room_of(room).attached;
     if attached != 0 {
-        return of_nothing(Err(Fault::LeftInside(attached)));
+        return nothing_reply(Err(Fault::LeftInside(attached)));
     }
     drop(take_room(alloc, room));
-    of_nothing(Ok(()))
+    nothing_reply(Ok(()))
 }

@@ -4,8 +4,11 @@ use jr::{Refusal, Watcher};
 use std::io;
 use std::io::Write;
 
+/// How many calls have a row of counts of their own.
+const ROWS: usize = 7;
+
 /// The calls whose refusals are counted apart. Those of all others are counted in one row behind theirs.
-const CALLS: [&str; 7] = [
+const CALLS: [&str; ROWS] = [
     "DeleteGlobalRef",
     "GetArrayLength",
     "GetStringLength",
@@ -19,7 +22,7 @@ const CALLS: [&str; 7] = [
 const FAULTS: usize = 24;
 
 /// How many counts there are: those of one call, by their fault, stand side by side.
-const COUNTS: usize = 8 * FAULTS;
+const COUNTS: usize = (ROWS + 1) * FAULTS;
 
 /// How often each call had each fault.
 #[derive(Drop)]

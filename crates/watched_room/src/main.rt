@@ -1,4 +1,4 @@
-//! Native code that makes wrong calls, and two watchers over them: one writes a line for each refusal, as CheckJNI does, and one counts them by call and refusal.
+//! Native code that makes wrong calls, and three watchers over them: one writes a line for each refusal, as CheckJNI does, one hands each to a logger, and one counts them by call and refusal.
 #![tactic(auto)]
 
 mod counts;
@@ -9,9 +9,10 @@ use crate::counts::Counts;
 use crate::lines::Lines;
 use crate::native::native_code;
 use jr::{
-    Checked, Config, Env, Fault, Handle, LAST_SERIAL, NativeInterface, Patience, Room, RoomSteps,
-    Steps,
+    Checked, Config, Env, Fault, Handle, LAST_SERIAL, LogWatcher, NativeInterface, Patience, Room,
+    RoomSteps, Steps, Watcher,
 };
+use log::sink::Writer;
 use std::io;
 use std::io::{Cursor, Write};
 use thiserror::Error;
@@ -20,7 +21,7 @@ use thiserror::Error;
 const SIZES: Config = Config {
     threads: 2,
     slots: 8,
-    objects: 8,
+    objects: 16,
     words: 64,
     locals: 16,
 };
@@ -45,6 +46,7 @@ fn main(rt: HostRuntime) -> Result<(), Trouble> {
     let mut env = Env::new(RoomSteps::new(&room, pass)).map_err(|refused| refused.1)?;
     write_lines(&mut env, foreign, io::writer(&rt))?;
     write_counts(&mut env, foreign, &mut io::writer(&rt))?;
+    write_log(&mut env, foreign, io::writer(&rt))?;
     let is_told = tells_of_no_room(&mut env, foreign);
     println!(rt; "it is told that a line has no room in 64 bytes: {is_told}")?;
     Ok(())
@@ -60,6 +62,26 @@ fn write_lines<S: Steps, W: Write + Drop>(
     native_code(&mut checked, foreign)?;
     let (_env, lines) = checked.into_parts();
     lines.end()?;
+    Ok(())
+}
+
+/// Lets native code call an env by a name, and hands each refusal to a logger that writes at once.
+fn write_log<S: Steps, W: Write + Drop>(
+    env: &mut Env<S>,
+    foreign: Handle,
+    out: W,
+) -> Result<(), Trouble> {
+    call_by_name(env, foreign, LogWatcher::new(Writer::new(out), "jni"))
+}
+
+/// Lets native code call an env by a name, with this watcher.
+fn call_by_name<S: Steps, W: Watcher + Drop>(
+    env: &mut Env<S>,
+    foreign: Handle,
+    watcher: W,
+) -> Result<(), Trouble> {
+    let mut checked = Checked::named(env, watcher, "loader");
+    native_code(&mut checked, foreign)?;
     Ok(())
 }
 

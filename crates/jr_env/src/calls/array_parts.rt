@@ -14,6 +14,7 @@ ghost use Rattle.jr_env.specs.Works.{Serves, ServesWhole, ServesWithin};
 
 use crate::calls::names;
 use crate::native_call::{Handed, NativeCall};
+use crate::span::Span;
 use crate::work::outside;
 use jr_frames::{Frames, Held, Reference, find};
 use jr_gate::{Inside, enter};
@@ -40,7 +41,13 @@ impl<S: Steps, E: Elem> NativeCall<S> for SetArrayRegion<'_, E> {
 
     #[inline(always)]
     fn handed(&self) -> Handed {
-        Handed::One(self.0)
+        Handed::OneAt(
+            self.0,
+            Span {
+                start: self.1,
+                count: self.2.len(),
+            },
+        )
     }
 
     #[inline(always)]

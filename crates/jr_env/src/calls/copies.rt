@@ -4,6 +4,7 @@ use crate::calls::names;
 use crate::env::Env;
 use crate::native_call::{Handed, NativeCall, NativeCaller};
 use crate::patience::Patience;
+use crate::span::Span;
 use crate::work::outside;
 use jr_elements::{Elements, elements_of, put_back, read_all};
 use jr_frames::{Frames, Reference, find};
@@ -225,7 +226,13 @@ impl<S: Steps, E: Elem> NativeCall<S> for CopyBack<'_, E> {
 
     #[inline(always)]
     fn handed(&self) -> Handed {
-        Handed::One(self.array)
+        Handed::OneAt(
+            self.array,
+            Span {
+                start: 0,
+                count: self.elements.length() as usize,
+            },
+        )
     }
 
     #[inline(always)]

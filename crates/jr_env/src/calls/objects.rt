@@ -5,6 +5,7 @@ ghost use Rattle.jr_model.specs.Tests.{refused_by};
 ghost use Rattle.jr_model.specs.CallPrograms.{element_tests};
 
 use crate::native_call::{Handed, NativeCall};
+use crate::span::Span;
 use jr_frames::{Frames, Reference, find, new_local, resolve_both};
 use jr_gate::Inside;
 use jr_heap::{Numbers, header, is_array, is_objects, is_text};
@@ -140,7 +141,7 @@ impl<S: Steps> NativeCall<S> for GetObjectArrayElement {
 
     #[inline(always)]
     fn handed(&self) -> Handed {
-        Handed::One(self.0)
+        Handed::OneAt(self.0, Span::at(self.1))
     }
 
     #[inline(always)]
@@ -179,7 +180,7 @@ impl<S: Steps> NativeCall<S> for SetObjectArrayElement {
 
     #[inline(always)]
     fn handed(&self) -> Handed {
-        Handed::Both(self.0, self.2)
+        Handed::BothAt(self.0, self.2, Span::at(self.1))
     }
 
     #[inline(always)]

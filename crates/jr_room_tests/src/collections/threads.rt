@@ -304,18 +304,30 @@ fn ended<R: Threads>(rt: &R, thread: Option<JoinHandle<u32>>) -> Option<u32> {
     thread.map(|it| it.join(rt))
 }
 
-/// How often each of five threads did its job, side by side.
-fn done_by<R: Threads + Wait, S: Steps + Drop + Send>(
-    rt: &R,
-    alloc: Global,
-    jobs: [Duty; 5],
+/// An env for each of five threads, where there is a pass for it.
+struct FiveEnvs<S: Steps> {
     first: Result<Env<S>, NoPass>,
     second: Result<Env<S>, NoPass>,
     third: Result<Env<S>, NoPass>,
     fourth: Result<Env<S>, NoPass>,
     fifth: Result<Env<S>, NoPass>,
+}
+
+/// How often each of five threads did its job, side by side.
+fn done_by<R: Threads + Wait, S: Steps + Drop + Send>(
+    rt: &R,
+    alloc: Global,
+    jobs: [Duty; 5],
+    envs: FiveEnvs<S>,
 ) -> [Option<u32>; 5] {
     let [one, two, three, four, five] = jobs;
+    let FiveEnvs {
+        first,
+        second,
+        third,
+        fourth,
+        fifth,
+    } = envs;
     thread::scope(thread::scope_env(), rt, |scope| {
         let first = start(alloc, scope, one, first);
         let second = start(alloc, scope, two, second);
@@ -347,12 +359,14 @@ fn all_do<R: Threads + Wait + Abort>(
     arrays: u32,
 ) -> Result<(), Fail> {
     let (room, mut passes) = Room::<LAST>::open(alloc, SEVEN)?;
-    let first = next_env(&room, &mut passes);
-    let second = next_env(&room, &mut passes);
-    let third = next_env(&room, &mut passes);
-    let fourth = next_env(&room, &mut passes);
-    let fifth = next_env(&room, &mut passes);
-    let done = done_by(rt, alloc, jobs, first, second, third, fourth, fifth);
+    let envs = FiveEnvs {
+        first: next_env(&room, &mut passes),
+        second: next_env(&room, &mut passes),
+        third: next_env(&room, &mut passes),
+        fourth: next_env(&room, &mut passes),
+        fifth: next_env(&room, &mut passes),
+    };
+    let done = done_by(rt, alloc, jobs, envs);
     is_each_done(rt, jobs, done);
     has_arrays(rt, alloc, room, passes, arrays)
 }

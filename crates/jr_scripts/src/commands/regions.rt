@@ -16,6 +16,7 @@ ghost use Rattle.jr_scripts.specs.RegionCommands.{writing_at, writing_by};
 use crate::ask::{no_more, patience_for};
 use crate::names::Names;
 use crate::number::{Number, NumberKind};
+use crate::outcome::{Outcome, in_none, still};
 use crate::region::{NamedLevels, first};
 use crate::reply::Reply;
 use jr_critical::Levels;
@@ -25,7 +26,6 @@ use jr_model::Mode;
 use jr_steps::Steps;
 use jr_syntax::{Name, OnNameAt, OpenLevel, PutAt, Reference as Target};
 use jr_word::{Fault, Handle, Kind};
-use std::mem;
 
 /// What a verb opens a region over, by the handle of it.
 fn first_of(verb: OpenLevel, handle: Handle) -> First
@@ -76,28 +76,23 @@ fn open_levels<S: Steps>(
 pub(crate) fn open_region<S: Steps>(
     env: &mut Env<S>,
     names: &Names,
-    region: &mut Option<NamedLevels>,
     turns: u64,
     verb: OpenLevel,
     name: &Name,
     target: &Target,
-) -> Result<Reply, Fault>
-    requires outside { IsOutside env.old }
-    requires none { region.old ≡ None }
-    ensures does { DidWith env.old env.new None region.new (deed turns names.now (commands.OpenLevel verb name.now target.now)) result }
-    ensures stand { StandsWith region.new env.new }
-    ensures levels { level_names region.new ≡ levels_after (commands.OpenLevel verb name.now target.now) result [] }
-    ensures objects { objects_in region.new ≡ objects_after (commands.OpenLevel verb name.now target.now) result [] }
+) -> Outcome
+    requires { IsOutside env.old }
+    ensures does { DidWith env.old env.new None result.region (deed turns names.now (commands.OpenLevel verb name.now target.now)) result.answer }
+    ensures stand { StandsWith result.region env.new }
+    ensures levels { level_names result.region ≡ levels_after (commands.OpenLevel verb name.now target.now) result.answer [] }
+    ensures objects { objects_in result.region ≡ objects_after (commands.OpenLevel verb name.now target.now) result.answer [] }
 {
     match open_levels(env, names, turns, verb, target) {
         Ok(levels) => {
             let object = levels.object(0);
-            match mem::replace(region, Some(first(levels, name))) {
-                None => Ok(Reply::Level(object)),
-                Some(_before) => unreachable!(),
-            }
+            still(first(levels, name), Ok(Reply::Level(object)))
         }
-        Err(fault) => Err(fault),
+        Err(fault) => in_none(Err(fault)),
     }
 }
 

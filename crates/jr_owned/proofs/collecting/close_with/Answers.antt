@@ -1,5 +1,4 @@
-use Rattle.std.proofs.Common.{◌∙◌}
-use Rattle.jr_rule.specs.Passes.{holder_of, known_of}
+use Rattle.jr_rule.specs.Passes.{known_of}
 use Rattle.jr_owned.proofs.Collected.{collected_closes, collected_left}
 use Rattle.jr_owned.proofs.collecting.close_with.Goals as goal
 

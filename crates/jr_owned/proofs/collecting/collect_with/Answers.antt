@@ -3,8 +3,7 @@ use Rattle.jr_steps.specs.declared.known.Known.{Known}
 use Rattle.jr_steps.specs.Knowing.{view}
 use Rattle.jr_rule.specs.Rule.{stepping_pass}
 use Rattle.jr_threads.specs.Closing.{HasSweptAll}
-use Rattle.jr_threads.proofs.Swept.{knows_own}
-use Rattle.jr_owned.proofs.Collected.{swept_made}
+use Rattle.jr_threads.proofs.Swept.{knows_own, swept_made}
 use Rattle.jr_owned.proofs.collecting.collect_with.Goals as goal
 
 pub returns-in-Ok-clause-ok : goal.returns-in-Ok-clause-ok

@@ -39,24 +39,28 @@ returns-clause-step g c = λ p saw.
     let n3 : length (slice_set (slice_set (slice_set es i a) (i + 1) b) (i + 2) d) ≡ length es =
     length-set (slice_set (slice_set es i a) (i + 1) b) (i + 2) d ∙ n2 in
     let inside = c.requires.index in
-    let s1 = saw_more g.E.Elem.element_of c.args.object c.args.header c.args.start i (c.args.start + i) es a
-    c.see_one-first.result (omega arith) refl c.of_word.ensures saw c.see_one-first.ensures.step in
-    let s2 = saw_more g.E.Elem.element_of c.args.object c.args.header c.args.start (i + 1) (c.args.start + i + 1)
+    let s1 = saw_more g.E.Elem.element_of c.args.part.object c.args.part.header c.args.part.start i
+    (c.args.part.start + i) es a c.see_one-first.result (omega arith) refl c.of_word.ensures saw
+    c.see_one-first.ensures.step in
+    let s2 = saw_more g.E.Elem.element_of c.args.part.object c.args.part.header c.args.part.start (i + 1)
+    (c.args.part.start + i + 1)
     (slice_set es i a) b c.see_one-second.result (omega arith) (omega arith) c.of_word-2.ensures s1
     c.see_one-second.ensures.step in
-    let s3 = saw_more g.E.Elem.element_of c.args.object c.args.header c.args.start (i + 2) (c.args.start + i + 2)
+    let s3 = saw_more g.E.Elem.element_of c.args.part.object c.args.part.header c.args.part.start (i + 2)
+    (c.args.part.start + i + 2)
     (slice_set (slice_set es i a) (i + 1) b) d c.see_one-third.result (omega arith) (omega arith)
     c.of_word-3.ensures (subst (λ n. SawPart (facts_within g.C.Cells.sight) p c.see_one-second.new.cells
-    c.args.object c.args.header c.args.start g.E.Elem.element_of
+    c.args.part.object c.args.part.header c.args.part.start g.E.Elem.element_of
     (take n (slice_set (slice_set es i a) (i + 1) b))) two s2)
     c.see_one-third.ensures.step in
-    let s4 = saw_more g.E.Elem.element_of c.args.object c.args.header c.args.start (i + 3) (c.args.start + i + 3)
+    let s4 = saw_more g.E.Elem.element_of c.args.part.object c.args.part.header c.args.part.start (i + 3)
+    (c.args.part.start + i + 3)
     (slice_set (slice_set (slice_set es i a) (i + 1) b) (i + 2) d) e c.see_one-fourth.result (omega arith)
     (omega arith) c.of_word-4.ensures
-    (subst (λ n. SawPart (facts_within g.C.Cells.sight) p c.see_one-third.new.cells c.args.object c.args.header
-    c.args.start g.E.Elem.element_of
+    (subst (λ n. SawPart (facts_within g.C.Cells.sight) p c.see_one-third.new.cells c.args.part.object
+    c.args.part.header c.args.part.start g.E.Elem.element_of
     (take n (slice_set (slice_set (slice_set es i a) (i + 1) b) (i + 2) d))) three s3)
     c.see_one-fourth.ensures.step in
-    subst (λ n. SawPart (facts_within g.C.Cells.sight) p c.see_one-fourth.new.cells c.args.object c.args.header
-    c.args.start g.E.Elem.element_of
+    subst (λ n. SawPart (facts_within g.C.Cells.sight) p c.see_one-fourth.new.cells c.args.part.object
+    c.args.part.header c.args.part.start g.E.Elem.element_of
     (take n (slice_set (slice_set (slice_set (slice_set es i a) (i + 1) b) (i + 2) d) (i + 3) e))) four s4

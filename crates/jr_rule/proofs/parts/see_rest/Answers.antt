@@ -11,6 +11,7 @@ loop-index-preserved g c = let v = c.loop-index.invariant in let x = c.see_into.
 
 pub returns-clause-steps : goal.returns-clause-steps
 returns-clause-steps g c = λ p s.
-    saw_all g.E.Elem.element_of c.args.object c.args.header c.args.start c.loop-index.index (length c.args.elements.now)
+    saw_all g.E.Elem.element_of c.args.part.object c.args.part.header c.args.part.start c.loop-index.index
+    (length c.args.elements.now)
     c.loop-index.elements (let a = c.loop-index.auto.index-end in let b = c.loop-index-test.false in
     let d = c.requires.done in omega arith) c.loop-index.invariant.2 (c.loop-index.invariant.4 p s)

@@ -1,4 +1,4 @@
-use Rattle.std.proofs.Common.{◌≡◌, Some, ap, rules, refl, subst, ◌∙◌, to_z, of_z, w64}
+use Rattle.std.proofs.Common.{◌≡◌, Some, ap, rules, refl, subst, sym, ◌∙◌, to_z, of_z, w64}
 use Rattle.jr_critical.specs.Levels.{objects_of}
 use Rattle.jr_env.proofs.Carrying.{did_reply}
 use Rattle.jr_syntax.specs.declared.command.Command.TheVariants.{Make}
@@ -28,7 +28,7 @@ returns-in-PutAt g c =
     c.in-PutAt.index z) c.write_by-answer.result) back c.write_by-answer.ensures.does in
     as_told c.args.command.now _ _ c.still-in-PutAt.ensures.region c.still-in-PutAt.ensures.answer
     (inside c.args.command.now _ c.in-PutAt.is c.args.region c.requires.stand refl c.requires.follows did
-    c.write_by-answer.ensures.stand refl refl (buffers_kept c.args.names.now c.in-PutAt.verb c.in-PutAt.name
+    c.write_by-answer.ensures.stand refl refl (buffers_kept c.args.ledger.now.names c.in-PutAt.verb c.in-PutAt.name
     c.in-PutAt.index c.in-PutAt.value c.write_by-answer.result c.write_by-answer.ensures.other))
 
 pub returns-in-CloseLevel : goal.returns-in-CloseLevel
@@ -39,7 +39,7 @@ returns-in-CloseLevel g c =
 pub returns-in-Wait : goal.returns-in-Wait
 returns-in-Wait g c =
     as_told c.args.command.now _ _ c.still-in-Wait.ensures.region c.still-in-Wait.ensures.answer
-    (waited g.met.S.Steps.fits c.args.command.now (Some c.args.region) refl c.requires.stand
+    (waited g.met.S.Steps.fits c.args.command.now (Some c.args.region) refl c.as_slice.ensures.value c.requires.stand
     (c.in-Make.is ∙ ap (λ v. Make v c.in-Make.name) c.in-Wait.is) c.wait.ensures.frames c.wait.ensures.waited
     c.wait.ensures.follows c.wait.ensures.kept)
 
@@ -49,16 +49,20 @@ returns-in-Plain g c =
     as_told c.args.command.now _ _ c.still-in-Plain.ensures.region c.still-in-Plain.ensures.answer (refused_inside
     c.args.command.now c.args.region c.requires.stand c.requires.follows (ap is_of_region is))
 
+pub wait-requires-clause-follows : goal.wait-requires-clause-follows
+wait-requires-clause-follows g c =
+    subst (g.B.Board.follows c.args.board.now) (sym c.as_slice.ensures.value) c.requires.follows
+
 pub post-requires-clause-follows : goal.post-requires-clause-follows
-post-requires-clause-follows g c = (c.args.words.now, c.requires.follows)
+post-requires-clause-follows g c = (c.args.ledger.now.words.items, c.requires.follows)
 
 pub returns-in-OnName : goal.returns-in-OnName
 returns-in-OnName g c =
     as_told c.args.command.now _ _ c.still-in-OnName.ensures.region c.still-in-OnName.ensures.answer
     (posted g.met.S.Steps.fits c.args.command.now (Some c.args.region) refl c.requires.stand c.in-OnName.is
     c.word.ensures c.post.ensures.done c.post.ensures.frames
-    (c.post.ensures.posted c.args.words.now c.requires.follows)
-    (c.post.ensures.follows c.args.words.now c.requires.follows) c.post.ensures.kept)
+    (c.post.ensures.posted c.args.ledger.now.words.items c.requires.follows)
+    (c.post.ensures.follows c.args.ledger.now.words.items c.requires.follows) c.post.ensures.kept)
 
 pub returns-in_default : goal.returns-in_default
 returns-in_default g c =

@@ -15,18 +15,17 @@ returns-clause-ran g c =
     let x = c.run_to_end-answer.ensures.ended in
     let account = account_told {Q = g.row.Q.Denot} {G = g.Q.Site} c.run_to_end-answer.new.board.is_lost
     c.run_to_end-answer.new.board.posts.now.numbers.entries c.run_to_end-answer.new.board.notes.items in
-    ran_pass holder_over c.new.result _ _ c.args.pass c.into_pass.result _ _ (talk_told {Q = g.row.Q.Denot}
+    ran_pass holder_over c.new.result _ _ c.args.job.pass c.into_pass.result _ _ (talk_told {Q = g.row.Q.Denot}
     {G = g.Q.Site} c.run_to_end-answer.new.board.is_lost c.run_to_end-answer.new.board.posts.now.numbers.entries
-    c.run_to_end-answer.new.board.notes.items) c.args.turns c.args.first _ c.args.part.now.commands
+    c.run_to_end-answer.new.board.notes.items) c.args.job.task.turns c.args.job.task.first c.args.job.task.commands.now
     c.run_to_end-answer.result _ x.0 c.opened_env-env.ensures.steps c.run_to_end-answer.new.env.ready.spent
     (ran_still (carried account.posted account.posted account.heard account.heard (WasInVain
-    (λ first n found last. Unit {0}) c.args.turns) (λ n. Unit {0}) (λ words n w h t. t) (λ n w h t. t) (λ n v. tt)) x.2)
-    c.new.ensures.pass
+    (λ first n found last. Unit {0}) c.args.job.task.turns) (λ n. Unit {0}) (λ words n w h t. t) (λ n w h t. t)
+    (λ n v. tt)) x.2) c.new.ensures.pass
     (c.into_pass.ensures.pass
     ∙ ap holder_over (c.into_pass-steps.ensures.steps (x.2.stands_is.role ∙ c.opened_env-env.ensures.outside)))
     (c.opened_env-env.ensures.frames
     ∙ ap (λ (h : Holder). fresh_frames (facts_of h).stands.config.locals) c.new.ensures.pass)
-    c.as_slice-commands.ensures
     (x.1 ∙ ap (λ l. l ++ x.0) c.new-text.ensures.items)
 
 pub returns-clause-over : goal.returns-clause-over

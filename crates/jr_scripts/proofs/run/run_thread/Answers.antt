@@ -6,32 +6,32 @@ use Rattle.jr_scripts.proofs.run.run_thread.Goals as goal
 
 pub loop-i-init : goal.loop-i-init
 loop-i-init g c = (
-  begun _ _ _ _ _ _ _ _ c.requires.outside c.new-names.ensures c.new-words.ensures.items,
+  begun _ _ _ _ _ _ _ _ c.requires.outside c.new-ledger.ensures.names c.new-ledger.ensures.words,
   c.requires.outside,
   refl,
   keeps_all,
-  subst (g.B.Board.follows c.args.board.now) (sym c.new-words.ensures.items) c.requires.follows,
+  subst (g.B.Board.follows c.args.board.now) (sym c.new-ledger.ensures.words) c.requires.follows,
 )
 
 pub loop-i-preserved : goal.loop-i-preserved
 loop-i-preserved g c = (
-  went_on (carries_on g.B.Board.layout g.B.Board.tells g.B.Board.looked c.args.turns _ _
+  went_on (carries_on g.B.Board.layout g.B.Board.tells g.B.Board.looked c.args.task.turns _ _
       c.advance-outcome.ensures.did.kept) _
-      _ _ c.loop-i.i c.index-commands-i.result _ _ _ _ _ _ c.as_slice.ensures.value _ _ c.record.result (omega arith)
-      (search rules) c.loop-i.invariant.0 c.advance-outcome.ensures.did.does c.advance-outcome.ensures.did.names
-      c.advance-outcome.ensures.did.levels c.advance-outcome.ensures.did.objects c.record.ensures c.in-Ok.is,
+      _ _ c.loop-i.i c.command-item.result _ _ _ _ _ _ (sym c.advance-outcome.ensures.words) _ _ c.record.result
+      (omega arith) (search rules) c.loop-i.invariant.0 c.advance-outcome.ensures.did.does
+      c.advance-outcome.ensures.did.names c.advance-outcome.ensures.did.levels
+      c.advance-outcome.ensures.did.objects c.record.ensures c.in-Ok.is,
   c.advance-outcome.ensures.did.stand,
   c.advance-outcome.ensures.room ∙ c.loop-i.invariant.2,
   still_more g.B.Board.layout g.B.Board.tells c.loop-i.invariant.3 c.advance-outcome.ensures.did.kept,
-  followed c.index-commands-i.result _ _ _ _ _ _ _ _ _ _ c.record.result (g.B.Board.follows
+  followed c.command-item.result _ _ _ _ _ _ _ _ _ _ c.record.result (g.B.Board.follows
       c.advance-outcome.new.board)
-      c.as_slice.ensures.value c.advance-outcome.ensures.did.names c.record.ensures c.in-Ok.is
+      (sym c.advance-outcome.ensures.words) c.advance-outcome.ensures.did.names c.record.ensures c.in-Ok.is
       c.advance-outcome.ensures.did.follows,
 )
 
 pub advance-outcome-requires-clause-follows : goal.advance-outcome-requires-clause-follows
-advance-outcome-requires-clause-follows g c =
-    subst (g.B.Board.follows c.loop-i.board) (sym c.as_slice.ensures.value) c.loop-i.invariant.4
+advance-outcome-requires-clause-follows g c = c.loop-i.invariant.4
 
 pub advance-outcome-requires-clause-there : goal.advance-outcome-requires-clause-there
 advance-outcome-requires-clause-there g c =
@@ -57,9 +57,9 @@ returns-clause-kept g c = c.loop-i.invariant.3
 
 pub returns-in_default-clause-explained : goal.returns-in_default-clause-explained
 returns-in_default-clause-explained g c =
-    cut_off (carries_on g.B.Board.layout g.B.Board.tells g.B.Board.looked c.args.turns _ _
+    cut_off (carries_on g.B.Board.layout g.B.Board.tells g.B.Board.looked c.args.task.turns _ _
     c.advance-outcome.ensures.did.kept)
-    _ _ _ c.loop-i.i c.index-commands-i.result _ _ _ _ _ _ c.as_slice.ensures.value _ _ c.record.result _
+    _ _ _ c.loop-i.i c.command-item.result _ _ _ _ _ _ (sym c.advance-outcome.ensures.words) _ _ c.record.result _
     c.requires.outside (omega arith) (search rules) c.loop-i.invariant.0 c.advance-outcome.ensures.did.does
     c.advance-outcome.ensures.did.objects c.record.ensures c.in_default.is c.end.ensures.does
 

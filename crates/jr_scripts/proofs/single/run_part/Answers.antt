@@ -19,7 +19,7 @@ returns-clause-ok c =
     ≡ heading c.args.part.now.name ++ x.0 ++ ending c.summary-summary.result =
     last ∙ (ap (λ l. l ++ c.in_ok-end.end.items) (x.1 ∙ ap (λ h. h ++ x.0) head)
     ∙ ap (λ e. heading c.args.part.now.name ++ x.0 ++ e) end) in
-    plain_run {commands = c.as_slice-commands.result.now} c.args.turns c.args.config c.args.part.now x.0
+    plain_run {commands = c.as_slice.result.now} c.args.turns c.args.config c.args.part.now x.0
     c.extend_from_slice.new.self.items c.summary-summary.result made c.requires.one
     c.in_ok-steps.ensures.opened c.opened_env-env.ensures.steps c.opened_env-env.ensures.frames (search rules)
     (search rules) (ran_still (carried (λ words n w h. Unit {0}) (λ words n w h. Unit {0}) (λ n w h. ⊥) (λ n w h. ⊥)

@@ -8,6 +8,6 @@ pub returns-in_default-clause-explained : goal.returns-in_default-clause-explain
 returns-in_default-clause-explained g c = (
   [],
   sym (append-nil c.args.out.now.items),
-  not_begun (talk_of g.B.Board.tells g.B.Board.looked c.args.turns c.args.board.now) c.args.turns c.args.first
-      c.args.commands.now,
+  not_begun (talk_of g.B.Board.tells g.B.Board.looked c.args.task.turns c.args.board.now) c.args.task.turns
+      c.args.task.first c.args.task.commands.now,
 )

@@ -102,6 +102,60 @@ pub struct Call {
     pub reply: Reply,
 }
 
+/// How many objects there are, by their kinds.
+#[repr(C)]
+#[derive(Clone, Copy, Debug, Default, PartialEq, Eq)]
+pub struct Population {
+    /// How many have no elements.
+    pub plain: u32,
+    /// How many arrays of booleans there are.
+    pub booleans: u32,
+    /// How many arrays of bytes there are.
+    pub bytes: u32,
+    /// How many arrays of chars there are.
+    pub chars: u32,
+    /// How many arrays of shorts there are.
+    pub shorts: u32,
+    /// How many arrays of ints there are.
+    pub ints: u32,
+    /// How many arrays of longs there are.
+    pub longs: u32,
+    /// How many arrays of objects there are.
+    pub objects: u32,
+    /// How many strings there are.
+    pub strings: u32,
+    /// How many there are of all kinds.
+    pub live: u32,
+    /// How many words of array space they have.
+    pub words: u32,
+}
+
+/// What stands in a room.
+#[repr(C)]
+#[derive(Clone, Copy, Debug, Default, PartialEq, Eq)]
+pub struct Inventory {
+    /// How many global references stand.
+    pub globals: u32,
+    /// How many weak references stand, cleared ones too.
+    pub weaks: u32,
+    /// How many of these are cleared.
+    pub cleared: u32,
+    /// How many slots are used no more, since each gave its last reference.
+    pub retired: u32,
+    /// The objects that are present.
+    pub present: Population,
+    /// Those of them that nothing reaches, which a collection would drop.
+    pub unreached: Population,
+    /// How many words are used.
+    pub used: u32,
+    /// How many of these no object has: creations reserved them that were refused afterwards.
+    pub lost: u32,
+    /// How many of these a collection would leave used.
+    pub reached: u32,
+    /// How many of these a collection would free.
+    pub freed: u32,
+}
+
 /// What a collection did.
 #[repr(C)]
 #[derive(Clone, Copy, Debug, Default, PartialEq, Eq)]
@@ -156,6 +210,32 @@ pub struct Stood {
     pub live: u32,
     /// How many words were used.
     pub used: u32,
+}
+
+/// What a word is.
+#[repr(C)]
+#[derive(Clone, Copy, Debug, Default, PartialEq, Eq)]
+pub struct Explained {
+    /// What it is, a luthrady_explanation.
+    pub explanation: u32,
+    /// The type of the reference that stands there, a luthrady_ref_type, 0 where none stands.
+    pub reference: u32,
+    /// The kind of the reference's object, a luthrady_kind, 0 where none stands or it is cleared.
+    pub kind: u32,
+}
+
+/// How many local references a thread has, and how many places for them.
+#[repr(C)]
+#[derive(Clone, Copy, Debug, Default, PartialEq, Eq)]
+pub struct Locals {
+    /// How many frames there are, with the base frame.
+    pub frames: u64,
+    /// How many references stand, in all frames together.
+    pub standing: u32,
+    /// How many places are free: so many more references can be made.
+    pub free: u32,
+    /// How many places have ever given a reference. No more stood at any moment.
+    pub given: u32,
 }
 
 unsafe extern "C" {
@@ -239,6 +319,24 @@ unsafe extern "C" {
     ///
     /// Refused: E21 where no env stands behind the handle; E13 where a thread is collecting at the entry, or has announced that it will.
     pub fn luthrady_get_object_ref_type(env: *mut EnvHandle, object: u64) -> Reply;
+    /// A local reference to what a weak one names, NULL where that is cleared. (JNI Specification, chapter 4, "NewLocalRef")
+    ///
+    /// Refused: E21 where no env stands behind the handle; E13 where a thread is collecting at the entry, or has announced that it will; E2 where the handle is malformed or lies outside the room; E3 where it is a local one of another thread; E2 where its reference does not stand; E9 where no local place is free.
+    ///
+    /// Nothing has changed then.
+    pub fn luthrady_upgrade_local(env: *mut EnvHandle, weak: u64) -> Reply;
+    /// A global reference to what a weak one names, NULL where that is cleared. (JNI Specification, chapter 4, "NewGlobalRef")
+    ///
+    /// Refused: E21 where no env stands behind the handle; E13 where a thread is collecting at the entry, or has announced that it will; E2 where the handle is malformed or lies outside the room; E3 where it is a local one of another thread; E2 where its reference does not stand; E8 where each slot was occupied when it was tried, or later in the call.
+    ///
+    /// Nothing has changed then.
+    pub fn luthrady_upgrade_global(env: *mut EnvHandle, weak: u64) -> Reply;
+    /// Deletes a weak global reference where it is cleared, and tells whether it was, 1 or 0: a comparison with NULL, and then the deletion, each by an entry of its own. NULL answers 1, and a word that is no weak reference 0. Behind a collection it gives slots back, where all were held (E8). The Java Native Interface has no such call.
+    ///
+    /// Refused: E21 where no env stands behind the handle; E13 where a thread is collecting at an entry, or has announced that it will; E2 where the handle is malformed or lies outside the room; E3 where it is a local one of another thread; E2 where its reference does not stand, at the comparison or at the deletion.
+    ///
+    /// Nothing has changed then.
+    pub fn luthrady_delete_cleared(env: *mut EnvHandle, weak: u64) -> Reply;
     /// Ensures that so many local references can be made in the current frame. (JNI Specification, chapter 4, "EnsureLocalCapacity")
     ///
     /// Refused: E21 where no env stands behind the handle; E9 where fewer places are free.
@@ -267,12 +365,30 @@ unsafe extern "C" {
     ///
     /// Nothing has changed then.
     pub fn luthrady_new_plain(env: *mut EnvHandle) -> Reply;
+    /// An array of booleans, each false, and a local reference to it. (JNI Specification, chapter 4, "New<PrimitiveType>Array Routines")
+    ///
+    /// Refused: E21 where no env stands behind the handle; E13 where a thread is collecting at the entry, or has announced that it will; E9 where no local place is free; E10 with how many words are reserved, where so many more don't fit; E12 with how many words were looked at and how many were found, where another thread reserved some in between; E11 where every object number was present at one moment of the call.
+    ///
+    /// Nothing has changed then; but after E11 the words of the array stay reserved until the next collection.
+    pub fn luthrady_new_boolean_array(env: *mut EnvHandle, length: u32) -> Reply;
     /// An array of bytes, each zero, and a local reference to it. (JNI Specification, chapter 4, "New<PrimitiveType>Array Routines")
     ///
     /// Refused: E21 where no env stands behind the handle; E13 where a thread is collecting at the entry, or has announced that it will; E9 where no local place is free; E10 with how many words are reserved, where so many more don't fit; E12 with how many words were looked at and how many were found, where another thread reserved some in between; E11 where every object number was present at one moment of the call.
     ///
     /// Nothing has changed then; but after E11 the words of the array stay reserved until the next collection.
     pub fn luthrady_new_byte_array(env: *mut EnvHandle, length: u32) -> Reply;
+    /// An array of chars, each zero, and a local reference to it. (JNI Specification, chapter 4, "New<PrimitiveType>Array Routines")
+    ///
+    /// Refused: E21 where no env stands behind the handle; E13 where a thread is collecting at the entry, or has announced that it will; E9 where no local place is free; E10 with how many words are reserved, where so many more don't fit; E12 with how many words were looked at and how many were found, where another thread reserved some in between; E11 where every object number was present at one moment of the call.
+    ///
+    /// Nothing has changed then; but after E11 the words of the array stay reserved until the next collection.
+    pub fn luthrady_new_char_array(env: *mut EnvHandle, length: u32) -> Reply;
+    /// An array of shorts, each zero, and a local reference to it. (JNI Specification, chapter 4, "New<PrimitiveType>Array Routines")
+    ///
+    /// Refused: E21 where no env stands behind the handle; E13 where a thread is collecting at the entry, or has announced that it will; E9 where no local place is free; E10 with how many words are reserved, where so many more don't fit; E12 with how many words were looked at and how many were found, where another thread reserved some in between; E11 where every object number was present at one moment of the call.
+    ///
+    /// Nothing has changed then; but after E11 the words of the array stay reserved until the next collection.
+    pub fn luthrady_new_short_array(env: *mut EnvHandle, length: u32) -> Reply;
     /// An array of ints, each zero, and a local reference to it. (JNI Specification, chapter 4, "New<PrimitiveType>Array Routines")
     ///
     /// Refused: E21 where no env stands behind the handle; E13 where a thread is collecting at the entry, or has announced that it will; E9 where no local place is free; E10 with how many words are reserved, where so many more don't fit; E12 with how many words were looked at and how many were found, where another thread reserved some in between; E11 where every object number was present at one moment of the call.
@@ -326,6 +442,18 @@ unsafe extern "C" {
         index: u32,
         value: u64,
     ) -> Reply;
+    /// Copies booleans into a part of an array, from an index on. (JNI Specification, chapter 4, "Set<PrimitiveType>ArrayRegion Routines")
+    ///
+    /// Refused: E21 where no env stands behind the handle; E13 where a thread is collecting at the entry, or has announced that it will; E2 where the handle is malformed or lies outside the room; E3 where it is a local one of another thread; E2 where its reference does not stand; E1 where it is to null; E5 where it is to a plain object or a string; E6 where it is to an array of other elements; E7 where the part does not lie in the array.
+    ///
+    /// Nothing is written then.
+    pub fn luthrady_set_boolean_array_region(
+        env: *mut EnvHandle,
+        array: u64,
+        start: u32,
+        elements: *const bool,
+        count: usize,
+    ) -> Reply;
     /// Copies bytes into a part of an array, from an index on. (JNI Specification, chapter 4, "Set<PrimitiveType>ArrayRegion Routines")
     ///
     /// Refused: E21 where no env stands behind the handle; E13 where a thread is collecting at the entry, or has announced that it will; E2 where the handle is malformed or lies outside the room; E3 where it is a local one of another thread; E2 where its reference does not stand; E1 where it is to null; E5 where it is to a plain object or a string; E6 where it is to an array of other elements; E7 where the part does not lie in the array.
@@ -336,6 +464,30 @@ unsafe extern "C" {
         array: u64,
         start: u32,
         elements: *const i8,
+        count: usize,
+    ) -> Reply;
+    /// Copies chars into a part of an array, from an index on. (JNI Specification, chapter 4, "Set<PrimitiveType>ArrayRegion Routines")
+    ///
+    /// Refused: E21 where no env stands behind the handle; E13 where a thread is collecting at the entry, or has announced that it will; E2 where the handle is malformed or lies outside the room; E3 where it is a local one of another thread; E2 where its reference does not stand; E1 where it is to null; E5 where it is to a plain object or a string; E6 where it is to an array of other elements; E7 where the part does not lie in the array.
+    ///
+    /// Nothing is written then.
+    pub fn luthrady_set_char_array_region(
+        env: *mut EnvHandle,
+        array: u64,
+        start: u32,
+        elements: *const u16,
+        count: usize,
+    ) -> Reply;
+    /// Copies shorts into a part of an array, from an index on. (JNI Specification, chapter 4, "Set<PrimitiveType>ArrayRegion Routines")
+    ///
+    /// Refused: E21 where no env stands behind the handle; E13 where a thread is collecting at the entry, or has announced that it will; E2 where the handle is malformed or lies outside the room; E3 where it is a local one of another thread; E2 where its reference does not stand; E1 where it is to null; E5 where it is to a plain object or a string; E6 where it is to an array of other elements; E7 where the part does not lie in the array.
+    ///
+    /// Nothing is written then.
+    pub fn luthrady_set_short_array_region(
+        env: *mut EnvHandle,
+        array: u64,
+        start: u32,
+        elements: *const i16,
         count: usize,
     ) -> Reply;
     /// Copies ints into a part of an array, from an index on. (JNI Specification, chapter 4, "Set<PrimitiveType>ArrayRegion Routines")
@@ -362,6 +514,18 @@ unsafe extern "C" {
         elements: *const i64,
         count: usize,
     ) -> Reply;
+    /// Copies a part of an array of booleans out, from an index on: as many elements as there is room for. (JNI Specification, chapter 4, "Get<PrimitiveType>ArrayRegion Routines")
+    ///
+    /// Refused: E21 where no env stands behind the handle; E13 where a thread is collecting at the entry, or has announced that it will; E2 where the handle is malformed or lies outside the room; E3 where it is a local one of another thread; E2 where its reference does not stand; E1 where it is to null; E5 where it is to a plain object or a string; E6 where it is to an array of other elements; E7 where the part does not lie in the array.
+    ///
+    /// The slice is as it was, and nothing has changed.
+    pub fn luthrady_get_boolean_array_region(
+        env: *mut EnvHandle,
+        array: u64,
+        start: u32,
+        elements: *mut bool,
+        count: usize,
+    ) -> Reply;
     /// Copies a part of an array of bytes out, from an index on: as many elements as there is room for. (JNI Specification, chapter 4, "Get<PrimitiveType>ArrayRegion Routines")
     ///
     /// Refused: E21 where no env stands behind the handle; E13 where a thread is collecting at the entry, or has announced that it will; E2 where the handle is malformed or lies outside the room; E3 where it is a local one of another thread; E2 where its reference does not stand; E1 where it is to null; E5 where it is to a plain object or a string; E6 where it is to an array of other elements; E7 where the part does not lie in the array.
@@ -372,6 +536,30 @@ unsafe extern "C" {
         array: u64,
         start: u32,
         elements: *mut i8,
+        count: usize,
+    ) -> Reply;
+    /// Copies a part of an array of chars out, from an index on: as many elements as there is room for. (JNI Specification, chapter 4, "Get<PrimitiveType>ArrayRegion Routines")
+    ///
+    /// Refused: E21 where no env stands behind the handle; E13 where a thread is collecting at the entry, or has announced that it will; E2 where the handle is malformed or lies outside the room; E3 where it is a local one of another thread; E2 where its reference does not stand; E1 where it is to null; E5 where it is to a plain object or a string; E6 where it is to an array of other elements; E7 where the part does not lie in the array.
+    ///
+    /// The slice is as it was, and nothing has changed.
+    pub fn luthrady_get_char_array_region(
+        env: *mut EnvHandle,
+        array: u64,
+        start: u32,
+        elements: *mut u16,
+        count: usize,
+    ) -> Reply;
+    /// Copies a part of an array of shorts out, from an index on: as many elements as there is room for. (JNI Specification, chapter 4, "Get<PrimitiveType>ArrayRegion Routines")
+    ///
+    /// Refused: E21 where no env stands behind the handle; E13 where a thread is collecting at the entry, or has announced that it will; E2 where the handle is malformed or lies outside the room; E3 where it is a local one of another thread; E2 where its reference does not stand; E1 where it is to null; E5 where it is to a plain object or a string; E6 where it is to an array of other elements; E7 where the part does not lie in the array.
+    ///
+    /// The slice is as it was, and nothing has changed.
+    pub fn luthrady_get_short_array_region(
+        env: *mut EnvHandle,
+        array: u64,
+        start: u32,
+        elements: *mut i16,
         count: usize,
     ) -> Reply;
     /// Copies a part of an array of ints out, from an index on: as many elements as there is room for. (JNI Specification, chapter 4, "Get<PrimitiveType>ArrayRegion Routines")
@@ -397,6 +585,226 @@ unsafe extern "C" {
         start: u32,
         elements: *mut i64,
         count: usize,
+    ) -> Reply;
+    /// Copies a part of a string's UTF-16 units out, from an index on: as many as there is room for. It is one critical region. (JNI Specification, chapter 4, "GetStringRegion")
+    ///
+    /// Refused: E21 where no env stands behind the handle; E13 where a thread is collecting at the entry, or has announced that it will; E2 where the handle is malformed or lies outside the room; E3 where it is a local one of another thread; E2 where its reference does not stand; E1 where it is to null; E4 where it is to no string; E7 where the part does not lie in the string.
+    ///
+    /// The units are as they were, and nothing has changed.
+    pub fn luthrady_get_string_region(
+        env: *mut EnvHandle,
+        string: u64,
+        start: u32,
+        units: *mut u16,
+        count: usize,
+    ) -> Reply;
+    /// A string of a text in UTF-8, and a local reference to it. The Java Native Interface's is of modified UTF-8. (JNI Specification, chapter 4, "NewStringUTF")
+    ///
+    /// Refused: E21 where no env stands behind the handle; E18 where the bytes are no UTF-8; E16 where memory was refused; E13 where a thread is collecting at the entry, or has announced that it will; E9 where no local place is free; E10 with how many words are reserved, where so many more don't fit; E12 with how many words were looked at and how many were found, where another thread reserved some in between; E11 where every object number was present at one moment of the call.
+    ///
+    /// Nothing has changed then; but after E11 the words of the string stay reserved until the next collection.
+    pub fn luthrady_new_string_utf8(env: *mut EnvHandle, text: *const u8, count: usize) -> Reply;
+    /// Reads a string as a text in UTF-8, and answers how many bytes that has. They stand in front then, where there is room for all of them, and else the bytes are as they were. (JNI Specification, chapter 4, "GetStringUTFRegion", "GetStringUTFLength")
+    ///
+    /// Refused: E21 where no env stands behind the handle; E13 where a thread is collecting at the entry, or has announced that it will; E2 where the handle is malformed or lies outside the room; E3 where it is a local one of another thread; E2 where its reference does not stand; E1 where it is to null; E4 where it is to no string; E16 where memory was refused; E18 where a surrogate among the units has no partner.
+    ///
+    /// The bytes are as they were, and nothing has changed.
+    pub fn luthrady_get_string_utf8(
+        env: *mut EnvHandle,
+        string: u64,
+        bytes: *mut u8,
+        count: usize,
+    ) -> Reply;
+    /// Copies all elements of an array of booleans out. It is one critical region. (JNI Specification, chapter 4, "Get<PrimitiveType>ArrayElements Routines")
+    ///
+    /// Refused: E21 where no env stands behind the handle; E13 where a thread is collecting at the entry, or has announced that it will; E2 where the handle is malformed or lies outside the room; E3 where it is a local one of another thread; E2 where its reference does not stand; E1 where it is to null; E5 where it is to a plain object or a string; E6 where it is to an array of other elements; E7 where the array has another number of elements.
+    ///
+    /// The elements are as they were, and nothing has changed.
+    pub fn luthrady_get_boolean_array_elements(
+        env: *mut EnvHandle,
+        array: u64,
+        elements: *mut bool,
+        count: usize,
+    ) -> Reply;
+    /// Copies all elements of an array of bytes out. It is one critical region. (JNI Specification, chapter 4, "Get<PrimitiveType>ArrayElements Routines")
+    ///
+    /// Refused: E21 where no env stands behind the handle; E13 where a thread is collecting at the entry, or has announced that it will; E2 where the handle is malformed or lies outside the room; E3 where it is a local one of another thread; E2 where its reference does not stand; E1 where it is to null; E5 where it is to a plain object or a string; E6 where it is to an array of other elements; E7 where the array has another number of elements.
+    ///
+    /// The elements are as they were, and nothing has changed.
+    pub fn luthrady_get_byte_array_elements(
+        env: *mut EnvHandle,
+        array: u64,
+        elements: *mut i8,
+        count: usize,
+    ) -> Reply;
+    /// Copies all elements of an array of chars out. It is one critical region. (JNI Specification, chapter 4, "Get<PrimitiveType>ArrayElements Routines")
+    ///
+    /// Refused: E21 where no env stands behind the handle; E13 where a thread is collecting at the entry, or has announced that it will; E2 where the handle is malformed or lies outside the room; E3 where it is a local one of another thread; E2 where its reference does not stand; E1 where it is to null; E5 where it is to a plain object or a string; E6 where it is to an array of other elements; E7 where the array has another number of elements.
+    ///
+    /// The elements are as they were, and nothing has changed.
+    pub fn luthrady_get_char_array_elements(
+        env: *mut EnvHandle,
+        array: u64,
+        elements: *mut u16,
+        count: usize,
+    ) -> Reply;
+    /// Copies all elements of an array of shorts out. It is one critical region. (JNI Specification, chapter 4, "Get<PrimitiveType>ArrayElements Routines")
+    ///
+    /// Refused: E21 where no env stands behind the handle; E13 where a thread is collecting at the entry, or has announced that it will; E2 where the handle is malformed or lies outside the room; E3 where it is a local one of another thread; E2 where its reference does not stand; E1 where it is to null; E5 where it is to a plain object or a string; E6 where it is to an array of other elements; E7 where the array has another number of elements.
+    ///
+    /// The elements are as they were, and nothing has changed.
+    pub fn luthrady_get_short_array_elements(
+        env: *mut EnvHandle,
+        array: u64,
+        elements: *mut i16,
+        count: usize,
+    ) -> Reply;
+    /// Copies all elements of an array of ints out. It is one critical region. (JNI Specification, chapter 4, "Get<PrimitiveType>ArrayElements Routines")
+    ///
+    /// Refused: E21 where no env stands behind the handle; E13 where a thread is collecting at the entry, or has announced that it will; E2 where the handle is malformed or lies outside the room; E3 where it is a local one of another thread; E2 where its reference does not stand; E1 where it is to null; E5 where it is to a plain object or a string; E6 where it is to an array of other elements; E7 where the array has another number of elements.
+    ///
+    /// The elements are as they were, and nothing has changed.
+    pub fn luthrady_get_int_array_elements(
+        env: *mut EnvHandle,
+        array: u64,
+        elements: *mut i32,
+        count: usize,
+    ) -> Reply;
+    /// Copies all elements of an array of longs out. It is one critical region. (JNI Specification, chapter 4, "Get<PrimitiveType>ArrayElements Routines")
+    ///
+    /// Refused: E21 where no env stands behind the handle; E13 where a thread is collecting at the entry, or has announced that it will; E2 where the handle is malformed or lies outside the room; E3 where it is a local one of another thread; E2 where its reference does not stand; E1 where it is to null; E5 where it is to a plain object or a string; E6 where it is to an array of other elements; E7 where the array has another number of elements.
+    ///
+    /// The elements are as they were, and nothing has changed.
+    pub fn luthrady_get_long_array_elements(
+        env: *mut EnvHandle,
+        array: u64,
+        elements: *mut i64,
+        count: usize,
+    ) -> Reply;
+    /// Releases a copy of all elements of an array of booleans by the number of a mode: to copy (0) and to commit (1) write them to the array, in one critical region. To abort (2) looks at nothing. (JNI Specification, chapter 4, "Release<PrimitiveType>ArrayElements Routines")
+    ///
+    /// Refused: E21 where no env stands behind the handle; E7 where no mode has the number; E13 where a thread is collecting at the entry, or has announced that it will; E2 where the handle is malformed or lies outside the room; E3 where it is a local one of another thread; E2 where its reference does not stand; E1 where it is to null; E5 where it is to a plain object or a string; E6 where it is to an array of other elements; E7 where the array has another number of elements.
+    ///
+    /// Nothing is written then.
+    pub fn luthrady_release_boolean_array_elements(
+        env: *mut EnvHandle,
+        array: u64,
+        elements: *const bool,
+        count: usize,
+        mode: u32,
+    ) -> Reply;
+    /// Releases a copy of all elements of an array of bytes by the number of a mode: to copy (0) and to commit (1) write them to the array, in one critical region. To abort (2) looks at nothing. (JNI Specification, chapter 4, "Release<PrimitiveType>ArrayElements Routines")
+    ///
+    /// Refused: E21 where no env stands behind the handle; E7 where no mode has the number; E13 where a thread is collecting at the entry, or has announced that it will; E2 where the handle is malformed or lies outside the room; E3 where it is a local one of another thread; E2 where its reference does not stand; E1 where it is to null; E5 where it is to a plain object or a string; E6 where it is to an array of other elements; E7 where the array has another number of elements.
+    ///
+    /// Nothing is written then.
+    pub fn luthrady_release_byte_array_elements(
+        env: *mut EnvHandle,
+        array: u64,
+        elements: *const i8,
+        count: usize,
+        mode: u32,
+    ) -> Reply;
+    /// Releases a copy of all elements of an array of chars by the number of a mode: to copy (0) and to commit (1) write them to the array, in one critical region. To abort (2) looks at nothing. (JNI Specification, chapter 4, "Release<PrimitiveType>ArrayElements Routines")
+    ///
+    /// Refused: E21 where no env stands behind the handle; E7 where no mode has the number; E13 where a thread is collecting at the entry, or has announced that it will; E2 where the handle is malformed or lies outside the room; E3 where it is a local one of another thread; E2 where its reference does not stand; E1 where it is to null; E5 where it is to a plain object or a string; E6 where it is to an array of other elements; E7 where the array has another number of elements.
+    ///
+    /// Nothing is written then.
+    pub fn luthrady_release_char_array_elements(
+        env: *mut EnvHandle,
+        array: u64,
+        elements: *const u16,
+        count: usize,
+        mode: u32,
+    ) -> Reply;
+    /// Releases a copy of all elements of an array of shorts by the number of a mode: to copy (0) and to commit (1) write them to the array, in one critical region. To abort (2) looks at nothing. (JNI Specification, chapter 4, "Release<PrimitiveType>ArrayElements Routines")
+    ///
+    /// Refused: E21 where no env stands behind the handle; E7 where no mode has the number; E13 where a thread is collecting at the entry, or has announced that it will; E2 where the handle is malformed or lies outside the room; E3 where it is a local one of another thread; E2 where its reference does not stand; E1 where it is to null; E5 where it is to a plain object or a string; E6 where it is to an array of other elements; E7 where the array has another number of elements.
+    ///
+    /// Nothing is written then.
+    pub fn luthrady_release_short_array_elements(
+        env: *mut EnvHandle,
+        array: u64,
+        elements: *const i16,
+        count: usize,
+        mode: u32,
+    ) -> Reply;
+    /// Releases a copy of all elements of an array of ints by the number of a mode: to copy (0) and to commit (1) write them to the array, in one critical region. To abort (2) looks at nothing. (JNI Specification, chapter 4, "Release<PrimitiveType>ArrayElements Routines")
+    ///
+    /// Refused: E21 where no env stands behind the handle; E7 where no mode has the number; E13 where a thread is collecting at the entry, or has announced that it will; E2 where the handle is malformed or lies outside the room; E3 where it is a local one of another thread; E2 where its reference does not stand; E1 where it is to null; E5 where it is to a plain object or a string; E6 where it is to an array of other elements; E7 where the array has another number of elements.
+    ///
+    /// Nothing is written then.
+    pub fn luthrady_release_int_array_elements(
+        env: *mut EnvHandle,
+        array: u64,
+        elements: *const i32,
+        count: usize,
+        mode: u32,
+    ) -> Reply;
+    /// Releases a copy of all elements of an array of longs by the number of a mode: to copy (0) and to commit (1) write them to the array, in one critical region. To abort (2) looks at nothing. (JNI Specification, chapter 4, "Release<PrimitiveType>ArrayElements Routines")
+    ///
+    /// Refused: E21 where no env stands behind the handle; E7 where no mode has the number; E13 where a thread is collecting at the entry, or has announced that it will; E2 where the handle is malformed or lies outside the room; E3 where it is a local one of another thread; E2 where its reference does not stand; E1 where it is to null; E5 where it is to a plain object or a string; E6 where it is to an array of other elements; E7 where the array has another number of elements.
+    ///
+    /// Nothing is written then.
+    pub fn luthrady_release_long_array_elements(
+        env: *mut EnvHandle,
+        array: u64,
+        elements: *const i64,
+        count: usize,
+        mode: u32,
+    ) -> Reply;
+    /// The kind of what the word names, by its number: 1 plain, 2 to 7 an array of booleans, bytes, chars, shorts, ints, longs, 8 an array of objects, 9 a string. The Java Native Interface has no such call.
+    ///
+    /// Refused: E21 where no env stands behind the handle; E13 where a thread is collecting at the entry, or has announced that it will; E2 where the handle is malformed or lies outside the room; E3 where it is a local one of another thread; E2 where its reference does not stand; E1 where it is to null.
+    ///
+    /// Nothing has changed then.
+    pub fn luthrady_kind_of(env: *mut EnvHandle, object: u64) -> Reply;
+    /// The identity of what the word names: a number, at least 1, that all references to one object share, and that no other object has while that one is present. A collection leaves it. Once a collection has dropped the object, another may have its number. The Java Native Interface has no such call.
+    ///
+    /// Refused: E21 where no env stands behind the handle; E13 where a thread is collecting at the entry, or has announced that it will; E2 where the handle is malformed or lies outside the room; E3 where it is a local one of another thread; E2 where its reference does not stand; E1 where it is to null.
+    ///
+    /// Nothing has changed then.
+    pub fn luthrady_identity_of(env: *mut EnvHandle, object: u64) -> Reply;
+    /// What a word is that is handed in as a reference, whatever word it is. What is told of the room was so at the call's one look. It changes nothing.
+    ///
+    /// Refused: E21 where no env stands behind the handle; E13 where a thread is collecting at the entry, or has announced that it will.
+    ///
+    /// Nothing has changed then.
+    pub fn luthrady_explain(env: *mut EnvHandle, word: u64, out: *mut Explained) -> Reply;
+    /// How many words of array space are used: reserved, be it for objects that stand or for such as nothing reaches. Others may go on meanwhile.
+    ///
+    /// Refused: E21 where no env stands behind the handle; E13 where a thread is collecting at the entry, or has announced that it will.
+    ///
+    /// Nothing has changed then.
+    pub fn luthrady_words_used(env: *mut EnvHandle) -> Reply;
+    /// How many local references the thread has, and how many places for them. It enters no gate.
+    ///
+    /// Refused: E21 where no env stands behind the handle.
+    ///
+    /// Nothing has changed then, and nothing is written.
+    pub fn luthrady_local_counts(env: *mut EnvHandle, out: *mut Locals) -> Reply;
+    /// Counts what stands in the room, at one step that shuts the gate for it, and changes nothing. It writes the counts, and how many local references each thread has, by the thread's number: as many of these as there is room for, and 64 at the most. A thread that the room doesn't have has none.
+    ///
+    /// Refused: E21 where no env stands behind the handle; E17 exactly where the marker was made for another number of objects; E14 with how many threads were inside, knocking, announcing or collecting at its one step, at least 1.
+    ///
+    /// Nothing has changed then, and the marker is as it was. At E14 the thread stands outside, and at E17 it has taken no step. Over one thread a marker that fits is never refused.
+    pub fn luthrady_census(
+        env: *mut EnvHandle,
+        locals: *mut u32,
+        count: usize,
+        out: *mut Inventory,
+    ) -> Reply;
+    /// Counts as `luthrady_census` does, but announces it first, and tries so many times to shut the gate, at least once.
+    ///
+    /// Refused: E21 where no env stands behind the handle; E17 exactly where the marker was made for another number of objects; E14 with how many threads were inside, knocking, announcing or collecting, at least 1, where another thread kept the gate closed already; E23 with two counts of the open gate, where another thread went in or out between the look at it and the announcement; E14 with how many other threads were inside or knocking at the last try, at least 1.
+    ///
+    /// Nothing has changed then, and the marker is as it was. At E14 and E23 the thread stands outside, and at E17 it has taken no step. Over one thread a marker that fits is never refused.
+    pub fn luthrady_census_announced(
+        env: *mut EnvHandle,
+        tries: u32,
+        locals: *mut u32,
+        count: usize,
+        out: *mut Inventory,
     ) -> Reply;
     /// Collects, by the thread's own marker, and writes what it did.
     ///

@@ -151,7 +151,7 @@ impl Drop for Room {
     }
 }
 
-/// What the elements of an array of numbers are.
+/// What the elements of an array of numbers or booleans are.
 pub trait Element: Copy {
     /// Makes an array.
     fn new_array(env: &mut Env, length: u32) -> Answer<u64>;
@@ -159,10 +159,22 @@ pub trait Element: Copy {
     fn get(env: &mut Env, array: u64, start: u32, to: &mut [Self]) -> Answer<()>;
     /// Copies elements into a part of an array.
     fn set(env: &mut Env, array: u64, start: u32, from: &[Self]) -> Answer<()>;
+    /// Copies all elements of an array out.
+    fn get_all(env: &mut Env, array: u64, to: &mut [Self]) -> Answer<()>;
+    /// Releases a copy of all elements of an array.
+    fn release(env: &mut Env, array: u64, from: &[Self], mode: Mode) -> Answer<()>;
+}
+
+/// What becomes of a copy that is released: it is written to the array, or nothing is done.
+#[derive(Clone, Copy, Debug, PartialEq, Eq)]
+pub enum Mode {
+    Copy = 0,
+    Commit = 1,
+    Abort = 2,
 }
 
 macro_rules! element {
-    ($element:ty, $new:path, $get:path, $set:path) => {
+    ($element:ty, $new:path, $get:path, $set:path, $get_all:path, $release:path) => {
         impl Element for $element {
             fn new_array(env: &mut Env, length: u32) -> Answer<u64> {
                 value(unsafe { $new(&mut env.0, length) })
@@ -177,27 +189,67 @@ macro_rules! element {
                 let (at, count) = (from.as_ptr(), from.len());
                 nothing(unsafe { $set(&mut env.0, array, start, at, count) })
             }
+
+            fn get_all(env: &mut Env, array: u64, to: &mut [Self]) -> Answer<()> {
+                let (at, count) = (to.as_mut_ptr(), to.len());
+                nothing(unsafe { $get_all(&mut env.0, array, at, count) })
+            }
+
+            fn release(env: &mut Env, array: u64, from: &[Self], mode: Mode) -> Answer<()> {
+                let (at, count) = (from.as_ptr(), from.len());
+                nothing(unsafe { $release(&mut env.0, array, at, count, mode as u32) })
+            }
         }
     };
 }
 
 element!(
+    bool,
+    sys::luthrady_new_boolean_array,
+    sys::luthrady_get_boolean_array_region,
+    sys::luthrady_set_boolean_array_region,
+    sys::luthrady_get_boolean_array_elements,
+    sys::luthrady_release_boolean_array_elements
+);
+element!(
     i8,
     sys::luthrady_new_byte_array,
     sys::luthrady_get_byte_array_region,
-    sys::luthrady_set_byte_array_region
+    sys::luthrady_set_byte_array_region,
+    sys::luthrady_get_byte_array_elements,
+    sys::luthrady_release_byte_array_elements
+);
+element!(
+    u16,
+    sys::luthrady_new_char_array,
+    sys::luthrady_get_char_array_region,
+    sys::luthrady_set_char_array_region,
+    sys::luthrady_get_char_array_elements,
+    sys::luthrady_release_char_array_elements
+);
+element!(
+    i16,
+    sys::luthrady_new_short_array,
+    sys::luthrady_get_short_array_region,
+    sys::luthrady_set_short_array_region,
+    sys::luthrady_get_short_array_elements,
+    sys::luthrady_release_short_array_elements
 );
 element!(
     i32,
     sys::luthrady_new_int_array,
     sys::luthrady_get_int_array_region,
-    sys::luthrady_set_int_array_region
+    sys::luthrady_set_int_array_region,
+    sys::luthrady_get_int_array_elements,
+    sys::luthrady_release_int_array_elements
 );
 element!(
     i64,
     sys::luthrady_new_long_array,
     sys::luthrady_get_long_array_region,
-    sys::luthrady_set_long_array_region
+    sys::luthrady_set_long_array_region,
+    sys::luthrady_get_long_array_elements,
+    sys::luthrady_release_long_array_elements
 );
 
 impl Env {
@@ -277,6 +329,24 @@ impl Env {
         value(unsafe { sys::luthrady_new_string(&mut self.0, units.as_ptr(), units.len()) })
     }
 
+    /// Makes a string of a text.
+    pub fn new_text(&mut self, text: &str) -> Answer<u64> {
+        value(unsafe { sys::luthrady_new_string_utf8(&mut self.0, text.as_ptr(), text.len()) })
+    }
+
+    /// Copies a part of a string's units out.
+    pub fn units(&mut self, string: u64, start: u32, to: &mut [u16]) -> Answer<()> {
+        let (at, count) = (to.as_mut_ptr(), to.len());
+        nothing(unsafe { sys::luthrady_get_string_region(&mut self.0, string, start, at, count) })
+    }
+
+    /// Reads a string as a text in UTF-8: how many bytes it has, which stand in front where there is room for all of them.
+    pub fn text(&mut self, string: u64, to: &mut [u8]) -> Answer<usize> {
+        let (at, count) = (to.as_mut_ptr(), to.len());
+        let long = value(unsafe { sys::luthrady_get_string_utf8(&mut self.0, string, at, count) })?;
+        Ok(long as usize)
+    }
+
     pub fn length(&mut self, array: u64) -> Answer<u32> {
         let length = value(unsafe { sys::luthrady_get_array_length(&mut self.0, array) })?;
         Ok(length as u32)
@@ -301,6 +371,16 @@ impl Env {
 
     pub fn set<E: Element>(&mut self, array: u64, start: u32, from: &[E]) -> Answer<()> {
         E::set(self, array, start, from)
+    }
+
+    /// Copies all elements of an array out.
+    pub fn get_all<E: Element>(&mut self, array: u64, to: &mut [E]) -> Answer<()> {
+        E::get_all(self, array, to)
+    }
+
+    /// Releases a copy of all elements of an array.
+    pub fn release<E: Element>(&mut self, array: u64, from: &[E], mode: Mode) -> Answer<()> {
+        E::release(self, array, from, mode)
     }
 
     /// Makes calls between one entry at the gate and one exit, and writes each answer to its call.

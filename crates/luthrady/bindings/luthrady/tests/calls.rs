@@ -1,6 +1,6 @@
 //! What the crate adds to the functions: refusals as errors, envs that detach, and rooms that are released.
 
-use luthrady::{Answer, Call, Env, Fault, Operation, Room, Sizes};
+use luthrady::{Answer, Call, Element, Env, Fault, Mode, Operation, Room, Sizes};
 use std::error::Error;
 use std::thread;
 
@@ -40,6 +40,74 @@ fn elements_come_back_and_a_refused_read_leaves_the_slice() -> Answer<()> {
     let mut part = [5i8; 2];
     assert_eq!(env.get(array, 3, &mut part), Err(Fault::new(7, 0)));
     assert_eq!(part, [5, 5]);
+    Ok(())
+}
+
+fn comes_back<E: Element + Default + PartialEq + std::fmt::Debug>(value: E) -> Answer<()> {
+    let room = Room::open(SIZES)?;
+    let mut env = room.attach()?;
+    let array = env.new_array::<E>(2)?;
+    env.set(array, 1, &[value])?;
+    let mut copy = [value; 2];
+    env.get_all(array, &mut copy)?;
+    assert_eq!(copy, [E::default(), value]);
+    assert_eq!(env.get_all(array, &mut copy[..1]), Err(Fault::new(7, 0)));
+    copy[0] = value;
+    env.release(array, &copy, Mode::Abort)?;
+    let mut first = [value];
+    env.get(array, 0, &mut first)?;
+    assert_eq!(first, [E::default()]);
+    env.release(array, &copy, Mode::Commit)?;
+    env.get(array, 0, &mut first)?;
+    assert_eq!(first, [value]);
+    Ok(())
+}
+
+#[test]
+fn elements_of_each_kind_come_back() -> Answer<()> {
+    comes_back(true)?;
+    comes_back(i8::MIN)?;
+    comes_back(u16::MAX)?;
+    comes_back(i16::MIN)?;
+    comes_back(i32::MIN)?;
+    comes_back(i64::MIN)
+}
+
+#[test]
+fn a_copy_of_other_elements_is_refused_before_one_of_another_number() -> Answer<()> {
+    let room = Room::open(SIZES)?;
+    let mut env = room.attach()?;
+    let array = env.new_array::<i32>(2)?;
+    let mut bytes = [9i8; 3];
+    assert_eq!(env.get_all(array, &mut bytes), Err(Fault::new(6, 0)));
+    assert_eq!(bytes, [9; 3]);
+    let string = env.new_string(&[7])?;
+    assert_eq!(env.get_all(string, &mut bytes), Err(Fault::new(5, 0)));
+    assert_eq!(
+        env.release(array, &[1i32], Mode::Copy),
+        Err(Fault::new(7, 0))
+    );
+    Ok(())
+}
+
+#[test]
+fn a_string_is_read_in_parts_and_as_a_text() -> Answer<()> {
+    let room = Room::open(SIZES)?;
+    let mut env = room.attach()?;
+    let string = env.new_text("a\u{1f40c}")?;
+    assert_eq!(env.string_length(string), Ok(3));
+    let mut units = [0; 2];
+    env.units(string, 1, &mut units)?;
+    assert_eq!(units, [0xd83d, 0xdc0c]);
+    assert_eq!(env.units(string, 2, &mut units), Err(Fault::new(7, 0)));
+    assert_eq!(units, [0xd83d, 0xdc0c]);
+    let mut bytes = [9; 6];
+    assert_eq!(env.text(string, &mut bytes[..4]), Ok(5));
+    assert_eq!(bytes, [9; 6]);
+    assert_eq!(env.text(string, &mut bytes), Ok(5));
+    assert_eq!(&bytes[..], b"a\xf0\x9f\x90\x8c\t");
+    let broken = env.new_string(&[0xd83d])?;
+    assert_eq!(env.text(broken, &mut bytes), Err(Fault::new(18, 0)));
     Ok(())
 }
 

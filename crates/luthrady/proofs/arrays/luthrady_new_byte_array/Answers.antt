@@ -8,7 +8,7 @@ use Rattle.luthrady.proofs.arrays.luthrady_new_byte_array.Goals as goal
 pub returns : goal.returns
 returns c = (
   c.make.result,
-  c.of_reference.ensures,
+  c.reference_reply.ensures,
   subst (λ (n : ℕ). WasMade c.args.env.now c.make.new.handle (new_array Byte n) c.make.result) c.of.ensures
       c.make.ensures,
 )

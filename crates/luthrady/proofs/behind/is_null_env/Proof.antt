@@ -1,7 +1,7 @@
 -- `is_null_env` asks whether the pointer is NULL.
 use Rattle.luthrady.specs.contracts.behind.is_null_env as f
 use Rattle.luthrady.specs.contracts.handles.EnvHandle.{the_type}
-use Rattle.luthrady.specs.contracts.held.Attached.{the_row}
+use Rattle.luthrady.specs.contracts.held.EnvPlace.{the_row}
 use Rattle.luthrady.proofs.behind.is_null_env.Statement.{statement}
 use Rattle.luthrady.proofs.behind.is_null_env.Code as code
 use Rattle.luthrady.proofs.Asking.{asks}

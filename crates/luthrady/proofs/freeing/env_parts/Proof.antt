@@ -18,7 +18,7 @@ use types.Part.{whole, sub, agg}
 use types.Run.{stop, fld, no_more, and_then, of_opd, returns, enter}
 use types.ByLocal.{alloc_all, pass_all, free_all, look_at, get, get_in, sets}
 use denote.Exit.{yes}
-use denote.RawPtr.{Ptr, block_ptr}
+use denote.RawPtr.{Ptr}
 use denote.Signature.{Slot, plain, type_at}
 use denote.Steps.{heard, nothing}
 use denote.Triple.Spec.{triple_of}
@@ -32,10 +32,10 @@ use Rattle.std.specs.Ptr.{if_non_null}
 use Rattle.std.specs.contracts.alloc.Global as heap
 use Rattle.std.specs.contracts.impls.GlobalAllocator.TheImpl.{ghosts, dict}
 use Rattle.luthrady.proofs.Pointers.{at_a_block}
-use Rattle.luthrady.proofs.held.Attached.TheLaws as held_laws
+use Rattle.luthrady.proofs.held.EnvPlace.TheLaws as held_laws
 use Rattle.luthrady.specs.Places.{is_null}
 use Rattle.luthrady.specs.contracts.handles.EnvHandle as handle
-use Rattle.luthrady.specs.contracts.held.Attached as held
+use Rattle.luthrady.specs.contracts.held.EnvPlace as held
 use Rattle.luthrady.specs.contracts.freeing.env_parts as F
 use Rattle.luthrady.specs.contracts.freeing.env_parts.Key.{name as #self}
 use Rattle.luthrady.proofs.freeing.env_parts.Statement.{statement}

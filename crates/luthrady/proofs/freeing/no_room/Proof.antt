@@ -1,12 +1,11 @@
 -- `no_room` puts NULL and the allocator together, and owns nothing behind the pointer.
 use Rattle.std.proofs.Common.{◌≡◌, List, [], ◌∷◌, ◌++◌, refl, sym, subst, lit<}
-use mir.Val.{Val, has_ty, vnull}
+use mir.Val.{Val, vnull}
 use base.Logic.{SProp, ent, id⊢}
-use base.Fml.{ftrue}
 use prog.Wp.{WpFn}
-use types.Kit.{‵, raw, ◌⊛◌, ◌$◌, ◌∵◌, !, qed, by, move, keep, split, drop, fsplit3, fjoin, fpack, feq_i}
+use types.Kit.{‵, raw, ◌⊛◌, ◌$◌, ◌∵◌, !, qed, by, move, keep, split, fsplit3, fjoin, fpack, feq_i}
 use types.Kit.{suffices, rewrite, use0}
-use types.Run.{of_opd, lit, no_more, and_then, returns, enter}
+use types.Run.{lit, no_more, and_then, returns, enter}
 use types.ByLocal.{alloc_all, pass_all, free_all, look_at, get, sets}
 use types.Part.{agg}
 use contract.Monad.{fact, fact_i}
@@ -17,7 +16,7 @@ use denote.Builtin.{RawPtr}
 use denote.RattleType.{RattleType, owns, Valss}
 use denote.Ref.{shr_Lawful}
 use mir.Syntax.{named}
-use denote.Signature.{types_at, type_at, plain, shr_ref_to}
+use denote.Signature.{types_at, plain, shr_ref_to}
 use denote.RawPtr.{null_ptr}
 use denote.Steps.{nothing}
 use denote.Param.{layout}

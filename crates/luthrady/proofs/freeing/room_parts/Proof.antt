@@ -18,7 +18,7 @@ use types.Part.{whole, sub, agg}
 use types.Run.{stop, fld, no_more, and_then, of_opd, returns, enter}
 use types.ByLocal.{alloc_all, pass_all, free_all, look_at, get, get_in, sets}
 use denote.Exit.{yes}
-use denote.RawPtr.{Ptr, block_ptr}
+use denote.RawPtr.{Ptr}
 use denote.Signature.{Slot, plain, type_at}
 use denote.Steps.{heard, nothing}
 use denote.Triple.Spec.{triple_of}

@@ -1,7 +1,7 @@
 use Rattle.std.proofs.Common.{◌∙◌, ◌==◌, ap, subst, sym}
 use Rattle.luthrady.specs.declared.handles.EnvHandle.{EnvHandle}
 use Rattle.luthrady.specs.declared.handles.RoomHandle.{RoomHandle}
-use Rattle.luthrady.specs.declared.held.Attached.{Attached}
+use Rattle.luthrady.specs.declared.held.EnvPlace.{EnvPlace}
 use Rattle.luthrady.specs.declared.held.Opened.{Opened}
 use Rattle.luthrady.specs.Places.{at_place, env_mark, is_env}
 use Rattle.luthrady.specs.Threads.{TakesBack}
@@ -35,7 +35,7 @@ returns c =
     let lent = c.env_of.ensures.value in
     let there = sym c.take.ensures.value ∙ c.in-Some.is in
     let by = went _ _ _ _ _ c.make.ensures.1 c.in_default.is (stood _ _ _ _ is c.is_env.ensures.unchanged lent there) in
-    let place = ap (λ (x : Attached). at_place c.is_env.new.handle.at (x.mark == env_mark)) lent
+    let place = ap (λ (x : EnvPlace). at_place c.is_env.new.handle.at (x.mark == env_mark)) lent
     ∙ ap is_env c.is_env.ensures.unchanged ∙ is in
     let takes = subst (λ (o : Opened). TakesBack o c.take_back.new.self c.in-Some.native.value c.take_back.result)
     (c.room_of.ensures.value ∙ ap (λ (x : RoomHandle). x.value) same) c.take_back.ensures in (

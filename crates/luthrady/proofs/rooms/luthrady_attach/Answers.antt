@@ -12,7 +12,7 @@ returns-then-not-is_room c =
     let is = sym c.is_room.ensures.value ∙ c.if-not-is_room.true in
     let same = c.is_room.ensures.unchanged in (
       Err NotFresh,
-      c.of_nothing.ensures,
+      c.nothing_reply.ensures,
       ap (λ (x : RoomHandle). x.at) same,
       subst (λ (b : Bool). ByPlace b c.args.room.now c.is_room.new.handle (Err NotFresh)) (sym is) (refl, same),
     )

@@ -12,5 +12,5 @@ returns-then-attached-ne0 c =
     let same = c.is_room.ensures.unchanged in
     let lent = c.room_of.ensures.value in
     let attached = ap (λ (o : Opened). o.attached) (lent ∙ ap (λ (h : RoomHandle). h.value) same) in
-    held _ _ _ _ _ is attached c.if-attached-ne0.true c.of_nothing-then-attached-ne0.ensures
+    held _ _ _ _ _ is attached c.if-attached-ne0.true c.nothing_reply-then-attached-ne0.ensures
     (ap (with_room_of c.is_room.new.handle) lent ∙ same)

@@ -1,9 +1,9 @@
-use Rattle.std.proofs.Common.{arith, refl, subst, sym}
+use Rattle.std.proofs.Common.{IfErr, arith, refl, subst, sym}
 use Rattle.std.proofs.lemmas.List.Elements.{All-push, All-same}
 use Rattle.jr_owned.specs.Pools.{IsIdle}
 use Rattle.jr_env.specs.Envs.{IsOutside}
 use Rattle.luthrady.specs.declared.held.Native.{Native}
-use Rattle.luthrady.specs.Threads.{WasClosedBy}
+use Rattle.luthrady.specs.Threads.{LeavesSome, WasClosedBy}
 use Rattle.luthrady.proofs.Pooling.{ends_beside, ends_last, let_go}
 use Rattle.luthrady.proofs.held.Opened.take_back.Goals as goal
 
@@ -23,10 +23,13 @@ pub returns : goal.returns
 returns c =
     let some = c.requires.attached in
     let closes = subst (λ (n : Native). IsOutside n.env → WasClosedBy n c.closed.result) c.into_inner-env.ensures
-    c.closed.ensures.closed in (
+    c.closed.ensures.closed in
+    let leaves = subst (λ (n : Native). IsOutside n.env → IfErr c.closed.result (λ e. LeavesSome n.env.held.steps e))
+    c.into_inner-env.ensures c.closed.ensures.left in (
       omega arith,
       refl,
       refl,
       let_go _ _ _ _ c.if-not-self.false refl
-          (ends_last _ _ _ c.if-self-ne0.false (closes c.requires.idle.outside) c.closed.ensures.left),
+          (ends_last _ _ _ c.if-self-ne0.false (closes c.requires.idle.outside)
+          (leaves c.requires.idle.outside)),
     )
