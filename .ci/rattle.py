@@ -163,12 +163,12 @@ def parameters_of(code, item):
     return count
 
 
-def ways_to(items, above=()):
-    """Yields each function of some items, behind the items that it stands in."""
+def ways_to(items, above=(), kinds=("fn",)):
+    """Yields each function of some items, or each item of other kinds, behind the items that it stands in."""
     for it in items:
-        if it.kind == "fn":
+        if it.kind in kinds:
             yield (*above, it)
-        yield from ways_to(it.items, (*above, it))
+        yield from ways_to(it.items, (*above, it), kinds)
 
 
 class File:
@@ -229,6 +229,7 @@ class Functions:
         self.by_word = {}
         for name in known_to_the_prover(crate) if known is None else known:
             self.by_word.setdefault(name.rpartition("::")[2], []).append(name.split("::"))
+        self.homes = {way[-1].name: it.modules(way) for it in self.files.values() for way in ways_to(it.items, kinds=("struct", "enum"))}
         roots = "".join(it.text for path, it in self.files.items() if path.count("/") == 1)
         tests, self.places = TEST_MODULE.findall(roots), {}
         for file in self.files.values():
@@ -242,8 +243,10 @@ class Functions:
         modules, head, word = file.modules(way), file.head(way), way[-1].name
         if not self.by_word:
             plain = re.fullmatch(r"(?:impl|(?:pub )?trait) (?:[\w:<>]+ for )?\w+\s*", head)
-            owner = "".join(it[:1].upper() + it[1:] for it in [*words_of(head)[1], *words_of(head)[0]])
-            return "::".join([self.crate, *modules, *([owner] if head else []), word]) if plain or not head else None
+            trait, of = words_of(head)
+            owner, is_own = "".join(it[:1].upper() + it[1:] for it in [*of, *trait]), head.startswith("impl") and not trait
+            within = self.homes.get(owner, modules) if is_own else modules
+            return "::".join([self.crate, *within, *([owner] if head else []), word]) if plain or not head else None
         fitting = ["::".join(it) for it in self.by_word.get(word, []) if self.fits(it, modules, head)]
         return max(fitting, key=len, default=None)
 

@@ -117,6 +117,9 @@ class Names(unittest.TestCase):
         with repository(crate("impl<S: Steps> Env<S> {\n    fn call() { 1 }\n}\n")):
             self.assertEqual([*rattle.Functions("low", ["low::env::Env::call"]).places], ["low::env::Env::call"])
             self.assertEqual([*rattle.Functions("low", ["low::env::EnvSteps::call"]).places], [])
+        declared = {"crates/low/src/env.rt": "mod held {\n    pub struct Env { at: u8 }\n}\n"}
+        with repository({**crate("impl Env {\n    fn call() { 1 }\n}\nimpl Steps for Env {\n    fn call() { 1 }\n}\n"), **declared}):
+            self.assertEqual([*rattle.Functions("low").places], ["low::env::held::Env::call", "low::place::EnvSteps::call"])
 
     def test_a_function_the_prover_lacks_has_no_name(self):
         with repository(crate("fn one() { 1 }\nfn two() { 2 }\n", "src/lib.rt")):
