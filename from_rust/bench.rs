@@ -5,7 +5,7 @@
 #[path = "../bench/floor.rs"]
 mod floor;
 
-use luthrady::{Answer, Call, Env, Operation, Room, Sizes};
+use luthrady::{Answer, BatchCall, Env, Operation, Room, Sizes};
 use std::time::Instant;
 
 const CALLS: u32 = 1_000;
@@ -114,9 +114,9 @@ fn make_each(env: &mut Env, handed: &[u64], call: impl Fn(&mut Env, u64, u64) ->
 fn batch_each(env: &mut Env, handed: &[u64], operation: Operation) -> usize {
     let mut right = 0;
     for part in handed.chunks(CALLS_OF_STAY) {
-        let mut calls = [Call::new(operation, 0, 0, 0); CALLS_OF_STAY];
+        let mut calls = [BatchCall::new(operation, 0, 0, 0); CALLS_OF_STAY];
         for (call, handle) in calls.iter_mut().zip(part) {
-            *call = Call::new(operation, *handle, handed[0], 0);
+            *call = BatchCall::new(operation, *handle, handed[0], 0);
         }
         let calls = &mut calls[..part.len()];
         if env.batch(calls).is_ok() {

@@ -5,7 +5,7 @@
 #![allow(dead_code)]
 mod model;
 
-use luthrady::{Answer, Call, Element, Env, Fault, Operation, Room, Sizes};
+use luthrady::{Answer, BatchCall, Element, Env, Fault, Operation, Room, Sizes};
 use model::{Kind, Model, Sort};
 use std::fmt::Debug;
 
@@ -93,8 +93,8 @@ struct Asked {
 }
 
 impl Asked {
-    fn call(&self) -> Call {
-        Call::new(self.operation, self.first, self.second, self.index)
+    fn call(&self) -> BatchCall {
+        BatchCall::new(self.operation, self.first, self.second, self.index)
     }
 
     /// What the model says of a call that makes no reference.
@@ -359,7 +359,7 @@ impl Case<'_> {
     /// Makes up to seven calls in one stay. Each answer is compared as that of its own function.
     fn batch(&mut self, env: usize) {
         let asked: Vec<Asked> = (0..self.input.byte() % 8).map(|_| self.asked()).collect();
-        let before: Vec<Call> = asked.iter().map(Asked::call).collect();
+        let before: Vec<BatchCall> = asked.iter().map(Asked::call).collect();
         let mut calls = before.clone();
         let found = self.envs[env].batch(&mut calls);
         self.same(env, Ok(()), found);

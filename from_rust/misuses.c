@@ -88,9 +88,41 @@ static const struct luthrady_sizes SIZES = {.threads = 3, .slots = 16, .objects 
     CALL(local_counts, (env, &counted))                                                                                 \
     CALL(census, (env, (uint32_t[3]){0}, 3, &inventory))                                                                \
     CALL(census_announced, (env, 3, (uint32_t[3]){0}, 3, &inventory))                                                   \
+    CALL(dump, (env, NULL, 0, (uint16_t[9]){0}, 9, NULL, 0, NULL, 0))                                                   \
+    CALL(dump_announced, (env, 3, NULL, 0, (uint16_t[9]){0}, 9, NULL, 0, NULL, 0))                                      \
     CALL(collect, (env, &counts))                                                                                       \
     CALL(collect_announced, (env, 3, &counts))                                                                          \
-    CALL(batch, (env, &(struct luthrady_call){.operation = LUTHRADY_GET_OBJECT_REF_TYPE}, 1))                           \
+    CALL(collect_in_turn, (env, 3, 3, &counts))                                                                         \
+    CALL(collect_in_turn_listing, (env, 3, 3, (uint64_t[2]){0}, 2, (uint16_t[2]){0}, 2, &counts))                       \
+    CALL(get_array_critical, (env, ints))                                                                               \
+    CALL(get_string_critical, (env, string))                                                                            \
+    CALL(release_critical, (env))                                                                                       \
+    CALL(get_level_length, (env, 0))                                                                                    \
+    CALL(get_boolean_level_part, (env, 0, 0, (bool[4]){0}, 4))                                                          \
+    CALL(set_boolean_level_part, (env, 0, 0, (bool[4]){0}, 4))                                                          \
+    CALL(get_byte_level_part, (env, 0, 0, (int8_t[4]){0}, 4))                                                           \
+    CALL(set_byte_level_part, (env, 0, 0, (int8_t[4]){0}, 4))                                                           \
+    CALL(get_char_level_part, (env, 0, 0, (uint16_t[4]){0}, 4))                                                         \
+    CALL(set_char_level_part, (env, 0, 0, (uint16_t[4]){0}, 4))                                                         \
+    CALL(get_short_level_part, (env, 0, 0, (int16_t[4]){0}, 4))                                                         \
+    CALL(set_short_level_part, (env, 0, 0, (int16_t[4]){0}, 4))                                                         \
+    CALL(get_int_level_part, (env, 0, 0, (int32_t[4]){0}, 4))                                                           \
+    CALL(set_int_level_part, (env, 0, 0, (int32_t[4]){0}, 4))                                                           \
+    CALL(get_long_level_part, (env, 0, 0, (int64_t[4]){0}, 4))                                                          \
+    CALL(set_long_level_part, (env, 0, 0, (int64_t[4]){0}, 4))                                                          \
+    CALL(get_boolean_level_element, (env, 0, 0))                                                                        \
+    CALL(set_boolean_level_element, (env, 0, 0, 0))                                                                     \
+    CALL(get_byte_level_element, (env, 0, 0))                                                                           \
+    CALL(set_byte_level_element, (env, 0, 0, 0))                                                                        \
+    CALL(get_char_level_element, (env, 0, 0))                                                                           \
+    CALL(set_char_level_element, (env, 0, 0, 0))                                                                        \
+    CALL(get_short_level_element, (env, 0, 0))                                                                          \
+    CALL(set_short_level_element, (env, 0, 0, 0))                                                                       \
+    CALL(get_int_level_element, (env, 0, 0))                                                                            \
+    CALL(set_int_level_element, (env, 0, 0, 0))                                                                         \
+    CALL(get_long_level_element, (env, 0, 0))                                                                           \
+    CALL(set_long_level_element, (env, 0, 0, 0))                                                                        \
+    CALL(batch, (env, &(struct luthrady_batch_call){.operation = LUTHRADY_GET_OBJECT_REF_TYPE}, 1))                           \
     CALL(detach, (&room, env, &stood))                                                                                  \
     CALL(free_env, (env))
 
@@ -203,6 +235,7 @@ static struct luthrady_env *null(void) { return &made_up; }
 static struct luthrady_env *of_a_room(void) { made_up.at = room.at; return &made_up; }
 static struct luthrady_env *of_another_room(void) { return &foreign; }
 static struct luthrady_env *of_another_thread(void) { return &second; }
+static struct luthrady_env *in_a_region(void) { made(luthrady_get_array_critical(&env, ints)); return &env; }
 
 // Of memory that is as long as a place, and doesn't begin with a mark.
 static struct luthrady_env *of_no_place(void) {
@@ -238,6 +271,7 @@ static const struct handle HANDLES[] = {
     {"a pointer to memory without a mark", of_no_place, 0},
     {"a thread that was detached", detached, 0},
     {"a thread that was detached from a room that was closed and freed", of_a_closed_room, 0},
+    {"a thread in a critical region over an int[4]", in_a_region, 0},
     {"another thread's, with words of the first", of_another_thread, 0},
     {"another room's, with words of the first", of_another_room, 0},
 };
@@ -246,7 +280,9 @@ static void by_handle(const void *given) {
     const struct by_handle *it = given;
     struct luthrady_env *handle = it->handle->make();
     struct luthrady_reply reply = it->handle->is_bare ? it->call->bare(handle) : it->call->checked(handle);
-    if (reply.fault == LUTHRADY_FAULT_NOT_FRESH && !stands()) told(" and something has changed");
+    // What stands is looked at outside a region, which goes on at a refusal.
+    if (it->handle->make == in_a_region && reply.fault == LUTHRADY_FAULT_IN_CRITICAL && luthrady_release_critical(&env).fault != 0) told(" and the region ended,");
+    if ((reply.fault == LUTHRADY_FAULT_NOT_FRESH || reply.fault == LUTHRADY_FAULT_IN_CRITICAL) && !stands()) told(" and something has changed");
     tell(reply);
 }
 
@@ -475,10 +511,64 @@ MISUSE(words_of_another_room) {
 
 // Batches.
 MISUSE(batch_of_no_calls) {
-    struct luthrady_call calls[] = {{.operation = 0}, {.operation = 13}, {.operation = UINT32_MAX}};
+    struct luthrady_batch_call calls[] = {{.operation = 0}, {.operation = 13}, {.operation = UINT32_MAX}};
     (void)given;
     tell(luthrady_batch(&env, calls, 3));
     for (int i = 0; i < 3; i++) tell(calls[i].reply);
+}
+
+// Critical regions that go on from call to call.
+MISUSE(levels_without_end) {
+    int levels = 0;
+    struct luthrady_reply reply;
+    (void)given;
+    while ((reply = luthrady_get_array_critical(&env, ints)).fault == 0) levels++;
+    told(" %d levels then E%u", levels, reply.fault);
+    tell(luthrady_get_int_level_element(&env, 15, 3));
+    tell(luthrady_get_int_level_element(&env, 16, 3));
+    tell(luthrady_get_level_length(&env, UINT32_MAX));
+    for (; (reply = luthrady_release_critical(&env)).fault == 0; levels--);
+    told(", %d stay", levels);
+    tell(reply);
+    told(stands() ? ", nothing has changed" : ", something has changed");
+}
+MISUSE(levels_of_others) {
+    (void)given;
+    tell(luthrady_get_string_critical(&env, string));
+    tell(luthrady_get_array_critical(&env, ints));
+    tell(luthrady_get_array_critical(&env, objects));
+    tell(luthrady_get_array_critical(&env, string));
+    tell(luthrady_get_string_critical(&env, ints));
+    tell(luthrady_get_array_critical(&env, 0));
+    tell(luthrady_get_level_length(&env, 0));
+    tell(luthrady_get_char_level_element(&env, 0, 1));
+    tell(luthrady_set_char_level_element(&env, 0, 1, 7));
+    tell(luthrady_get_int_level_element(&env, 0, 1));
+    tell(luthrady_set_byte_level_element(&env, 1, 0, 7));
+    tell(luthrady_get_int_level_element(&env, 1, 4));
+    tell(luthrady_set_int_level_part(&env, 1, 1, elements, 4));
+    tell(luthrady_get_int_level_part(&env, 1, 4, elements, 0));
+    tell(luthrady_release_critical(&env));
+    tell(luthrady_release_critical(&env));
+    told(stands() ? ", nothing has changed" : ", something has changed");
+}
+MISUSE(region_of_an_object) {
+    (void)given;
+    tell(luthrady_get_array_critical(&env, objects));
+    tell(luthrady_get_string_critical(&env, ints));
+    tell(luthrady_get_array_critical(&env, 0));
+    tell(luthrady_release_critical(&env));
+    told(stands() ? ", nothing has changed" : ", something has changed");
+}
+MISUSE(collect_beside_a_region) {
+    (void)given;
+    made(luthrady_get_array_critical(&env, ints));
+    tell(luthrady_collect(&second, &counts));
+    tell(luthrady_detach(&room, &env, &stood));
+    tell(luthrady_free_env(&env));
+    tell(luthrady_release_critical(&env));
+    tell(luthrady_collect(&second, &counts));
+    told(stands() ? ", nothing has changed" : ", something has changed");
 }
 
 // Coming and going.
@@ -570,6 +660,10 @@ static const struct misuse {
     {"a global reference deleted twice, its length and type", words_deleted},
     {"another room's word: length there and here, delete here, type of this room's", words_of_another_room},
     {"a batch of calls 0, 13 and 2^32-1", batch_of_no_calls},
+    {"levels without end, element 3 of levels 15 and 16, length of level 2^32-1, releases without end", levels_without_end},
+    {"levels over a string and int[4], none over Object[], string, int[] as a string, NULL; what each level refuses; two releases", levels_of_others},
+    {"no region over Object[], int[] as a string, NULL; a release", region_of_an_object},
+    {"another thread's collection beside a region, a detach, a free, a release, a collection", collect_beside_a_region},
     {"a third and a fourth of three threads, and one behind a detach", attach_too_many},
     {"a detach made twice", detach_twice},
     {"a detach from a room with no attached thread", detach_of_another_room},

@@ -12,12 +12,16 @@ static struct luthrady_room room;
 static struct luthrady_env env;
 static struct luthrady_stood stood;
 static struct luthrady_counts counts;
+static uint64_t ints;
 static const struct luthrady_sizes sizes = {64, 16, 16, 64, 16};
 
 static void *nothing(void *given) { return given; }
 static void *open_room(void *given) { luthrady_open(sizes, &room.at); return given; }
 static void *attach(void *given) { luthrady_attach(&room, &env.at); return given; }
-static void *array(void *given) { luthrady_new_int_array(&env, 2); return given; }
+static void *array(void *given) { ints = luthrady_new_int_array(&env, 2).value; return given; }
+static void *enter(void *given) { luthrady_get_array_critical(&env, ints); return given; }
+static void *leave(void *given) { luthrady_release_critical(&env); return given; }
+static void *dump(void *given) { luthrady_dump(&env, NULL, 0, NULL, 0, NULL, 0, NULL, 0); return given; }
 static void *collect(void *given) { luthrady_collect(&env, &counts); return given; }
 static void *detach(void *given) { luthrady_detach(&room, &env, &stood); return given; }
 static void *release(void *given) { luthrady_release(&room); return given; }
@@ -41,7 +45,8 @@ static size_t used(void *(*call)(void *)) {
 int main(void) {
     size_t own = used(nothing);
     struct { const char *name; void *(*call)(void *); } calls[] = {
-        {"open", open_room}, {"attach", attach}, {"new_int_array", array}, {"collect", collect}, {"detach", detach}, {"release", release},
+        {"open", open_room}, {"attach", attach}, {"new_int_array", array},
+        {"get_array_critical", enter}, {"release_critical", leave}, {"dump", dump}, {"collect", collect}, {"detach", detach}, {"release", release},
     };
     for (size_t i = 0; i < sizeof calls / sizeof *calls; i++)
         printf("%s %zu bytes of stack\n", calls[i].name, used(calls[i].call) - own);

@@ -3,13 +3,17 @@
 use luthrady::{Answer, Counts, Env, Fault, Room, Sizes, Stood};
 use std::sync::Arc;
 use std::sync::atomic::Ordering::SeqCst;
-use std::sync::atomic::{AtomicI32, AtomicU64};
+use std::sync::atomic::{AtomicBool, AtomicI32, AtomicU64};
 use std::thread;
 
 const THREADS: u32 = 4;
 
 /// How many arrays a thread makes in a round beside the one that it hands on.
 const OWN: u64 = 16;
+
+/// Whether a thread detaches. One does at a time: ThreadSanitizer doesn't see the order that a room's lock gives to threads that wait for it, since the
+/// standard library is compiled without its looks.
+static DETACHES: AtomicBool = AtomicBool::new(false);
 
 /// A place where one thread leaves a reference for the next, with the number that its array begins with.
 #[derive(Default)]
@@ -147,11 +151,15 @@ fn run(number: u32, env: Env, to: &Mail, from: &Mail, rounds: i32) -> Tally {
     for round in 0..rounds {
         native.round(number as i32 * 1_000_000 + round, round, to, from);
     }
-    let closed = native.again(Env::detach);
-    Tally {
-        closed,
-        ..native.tally
+    while DETACHES.swap(true, SeqCst) {
+        thread::yield_now();
     }
+    let closed = native.again(Env::detach);
+    let Native { env, tally } = native;
+    // (it detaches once more, which is refused)
+    drop(env);
+    DETACHES.store(false, SeqCst);
+    Tally { closed, ..tally }
 }
 
 /// A room that was released, and its envs.

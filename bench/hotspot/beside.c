@@ -342,7 +342,7 @@ static void do_pop(Thread *thread) {
 static void do_batch(Thread *thread) {
     Value *value = any_of(thread, NUMBERS);
     if (value == NULL) return;
-    struct luthrady_call calls[] = {{.operation = LUTHRADY_GET_OBJECT_REF_TYPE, .first = value->ours}, {.operation = LUTHRADY_GET_ARRAY_LENGTH, .first = value->ours}};
+    struct luthrady_batch_call calls[] = {{.operation = LUTHRADY_GET_OBJECT_REF_TYPE, .first = value->ours}, {.operation = LUTHRADY_GET_ARRAY_LENGTH, .first = value->ours}};
     made(thread, "batch", luthrady_batch(&thread->ours, calls, 2));
     if (calls[0].reply.value != (uint64_t)(*thread->theirs)->GetObjectRefType(thread->theirs, value->theirs)) differ(thread, "a batch has another type");
     if (calls[1].reply.value != (uint64_t)(*thread->theirs)->GetArrayLength(thread->theirs, value->theirs)) differ(thread, "a batch has another length");

@@ -1,6 +1,6 @@
 -- What the two threads did, by which of their acts make an array of ints, or write an element.
-use Rattle.std.proofs.Common.{◌≡◌, ◌∙◌, ◌++◌, ◌≤◌, inl, inr, ℕ, Bool, List, [], ◌∷◌, Result, Ok, Err, ap, refl, subst}
-use Rattle.std.proofs.Common.{sym}
+use Rattle.std.proofs.Common.{◌≡◌, ◌∙◌, ◌++◌, ◌≤◌, ◌⊎◌, inl, inr, ℕ, Bool, List, [], ◌∷◌, Result, Ok, Err, ap, refl}
+use Rattle.std.proofs.Common.{subst, sym}
 use Rattle.std.specs.Int.{w32}
 use mathlib.Core.List.{IsPrefix}
 use Rattle.jr_word.specs.declared.config.Config.{Config}
@@ -31,7 +31,7 @@ use Rattle.first_room.specs.declared.TheConstants.{TRIES}
 use Rattle.first_room.specs.declared.message.Found.{Found}
 use Rattle.first_room.specs.declared.message.Handed.{Handed}
 use Rattle.first_room.specs.declared.message.Found.TheVariants.{Shared, Visited}
-use Rattle.first_room.specs.Calls.{HasPrepared, clearing, collecting_twice, making_own, preparing, reading_within}
+use Rattle.first_room.specs.Calls.{HasPrepared, clearing, collecting_twice, making_own, preparing}
 use Rattle.first_room.specs.Calls.{message_says, sharing, visiting}
 use Rattle.first_room.proofs.Arrays.{filling}
 use Rattle.first_room.proofs.Touching.{HasInts, ProgramTouches, Touches, collected_none}
@@ -53,6 +53,12 @@ so_then {l} {m} p q = record {
 
 same_end : {l : List Act} {a : PassView} {b c : ThreadState} → c ≡ b → DidJust l a b.pass → DidJust l a c.pass
 same_end {l} {a} is = subst (λ (z : ThreadState). DidJust l a z.pass) (sym is)
+
+-- what a deed was whose answer is no refusal
+unrefused : {A B : Type 0} {y : B} {refused : Fault → Type 0}
+    → A ⊎ ((e : Fault) × (◌≡◌ {A = Result B Fault} (Ok y) (Err e)) × refused e) → A
+unrefused (inl done) = done
+unrefused (inr r) = absurd (let bad = r.1 in cc)
 
 -- a call that was answered
 made_so : {A : Type 0} {P : List Act → Type 0} {silent : ℕ} {old new : ThreadState} {x : A} {call : Call A}
@@ -130,89 +136,30 @@ pub record IsTraced (start stop : PassView) : Type 0 where
   pub ends : DidJust [] filled stop
 
 pub traced : (old new : ThreadState) (x : ℕ × ℕ) → preparing old (Ok x) new → IsTraced old.pass new.pass
-traced old new x (inr r) = absurd (let bad = r.1 in cc)
-traced old new x (inl (u, a, d1, inr r)) = absurd (let bad = r.1 in cc)
-traced old new x (inl (u, a, d1, inl (lost, b, d2, inr r))) = absurd (let bad = r.1 in cc)
-traced old new x (inl (u, a, d1, inl (lost, b, d2, inl (weak, c, d3, inr r)))) = absurd (let bad = r.1 in cc)
-traced old new x (inl (u, a, d1, inl (lost, b, d2, inl (weak, c, d3, inl (array, d, d4, inr r))))) =
-    absurd (let bad = r.1 in cc)
-traced old new x (inl (u, a, d1, inl (lost, b, d2, inl (weak, c, d3, inl (array, d, d4, inl (v, e, d5, inr r)))))) =
-    absurd (let bad = r.1 in cc)
-traced old new x (inl (
-  u,
-  a,
-  d1,
-  inl (
-    lost,
-    b,
-    d2,
-    inl (
-      weak,
-      c,
-      d3,
-      inl (
-        array,
-        d,
-        d4,
-        inl (
-          v,
-          e,
-          d5,
-          inl (
-            global,
-            f,
-            d6,
-            inr r,
-          ),
-        ),
-      ),
-    ),
-  ),
-)) = absurd (let bad = r.1 in cc)
-traced old new x (inl (
-  u,
-  a,
-  d1,
-  inl (
-    lost,
-    b,
-    d2,
-    inl (
-      weak,
-      c,
-      d3,
-      inl (
-        array,
-        d,
-        d4,
-        inl (
-          v,
-          e,
-          d5,
-          inl (
-            global,
-            f,
-            d6,
-            inl (popped, g, d7, end),
-          ),
-        ),
-      ),
-    ),
-  ),
-)) =
-    let one = whole_so (for_new_array Int 3) c d array d4 in
-    let two = made_so (in_stay (fills_so d.pass.config d.pass.last d.pass.thread (state e.pass.seen) d5.0)) d5.2.0 in
-    let first = so_then (pushed 4 d1) (so_then (quiet (for_new_array Long 4) (λ l t. t.1) a b lost d2)
-    (quiet (for_new_reference Weak lost.0) (λ l t. t.1) b c weak d3)) in
+traced old new x d =
+    let push = unrefused d in
+    let lost = unrefused push.3 in
+    let weak = unrefused lost.3 in
+    let array = unrefused weak.3 in
+    let set = unrefused array.3 in
+    let global = unrefused set.3 in
+    let popped = unrefused global.3 in
+    let one = whole_so (for_new_array Int 3) weak.1 array.1 array.0 array.2 in
+    let at = array.1.pass in
+    let two = made_so (in_stay (fills_so at.config at.last at.thread (state set.1.pass.seen) set.2.0)) set.2.2.0 in
+    let first = so_then (pushed 4 push.2) (so_then
+    (quiet (for_new_array Long 4) (λ l t. t.1) push.1 lost.1 lost.0 lost.2)
+    (quiet (for_new_reference Weak lost.0.0) (λ l t. t.1) lost.1 weak.1 weak.0 weak.2)) in
     record {
       o = one.2.0;
       p = two.2.0;
-      filled = e.pass;
-      fills = subst (λ l. DidJust l old.pass e.pass) (λ i. one.2.1 i ++ two.2.2 i)
+      filled = set.1.pass;
+      fills = subst (λ l. DidJust l old.pass set.1.pass) (λ i. one.2.1 i ++ two.2.2 i)
           (so_then first (so_then one.1 two.1));
       ints = two.2.1;
-      ends = same_end end.1 (so_then (quiet (for_new_reference Global array.0) (λ l t. t.1) e f global d6)
-          (quiet (for_pop_local_frame 0) (λ l t. t.1) f g popped d7));
+      ends = same_end popped.3.1 (so_then
+          (quiet (for_new_reference Global array.0.0) (λ l t. t.1) set.1 global.1 global.0 global.2)
+          (quiet (for_pop_local_frame 0) (λ l t. t.1) global.1 popped.1 popped.0 popped.2));
     }
 
 -- ALL THAT IT DID: it prepared, and then nothing of the sort; and a collection of it was refused, by one at least
@@ -248,100 +195,102 @@ same_found : {y z : Found} → ◌≡◌ {A = Result Found Fault} (Ok y) (Ok z) 
 same_found e = cc
 
 pub has_shared : (old new : ThreadState) (y : Found) → sharing old (Ok y) new → HasShared y old.pass new.pass
-has_shared old new y (inr r) = absurd (let bad = r.1 in cc)
-has_shared old new y (inl (words, a, d1, inr r)) = absurd (let bad = r.1 in cc)
-has_shared old new y (inl (words, a, d1, inl (inside, b, d2, inr r))) = absurd (let bad = r.1 in cc)
-has_shared old new y (inl (words, a, d1, inl (inside, b, d2, inl (found, c, d3, end)))) =
-    let twice = collected a b inside d2 in
+has_shared old new y d =
+    let words = unrefused d in
+    let inside = unrefused words.3 in
+    let found = unrefused inside.3 in
+    let end = found.3 in
+    let twice = collected words.1 inside.1 inside.0 inside.2 in
     record {
-      inside = inside;
-      cleared = found.0;
-      kind = found.1;
+      inside = inside.0;
+      cleared = found.0.0;
+      kind = found.0.1;
       is = same_found end.0;
       some = twice.0;
-      mid = a.pass;
-      traced = traced old a words d1;
-      ends = same_end end.1 (so_then twice.1 (cleared b c words.0 words.1 found d3));
+      mid = words.1.pass;
+      traced = traced old words.1 words.0 words.2;
+      ends =
+          same_end end.1 (so_then twice.1 (cleared inside.1 found.1 words.0.0 words.0.1 found.0 found.2));
     }
   where
     collected : (a b : ThreadState) (inside : ℕ) → collecting_twice a (Ok inside) b
         → (1 ≤ inside) × DidJust [] a.pass b.pass
-    collected a b inside (inr r) = absurd (let bad = r.1 in cc)
-    collected a b inside (inl (n, m, kept, inr r)) = absurd (let bad = r.1 in cc)
-    collected a b inside (inl (n, m, kept, inl (c, e, turn, end))) =
-        let k = kept.2 in
-        let told : inside ≡ k.count = let x = end.0 in let y = kept.1 in let z = k.busy in cc in (
+    collected a b inside d =
+        let out = unrefused d in
+        let turn = unrefused out.3 in
+        let k = out.2.2 in
+        let told : inside ≡ k.count = let x = turn.3.0 in let y = out.2.1 in let z = k.busy in cc in (
           subst (λ i. 1 ≤ i) (sym told) k.some,
-          same_end end.1 (so_then (refused_so (refused_parts_change_nothing a.pass.config a.pass.last a.pass.thread
-              (state m.pass.seen) _ calls.PartOf.collect) k.made) (in_turn turn.1)),
+          same_end turn.3.1 (so_then (refused_so (refused_parts_change_nothing a.pass.config a.pass.last a.pass.thread
+              (state out.1.pass.seen) _ calls.PartOf.collect) k.made) (in_turn turn.2.1)),
         )
 
     cleared : (b c : ThreadState) (weak global : ℕ) (found : Bool × ℕ) → clearing weak global b (Ok found) c
         → DidJust [] b.pass c.pass
-    cleared b c weak global found (inr r) = absurd (let bad = r.1 in cc)
-    cleared b c weak global found (inl (x, d, d1, inr r)) = absurd (let bad = r.1 in cc)
-    cleared b c weak global found (inl (x, d, d1, inl (u, e, d2, inr r))) = absurd (let bad = r.1 in cc)
-    cleared b c weak global found (inl (x, d, d1, inl (u, e, d2, inl (kind, f, d3, end)))) =
-        same_end end.1 (so_then (quiet (for_is_same_object weak 0) (λ l t. t.2) b d x d1)
-        (so_then (quiet (for_delete_reference Global global) (λ l t. t.1) d e u d2)
-        (quiet (for_get_object_ref_type global) (λ l t. t.1) e f kind d3)))
+    cleared b c weak global found z =
+        let is = unrefused z in
+        let deleted = unrefused is.3 in
+        let kind = unrefused deleted.3 in
+        same_end kind.3.1 (so_then (quiet (for_is_same_object weak 0) (λ l t. t.2) b is.1 is.0 is.2)
+        (so_then (quiet (for_delete_reference Global global) (λ l t. t.1) is.1 deleted.1 deleted.0 deleted.2)
+        (quiet (for_get_object_ref_type global) (λ l t. t.1) deleted.1 kind.1 kind.0 kind.2)))
 
 pub has_visited : (old new : ThreadState) (y : Found) → visiting old (Ok y) new
     → HasVisited y old.pass.config old.pass new.pass
-has_visited old new y (inr r) = absurd (let bad = r.1 in cc)
-has_visited old new y (inl (w, a, handed, inr r)) = absurd (let bad = r.1 in cc)
-has_visited old new y (inl (w, a, handed, inl (u, b, d1, inr r))) = absurd (let bad = r.1 in cc)
-has_visited old new y (inl (w, a, handed, inl (u, b, d1, inl (word, c, d2, end)))) =
-    reads b c word end d2 (own a b d1)
+has_visited old new y d =
+    let heard = unrefused d in
+    let owned = unrefused heard.3 in
+    let read = unrefused owned.3 in
+    let opens = unrefused read.2 in
+    let gets = unrefused opens.3 in
+    let leaves = unrefused gets.3 in
+    let before = owned.1.pass in
+    let there = opens.1.pass in
+    let behind = gets.1.pass in
+    let first = made_so (in_region (program_so before.config before.last before.thread (handed_one opens.2.0)
+    (state there.seen) (programs.get_array_critical 0) none_known 0)) opens.2.2 in
+    let quiet_open = subst (λ l. DidJust l before there) first.2.2 first.1 in
+    let value : gets.0 ≡ read.0 = same_word gets.0 read.0 (sym leaves.3.0) in
+    let got = ints_read there.config there.last there.thread (state behind.seen) opens.0 gets.0 opens.1.frames
+    gets.1.frames gets.2.ran.acts gets.2.ran.is in
+    let taken = heard.2.2 in
+    record {
+      word = read.0;
+      is = same_found read.3.0;
+      global = heard.0;
+      noted = taken.2;
+      mid = heard.1.pass;
+      prepared = subst (λ h. ∥ HasPrepared old.pass.config h taken.2 ∥₁) (same_word _ _ (sym heard.2.1))
+          (subst (λ m. ∥ message_says m old.pass.config taken.2 ∥₁) (same_message taken.1) taken.3);
+      begins = taken.4;
+      learned = taken.5.did;
+      o = opens.0;
+      opened = there;
+      read = behind;
+      first = so_then (own heard.1 owned.1 owned.2) quiet_open;
+      reads = subst (λ x. Did there behind (Read opens.0 1 x ∷ [])) value
+          (subst (Did there behind) got.1 gets.2.ran.did);
+      ints = got.0;
+      last = same_end (read.3.1 ∙ leaves.3.1) (record {
+        acts = leaves.2.ran.acts;
+        did = leaves.2.ran.did;
+        so = ap touching leaves.2.ran.is.0;
+      });
+    }
   where
     own : (a b : ThreadState) → making_own a (Ok tt) b → DidJust [] a.pass b.pass
-    own a b (inr r) = absurd (let bad = r.1 in cc)
-    own a b (inl (u, c, d1, inr r)) = absurd (let bad = r.1 in cc)
-    own a b (inl (u, c, d1, inl (object, d, d2, inr r))) = absurd (let bad = r.1 in cc)
-    own a b (inl (u, c, d1, inl (object, d, d2, inl (array, e, d3, inr r)))) = absurd (let bad = r.1 in cc)
-    own a b (inl (u, c, d1, inl (object, d, d2, inl (array, e, d3, inl (popped, f, d4, end))))) =
-        same_end end.1 (so_then (pushed 4 d1) (so_then (quiet for_new_plain (λ l t. t.1) c d object d2)
-        (so_then (quiet (for_new_object_array 2 object.0) (λ l t. t.1.1.1) d e array d3)
-        (quiet (for_pop_local_frame 0) (λ l t. t.1) e f popped d4))))
+    own a b z =
+        let push = unrefused z in
+        let object = unrefused push.3 in
+        let array = unrefused object.3 in
+        let popped = unrefused array.3 in
+        same_end popped.3.1 (so_then (pushed 4 push.2) (so_then
+        (quiet for_new_plain (λ l t. t.1) push.1 object.1 object.0 object.2) (so_then
+        (quiet (for_new_object_array 2 object.0.0) (λ l t. t.1.1.1) object.1 array.1 array.0 array.2)
+        (quiet (for_pop_local_frame 0) (λ l t. t.1) array.1 popped.1 popped.0 popped.2))))
 
     same_message : {m n : Handed} → ◌≡◌ {A = Result Handed Fault} (Ok m) (Ok n) → n ≡ m
     same_message e = cc
 
     same_word : (a b : ℕ) → ◌≡◌ {A = Result ℕ Fault} (Ok a) (Ok b) → a ≡ b
     same_word a b e = cc
-
-    reads : (b c : ThreadState) (word : ℕ)
-        → (◌≡◌ {A = Result Found Fault} (Ok y) (Ok (Visited (signed_of w32 word)))) × (new ≡ c)
-        → reading_within w b (Ok word) c → DidJust [] a.pass b.pass → HasVisited y old.pass.config old.pass new.pass
-    reads b c word end (inr r) made = absurd (let bad = r.1 in cc)
-    reads b c word end (inl (o, d, opens, inr r)) made = absurd (let bad = r.1 in cc)
-    reads b c word end (inl (o, d, opens, inl (v, e, gets, inr r))) made = absurd (let bad = r.1 in cc)
-    reads b c word end (inl (o, d, opens, inl (v, e, gets, inl (u2, f, left, last)))) made =
-        let there = state d.pass.seen in
-        let first = made_so (in_region (program_so b.pass.config b.pass.last b.pass.thread (handed_one opens.0) there
-        (programs.get_array_critical 0) none_known 0)) opens.2 in
-        let quiet_open = subst (λ l. DidJust l b.pass d.pass) first.2.2 first.1 in
-        let value : v ≡ word = same_word v word (sym last.0) in
-        let got = ints_read d.pass.config d.pass.last d.pass.thread (state e.pass.seen) o v d.frames e.frames
-        gets.ran.acts gets.ran.is in
-        let taken = handed.2 in
-        record {
-          word = word;
-          is = same_found end.0;
-          global = w;
-          noted = taken.2;
-          mid = a.pass;
-          prepared = subst (λ h. ∥ HasPrepared old.pass.config h taken.2 ∥₁) (same_word _ _ (sym handed.1))
-              (subst (λ m. ∥ message_says m old.pass.config taken.2 ∥₁) (same_message taken.1) taken.3);
-          begins = taken.4;
-          learned = taken.5.did;
-          o = o;
-          opened = d.pass;
-          read = e.pass;
-          first = so_then made quiet_open;
-          reads = subst (λ x. Did d.pass e.pass (Read o 1 x ∷ [])) value
-              (subst (Did d.pass e.pass) got.1 gets.ran.did);
-          ints = got.0;
-          last = same_end (end.1 ∙ last.1)
-              (record { acts = left.ran.acts; did = left.ran.did; so = ap touching left.ran.is.0 });
-        }

@@ -7,10 +7,10 @@ pub use jr_elements::{Elements, discard_left, text_of, utf16_of};
 pub use jr_env::{
     Checked, CriticalRegion, Demand, Env, Evidence, Examined, Explains, Explanation, Handed,
     LocalCounts, LocalFrames, LogWatcher, Missed, NativeCall, NativeCaller, NativeEnv,
-    NativeInterface, OverEnv, Patience, Refusal, Region, Span, Stay, TellsRefusals, TriesCalls,
-    Unreleased, Unscoped, Watcher, call_beneath, calls, is_made_again, is_short_of_room,
-    with_array_elements, with_critical, with_local_frame, with_local_frame_returning,
-    with_patience,
+    NativeInterface, OverEnv, Patience, Refusal, Region, Reserve, Scarce, Shortage, Span, Stay,
+    TellsRefusals, TriesCalls, Unreleased, Unscoped, Warned, Warner, Watcher, call_beneath, calls,
+    is_made_again, is_short_of_room, with_array_elements, with_critical, with_local_frame,
+    with_local_frame_returning, with_patience,
 };
 pub use jr_model::{Mode, Summary};
 pub use jr_rule::{

@@ -1,11 +1,12 @@
 //! Copies of elements and of units: words that are no array, and long ones, over plain words and over a room.
 
-use crate::cases::{EnvTest, alone, in_a_room};
+use crate::cases::in_a_room;
 use crate::envs::{TWO, has_elements, refuses};
 use crate::parts::no_arrays_of_chars;
 use assertions::assert_same;
 use jr_elements::{Elements, discard_left, elements_of};
 use jr_env::{Env, NativeInterface};
+use jr_fixtures::{EnvTest, alone};
 use jr_model::Mode;
 use jr_steps::Steps;
 use jr_word::{Config, Elem, Fault, Handle};
@@ -53,8 +54,8 @@ fn is_no_such_array<S: Steps>(
 #[derive(Drop)]
 struct HaveNoCopies;
 
-impl EnvTest for HaveNoCopies {
-    fn run<S: Steps, R: Abort>(self, rt: &R, alloc: Global, env: &mut Env<S>) -> Result<(), Fail> {
+impl<R: Abort> EnvTest<R> for HaveNoCopies {
+    fn run<S: Steps>(self, rt: &R, alloc: Global, env: &mut Env<S>) -> Result<(), Fail> {
         let rows = no_arrays_of_chars(env)?;
         for (word, fault) in rows {
             is_no_such_array(rt, env, alloc, word, fault)?;
@@ -84,8 +85,8 @@ fn committed<E: Elem>(
 #[derive(Drop)]
 struct GoesToAnother;
 
-impl EnvTest for GoesToAnother {
-    fn run<S: Steps, R: Abort>(self, rt: &R, alloc: Global, env: &mut Env<S>) -> Result<(), Fail> {
+impl<R: Abort> EnvTest<R> for GoesToAnother {
+    fn run<S: Steps>(self, rt: &R, alloc: Global, env: &mut Env<S>) -> Result<(), Fail> {
         let array = env.new_array::<i64>(2)?;
         env.set_array_region(array, 0, &[10i64, -20])?;
         let other = env.new_array::<i64>(2)?;
@@ -111,8 +112,8 @@ fn elements_of_one_array_are_released_to_another(rt: HostRuntime) -> Result<(), 
 #[derive(Drop)]
 struct IsDiscarded;
 
-impl EnvTest for IsDiscarded {
-    fn run<S: Steps, R: Abort>(self, rt: &R, alloc: Global, env: &mut Env<S>) -> Result<(), Fail> {
+impl<R: Abort> EnvTest<R> for IsDiscarded {
+    fn run<S: Steps>(self, rt: &R, alloc: Global, env: &mut Env<S>) -> Result<(), Fail> {
         let array = env.new_array::<i64>(2)?;
         env.set_array_region(array, 0, &[10i64, -20])?;
         let mut elements = env.get_array_elements::<i64>(alloc, array)?;
@@ -183,8 +184,8 @@ fn copies_elements<S: Steps>(
 #[derive(Drop)]
 struct Units(u32);
 
-impl EnvTest for Units {
-    fn run<S: Steps, R: Abort>(self, rt: &R, alloc: Global, env: &mut Env<S>) -> Result<(), Fail> {
+impl<R: Abort> EnvTest<R> for Units {
+    fn run<S: Steps>(self, rt: &R, alloc: Global, env: &mut Env<S>) -> Result<(), Fail> {
         copies_units(rt, alloc, env, self.0)
     }
 }
@@ -193,8 +194,8 @@ impl EnvTest for Units {
 #[derive(Drop)]
 struct ElementsOf(u32);
 
-impl EnvTest for ElementsOf {
-    fn run<S: Steps, R: Abort>(self, rt: &R, alloc: Global, env: &mut Env<S>) -> Result<(), Fail> {
+impl<R: Abort> EnvTest<R> for ElementsOf {
+    fn run<S: Steps>(self, rt: &R, alloc: Global, env: &mut Env<S>) -> Result<(), Fail> {
         copies_elements(rt, alloc, env, self.0)
     }
 }
@@ -203,8 +204,8 @@ impl EnvTest for ElementsOf {
 #[derive(Drop)]
 struct UnitsAndElements(u32, u32);
 
-impl EnvTest for UnitsAndElements {
-    fn run<S: Steps, R: Abort>(self, rt: &R, alloc: Global, env: &mut Env<S>) -> Result<(), Fail> {
+impl<R: Abort> EnvTest<R> for UnitsAndElements {
+    fn run<S: Steps>(self, rt: &R, alloc: Global, env: &mut Env<S>) -> Result<(), Fail> {
         copies_units(rt, alloc, env, self.0)?;
         copies_elements(rt, alloc, env, self.1)
     }

@@ -1,10 +1,10 @@
 //! Elements of arrays in a region as those of one type alone, and units of strings as chars.
 
 use crate::at_a_level::{has, is_deep, is_not_put, is_not_read, is_told};
-use crate::cases::{EnvTest, alone};
 use crate::envs::TWO;
 use assertions::assert_same;
 use jr_env::{Env, NativeInterface, Region};
+use jr_fixtures::{EnvTest, alone};
 use jr_model::Mode;
 use jr_steps::Steps;
 use jr_word::{Elem, Fault, Kind};
@@ -98,8 +98,8 @@ fn long_ones_are_of_one_type<S: Steps>(rt: &impl Abort, env: &mut Env<S>) -> Res
 #[derive(Drop)]
 struct AreOfOneType;
 
-impl EnvTest for AreOfOneType {
-    fn run<S: Steps, R: Abort>(self, rt: &R, _alloc: Global, env: &mut Env<S>) -> Result<(), Fail> {
+impl<R: Abort> EnvTest<R> for AreOfOneType {
+    fn run<S: Steps>(self, rt: &R, _alloc: Global, env: &mut Env<S>) -> Result<(), Fail> {
         short_ones_are_of_one_type(rt, env)?;
         long_ones_are_of_one_type(rt, env)
     }
@@ -114,8 +114,8 @@ fn elements_are_of_one_type_and_end_at_the_length(rt: HostRuntime) -> Result<(),
 #[derive(Drop)]
 struct HasUnits;
 
-impl EnvTest for HasUnits {
-    fn run<S: Steps, R: Abort>(self, rt: &R, _alloc: Global, env: &mut Env<S>) -> Result<(), Fail> {
+impl<R: Abort> EnvTest<R> for HasUnits {
+    fn run<S: Steps>(self, rt: &R, _alloc: Global, env: &mut Env<S>) -> Result<(), Fail> {
         let string = env.new_string(&[104, 65_535])?;
         let mut region = env.get_string_critical(string)?;
         is_deep(rt, &region, 1);

@@ -4,10 +4,11 @@ use crate::at_a_level::{
     give_up, has, is_deep, is_missing, is_not_put, is_not_read, is_told, nests_array, nests_string,
     put,
 };
-use crate::cases::{EnvTest, alone, in_a_room};
+use crate::cases::in_a_room;
 use crate::envs::{ONES, TWO, has_elements, is_outside};
 use assertions::assert_same;
 use jr_env::{Env, NativeInterface, Region, Stay};
+use jr_fixtures::{EnvTest, alone};
 use jr_model::Mode;
 use jr_steps::Steps;
 use jr_word::{Fault, Handle, Kind};
@@ -127,8 +128,8 @@ fn ends<S: Steps>(rt: &impl Abort, env: &mut Env<S>, array: Handle) -> Result<()
 #[derive(Drop)]
 struct HasLevels;
 
-impl EnvTest for HasLevels {
-    fn run<S: Steps, R: Abort>(self, rt: &R, _alloc: Global, env: &mut Env<S>) -> Result<(), Fail> {
+impl<R: Abort> EnvTest<R> for HasLevels {
+    fn run<S: Steps>(self, rt: &R, _alloc: Global, env: &mut Env<S>) -> Result<(), Fail> {
         let array = env.new_array::<i32>(3)?;
         let text = env.new_string(&[104, 105])?;
         goes_on(rt, env, array, text)?;

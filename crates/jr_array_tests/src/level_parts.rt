@@ -2,10 +2,11 @@
 ghost use Rattle.jr_env.specs.Envs.{IsOutside};
 
 use crate::at_a_level::nests_string;
-use crate::cases::{EnvTest, alone, in_a_room};
+use crate::cases::in_a_room;
 use crate::envs::{TWO, are_alike, has_elements, is_outside, refuses};
 use assertions::assert_same;
 use jr_env::{Env, NativeInterface, Region, with_critical};
+use jr_fixtures::{EnvTest, alone};
 use jr_steps::Steps;
 use jr_word::{Elem, Fault, Handle};
 use std::alloc::Global;
@@ -67,8 +68,8 @@ fn has_units<S: Steps>(rt: &impl Abort, region: &mut Region<'_, S>) {
 #[derive(Drop)]
 struct HasLevelParts;
 
-impl EnvTest for HasLevelParts {
-    fn run<S: Steps, R: Abort>(self, rt: &R, _alloc: Global, env: &mut Env<S>) -> Result<(), Fail> {
+impl<R: Abort> EnvTest<R> for HasLevelParts {
+    fn run<S: Steps>(self, rt: &R, _alloc: Global, env: &mut Env<S>) -> Result<(), Fail> {
         let array = env.new_array::<i32>(4)?;
         let text = env.new_string(&[104, 105, 106])?;
         let mut region = env.get_array_critical(array)?;
@@ -112,8 +113,8 @@ fn turn_round<S: Steps>(env: &mut Env<S>, array: Handle) -> Result<(), Fault>
 #[derive(Drop)]
 struct EndsWithAClosure;
 
-impl EnvTest for EndsWithAClosure {
-    fn run<S: Steps, R: Abort>(self, rt: &R, _alloc: Global, env: &mut Env<S>) -> Result<(), Fail> {
+impl<R: Abort> EnvTest<R> for EndsWithAClosure {
+    fn run<S: Steps>(self, rt: &R, _alloc: Global, env: &mut Env<S>) -> Result<(), Fail> {
         let array = env.new_array::<i32>(4)?;
         env.set_array_region(array, 0, &[10, 20, 30, 40])?;
         assert_same!(rt; sum_up(env, array, 2), Ok(40));
@@ -139,8 +140,8 @@ fn overlaps<S: Steps>(rt: &impl Abort, env: &mut Env<S>, array: Handle) -> Resul
 #[derive(Drop)]
 struct AreCopied;
 
-impl EnvTest for AreCopied {
-    fn run<S: Steps, R: Abort>(self, rt: &R, _alloc: Global, env: &mut Env<S>) -> Result<(), Fail> {
+impl<R: Abort> EnvTest<R> for AreCopied {
+    fn run<S: Steps>(self, rt: &R, _alloc: Global, env: &mut Env<S>) -> Result<(), Fail> {
         let array = env.new_array::<i32>(5)?;
         let other = env.new_array::<i32>(3)?;
         let longs = env.new_array::<i64>(5)?;

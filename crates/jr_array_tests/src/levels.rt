@@ -3,9 +3,9 @@
 use crate::at_a_level::{
     give_up, has, is_deep, is_missing, is_told, nests_array, nests_string, put,
 };
-use crate::cases::{EnvTest, alone};
 use crate::envs::{TWO, has_elements, is_outside};
 use jr_env::{Env, NativeInterface};
+use jr_fixtures::{EnvTest, alone};
 use jr_model::Mode;
 use jr_steps::Steps;
 use jr_word::Kind;
@@ -17,8 +17,8 @@ use std::test::Fail;
 #[derive(Drop)]
 struct StandsAnew;
 
-impl EnvTest for StandsAnew {
-    fn run<S: Steps, R: Abort>(self, rt: &R, _alloc: Global, env: &mut Env<S>) -> Result<(), Fail> {
+impl<R: Abort> EnvTest<R> for StandsAnew {
+    fn run<S: Steps>(self, rt: &R, _alloc: Global, env: &mut Env<S>) -> Result<(), Fail> {
         let first = env.new_array::<i16>(1)?;
         let second = env.new_array::<bool>(2)?;
         let text = env.new_string(&[1, 2, 3])?;

@@ -1,9 +1,9 @@
 //! The kind of each object.
 
-use crate::cases::{EnvTest, alone};
 use crate::envs::TWO;
 use assertions::assert_same;
 use jr_env::{Env, NativeInterface};
+use jr_fixtures::{EnvTest, alone};
 use jr_steps::Steps;
 use jr_word::{Handle, Kind};
 use std::alloc::Global;
@@ -28,8 +28,8 @@ fn has_kind<S: Steps>(rt: &impl Abort, env: &mut Env<S>, word: Handle, kind: Kin
 #[derive(Drop)]
 struct HaveKinds;
 
-impl EnvTest for HaveKinds {
-    fn run<S: Steps, R: Abort>(self, rt: &R, _alloc: Global, env: &mut Env<S>) -> Result<(), Fail> {
+impl<R: Abort> EnvTest<R> for HaveKinds {
+    fn run<S: Steps>(self, rt: &R, _alloc: Global, env: &mut Env<S>) -> Result<(), Fail> {
         let [plain, string, shorts, objects] = one_of_each(env)?;
         has_kind(rt, env, plain, Kind::Plain);
         has_kind(rt, env, string, Kind::Text);

@@ -1,10 +1,11 @@
 //! Regions of several elements and of none, through the calls that copy them out and in, over plain words, and long ones over a room too.
 
-use crate::cases::{EnvTest, alone, in_a_room};
+use crate::cases::in_a_room;
 use crate::envs::{FOREIGN, ONES, TWO, has_elements, refuses};
 use crate::objects::one_of_each;
 use assertions::assert_same;
 use jr_env::{Env, NativeInterface};
+use jr_fixtures::{EnvTest, alone};
 use jr_steps::Steps;
 use jr_word::{Config, Fault, Handle};
 use std::alloc::Global;
@@ -53,8 +54,8 @@ fn ends_at_its_length<S: Steps>(rt: &impl Abort, env: &mut Env<S>, array: Handle
 #[derive(Drop)]
 struct HasParts;
 
-impl EnvTest for HasParts {
-    fn run<S: Steps, R: Abort>(self, rt: &R, _alloc: Global, env: &mut Env<S>) -> Result<(), Fail> {
+impl<R: Abort> EnvTest<R> for HasParts {
+    fn run<S: Steps>(self, rt: &R, _alloc: Global, env: &mut Env<S>) -> Result<(), Fail> {
         let array = env.new_array::<i32>(3)?;
         refuses(rt, env.new_array::<i16>(u32::MAX), Fault::SpaceFull(3));
         env.set_array_region(array, 0, &[10, 20, 30])?;
@@ -83,8 +84,8 @@ const LONG: Config = Config {
 #[derive(Drop)]
 struct LongPart;
 
-impl EnvTest for LongPart {
-    fn run<S: Steps, R: Abort>(self, rt: &R, _alloc: Global, env: &mut Env<S>) -> Result<(), Fail> {
+impl<R: Abort> EnvTest<R> for LongPart {
+    fn run<S: Steps>(self, rt: &R, _alloc: Global, env: &mut Env<S>) -> Result<(), Fail> {
         let array = env.new_array::<i64>(4_096)?;
         let mut written = [0i64; 4_096];
         let mut next = i64::MIN;
@@ -146,8 +147,8 @@ fn is_no_such_array<S: Steps>(
 #[derive(Drop)]
 struct HaveNoParts;
 
-impl EnvTest for HaveNoParts {
-    fn run<S: Steps, R: Abort>(self, rt: &R, _alloc: Global, env: &mut Env<S>) -> Result<(), Fail> {
+impl<R: Abort> EnvTest<R> for HaveNoParts {
+    fn run<S: Steps>(self, rt: &R, _alloc: Global, env: &mut Env<S>) -> Result<(), Fail> {
         let rows = no_arrays_of_chars(env)?;
         for (word, fault) in rows {
             is_no_such_array(rt, env, word, 0, fault);

@@ -1,9 +1,10 @@
 //! Strings of a text, and texts of a string.
 
-use crate::cases::{EnvTest, alone, in_a_room};
+use crate::cases::in_a_room;
 use crate::envs::{TWO, refuses};
 use assertions::assert_same;
 use jr_env::{Env, NativeInterface};
+use jr_fixtures::{EnvTest, alone};
 use jr_steps::Steps;
 use jr_word::{Fault, Handle};
 use std::alloc::Global;
@@ -35,8 +36,8 @@ fn spells<S: Steps>(
 #[derive(Drop)]
 struct SpellTexts;
 
-impl EnvTest for SpellTexts {
-    fn run<S: Steps, R: Abort>(self, rt: &R, alloc: Global, env: &mut Env<S>) -> Result<(), Fail> {
+impl<R: Abort> EnvTest<R> for SpellTexts {
+    fn run<S: Steps>(self, rt: &R, alloc: Global, env: &mut Env<S>) -> Result<(), Fail> {
         let string = env.new_string_of(alloc, TEXT)?;
         let units = env.get_string_chars(alloc, string)?;
         assert_same!(rt; units.as_slice(), UNITS.as_slice());

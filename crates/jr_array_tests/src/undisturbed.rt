@@ -3,10 +3,10 @@ ghost use Rattle.std.specs.Prelude.{IfOk};
 ghost use Rattle.jr_env.specs.Envs.{IsOutside};
 ghost use Rattle.jr_env.specs.StandingRegions.{WasUndisturbed};
 
-use crate::cases::{EnvTest, alone};
 use crate::envs::TWO;
 use assertions::assert_same;
 use jr_env::{Env, NativeInterface, levels_beside};
+use jr_fixtures::{EnvTest, alone};
 use jr_steps::Steps;
 use jr_word::{Fault, Handle};
 use std::alloc::Global;
@@ -31,8 +31,8 @@ fn nests_and_reads<S: Steps>(env: &mut Env<S>, array: Handle) -> Result<i32, Fau
 #[derive(Drop)]
 struct IsUndisturbed;
 
-impl EnvTest for IsUndisturbed {
-    fn run<S: Steps, R: Abort>(self, rt: &R, _alloc: Global, env: &mut Env<S>) -> Result<(), Fail> {
+impl<R: Abort> EnvTest<R> for IsUndisturbed {
+    fn run<S: Steps>(self, rt: &R, _alloc: Global, env: &mut Env<S>) -> Result<(), Fail> {
         let array = env.new_array::<i32>(2)?;
         assert_same!(rt; nests_and_reads(env, array), Ok(7));
         Ok(())

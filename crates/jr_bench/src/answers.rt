@@ -1,7 +1,7 @@
 //! The fixed text: how often calls answer as they should.
 
 use crate::beside::{Attempts, BESIDE, Task, is_right};
-use crate::case::{CASES, Case, WATCHED};
+use crate::case::{CASES, Case, OTHERS, WATCHED};
 use crate::checked::{Caller, CheckedCase};
 use crate::collections::{COLLECTING, Collections, WAYS};
 use crate::measure::time_of;
@@ -18,6 +18,14 @@ const CALLS: u32 = 300;
 
 /// How many references stand meanwhile.
 const STANDING: u32 = 100;
+
+/// The callers with a watcher.
+const TOLD: [Caller; 4] = [
+    Caller::CheckedEnv,
+    Caller::NamedEnv,
+    Caller::CheckedStay,
+    Caller::NamedStay,
+];
 
 /// What so many threads do.
 fn work_of(threads: u32) -> Work {
@@ -65,6 +73,7 @@ pub(crate) fn print<R: Threads + Clock + Print + Sync>(rt: &R, alloc: Global) ->
         print_right(rt, OWNED, case.name(), one, two)?;
     }
     print_checked(rt, alloc)?;
+    print_others(rt, alloc)?;
     let one = right(rt, alloc, RoundKind::Notes(work_of(1)));
     let two = right(rt, alloc, RoundKind::Notes(work_of(2)));
     print_right(rt, "", NOTES, one, two)?;
@@ -75,12 +84,22 @@ pub(crate) fn print<R: Threads + Clock + Print + Sync>(rt: &R, alloc: Global) ->
 /// Prints how often calls with a watcher answered as they should.
 fn print_checked<R: Threads + Clock + Print + Sync>(rt: &R, alloc: Global) -> io::Result<()> {
     for call in WATCHED {
-        for caller in [Caller::CheckedEnv, Caller::CheckedStay] {
+        for caller in TOLD {
             let case = CheckedCase { call, caller };
             let one = right(rt, alloc, RoundKind::Calls(Case::Checked(case), work_of(1)));
             let two = right(rt, alloc, RoundKind::Calls(Case::Checked(case), work_of(2)));
             print_right(rt, case.before_name(), case.name(), one, two)?;
         }
+    }
+    Ok(())
+}
+
+/// Prints how often the calls answered as they should that the floor has not.
+fn print_others<R: Threads + Clock + Print + Sync>(rt: &R, alloc: Global) -> io::Result<()> {
+    for case in OTHERS {
+        let one = right(rt, alloc, RoundKind::Calls(case, work_of(1)));
+        let two = right(rt, alloc, RoundKind::Calls(case, work_of(2)));
+        print_right(rt, "", case.name(), one, two)?;
     }
     Ok(())
 }

@@ -113,7 +113,7 @@ fn pause() {
 /// Tries a collection.
 fn try_one<S: Steps>(alloc: Global, env: &mut Env<S>, way: Way) -> Result<(), Fault> {
     let mut marker = Marker::new(alloc, env.held.steps.config())?;
-    way.collect(env, &mut marker)?;
+    way.collect(env, &mut marker, &mut [])?;
     Ok(())
 }
 

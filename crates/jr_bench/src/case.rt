@@ -2,12 +2,13 @@
 
 use crate::arrays::ArrayCase;
 use crate::calls::{
-    DeleteGlobal, DeleteLocal, DeleteWeak, Inline, NewGlobal, NewLocal, NewPlain, NewWeak, Same,
-    TypeOfGlobal, TypeOfNull, make_each,
+    DeleteGlobal, DeleteLocal, DeleteWeak, Inline, LONG, NewGlobal, NewLocal, NewPlain, NewWeak,
+    Same, TypeOfGlobal, TypeOfNull, make_each,
 };
 use crate::checked::{Caller, CheckedCase};
 use crate::copies::CopyCase;
 use crate::criticals::CriticalCase;
+use crate::others::OtherCase;
 use crate::stays::StayCase;
 pub(crate) use jr_env::Env;
 use jr_env::NativeInterface;
@@ -34,6 +35,7 @@ pub(crate) enum Case {
     Criticals(CriticalCase),
     Stays(StayCase),
     Checked(CheckedCase),
+    Others(OtherCase),
 }
 
 /// Which calls for frames are made.
@@ -102,12 +104,26 @@ pub(crate) const WATCHED: [StayCase; 8] = [
     StayCase::Length,
 ];
 
-/// By whom each of these is made: without a watcher, and with one.
-pub(crate) const CALLERS: [Caller; 4] = [
+/// By whom each of these is made: without a watcher, with one who counts, and with one who keeps what it is told and is told by whom.
+pub(crate) const CALLERS: [Caller; 6] = [
     Caller::Env,
     Caller::CheckedEnv,
+    Caller::NamedEnv,
     Caller::Stay,
     Caller::CheckedStay,
+    Caller::NamedStay,
+];
+
+/// Each call that the floor has not.
+pub(crate) const OTHERS: [Case; 8] = [
+    Case::Others(OtherCase::Identity),
+    Case::Others(OtherCase::WordsUsed),
+    Case::Others(OtherCase::LocalCounts),
+    Case::Others(OtherCase::DeleteCleared),
+    Case::Others(OtherCase::RetryCollecting),
+    Case::Others(OtherCase::Beneath),
+    Case::Others(OtherCase::Drawn),
+    Case::Others(OtherCase::Stressed),
 ];
 
 /// Each case of a stay, behind the same call with an entry and an exit of its own.
@@ -163,6 +179,7 @@ impl Case {
             Case::Criticals(case) => case.name(),
             Case::Stays(case) => case.name(),
             Case::Checked(case) => case.call.name(),
+            Case::Others(case) => case.name(),
         }
     }
 
@@ -180,6 +197,7 @@ impl Case {
             Case::Arrays(case) => case.array(env, object),
             Case::Copies(case) => case.array(env),
             Case::Criticals(case) => case.array(env),
+            Case::Others(_) => env.new_array::<i32>(LONG).ok(),
             _ => Some(object),
         }
     }
@@ -192,7 +210,9 @@ impl Case {
             ),
             Case::NewGlobal | Case::NewWeak => Some(local),
             Case::DeleteGlobal => env.new_global_ref(local).ok()?,
-            Case::DeleteWeak => env.new_weak_global_ref(local).ok()?,
+            Case::DeleteWeak | Case::Others(OtherCase::DeleteCleared) => env
+                .new_weak_global_ref(local)
+                .ok()?,
             Case::DeleteLocal => env.new_local_ref(global).ok()?,
             _ => Some(global),
         }
@@ -242,6 +262,7 @@ impl Case {
             Case::Criticals(case) => case.make_all(env, handed),
             Case::Stays(case) => case.make_all(env, handed, Caller::Stays),
             Case::Checked(CheckedCase { call, caller }) => call.make_all(env, handed, caller),
+            Case::Others(case) => case.make_all(env, alloc, handed),
         }
     }
 }

@@ -21,17 +21,44 @@ impl Watcher for Counting {
     }
 }
 
+/// Keeps what it is told last.
+#[derive(Drop)]
+struct Keeping(Option<Refusal>);
+
+impl Watcher for Keeping {
+    ghost hears = { λ old new refusal. Unit {0} };
+
+    fn refused(&mut self, refusal: Refusal) {
+        self.0 = Some(refusal);
+    }
+}
+
+/// By which name a watcher is told of the caller.
+const NAME: &str = "bench";
+
+/// Who is told the refusals of a stay.
+#[derive(Clone, Copy)]
+enum Told {
+    Nobody,
+    Counting,
+    Keeping,
+}
+
 /// By whom a call is made.
 #[derive(Clone, Copy)]
 pub(crate) enum Caller {
     /// The env.
     Env,
-    /// The env with a watcher.
+    /// The env with a watcher who counts.
     CheckedEnv,
+    /// The env with a name, and a watcher who keeps what it is told.
+    NamedEnv,
     /// A stay.
     Stay,
-    /// A stay with a watcher.
+    /// A stay with a watcher who counts.
     CheckedStay,
+    /// A stay with a name, and a watcher who keeps what it is told.
+    NamedStay,
     /// Stays of sixteen calls.
     Stays,
 }
@@ -49,14 +76,15 @@ impl CheckedCase {
         match self.caller {
             Caller::Env | Caller::Stay | Caller::Stays => "",
             Caller::CheckedEnv | Caller::CheckedStay => "checked:",
+            Caller::NamedEnv | Caller::NamedStay => "named:",
         }
     }
 
     /// The call's name.
     pub(crate) fn name(self) -> &'static str {
         match self.caller {
-            Caller::Env | Caller::CheckedEnv => self.call.whole().name(),
-            Caller::Stay | Caller::CheckedStay | Caller::Stays => self.call.name(),
+            Caller::Env | Caller::CheckedEnv | Caller::NamedEnv => self.call.whole().name(),
+            _ => self.call.name(),
         }
     }
 }
@@ -74,8 +102,10 @@ pub(crate) fn make_by<S: Steps, C: AnyCall + Copy>(
     match caller {
         Caller::Env => make_some(env, *first, handed, call),
         Caller::CheckedEnv => make_watched(env, *first, handed, call),
-        Caller::Stay => make_in_stay(env, *first, handed, call, false),
-        Caller::CheckedStay => make_in_stay(env, *first, handed, call, true),
+        Caller::NamedEnv => make_named(env, *first, handed, call),
+        Caller::Stay => make_in_stay(env, *first, handed, call, Told::Nobody),
+        Caller::CheckedStay => make_in_stay(env, *first, handed, call, Told::Counting),
+        Caller::NamedStay => make_in_stay(env, *first, handed, call, Told::Keeping),
         Caller::Stays => make_in_stays(env, *first, handed, call),
     }
 }
@@ -92,6 +122,22 @@ fn make_watched<S: Steps, N: NativeInterface<S> + Explains, C: AnyCall + Copy>(
     if checked.watcher().0 == 0 { right } else { 0 }
 }
 
+/// Makes a call by a caller with a name: 0 where a refusal was told.
+fn make_named<S: Steps, N: NativeInterface<S> + Explains, C: AnyCall + Copy>(
+    made: &mut N,
+    first: Handle,
+    handed: &[Handle],
+    call: Apart<C>,
+) -> usize {
+    let mut checked = Checked::named(made, Keeping(None), NAME);
+    let right = make_some(&mut checked, first, handed, call);
+    if checked.watcher().0.is_none() {
+        right
+    } else {
+        0
+    }
+}
+
 /// Makes a call in one stay, with a watcher where that is asked for.
 #[inline(always)]
 fn make_in_stay<S: Steps, C: AnyCall + Copy>(
@@ -99,15 +145,15 @@ fn make_in_stay<S: Steps, C: AnyCall + Copy>(
     first: Handle,
     handed: &[Handle],
     call: Apart<C>,
-    is_watched: bool,
+    told: Told,
 ) -> usize {
     let Ok(mut stay) = env.stay() else {
         return 0;
     };
-    let right = if is_watched {
-        make_watched(&mut stay, first, handed, call)
-    } else {
-        make_some(&mut stay, first, handed, call)
+    let right = match told {
+        Told::Nobody => make_some(&mut stay, first, handed, call),
+        Told::Counting => make_watched(&mut stay, first, handed, call),
+        Told::Keeping => make_named(&mut stay, first, handed, call),
     };
     stay.end();
     right
@@ -125,7 +171,7 @@ fn make_in_stays<S: Steps, C: AnyCall + Copy>(
         let from = stay.saturating_mul(CALLS);
         let to = from.saturating_add(CALLS).min(handed.len());
         if let Some(some) = handed.get(from..to) {
-            right = right.saturating_add(make_in_stay(env, first, some, call, false));
+            right = right.saturating_add(make_in_stay(env, first, some, call, Told::Nobody));
         }
     }
     right

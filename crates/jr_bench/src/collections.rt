@@ -31,6 +31,8 @@ pub(crate) enum Way {
     Direct,
     /// By an announcement, behind which nobody goes in.
     Announced,
+    /// By one step, with a list of what went.
+    Listed,
     /// Not at all: a census tells what it would come to.
     Asked,
 }
@@ -42,9 +44,10 @@ pub(crate) const COLLECTING: [(Way, &'static str); 2] = [
 ];
 
 /// Each way, with its name.
-pub(crate) const WAYS: [(Way, &'static str); 3] = [
+pub(crate) const WAYS: [(Way, &'static str); 4] = [
     (Way::Direct, "collect"),
     (Way::Announced, "collect_announced"),
+    (Way::Listed, "collect_listing"),
     (Way::Asked, "census"),
 ];
 
@@ -58,17 +61,20 @@ fn told(census: Census) -> Collected {
 }
 
 impl Way {
-    /// Collects, or asks.
+    /// Collects, or asks. One that lists has room for so many identities.
+    #[inline(never)]
     pub(crate) fn collect<S: Steps>(
         self,
         env: &mut Env<S>,
         marker: &mut Marker,
+        numbers: &mut [u16],
     ) -> Result<Collected, Fault>
         requires { FitsRoom marker.old env.old }
     {
         match self {
             Way::Direct => env.collect(marker),
             Way::Announced => env.collect_announced(marker, TRIES),
+            Way::Listed => env.collect_listing(marker, &mut [], numbers),
             Way::Asked => env.census(marker).map(told),
         }
     }
@@ -129,8 +135,9 @@ impl Collections {
     ) -> Option<Done> {
         let wanted = self.answer(self.fill(env)?);
         let mut marker = Marker::new(alloc, env.held.steps.config()).ok()?;
+        let mut numbers = vec![in alloc; 0u16; self.arrays as usize].ok()?;
         let began = signs.now(rt)?;
-        let collected = way.collect(env, &mut marker);
+        let collected = way.collect(env, &mut marker, &mut numbers);
         let ended = signs.now(rt)?;
         if collected != Ok(wanted) {
             return None;

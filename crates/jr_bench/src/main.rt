@@ -2,6 +2,7 @@
 //!
 //! With no word it makes each call a few hundred times, by one thread and by two, and prints how often each answered as it should: the same text on every machine.
 //! With the words THREADS STANDING CALLS ROUNDS it measures each call, with stays before them just those that are made in stays too, with checked those that are made with a watcher too,
+//! with others the calls that the floor has not,
 //! with notes a note that is made and learned and with owned each call over steps that own their room too, and with the words collect ARRAYS EVERY ROUNDS a collection, announced or not, and a census:
 //! `measure` tells what it prints.
 //! With the words beside CALLERS TRIES ROUNDS it counts how many collections come in beside so many threads that call without a break: `beside` tells what it prints.
@@ -18,12 +19,13 @@ mod copies;
 mod criticals;
 mod measure;
 mod notes;
+mod others;
 mod owned;
 mod round;
 mod stays;
 
 use crate::beside::Attempts;
-use crate::case::{CASES, WITH_STAYS};
+use crate::case::{CASES, OTHERS, WITH_STAYS};
 use crate::collections::Collections;
 use crate::round::Work;
 use std::rt::{Clock, Env};
@@ -43,6 +45,8 @@ enum Measured {
     Stays(Work),
     /// Each call that is made with a watcher too.
     Checked(Work),
+    /// Each call that the floor has not.
+    Others(Work),
     /// A note that is made and learned.
     Notes(Work),
     /// Each call, over steps that own their room too.
@@ -69,6 +73,9 @@ fn act<R: AllocGlobal + Env + Print + Eprint + Clock + Threads + Sync>(rt: &R) -
         Some((Measured::Checked(work), rounds)) => {
             measure::print_checked(rt, rt.alloc(), work, rounds)
         }
+        Some((Measured::Others(work), rounds)) => {
+            measure::print(rt, rt.alloc(), &OTHERS, work, rounds)
+        }
         Some((Measured::Notes(work), rounds)) => notes::print(rt, rt.alloc(), work, rounds),
         Some((Measured::Owned(work), rounds)) => owned::print(rt, rt.alloc(), work, rounds),
         Some((Measured::Collection(work), rounds)) => {
@@ -77,7 +84,7 @@ fn act<R: AllocGlobal + Env + Print + Eprint + Clock + Threads + Sync>(rt: &R) -
         Some((Measured::Beside(tries), rounds)) => beside::print(rt, rt.alloc(), tries, rounds),
         None => {
             eprintln!(rt;
-                "usage: jr_bench [[stays | checked | notes | owned] THREADS STANDING CALLS ROUNDS | collect ARRAYS EVERY ROUNDS | beside CALLERS TRIES ROUNDS]"
+                "usage: jr_bench [[stays | checked | others | notes | owned] THREADS STANDING CALLS ROUNDS | collect ARRAYS EVERY ROUNDS | beside CALLERS TRIES ROUNDS]"
             )?;
             Err(io::Error::from(io::ErrorKind::InvalidInput))
         }
@@ -112,6 +119,7 @@ fn of_kind(kind: &String, work: Work) -> Option<Measured> {
     match kind.as_str() {
         "stays" => Some(Measured::Stays(work)),
         "checked" => Some(Measured::Checked(work)),
+        "others" => Some(Measured::Others(work)),
         "notes" => Some(Measured::Notes(work)),
         "owned" => Some(Measured::Owned(work)),
         _ => None,

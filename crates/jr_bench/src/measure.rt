@@ -104,7 +104,7 @@ pub(crate) fn print<R: Threads + Clock + Print + Sync>(
     Ok(())
 }
 
-/// Prints four lines for each call: of an env and of a stay, without a watcher and with one, as those of calls are.
+/// Prints six lines for each call: of an env and of a stay, without a watcher and with each of two, as those of calls are.
 pub(crate) fn print_checked<R: Threads + Clock + Print + Sync>(
     rt: &R,
     alloc: Global,

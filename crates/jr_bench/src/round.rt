@@ -24,6 +24,11 @@ use std::time::Instant;
 /// How many words the arrays have.
 const WORDS: u32 = 131_072;
 
+/// How many objects and slots a room has whose marker is made, or which is collected, within what is measured.
+const FEW_OBJECTS: u32 = 64;
+
+const SOME_SLOTS: u32 = 4_096;
+
 /// How often a thread looks whether the others have come.
 const LOOKS: u32 = 1 << 30;
 
@@ -173,6 +178,13 @@ impl RoundKind {
     /// The sizes of its room.
     fn config(self) -> Config {
         match self {
+            RoundKind::Calls(Case::Others(_), work) => Config {
+                threads: work.threads,
+                slots: SOME_SLOTS,
+                objects: FEW_OBJECTS,
+                words: WORDS,
+                locals: Config::MOST_LOCALS,
+            },
             RoundKind::Calls(_, work) | RoundKind::Owned(_, work) | RoundKind::Notes(work) =>
                 Config {
                     threads: work.threads,

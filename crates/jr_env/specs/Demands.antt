@@ -22,19 +22,14 @@ MayEndWith (names w p) d = MayEndWith p d
 MayEndWith (names_both p) d = MayEndWith p d
 MayEndWith (wants w p) d = MayEndWith p d
 MayEndWith (looks next) d = (k : Kind) × (n : ℕ) × MayEndWith (next k n) d
-MayEndWith (tests ts silent p) d = MayEndWith p d
+MayEndWith (tests ts _ p) d = MayEndWith p d
 MayEndWith (finds i p) d = MayEndWith p d
 
--- so may that of a request, whatever its words say
-abbrev pub MayAskFor : {A : Type 0} → Request A → Demand → Type 0
-MayAskFor (asks silent words p) d = MayEndWith p d
-MayAskFor (on_word w next) d = (a : Word) → MayAskFor (next a) d
-MayAskFor (on_words v w next) d = (a b : Word) → MayAskFor (next a b) d
-MayAskFor (gives form first) d = MayAskFor first d
-MayAskFor (told_by form first) d = MayAskFor first d
-MayAskFor (named name first) d = MayAskFor first d
-
--- A REQUEST DEMANDS THIS of the room: what its program may come to ask for, or at least nothing
+-- A REQUEST DEMANDS THIS of the room: its program may come to ask for it, whatever its words say
 abbrev pub Demands : {A : Type 0} → Request A → Demand → Type 0
-Demands request Nothing = Unit {0}
-Demands request d = MayAskFor request d
+Demands (asks silent words p) d = MayEndWith p d
+Demands (on_word w next) d = (a : Word) → Demands (next a) d
+Demands (on_words v w next) d = (a b : Word) → Demands (next a b) d
+Demands (gives form first) d = Demands first d
+Demands (told_by form first) d = Demands first d
+Demands (named name first) d = Demands first d

@@ -20,6 +20,7 @@ pub mod Seeing
 pub mod Words
 pub mod UsedWords
 pub mod Watching
+pub mod Warning
 pub mod TellingCalls
 pub mod TellingRegions
 pub mod TellingRemedies

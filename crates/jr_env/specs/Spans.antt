@@ -5,7 +5,7 @@ use Rattle.jr_model.specs.Checks.{Word}
 use Rattle.jr_model.specs.Programs.{AnswerKind, Ending, Program, ends, finds, looks, names, names_both, reads}
 use Rattle.jr_model.specs.Programs.{reads_from, tests, wants, writes, writes_from, writes_to}
 use Rattle.jr_env.specs.declared.native_call.Handed.{Handed}
-use Rattle.jr_env.specs.declared.native_call.Handed.TheVariants.{Nothing, One, Both, OneAt, BothAt}
+use Rattle.jr_env.specs.declared.native_call.Handed.TheVariants.{OneAt, BothAt}
 use Rattle.jr_env.specs.declared.span.Span.{Span}
 use Rattle.jr_env.specs.Requests.{Request, asks, gives, named, on_word, on_words, told_by}
 
@@ -25,7 +25,7 @@ ReachesFor (names w p) s = ReachesFor p s
 ReachesFor (names_both p) s = ReachesFor p s
 ReachesFor (wants w p) s = ReachesFor p s
 ReachesFor (looks next) s = (k : Kind) → (n : ℕ) → ReachesFor (next k n) s
-ReachesFor (tests ts silent p) s = ReachesFor p s
+ReachesFor (tests ts _ p) s = ReachesFor p s
 ReachesFor (finds i p) s = (s.start ≡ i) × (s.count ≡ 1)
 
 -- so does that of a request, whatever its words say

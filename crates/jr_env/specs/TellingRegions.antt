@@ -1,5 +1,5 @@
 -- How a critical region is opened over an env by who tells of refusals.
-use Rattle.std.specs.Prelude.{◌≡◌, ℕ, Option, None, false, Result, Ok, Err, List, [], ◌∷◌, codes}
+use Rattle.std.specs.Prelude.{◌≡◌, ℕ, Option, None, false, Result, Ok, Err, IfOk, IfErr, List, [], ◌∷◌, codes}
 use Rattle.jr_word.specs.declared.fault.Fault.{Fault}
 use Rattle.jr_steps.specs.declared.steps.Steps as steps
 use Rattle.jr_critical.specs.declared.levels.Levels.{Levels}
@@ -37,6 +37,9 @@ module _ {N S : Type 0} {G : steps.Ghosts S} (told : N → N → List ℕ → Li
     pub opens : OpensBeneath approached env_in with_env p first old answer left
     pub tells : RefusalTold told left new (opening_name first) (first_word first ∷ []) None answer
 
-  -- A REGION STANDS OVER WHOEVER OPENED IT, who was left so, but for the env, which the region has
-  abbrev pub OpenedOver : Patience → First → N → N → Region S G → Type 0
-  OpenedOver p first old left r = OpensTold p first old left (Ok r.levels) × (r.env.now ≡ env_in left)
+  -- A REGION STANDS OVER SOMEBODY WHO WAS LEFT SO, but for the env, which the region has;
+  -- or none was opened, and somebody was left and told so
+  abbrev pub OpensRegion : Patience → First → N → Result (Region S G) Fault → Type 0
+  OpensRegion p first old answer =
+      IfOk answer (λ r. (left : N) × OpensTold p first old left (Ok r.levels) × (r.env.now ≡ env_in left))
+      × IfErr answer (λ e. (left : N) × OpensTold p first old left (Err e))

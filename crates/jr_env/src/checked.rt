@@ -250,6 +250,7 @@ impl<N: Explains, W: Watcher> Checked<'_, N, W> {
     ghost use Rattle.jr_env.specs.Watching.{ExaminesEach, HasTold, Measures, evidence_of, is_range, missed_at};
 
     /// What each word is that a refused call was handed.
+    #[inline(always)]
     fn gather(&mut self, handed: Handed) -> Evidence
         ensures same_reference { self.new.caller.ghost_name ≡ self.old.caller.ghost_name }
         ensures looks { ExaminesEach N.explained self.old.caller.now self.new.caller.now (handed_words handed) (evidence_of result) }
@@ -269,6 +270,7 @@ impl<N: Explains, W: Watcher> Checked<'_, N, W> {
     }
 
     /// Which elements a call misses that was refused, and how many there are.
+    #[inline(always)]
     fn measure(&mut self, handed: Handed, fault: Fault) -> Option<Missed>
         ensures same_reference { self.new.caller.ghost_name ≡ self.old.caller.ghost_name }
         ensures measures { Measures N.measured self.old.caller.now self.new.caller.now (missed_at (handed_words handed) (handed_span handed) (is_range fault)) result }
@@ -285,7 +287,8 @@ impl<N: Explains, W: Watcher> Checked<'_, N, W> {
         Some(Missed { span, length })
     }
 
-    /// Tells the watcher of a refusal.
+    /// Tells the watcher of a refusal. It is written into each function that tells, so that none is handed what its watcher doesn't look at.
+    #[inline(always)]
     fn report(&mut self, call: &'static str, handed: Handed, fault: Fault)
         ensures same_reference { self.new.caller.ghost_name ≡ self.old.caller.ghost_name }
         ensures told { HasTold N.explained N.measured N.thread W.hears self.old self.new call.now (handed_words handed) (handed_span handed) fault }

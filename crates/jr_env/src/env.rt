@@ -95,8 +95,17 @@ impl<S: Steps> NativeCaller<S> for Env<S> {
             &mut held.frames,
             &mut self.numbers,
         );
-        inside.leave(&mut held.steps);
-        answer
+        // An exit in each arm: a call that answers keeps no refusal until it has left.
+        match answer {
+            Ok(answer) => {
+                inside.leave(&mut held.steps);
+                Ok(answer)
+            }
+            Err(fault) => {
+                inside.leave(&mut held.steps);
+                Err(fault)
+            }
+        }
     }
 
     fn copy_part<E: Elem>(

@@ -3,8 +3,7 @@ ghost use Rattle.std.specs.Prelude.{IfOk};
 ghost use Rattle.jr_critical.specs.Levels.{StandOver};
 ghost use Rattle.jr_env.specs.TellingRegions.{OpensBeneath, OpensTold};
 
-use crate::calls::copies::CopyBack;
-use crate::calls::{DeleteWeakGlobalRef, IsSameObject};
+use crate::calls::{CopyBack, DeleteWeakGlobalRef, IsSameObject};
 use crate::critical_region::Region;
 use crate::env::Env;
 use crate::levels_beside;
@@ -12,7 +11,7 @@ use crate::levels_beside::First;
 use crate::native_call::{Handed, NativeCall};
 use crate::native_env::{OverEnv, TriesCalls};
 use crate::patience::Patience;
-use crate::remedies_over::{try_again, try_collecting};
+use crate::retrying_over::{try_again, try_collecting};
 use crate::telling::tell_refusal;
 use jr_critical::Levels;
 use jr_elements::Elements;
@@ -79,7 +78,7 @@ pub trait NativeEnv<S: Steps>: TriesCalls<S> {
     ghost use Rattle.jr_env.specs.Remedies.{collection_in_turn};
     ghost use Rattle.jr_env.specs.TellingCalls.{DidBeneath, DoesIfFits, LeavesEnv, TriedAgain};
     ghost use Rattle.jr_env.specs.TellingRemedies.{CollectsBeneath, DeletesCleared, TriedCollecting, written_answer};
-    ghost use Rattle.jr_env.specs.TellingRegions.{OpenedOver, OpensTold, once};
+    ghost use Rattle.jr_env.specs.TellingRegions.{OpensRegion, once};
     ghost use Rattle.jr_env.specs.Requests.{for_copy_back};
     ghost use Rattle.jr_env.specs.Retried.{releasing_again};
     ghost use Rattle.jr_env.specs.UsedWords.{words_used};
@@ -340,7 +339,8 @@ pub trait NativeEnv<S: Steps>: TriesCalls<S> {
         ensures counted { AreCounted (Self.OverEnv.env_in self.old).held.frames result }
         ensures same { self.new ≡ self.old };
 
-    /// Releases copied elements as `Env::retry_release` does: a write is tried as `retry` makes it. (JNI Specification, chapter 4, "Release<PrimitiveType>ArrayElements Routines")
+    /// Releases copied elements as `Env::retry_release` does: a write is tried as `retry` makes it. Before the refusals that are told it has E13,
+    /// where at its last try a thread was collecting at the entry, or had announced that it will. (JNI Specification, chapter 4, "Release<PrimitiveType>ArrayElements Routines")
     ///
     /// # Errors
     ///
@@ -427,7 +427,7 @@ pub trait NativeEnv<S: Steps>: TriesCalls<S> {
     ///
     /// Those of `Env::get_array_critical`.
     ///
-    /// What stands then is what was told, and else nothing has changed but what came before.
+    /// Before that was told the thread stood outside, with its local references as they were. No clause says what the caller is behind it: for that, open the region by `env`.
     ///
     /// # Operations
     ///
@@ -435,8 +435,7 @@ pub trait NativeEnv<S: Steps>: TriesCalls<S> {
     fn get_array_critical(&mut self, array: Handle) -> Result<Region<'_, S>, Fault>
     where
         Self: OverEnv<Env<S>>,
-        ensures opened { IfOk result (λ r. (left : Self) × OpenedOver Self.told Self.approached Self.OverEnv.env_in Self.OverEnv.with_env once (Array array) self.old left r) }
-        ensures refused { IfErr result (λ e. (left : Self) × OpensTold Self.told Self.approached Self.OverEnv.env_in Self.OverEnv.with_env once (Array array) self.old left (Err e)) };
+        ensures { OpensRegion Self.told Self.approached Self.OverEnv.env_in Self.OverEnv.with_env once (Array array) self.old result };
 
     /// Opens a critical region as `Env::retry_array_critical` does. The last refusal alone is told.
     ///
@@ -444,7 +443,7 @@ pub trait NativeEnv<S: Steps>: TriesCalls<S> {
     ///
     /// Those of `Env::retry_array_critical`.
     ///
-    /// What stands then is what was told, and else nothing has changed but what came before.
+    /// Before that was told the thread stood outside, with its local references as they were. No clause says what the caller is behind it: for that, open the region by `env`.
     ///
     /// # Operations
     ///
@@ -456,8 +455,7 @@ pub trait NativeEnv<S: Steps>: TriesCalls<S> {
     ) -> Result<Region<'_, S>, Fault>
     where
         Self: OverEnv<Env<S>>,
-        ensures opened { IfOk result (λ r. (left : Self) × OpenedOver Self.told Self.approached Self.OverEnv.env_in Self.OverEnv.with_env patience (Array array) self.old left r) }
-        ensures refused { IfErr result (λ e. (left : Self) × OpensTold Self.told Self.approached Self.OverEnv.env_in Self.OverEnv.with_env patience (Array array) self.old left (Err e)) };
+        ensures { OpensRegion Self.told Self.approached Self.OverEnv.env_in Self.OverEnv.with_env patience (Array array) self.old result };
 
     /// Opens a critical region as `Env::get_string_critical` does. (JNI Specification, chapter 4, "GetStringCritical")
     ///
@@ -465,7 +463,7 @@ pub trait NativeEnv<S: Steps>: TriesCalls<S> {
     ///
     /// Those of `Env::get_string_critical`.
     ///
-    /// What stands then is what was told, and else nothing has changed but what came before.
+    /// Before that was told the thread stood outside, with its local references as they were. No clause says what the caller is behind it: for that, open the region by `env`.
     ///
     /// # Operations
     ///
@@ -473,8 +471,7 @@ pub trait NativeEnv<S: Steps>: TriesCalls<S> {
     fn get_string_critical(&mut self, string: Handle) -> Result<Region<'_, S>, Fault>
     where
         Self: OverEnv<Env<S>>,
-        ensures opened { IfOk result (λ r. (left : Self) × OpenedOver Self.told Self.approached Self.OverEnv.env_in Self.OverEnv.with_env once (Text string) self.old left r) }
-        ensures refused { IfErr result (λ e. (left : Self) × OpensTold Self.told Self.approached Self.OverEnv.env_in Self.OverEnv.with_env once (Text string) self.old left (Err e)) };
+        ensures { OpensRegion Self.told Self.approached Self.OverEnv.env_in Self.OverEnv.with_env once (Text string) self.old result };
 
     /// Opens a critical region as `Env::retry_string_critical` does. The last refusal alone is told.
     ///
@@ -482,7 +479,7 @@ pub trait NativeEnv<S: Steps>: TriesCalls<S> {
     ///
     /// Those of `Env::retry_string_critical`.
     ///
-    /// What stands then is what was told, and else nothing has changed but what came before.
+    /// Before that was told the thread stood outside, with its local references as they were. No clause says what the caller is behind it: for that, open the region by `env`.
     ///
     /// # Operations
     ///
@@ -494,8 +491,7 @@ pub trait NativeEnv<S: Steps>: TriesCalls<S> {
     ) -> Result<Region<'_, S>, Fault>
     where
         Self: OverEnv<Env<S>>,
-        ensures opened { IfOk result (λ r. (left : Self) × OpenedOver Self.told Self.approached Self.OverEnv.env_in Self.OverEnv.with_env patience (Text string) self.old left r) }
-        ensures refused { IfErr result (λ e. (left : Self) × OpensTold Self.told Self.approached Self.OverEnv.env_in Self.OverEnv.with_env patience (Text string) self.old left (Err e)) };
+        ensures { OpensRegion Self.told Self.approached Self.OverEnv.env_in Self.OverEnv.with_env patience (Text string) self.old result };
 }
 
 impl<S: Steps, N: TriesCalls<S>> NativeEnv<S> for N {

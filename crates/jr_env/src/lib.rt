@@ -17,15 +17,16 @@ mod native_call;
 mod native_env;
 mod native_interface;
 mod patience;
-mod remedies;
-mod remedies_over;
 mod reporting;
 mod retrying;
+mod retrying_over;
 mod scope;
 mod span;
 mod stay;
 mod stays;
 mod telling;
+mod warned;
+mod warned_env;
 mod work;
 
 pub use checked::{Checked, Evidence, Examined, Explains, Missed, Refusal, Watcher};
@@ -46,3 +47,4 @@ pub use scope::{LocalFrames, Unscoped, with_local_frame, with_local_frame_return
 pub use span::Span;
 pub use stay::Stay;
 pub use telling::call_beneath;
+pub use warned::{Reserve, Scarce, Shortage, Warned, Warner};

@@ -50,10 +50,7 @@ pub trait NativeCall<S: Steps> {
 
     /// What it asks of the room, and may be refused for want of. A call that makes no global or weak reference and no object asks for nothing.
     fn demand(&self) -> Demand
-        ensures { Demands (request self.now) result }
-    {
-        Demand::Nothing
-    }
+        ensures { Demands (request self.now) result };
 
     /// Does what it asks for, in a stay of the thread. An env makes a call, and so does a stay: it is they who call this.
     ///

@@ -1,12 +1,11 @@
 //! The calls of the Java Native Interface that enter the gate, by their names: of an env, and of a stay.
 ghost use Rattle.jr_env.specs.Requests.{for_is_same_object};
 
-use crate::calls::copies::{GetArrayElements, GetStringChars};
 use crate::calls::{
-    DeleteGlobalRef, DeleteLocalRef, DeleteWeakGlobalRef, FreeLocals, GetArrayLength,
-    GetObjectArrayElement, GetObjectRefType, GetStringLength, IdentityOf, IsSameObject, KindOf,
-    NewArray, NewGlobalRef, NewLocalRef, NewObjectArray, NewPlain, NewString, NewWeakGlobalRef,
-    PopLocalFrame, SetArrayRegion, SetObjectArrayElement,
+    DeleteGlobalRef, DeleteLocalRef, DeleteWeakGlobalRef, FreeLocals, GetArrayElements,
+    GetArrayLength, GetObjectArrayElement, GetObjectRefType, GetStringChars, GetStringLength,
+    IdentityOf, IsSameObject, KindOf, NewArray, NewGlobalRef, NewLocalRef, NewObjectArray,
+    NewPlain, NewString, NewWeakGlobalRef, PopLocalFrame, SetArrayRegion, SetObjectArrayElement,
 };
 use crate::native_call::NativeCaller;
 use jr_elements::Elements;

@@ -1,6 +1,7 @@
 //! A refused call as a line of a log.
 use crate::checked::{Evidence, Examined, Missed, Refusal};
 use crate::span::Span;
+use crate::warned::{Scarce, Shortage};
 use jr_frames::Explanation;
 use jr_word::{Fault, Kind, RefKind};
 use std::fmt;
@@ -133,5 +134,25 @@ impl fmt::Display for Refusal {
             Evidence::One(word) => write!(f, "; {word}"),
             Evidence::Both(first, second) => write!(f, "; {first}; {second}"),
         }
+    }
+}
+
+/// Whose call it was, what runs short, and how much of it is left.
+impl fmt::Display for Shortage {
+    fn fmt<W: fmt::Write>(&self, f: &mut fmt::Formatter<W>) -> fmt::Result {
+        let Shortage {
+            thread,
+            call,
+            scarce,
+            left,
+        } = *self;
+        let what = match scarce {
+            Scarce::Words => "words of array space",
+            Scarce::Locals => "places for local references",
+        };
+        write!(
+            f,
+            "thread {thread}: {call}: {what} run short (left: {left})"
+        )
     }
 }

@@ -4,7 +4,7 @@ ghost use Rattle.jr_gate.specs.Stays.{IsOwnStay};
 use crate::calls::array_parts::copy_inside;
 use crate::env::Env;
 use crate::native_call::{NativeCall, NativeCaller};
-use crate::work::{go_outside, make_within};
+use crate::work::{go_inside, go_outside, make_within};
 use jr_gate::Inside;
 use jr_steps::Steps;
 use jr_word::{Elem, Fault, Handle};
@@ -19,12 +19,51 @@ pub struct Stay<'e, S: Steps> {
 }
 
 impl<S: Steps> Env<S> {
-    ghost use Rattle.std.specs.Prelude.{◌≡◌, IfErr, length, map};
+    ghost use Rattle.std.specs.Prelude.{◌≡◌, IfOk, IfErr, length, map};
+    ghost use Rattle.std.specs.Borrow.{sem};
+    ghost use Rattle.jr_word.specs.declared.fault.Fault.TheVariants.{Barred};
+    ghost use Rattle.jr_elements.specs.Copies.{answer_in};
     ghost use Rattle.jr_env.specs.Envs.{IsOutside};
     ghost use Rattle.jr_env.specs.Requests.{for_get_array_region};
     ghost use Rattle.jr_env.specs.Deeds.{in_a_stay, read_answer};
-    ghost use Rattle.jr_env.specs.LentStays.{DoesInside};
-    ghost use Rattle.jr_env.specs.OpenStays.{EndsAsOneStay, LeavesOver};
+    ghost use Rattle.jr_env.specs.LentStays.{DoesInside, env_in, rests_within, WasEntered};
+    ghost use Rattle.jr_env.specs.OpenStays.{BehindExit, EndsAsOneStay, Enters, EntersOver, LeavesOver, StaysSince};
+    ghost use Rattle.jr_env.specs.Retried.{TriesToStay};
+
+    /// Enters a stay, in which calls are made without an entry and an exit of their own. The thread is within until it is ended, so that collections are kept out.
+    ///
+    /// # Errors
+    ///
+    /// That of the gate.
+    ///
+    /// Nothing has changed then, and the thread stands outside.
+    ///
+    /// # Operations
+    ///
+    /// One, the entry. Where it is refused, two: the knock and its withdrawal.
+    #[inline(always)]
+    pub fn stay(&mut self) -> Result<Stay<'_, S>, Fault>
+        ensures* rests { sem 𝓛 (rests_within S.row S.Steps self.entry result) }
+        ensures same_reference { IfOk result (λ r. (env_in r).ghost_name ≡ self.entry.ghost_name) }
+        ensures entered { IfOk result (λ r. WasEntered self.old (env_in r).now) }
+    {
+        let inside = self.enter_stay()?;
+        Ok(Stay::over(self, inside))
+    }
+
+    /// Enters the gate for a stay. One that a region left is ended first.
+    #[inline(always)]
+    pub(crate) fn enter_stay(&mut self) -> Result<Inside, Fault>
+        ensures call { IsOutside self.old → EntersOver self.old.held self.new.held (answer_in (λ i. tt) result) }
+        ensures left { BehindExit self.old.held (λ mid. Enters S.facts mid self.new.held.steps self.old.held.frames.frames (answer_in (λ i. tt) result)) }
+        ensures frames { self.new.held.frames ≡ self.old.held.frames }
+        ensures tried { TriesToStay self.old (answer_in (λ i. tt) result) self.new }
+        ensures own { IfOk result (λ i. IsOwnStay i (S.facts self.new.held.steps).stands) }
+        ensures since { IfOk result (λ i. IsOutside self.old → StaysSince self.old.held self.new.held) }
+        ensures refused { IfErr result (λ e. (e ≡ Barred) × IsOutside self.new) }
+    {
+        go_inside(&mut self.held)
+    }
 
     /// Makes a call in a stay of the thread, which goes on.
     ///
@@ -68,7 +107,7 @@ impl<S: Steps> Env<S> {
 
     /// Ends a stay of the thread.
     #[inline(always)]
-    fn leave_stay(&mut self, inside: Inside)
+    pub(crate) fn leave_stay(&mut self, inside: Inside)
         requires { IsOwnStay inside (S.facts self.old.held.steps).stands }
         ensures call { LeavesOver self.old.held self.new.held }
         ensures one { EndsAsOneStay self.old.held self.new.held }

@@ -1,10 +1,9 @@
 //! Calls that are made again, and one behind a collection, over plain words.
 
-use crate::plain::{EnvTest, alone};
 use assertions::assert_same;
 use jr_env::calls::{DeleteLocalRef, NewArray, SetArrayRegion};
 use jr_env::{Env, NativeInterface, Patience, with_patience};
-use jr_fixtures::refusal;
+use jr_fixtures::{EnvTest, alone, refusal};
 use jr_steps::Steps;
 use jr_weak::Marker;
 use jr_word::{Config, Fault, Handle};
@@ -60,10 +59,11 @@ fn write<S: Steps>(rt: &impl Abort, env: &mut Env<S>, array: Handle) -> Result<(
 }
 
 /// An array is made where there is room, and behind a collection where there is none, or not at all.
+#[derive(Drop)]
 struct MadeBehind;
 
-impl EnvTest for MadeBehind {
-    fn run<S: Steps, R: Abort>(rt: &R, alloc: Global, env: &mut Env<S>) -> Result<(), Fail> {
+impl<R: Abort> EnvTest<R> for MadeBehind {
+    fn run<S: Steps>(self, rt: &R, alloc: Global, env: &mut Env<S>) -> Result<(), Fail> {
         fill(rt, env)?;
         let second = array_behind(alloc, env, 2)??;
         write(rt, env, second)?;
@@ -75,7 +75,7 @@ impl EnvTest for MadeBehind {
 
 #[test]
 fn an_array_is_made_behind_a_collection(rt: HostRuntime) -> Result<(), Fail> {
-    alone::<MadeBehind, _>(&rt, rt.alloc(), FEW)
+    alone(&rt, rt.alloc(), FEW, MadeBehind)
 }
 
 /// Counts a call, which is refused so often before it answers how often it was made.

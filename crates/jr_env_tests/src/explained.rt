@@ -1,11 +1,10 @@
 //! What words are told to be, as references are made, cleared and deleted.
 
-use crate::plain::{EnvTest, alone};
 use crate::references::TWO;
 use assertions::assert_same;
 use jr::Explanation;
 use jr_env::{Env, NativeInterface};
-use jr_fixtures::made;
+use jr_fixtures::{EnvTest, alone, made};
 use jr_steps::Steps;
 use jr_word::{Handle, Kind, RefKind};
 use std::alloc::Global;
@@ -76,10 +75,11 @@ fn told_in_stay<S: Steps>(env: &mut Env<S>, word: Handle) -> Result<Explanation,
 }
 
 /// Each word is told to be what it is.
+#[derive(Drop)]
 struct AreExplained;
 
-impl EnvTest for AreExplained {
-    fn run<S: Steps, R: Abort>(rt: &R, alloc: Global, env: &mut Env<S>) -> Result<(), Fail> {
+impl<R: Abort> EnvTest<R> for AreExplained {
+    fn run<S: Steps>(self, rt: &R, alloc: Global, env: &mut Env<S>) -> Result<(), Fail> {
         told_of_none(rt, env)?;
         let string = env.new_string(&[7])?;
         let weak = made(env.new_weak_global_ref(string))?;
@@ -106,5 +106,5 @@ impl EnvTest for AreExplained {
 
 #[test]
 fn each_word_is_told_what_it_is(rt: HostRuntime) -> Result<(), Fail> {
-    alone::<AreExplained, _>(&rt, rt.alloc(), TWO)
+    alone(&rt, rt.alloc(), TWO, AreExplained)
 }

@@ -1,9 +1,8 @@
 //! What scripts can't show of frames: a capacity of 32 bits, and local references that are freed while their env goes on.
 
-use crate::plain::{EnvTest, alone};
 use assertions::assert_same;
 use jr_env::{Env, NativeInterface};
-use jr_fixtures::{has_type, made, refusal};
+use jr_fixtures::{EnvTest, alone, has_type, made, refusal};
 use jr_steps::Steps;
 use jr_word::{Config, Fault, Handle};
 use std::alloc::Global;
@@ -43,10 +42,11 @@ fn is_freed<S: Steps>(rt: &impl Abort, env: &mut Env<S>, local: Handle) -> Resul
 }
 
 /// References of three frames are freed, all places are free again and the base frame alone is open, and those that are not local stand.
+#[derive(Drop)]
 struct FreesAll;
 
-impl EnvTest for FreesAll {
-    fn run<S: Steps, R: Abort>(rt: &R, _alloc: Global, env: &mut Env<S>) -> Result<(), Fail> {
+impl<R: Abort> EnvTest<R> for FreesAll {
+    fn run<S: Steps>(self, rt: &R, _alloc: Global, env: &mut Env<S>) -> Result<(), Fail> {
         let locals = in_three_frames(env)?;
         let global = made(env.new_global_ref(locals[0]))?;
         env.free_locals()?;
@@ -65,5 +65,5 @@ impl EnvTest for FreesAll {
 
 #[test]
 fn locals_are_freed(rt: HostRuntime) -> Result<(), Fail> {
-    alone::<FreesAll, _>(&rt, rt.alloc(), Config::LEAST)
+    alone(&rt, rt.alloc(), Config::LEAST, FreesAll)
 }

@@ -1,10 +1,10 @@
 //! How many handles a slot and a local place give, and what their row says then.
 
 use crate::frames::are_free;
-use crate::plain::{EnvTest, alone, has_words};
+use crate::row::has_words;
 use assertions::assert_same;
 use jr_env::{Env, NativeInterface};
-use jr_fixtures::{has_type, made, opened_env, refusal};
+use jr_fixtures::{EnvTest, alone, has_type, made, opened_env, refusal};
 use jr_rule::PlainSteps;
 use jr_steps::Steps;
 use jr_word::{Config, Fault, Handle};
@@ -74,10 +74,11 @@ fn gives_more<S: Steps>(
 }
 
 /// The one slot gives more than 65,536 handles.
+#[derive(Drop)]
 struct SlotGivesMore;
 
-impl EnvTest for SlotGivesMore {
-    fn run<S: Steps, R: Abort>(rt: &R, _alloc: Global, env: &mut Env<S>) -> Result<(), Fail> {
+impl<R: Abort> EnvTest<R> for SlotGivesMore {
+    fn run<S: Steps>(self, rt: &R, _alloc: Global, env: &mut Env<S>) -> Result<(), Fail> {
         let local = env.new_plain()?;
         let given = Given {
             first: [Handle(2), Handle(6)],
@@ -90,14 +91,15 @@ impl EnvTest for SlotGivesMore {
 
 #[test]
 fn a_slot_gives_more_than_65_536_handles(rt: HostRuntime) -> Result<(), Fail> {
-    alone::<SlotGivesMore, _>(&rt, rt.alloc(), Config::LEAST)
+    alone(&rt, rt.alloc(), Config::LEAST, SlotGivesMore)
 }
 
 /// A local place gives more than 65,536 handles.
+#[derive(Drop)]
 struct PlaceGivesMore;
 
-impl EnvTest for PlaceGivesMore {
-    fn run<S: Steps, R: Abort>(rt: &R, _alloc: Global, env: &mut Env<S>) -> Result<(), Fail> {
+impl<R: Abort> EnvTest<R> for PlaceGivesMore {
+    fn run<S: Steps>(self, rt: &R, _alloc: Global, env: &mut Env<S>) -> Result<(), Fail> {
         let local = env.new_plain()?;
         // One of the sixteen places is left free.
         for _ in 0..14 {
@@ -114,7 +116,7 @@ impl EnvTest for PlaceGivesMore {
 
 #[test]
 fn a_local_place_gives_more_than_65_536_handles(rt: HostRuntime) -> Result<(), Fail> {
-    alone::<PlaceGivesMore, _>(&rt, rt.alloc(), Config::LEAST)
+    alone(&rt, rt.alloc(), Config::LEAST, PlaceGivesMore)
 }
 
 /// The one slot gives three handles, and is retired with the last of them. The reference to the object.

@@ -1,10 +1,9 @@
 //! An object's identity: its references share it, of two threads too, two objects don't, and a collection that moves the object leaves it.
 ghost use Rattle.jr_rule.specs.Passes.{IsOpened};
 
-use crate::plain::{EnvTest, alone};
 use assertions::assert_same;
 use jr::{Config, Env, Fault, Handle, NativeInterface, Pass, Room, RoomSteps, Steps};
-use jr_fixtures::{LAST, collects, made, next_pass, opened_env, refusal};
+use jr_fixtures::{EnvTest, LAST, alone, collects, made, next_pass, opened_env, refusal};
 use std::alloc::Global;
 use std::process::Abort;
 use std::test::Fail;
@@ -85,17 +84,18 @@ fn are_kept<S: Steps>(rt: &impl Abort, alloc: Global, env: &mut Env<S>) -> Resul
     Ok(())
 }
 
+#[derive(Drop)]
 struct KeepsIdentity;
 
-impl EnvTest for KeepsIdentity {
-    fn run<S: Steps, R: Abort>(rt: &R, alloc: Global, env: &mut Env<S>) -> Result<(), Fail> {
+impl<R: Abort> EnvTest<R> for KeepsIdentity {
+    fn run<S: Steps>(self, rt: &R, alloc: Global, env: &mut Env<S>) -> Result<(), Fail> {
         are_kept(rt, alloc, env)
     }
 }
 
 #[test]
 fn a_moved_object_keeps_its_identity(rt: HostRuntime) -> Result<(), Fail> {
-    alone::<KeepsIdentity, _>(&rt, rt.alloc(), TWO)
+    alone(&rt, rt.alloc(), TWO, KeepsIdentity)
 }
 
 /// What two threads are told of one object: the first by a local reference, the second by a global one.

@@ -28,18 +28,20 @@ mod owner_threads;
 #[cfg(test)]
 mod owners;
 #[cfg(test)]
-mod plain;
-#[cfg(test)]
 mod pools;
 #[cfg(test)]
 mod references;
 #[cfg(test)]
 mod remedies;
 #[cfg(test)]
+mod row;
+#[cfg(test)]
 mod scopes;
 #[cfg(test)]
 mod slot_threads;
 #[cfg(test)]
 mod ten_lines;
+#[cfg(test)]
+mod warned;
 #[cfg(test)]
 mod words;

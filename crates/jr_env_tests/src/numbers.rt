@@ -1,9 +1,8 @@
 //! Numbers that an env tells: local references, frames and places, and words of array space that are used.
 
-use crate::plain::{EnvTest, alone};
 use assertions::assert_same;
 use jr::{Config, Env, LocalCounts, NativeInterface, Steps};
-use jr_fixtures::{collects, made};
+use jr_fixtures::{EnvTest, alone, collects, made};
 use std::alloc::Global;
 use std::process::Abort;
 use std::test::Fail;
@@ -64,10 +63,11 @@ fn count_words<S: Steps>(rt: &impl Abort, alloc: Global, env: &mut Env<S>) -> Re
     Ok(())
 }
 
+#[derive(Drop)]
 struct TellsNumbers;
 
-impl EnvTest for TellsNumbers {
-    fn run<S: Steps, R: Abort>(rt: &R, alloc: Global, env: &mut Env<S>) -> Result<(), Fail> {
+impl<R: Abort> EnvTest<R> for TellsNumbers {
+    fn run<S: Steps>(self, rt: &R, alloc: Global, env: &mut Env<S>) -> Result<(), Fail> {
         count_locals(rt, env)?;
         count_words(rt, alloc, env)
     }
@@ -75,5 +75,5 @@ impl EnvTest for TellsNumbers {
 
 #[test]
 fn numbers_are_told(rt: HostRuntime) -> Result<(), Fail> {
-    alone::<TellsNumbers, _>(&rt, rt.alloc(), SIZES)
+    alone(&rt, rt.alloc(), SIZES, TellsNumbers)
 }

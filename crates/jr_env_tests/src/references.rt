@@ -5,10 +5,10 @@ ghost use Rattle.jr_model.specs.declared.event.Role.TheVariants.{Outside};
 ghost use Rattle.jr_rule.specs.Passes.{IsAt, IsOpened};
 
 use crate::checked::are_told;
-use crate::plain::{EnvTest, alone, has_words};
+use crate::row::has_words;
 use assertions::assert_same;
 use jr_env::{Env, NativeInterface};
-use jr_fixtures::{LAST, has_type, made, next_pass, opened_env, refusal};
+use jr_fixtures::{EnvTest, LAST, alone, has_type, made, next_pass, opened_env, refusal};
 use jr_rule::{Pass, PlainSteps, Room, RoomSteps};
 use jr_steps::Steps;
 use jr_word::{Config, Fault, Handle};
@@ -117,10 +117,11 @@ fn refused_as_global<S: Steps>(rt: &impl Abort, env: &mut Env<S>, of: &OfEach) {
 }
 
 /// A reference of each kind is deleted by the call for its kind alone, and what was refused stands.
+#[derive(Drop)]
 struct DeletedByKind;
 
-impl EnvTest for DeletedByKind {
-    fn run<S: Steps, R: Abort>(rt: &R, _alloc: Global, env: &mut Env<S>) -> Result<(), Fail> {
+impl<R: Abort> EnvTest<R> for DeletedByKind {
+    fn run<S: Steps>(self, rt: &R, _alloc: Global, env: &mut Env<S>) -> Result<(), Fail> {
         let of = of_each(env)?;
         refused_as_local(rt, env, &of);
         have_types(rt, env, &of, [1, 2, 3])?;
@@ -131,21 +132,22 @@ impl EnvTest for DeletedByKind {
 
 #[test]
 fn a_reference_is_deleted_by_the_call_for_its_kind_alone(rt: HostRuntime) -> Result<(), Fail> {
-    alone::<DeletedByKind, _>(&rt, rt.alloc(), TWO)
+    alone(&rt, rt.alloc(), TWO, DeletedByKind)
 }
 
 /// A watcher is told each refusal, with what its words are.
+#[derive(Drop)]
 struct AreTold;
 
-impl EnvTest for AreTold {
-    fn run<S: Steps, R: Abort>(rt: &R, alloc: Global, env: &mut Env<S>) -> Result<(), Fail> {
+impl<R: Abort> EnvTest<R> for AreTold {
+    fn run<S: Steps>(self, rt: &R, alloc: Global, env: &mut Env<S>) -> Result<(), Fail> {
         are_told(rt, alloc, env)
     }
 }
 
 #[test]
 fn each_refusal_is_told_with_what_its_words_are(rt: HostRuntime) -> Result<(), Fail> {
-    alone::<AreTold, _>(&rt, rt.alloc(), TWO)
+    alone(&rt, rt.alloc(), TWO, AreTold)
 }
 
 /// The steps, handed back by a refusal of an env.
@@ -338,10 +340,11 @@ fn is_next<S: Steps>(
 }
 
 /// Each search for a free slot begins behind the newest reference of the pass, and goes on at slot 0 behind the last one.
+#[derive(Drop)]
 struct GoesRound;
 
-impl EnvTest for GoesRound {
-    fn run<S: Steps, R: Abort>(rt: &R, _alloc: Global, env: &mut Env<S>) -> Result<(), Fail> {
+impl<R: Abort> EnvTest<R> for GoesRound {
+    fn run<S: Steps>(self, rt: &R, _alloc: Global, env: &mut Env<S>) -> Result<(), Fail> {
         let local = env.new_plain()?;
         is_next(rt, env, local, Handle(2))?;
         is_next(rt, env, local, Handle(0x4_0000_0002))?;
@@ -355,5 +358,5 @@ impl EnvTest for GoesRound {
 
 #[test]
 fn searches_go_round(rt: HostRuntime) -> Result<(), Fail> {
-    alone::<GoesRound, _>(&rt, rt.alloc(), THREE_SLOTS)
+    alone(&rt, rt.alloc(), THREE_SLOTS, GoesRound)
 }

@@ -1,10 +1,9 @@
 //! What gives a full room back: a collection in turn, a call that is made again behind one, and cleared weak references that are deleted, over plain words.
 
-use crate::plain::{EnvTest, alone};
 use assertions::assert_same;
 use jr_env::calls::NewArray;
 use jr_env::{Env, NativeInterface, Patience};
-use jr_fixtures::refusal;
+use jr_fixtures::{EnvTest, alone, refusal};
 use jr_steps::Steps;
 use jr_weak::Marker;
 use jr_word::{Config, Fault, Handle};
@@ -59,10 +58,11 @@ fn gives_the_words_back<S: Steps>(
 }
 
 /// Each remedy gives back what it is for.
+#[derive(Drop)]
 struct GiveBack;
 
-impl EnvTest for GiveBack {
-    fn run<S: Steps, R: Abort>(rt: &R, alloc: Global, env: &mut Env<S>) -> Result<(), Fail> {
+impl<R: Abort> EnvTest<R> for GiveBack {
+    fn run<S: Steps>(self, rt: &R, alloc: Global, env: &mut Env<S>) -> Result<(), Fail> {
         let mut marker = env.marker(alloc)?;
         gives_the_slot_back(rt, env, &mut marker)?;
         gives_the_words_back(rt, env, &mut marker)
@@ -71,5 +71,5 @@ impl EnvTest for GiveBack {
 
 #[test]
 fn remedies_give_a_full_room_back(rt: HostRuntime) -> Result<(), Fail> {
-    alone::<GiveBack, _>(&rt, rt.alloc(), ONE)
+    alone(&rt, rt.alloc(), ONE, GiveBack)
 }

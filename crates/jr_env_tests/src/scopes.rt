@@ -1,12 +1,11 @@
 //! Calls that are made of others: a frame and a copy round a closure, stays and regions that are opened with patience, strong references made of weak ones, and a region that ends with all its levels.
 
-use crate::plain::{EnvTest, alone};
 use assertions::assert_same;
 use jr_env::{
     Env, NativeInterface, Patience, with_array_elements, with_local_frame,
     with_local_frame_returning,
 };
-use jr_fixtures::{has_type, made, refusal};
+use jr_fixtures::{EnvTest, alone, has_type, made, refusal};
 use jr_model::Mode;
 use jr_steps::Steps;
 use jr_word::{Config, Fault, Handle};
@@ -116,10 +115,11 @@ fn are_opened<S: Steps>(rt: &impl Abort, env: &mut Env<S>, array: Handle) -> Res
 }
 
 /// Tries these calls.
+#[derive(Drop)]
 struct MadeOfOthers;
 
-impl EnvTest for MadeOfOthers {
-    fn run<S: Steps, R: Abort>(rt: &R, alloc: Global, env: &mut Env<S>) -> Result<(), Fail> {
+impl<R: Abort> EnvTest<R> for MadeOfOthers {
+    fn run<S: Steps>(self, rt: &R, alloc: Global, env: &mut Env<S>) -> Result<(), Fail> {
         leaves_its_frame(env)?;
         hands_on_from_its_frame(rt, env)?;
         let array = env.new_array::<i32>(2)?;
@@ -131,5 +131,5 @@ impl EnvTest for MadeOfOthers {
 
 #[test]
 fn calls_are_made_of_others(rt: HostRuntime) -> Result<(), Fail> {
-    alone::<MadeOfOthers, _>(&rt, rt.alloc(), SIZES)
+    alone(&rt, rt.alloc(), SIZES, MadeOfOthers)
 }

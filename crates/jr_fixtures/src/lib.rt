@@ -37,6 +37,23 @@ pub fn plain_env(alloc: Global, config: Config) -> Result<Env<PlainSteps<LAST>>,
     Ok(opened_env(steps))
 }
 
+/// A test of an env in which nothing was done. It is handed what it aborts by, of which no library speaks.
+pub trait EnvTest<R> {
+    /// Runs it.
+    fn run<S: Steps>(self, rt: &R, alloc: Global, env: &mut Env<S>) -> Result<(), Fail>;
+}
+
+/// Runs a test over plain words, which are made for it: an env that a test makes itself is dear to prove.
+pub fn alone<T: EnvTest<R> + Drop, R>(
+    rt: &R,
+    alloc: Global,
+    config: Config,
+    test: T,
+) -> Result<(), Fail> {
+    let mut env = plain_env(alloc, config)?;
+    test.run(rt, alloc, &mut env)
+}
+
 /// What is missing where the passes are at their end.
 pub type NoPass = &'static str;
 

@@ -13,7 +13,7 @@ pub(crate) enum Name {
 
 /// A call of a thread's env.
 #[derive(Clone, Copy)]
-pub(crate) enum Call {
+pub(crate) enum EnvCall {
     /// An object without elements.
     NewPlain,
     /// An array of so many integers.
@@ -54,9 +54,9 @@ pub(crate) struct Case {
     /// How many objects.
     pub(crate) objects: u32,
     /// For each thread the calls by which it makes ready what it needs, before any of the others' calls.
-    pub(crate) ready: &'static [&'static [Call]],
+    pub(crate) ready: &'static [&'static [EnvCall]],
     /// For each thread its calls.
-    pub(crate) calls: &'static [&'static [Call]],
+    pub(crate) calls: &'static [&'static [EnvCall]],
 }
 
 /// How many words of array space each room has.

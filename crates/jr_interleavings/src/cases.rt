@@ -1,36 +1,39 @@
 //! The cases. Each slot and each local place gives two handles.
 
 use crate::case::Name::{Own, Ready};
-use crate::case::{Call, Case};
+use crate::case::{Case, EnvCall};
 
 /// A global reference to an object of the first thread: the references made ready are 0, the local one, and 1.
-const SHARED: &[Call] = &[Call::NewPlain, Call::NewGlobal(Ready(0))];
+const SHARED: &[EnvCall] = &[EnvCall::NewPlain, EnvCall::NewGlobal(Ready(0))];
 
 /// A weak reference to an object that nothing reaches: 1.
-const LOST: &[Call] = &[
-    Call::NewPlain,
-    Call::NewWeak(Ready(0)),
-    Call::DeleteLocal(Ready(0)),
+const LOST: &[EnvCall] = &[
+    EnvCall::NewPlain,
+    EnvCall::NewWeak(Ready(0)),
+    EnvCall::DeleteLocal(Ready(0)),
 ];
 
 /// An array of two that nothing reaches, behind an object and a reference that were made ready: 2.
-const UNREACHED: &[Call] = &[Call::NewArray(2), Call::DeleteLocal(Ready(2))];
+const UNREACHED: &[EnvCall] = &[EnvCall::NewArray(2), EnvCall::DeleteLocal(Ready(2))];
 
 /// A global reference to an array whose one element is 7, behind an array that nothing reaches: 2.
-const BEHIND: &[Call] = &[
-    Call::NewArray(1),
-    Call::NewArray(1),
-    Call::NewGlobal(Ready(1)),
-    Call::Write(Ready(1), 7),
-    Call::DeleteLocal(Ready(0)),
-    Call::DeleteLocal(Ready(1)),
+const BEHIND: &[EnvCall] = &[
+    EnvCall::NewArray(1),
+    EnvCall::NewArray(1),
+    EnvCall::NewGlobal(Ready(1)),
+    EnvCall::Write(Ready(1), 7),
+    EnvCall::DeleteLocal(Ready(0)),
+    EnvCall::DeleteLocal(Ready(1)),
 ];
 
 /// Of one reference.
-const LOOKS: &[Call] = &[Call::TypeOf(Ready(1)), Call::TypeOf(Ready(1))];
+const LOOKS: &[EnvCall] = &[EnvCall::TypeOf(Ready(1)), EnvCall::TypeOf(Ready(1))];
 
 /// Of the element of an array.
-const READS: &[Call] = &[Call::ReadCritical(Ready(2)), Call::ReadCritical(Ready(2))];
+const READS: &[EnvCall] = &[
+    EnvCall::ReadCritical(Ready(2)),
+    EnvCall::ReadCritical(Ready(2)),
+];
 
 /// All of them.
 pub(crate) const CASES: [Case; 21] = [
@@ -38,8 +41,11 @@ pub(crate) const CASES: [Case; 21] = [
         name: "two create in a row of one slot",
         slots: 1,
         objects: 2,
-        ready: &[&[Call::NewPlain], &[Call::NewPlain]],
-        calls: &[&[Call::NewGlobal(Ready(0))], &[Call::NewGlobal(Ready(1))]],
+        ready: &[&[EnvCall::NewPlain], &[EnvCall::NewPlain]],
+        calls: &[
+            &[EnvCall::NewGlobal(Ready(0))],
+            &[EnvCall::NewGlobal(Ready(1))],
+        ],
     },
     Case {
         name: "two create in the one slot, and one deletes what stands there",
@@ -47,23 +53,23 @@ pub(crate) const CASES: [Case; 21] = [
         objects: 1,
         ready: &[SHARED, &[], &[]],
         calls: &[
-            &[Call::NewGlobal(Ready(0))],
-            &[Call::NewGlobal(Ready(1))],
-            &[Call::DeleteGlobal(Ready(1))],
+            &[EnvCall::NewGlobal(Ready(0))],
+            &[EnvCall::NewGlobal(Ready(1))],
+            &[EnvCall::DeleteGlobal(Ready(1))],
         ],
     },
     Case {
         name: "two create and delete in a row of one slot, which gives two handles",
         slots: 1,
         objects: 2,
-        ready: &[&[Call::NewPlain], &[Call::NewPlain]],
+        ready: &[&[EnvCall::NewPlain], &[EnvCall::NewPlain]],
         calls: &[
             &[
-                Call::NewGlobal(Ready(0)),
-                Call::DeleteGlobal(Own),
-                Call::NewGlobal(Ready(0)),
+                EnvCall::NewGlobal(Ready(0)),
+                EnvCall::DeleteGlobal(Own),
+                EnvCall::NewGlobal(Ready(0)),
             ],
-            &[Call::NewGlobal(Ready(1)), Call::DeleteGlobal(Own)],
+            &[EnvCall::NewGlobal(Ready(1)), EnvCall::DeleteGlobal(Own)],
         ],
     },
     Case {
@@ -72,8 +78,8 @@ pub(crate) const CASES: [Case; 21] = [
         objects: 1,
         ready: &[SHARED, &[]],
         calls: &[
-            &[Call::DeleteGlobal(Ready(1)), Call::TypeOf(Ready(1))],
-            &[Call::DeleteGlobal(Ready(1)), Call::TypeOf(Ready(1))],
+            &[EnvCall::DeleteGlobal(Ready(1)), EnvCall::TypeOf(Ready(1))],
+            &[EnvCall::DeleteGlobal(Ready(1)), EnvCall::TypeOf(Ready(1))],
         ],
     },
     Case {
@@ -82,9 +88,9 @@ pub(crate) const CASES: [Case; 21] = [
         objects: 1,
         ready: &[SHARED, &[], &[]],
         calls: &[
-            &[Call::DeleteGlobal(Ready(1))],
-            &[Call::DeleteGlobal(Ready(1))],
-            &[Call::DeleteGlobal(Ready(1))],
+            &[EnvCall::DeleteGlobal(Ready(1))],
+            &[EnvCall::DeleteGlobal(Ready(1))],
+            &[EnvCall::DeleteGlobal(Ready(1))],
         ],
     },
     Case {
@@ -94,9 +100,9 @@ pub(crate) const CASES: [Case; 21] = [
         ready: &[SHARED, &[]],
         calls: &[
             &[
-                Call::DeleteGlobal(Ready(1)),
-                Call::NewGlobal(Ready(0)),
-                Call::DeleteGlobal(Own),
+                EnvCall::DeleteGlobal(Ready(1)),
+                EnvCall::NewGlobal(Ready(0)),
+                EnvCall::DeleteGlobal(Own),
             ],
             LOOKS,
         ],
@@ -107,8 +113,8 @@ pub(crate) const CASES: [Case; 21] = [
         objects: 1,
         ready: &[LOST, &[]],
         calls: &[
-            &[Call::Collect],
-            &[Call::IsNull(Ready(1)), Call::NewGlobal(Ready(1))],
+            &[EnvCall::Collect],
+            &[EnvCall::IsNull(Ready(1)), EnvCall::NewGlobal(Ready(1))],
         ],
     },
     Case {
@@ -117,8 +123,8 @@ pub(crate) const CASES: [Case; 21] = [
         objects: 1,
         ready: &[LOST, &[]],
         calls: &[
-            &[Call::CollectAnnounced(2)],
-            &[Call::NewGlobal(Ready(1)), Call::DeleteWeak(Ready(1))],
+            &[EnvCall::CollectAnnounced(2)],
+            &[EnvCall::NewGlobal(Ready(1)), EnvCall::DeleteWeak(Ready(1))],
         ],
     },
     Case {
@@ -126,7 +132,7 @@ pub(crate) const CASES: [Case; 21] = [
         slots: 1,
         objects: 1,
         ready: &[SHARED, &[]],
-        calls: &[&[Call::Collect, Call::Collect], LOOKS],
+        calls: &[&[EnvCall::Collect, EnvCall::Collect], LOOKS],
     },
     Case {
         name: "entries beside announced collections",
@@ -134,7 +140,7 @@ pub(crate) const CASES: [Case; 21] = [
         objects: 1,
         ready: &[SHARED, &[]],
         calls: &[
-            &[Call::CollectAnnounced(2), Call::CollectAnnounced(1)],
+            &[EnvCall::CollectAnnounced(2), EnvCall::CollectAnnounced(1)],
             LOOKS,
         ],
     },
@@ -144,9 +150,9 @@ pub(crate) const CASES: [Case; 21] = [
         objects: 1,
         ready: &[SHARED, &[], &[]],
         calls: &[
-            &[Call::CollectAnnounced(1)],
-            &[Call::CollectAnnounced(1)],
-            &[Call::TypeOf(Ready(1))],
+            &[EnvCall::CollectAnnounced(1)],
+            &[EnvCall::CollectAnnounced(1)],
+            &[EnvCall::TypeOf(Ready(1))],
         ],
     },
     Case {
@@ -154,35 +160,38 @@ pub(crate) const CASES: [Case; 21] = [
         slots: 1,
         objects: 2,
         ready: &[&[], &[]],
-        calls: &[&[Call::NewArray(1)], &[Call::NewArray(3)]],
+        calls: &[&[EnvCall::NewArray(1)], &[EnvCall::NewArray(3)]],
     },
     Case {
         name: "two reserve words for which there is no room together",
         slots: 1,
         objects: 2,
         ready: &[&[], &[]],
-        calls: &[&[Call::NewArray(2)], &[Call::NewArray(3)]],
+        calls: &[&[EnvCall::NewArray(2)], &[EnvCall::NewArray(3)]],
     },
     Case {
         name: "two publish under the same numbers",
         slots: 1,
         objects: 3,
         ready: &[&[], &[]],
-        calls: &[&[Call::NewPlain, Call::NewPlain], &[Call::NewPlain]],
+        calls: &[
+            &[EnvCall::NewPlain, EnvCall::NewPlain],
+            &[EnvCall::NewPlain],
+        ],
     },
     Case {
         name: "a critical region beside a collection",
         slots: 1,
         objects: 2,
         ready: &[BEHIND, &[]],
-        calls: &[&[Call::Collect], READS],
+        calls: &[&[EnvCall::Collect], READS],
     },
     Case {
         name: "a critical region beside an announced collection",
         slots: 1,
         objects: 2,
         ready: &[BEHIND, &[]],
-        calls: &[&[Call::CollectAnnounced(2)], READS],
+        calls: &[&[EnvCall::CollectAnnounced(2)], READS],
     },
     Case {
         name: "censuses beside a deletion and a creation",
@@ -190,11 +199,11 @@ pub(crate) const CASES: [Case; 21] = [
         objects: 1,
         ready: &[&[], SHARED],
         calls: &[
-            &[Call::Census, Call::Census],
+            &[EnvCall::Census, EnvCall::Census],
             &[
-                Call::DeleteGlobal(Ready(1)),
-                Call::NewGlobal(Ready(0)),
-                Call::DeleteLocal(Ready(0)),
+                EnvCall::DeleteGlobal(Ready(1)),
+                EnvCall::NewGlobal(Ready(0)),
+                EnvCall::DeleteLocal(Ready(0)),
             ],
         ],
     },
@@ -203,7 +212,7 @@ pub(crate) const CASES: [Case; 21] = [
         slots: 2,
         objects: 2,
         ready: &[LOST, UNREACHED],
-        calls: &[&[Call::Census], &[Call::CollectAnnounced(2)]],
+        calls: &[&[EnvCall::Census], &[EnvCall::CollectAnnounced(2)]],
     },
     Case {
         name: "one creates, one deletes, one collects",
@@ -211,9 +220,9 @@ pub(crate) const CASES: [Case; 21] = [
         objects: 1,
         ready: &[SHARED, &[], &[]],
         calls: &[
-            &[Call::NewGlobal(Ready(0))],
-            &[Call::DeleteGlobal(Ready(1))],
-            &[Call::Collect],
+            &[EnvCall::NewGlobal(Ready(0))],
+            &[EnvCall::DeleteGlobal(Ready(1))],
+            &[EnvCall::Collect],
         ],
     },
     Case {
@@ -222,9 +231,9 @@ pub(crate) const CASES: [Case; 21] = [
         objects: 1,
         ready: &[SHARED, &[], &[]],
         calls: &[
-            &[Call::NewGlobal(Ready(0))],
-            &[Call::DeleteGlobal(Ready(1))],
-            &[Call::CollectAnnounced(1)],
+            &[EnvCall::NewGlobal(Ready(0))],
+            &[EnvCall::DeleteGlobal(Ready(1))],
+            &[EnvCall::CollectAnnounced(1)],
         ],
     },
     Case {
@@ -233,9 +242,9 @@ pub(crate) const CASES: [Case; 21] = [
         objects: 1,
         ready: &[SHARED, &[], &[]],
         calls: &[
-            &[Call::NewGlobal(Ready(0))],
-            &[Call::DeleteGlobal(Ready(1))],
-            &[Call::TypeOf(Ready(1))],
+            &[EnvCall::NewGlobal(Ready(0))],
+            &[EnvCall::DeleteGlobal(Ready(1))],
+            &[EnvCall::TypeOf(Ready(1))],
         ],
     },
 ];

@@ -3,7 +3,7 @@ ghost use Rattle.std.specs.Prelude.{◌≡◌, All, IfSome};
 ghost use Rattle.jr_model.specs.declared.event.Role.TheVariants.{Outside};
 ghost use Rattle.jr_rule.specs.Passes.{IsOpened};
 
-use crate::case::{Call, Case};
+use crate::case::{Case, EnvCall};
 use crate::machine::{Machine, NO_MEMORY, add, must};
 use crate::play::play;
 use crate::run::{Baton, Run, Stage, State};
@@ -78,7 +78,7 @@ fn play_each<R: Wait, S: Steps + Drop>(
 }
 
 /// The calls of a thread.
-fn calls_at(calls: &'static [&'static [Call]], thread: usize) -> &'static [Call] {
+fn calls_at(calls: &'static [&'static [EnvCall]], thread: usize) -> &'static [EnvCall] {
     match calls.get(thread) {
         Some(calls) => *calls,
         None => &[],

@@ -1,6 +1,6 @@
 //! What one thread of a run does: it makes ready what it needs, and makes its calls.
 
-use crate::case::{Call, Name};
+use crate::case::{EnvCall, Name};
 use crate::counted::CensusCounts;
 use crate::run::Baton;
 use crate::scheduled::Scheduled;
@@ -49,28 +49,28 @@ fn made(handle: Option<Handle>) -> Answer {
 }
 
 /// What a call at a reference answers.
-fn call_at<S: Steps>(env: &mut Env<S>, call: Call, handle: Handle) -> Result<Answer, Fault> {
+fn call_at<S: Steps>(env: &mut Env<S>, call: EnvCall, handle: Handle) -> Result<Answer, Fault> {
     Ok(match call {
-        Call::NewGlobal(_) => made(env.new_global_ref(handle)?),
-        Call::NewWeak(_) => made(env.new_weak_global_ref(handle)?),
-        Call::DeleteGlobal(_) => {
+        EnvCall::NewGlobal(_) => made(env.new_global_ref(handle)?),
+        EnvCall::NewWeak(_) => made(env.new_weak_global_ref(handle)?),
+        EnvCall::DeleteGlobal(_) => {
             env.delete_global_ref(handle)?;
             Answer::Done
         }
-        Call::DeleteWeak(_) => {
+        EnvCall::DeleteWeak(_) => {
             env.delete_weak_global_ref(handle)?;
             Answer::Done
         }
-        Call::DeleteLocal(_) => {
+        EnvCall::DeleteLocal(_) => {
             env.delete_local_ref(handle)?;
             Answer::Done
         }
-        Call::Write(_, value) => {
+        EnvCall::Write(_, value) => {
             env.set_array_region(handle, 0, &[value])?;
             Answer::Done
         }
-        Call::IsNull(_) => Answer::IsNull(env.is_same_object(handle, Handle::NULL)?),
-        Call::ReadCritical(_) => Answer::Read(read_critical(env, handle)?),
+        EnvCall::IsNull(_) => Answer::IsNull(env.is_same_object(handle, Handle::NULL)?),
+        EnvCall::ReadCritical(_) => Answer::Read(read_critical(env, handle)?),
         _ => Answer::Type(env.get_object_ref_type(handle)?),
     })
 }
@@ -79,37 +79,41 @@ fn call_at<S: Steps>(env: &mut Env<S>, call: Call, handle: Handle) -> Result<Ans
 fn call_of<S: Steps>(
     env: &mut Env<S>,
     alloc: Global,
-    call: Call,
+    call: EnvCall,
     handle: Handle,
 ) -> Result<Answer, Fault> {
     match call {
-        Call::NewPlain => Ok(Answer::Made(env.new_plain()?)),
-        Call::NewArray(length) => Ok(Answer::Made(env.new_array::<i32>(length)?)),
-        Call::Collect => Ok(Answer::Collected(collect(env, alloc, 0)?)),
-        Call::CollectAnnounced(tries) => Ok(Answer::Collected(collect(env, alloc, tries)?)),
-        Call::Census => Ok(Answer::Counted(counted(env, alloc)?)),
+        EnvCall::NewPlain => Ok(Answer::Made(env.new_plain()?)),
+        EnvCall::NewArray(length) => Ok(Answer::Made(env.new_array::<i32>(length)?)),
+        EnvCall::Collect => Ok(Answer::Collected(collect(env, alloc, 0)?)),
+        EnvCall::CollectAnnounced(tries) => Ok(Answer::Collected(collect(env, alloc, tries)?)),
+        EnvCall::Census => Ok(Answer::Counted(counted(env, alloc)?)),
         _ => call_at(env, call, handle),
     }
 }
 
 /// The handle that a call is about: none where its name means none.
-fn about<R: Wait>(baton: &Baton<'_, '_, R>, call: Call) -> Option<Handle> {
+fn about<R: Wait>(baton: &Baton<'_, '_, R>, call: EnvCall) -> Option<Handle> {
     match call {
-        Call::NewGlobal(name)
-        | Call::NewWeak(name)
-        | Call::DeleteGlobal(name)
-        | Call::DeleteWeak(name)
-        | Call::DeleteLocal(name)
-        | Call::Write(name, _)
-        | Call::TypeOf(name)
-        | Call::IsNull(name)
-        | Call::ReadCritical(name) => baton.handle(name),
+        EnvCall::NewGlobal(name)
+        | EnvCall::NewWeak(name)
+        | EnvCall::DeleteGlobal(name)
+        | EnvCall::DeleteWeak(name)
+        | EnvCall::DeleteLocal(name)
+        | EnvCall::Write(name, _)
+        | EnvCall::TypeOf(name)
+        | EnvCall::IsNull(name)
+        | EnvCall::ReadCritical(name) => baton.handle(name),
         _ => Some(Handle::NULL),
     }
 }
 
 /// Makes calls, and notes what each answers.
-fn make_all<R: Wait, S: Steps>(env: &mut Scheduling<'_, '_, R, S>, alloc: Global, calls: &[Call]) {
+fn make_all<R: Wait, S: Steps>(
+    env: &mut Scheduling<'_, '_, R, S>,
+    alloc: Global,
+    calls: &[EnvCall],
+) {
     for call in calls {
         let Some(handle) = about(&env.held.steps.baton, *call) else {
             continue;
@@ -142,8 +146,8 @@ fn look_at_all<R: Wait, S: Steps>(env: &mut Scheduling<'_, '_, R, S>) {
 pub(crate) fn play<R: Wait, S: Steps>(
     env: &mut Scheduling<'_, '_, R, S>,
     alloc: Global,
-    ready: &[Call],
-    calls: &[Call],
+    ready: &[EnvCall],
+    calls: &[EnvCall],
 ) {
     make_all(env, alloc, ready);
     env.held.steps.baton.be_ready();

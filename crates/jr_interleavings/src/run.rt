@@ -1,6 +1,6 @@
 //! One run of a case: its threads, of which one goes at a time, and the machine beside them.
 
-use crate::case::{Call, Name};
+use crate::case::{EnvCall, Name};
 use crate::machine::{Machine, Verdict, add, at, at_or, must, put_at};
 use crate::schedule::{Schedule, bit};
 use crate::seen::Answer;
@@ -152,7 +152,7 @@ impl State {
     }
 
     /// A call of a thread has answered.
-    fn answer(&mut self, thread: u8, call: Call, answer: Answer) {
+    fn answer(&mut self, thread: u8, call: EnvCall, answer: Answer) {
         if self.wrong.is_none() {
             let verdict = self.machine.answers(thread, call, answer);
             self.note(verdict);
@@ -323,7 +323,7 @@ impl<'r, 'a, R: Wait> Baton<'r, 'a, R> {
     }
 
     /// A call has answered.
-    pub(crate) fn answered(&self, call: Call, answer: Answer) {
+    pub(crate) fn answered(&self, call: EnvCall, answer: Answer) {
         self.run
             .state
             .lock(self.rt)

@@ -1,6 +1,6 @@
 //! What a call has seen of the machine, and the answer that it makes.
 
-use crate::case::Call;
+use crate::case::EnvCall;
 use crate::counted::CensusCounts;
 use crate::machine::{Machine, Verdict, add, must};
 use jr_model::Found;
@@ -156,23 +156,25 @@ impl Seen {
 
 impl Machine {
     /// The answer that a call makes of what it saw; none where no answer is right, or the one of a new object.
-    fn answer(&self, seen: &Seen, call: Call) -> Option<Answer> {
+    fn answer(&self, seen: &Seen, call: EnvCall) -> Option<Answer> {
         if let Some(fault) = seen.refused {
             return Some(Answer::Refused(fault));
         }
         match call {
-            Call::TypeOf(_) => Some(Answer::Type(seen.type_of())),
-            Call::IsNull(_) => seen
+            EnvCall::TypeOf(_) => Some(Answer::Type(seen.type_of())),
+            EnvCall::IsNull(_) => seen
                 .stale()
                 .or(Some(Answer::IsNull(seen.found == Some(Found::Cleared)))),
-            Call::NewGlobal(_) | Call::NewWeak(_) => seen.stale().or(seen.made(self.config.slots)),
-            Call::DeleteGlobal(_) | Call::DeleteWeak(_) => Some(seen.deleted()),
-            Call::DeleteLocal(_) => Some(Answer::Done),
-            Call::Write(_, value) => seen.stale().or(seen.written(value)),
-            Call::ReadCritical(_) => seen.stale().or(seen.read()),
-            Call::Collect | Call::CollectAnnounced(_) => seen.collected(),
-            Call::Census => self.counted(seen),
-            Call::NewPlain | Call::NewArray(_) => match seen.did {
+            EnvCall::NewGlobal(_) | EnvCall::NewWeak(_) => seen
+                .stale()
+                .or(seen.made(self.config.slots)),
+            EnvCall::DeleteGlobal(_) | EnvCall::DeleteWeak(_) => Some(seen.deleted()),
+            EnvCall::DeleteLocal(_) => Some(Answer::Done),
+            EnvCall::Write(_, value) => seen.stale().or(seen.written(value)),
+            EnvCall::ReadCritical(_) => seen.stale().or(seen.read()),
+            EnvCall::Collect | EnvCall::CollectAnnounced(_) => seen.collected(),
+            EnvCall::Census => self.counted(seen),
+            EnvCall::NewPlain | EnvCall::NewArray(_) => match seen.did {
                 None if seen.taken_numbers.count_ones() == self.config.objects => {
                     Some(Answer::Refused(Fault::ObjectsFull))
                 }
@@ -194,7 +196,7 @@ impl Machine {
     }
 
     /// The call of a thread answers what its own steps make.
-    pub(crate) fn answers(&mut self, thread: u8, call: Call, answer: Answer) -> Verdict {
+    pub(crate) fn answers(&mut self, thread: u8, call: EnvCall, answer: Answer) -> Verdict {
         let seen = self.seen(thread);
         let right = match (self.answer(&seen, call), answer) {
             (Some(wanted), _) => answer == wanted,

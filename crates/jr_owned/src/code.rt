@@ -77,7 +77,7 @@ pub type OwnedThreads<C> = Vec<PromisedHandle<<C as OwnedCode>::Answer, RunsCode
 
 /// What one thread is started with: its pass as it was opened, in the site's room.
 #[derive(Drop)]
-struct Job<Q: Site, C: OwnedCode> {
+struct CodeJob<Q: Site, C: OwnedCode> {
     room: Arc<Room<LAST>>,
     pass: Pass,
     code: Arc<C>,
@@ -86,12 +86,12 @@ struct Job<Q: Site, C: OwnedCode> {
     ghost site: { Some (arc_value room).row.table.shared.table_id ≡ Q.room },
 }
 
-impl<Q: Site, C: OwnedCode> Job<Q, C> {
+impl<Q: Site, C: OwnedCode> CodeJob<Q, C> {
     /// Runs the code, in the thread that calls.
     fn run(self) -> C::Answer
         ensures { C.tells (arc_value self.code) (Some self.pass.seat.table_id) (known_of self.pass).thread result }
     {
-        let Job {
+        let CodeJob {
             room,
             pass,
             code,
@@ -133,7 +133,7 @@ where
         code: Snapshot::of(&**code),
         pass: Snapshot::of(&pass),
     };
-    let job = Job {
+    let job = CodeJob {
         room: Arc::try_clone(room)?,
         pass,
         code: Arc::try_clone(code)?,

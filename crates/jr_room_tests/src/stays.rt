@@ -9,11 +9,10 @@ ghost use Rattle.jr_rule.specs.Rooms.{IsNoteThere};
 ghost use Rattle.jr_rule.specs.Rule.{stepping_pass};
 ghost use Rattle.jr_steps.specs.Knowing.{view};
 
-use crate::plain::{EnvTest, alone};
 use crate::shared::{RoomTest, in_a_room};
 use assertions::assert_same;
 use jr_env::{Env, NativeInterface, Stay};
-use jr_fixtures::{LAST, collected, collects, has_type, made, next_pass, refusal};
+use jr_fixtures::{EnvTest, LAST, alone, collected, collects, has_type, made, next_pass, refusal};
 use jr_gate::announce;
 use jr_model::{Mode, open_stays_exclude_collections};
 use jr_rule::{Note, Room, RoomSteps};
@@ -201,10 +200,11 @@ fn is_refused_in<S: Steps>(rt: &impl Abort, stay: &mut Stay<'_, S>, array: Handl
 }
 
 /// Each call is made once in a stay, in which nothing was refused for good, and behind which the env goes on.
+#[derive(Drop)]
 struct GoesOn;
 
-impl EnvTest for GoesOn {
-    fn run<S: Steps, R: Abort>(rt: &R, alloc: Global, env: &mut Env<S>) -> Result<(), Fail> {
+impl<R: Abort> EnvTest<R> for GoesOn {
+    fn run<S: Steps>(self, rt: &R, alloc: Global, env: &mut Env<S>) -> Result<(), Fail> {
         let array = env.new_array::<i32>(3)?;
         let mut stay = env.stay()?;
         is_refused_in(rt, &mut stay, array);
@@ -222,7 +222,7 @@ impl EnvTest for GoesOn {
 /// Each call is made in a stay, by a thread that is alone.
 #[test]
 fn each_call_is_made_in_a_stay(rt: HostRuntime) -> Result<(), Fail> {
-    alone::<GoesOn, _>(&rt, rt.alloc(), SIZES)
+    alone(&rt, rt.alloc(), SIZES, GoesOn)
 }
 
 /// A collection was kept out by one thread, if there was memory for its marker.

@@ -122,19 +122,24 @@ pub release_handed : {A : Type 0} (words : A → List ℕ) (left : Option A)
 release_handed words None = refl
 release_handed words (Some x) = refl
 
+-- elements that a buffer had
+pub of_buffer : {x y : CopiedElements} {b : Copied} → x ≡ y → copied_in x ≡ b → copied_in y ≡ b
+of_buffer is was = ap copied_in (sym is) ∙ was
+
 -- what is left of elements of a type, as what a name stands for
 pub left_mapped : {V : Type 0} (k : Kind) (word_of : V → ℕ) (wrap : List V → CopiedElements)
-    → ((vs : List V) → copied_in (wrap vs) ≡ copied_as k word_of vs) → (mode : Mode) (answer : Result Reply Fault)
-    (values : List V) (left : Option (List V)) (mapped : Option CopiedElements) (b : Copied)
-    → copied_as k word_of values ≡ b → left ≡ elements_left mode answer values
-    → MatchOption left (mapped ≡ None) (λ x. IsSomeAnd mapped (λ y. y ≡ wrap x))
-    → binding_left mapped ≡ left_by mode answer (Buffer b)
-left_mapped k word_of wrap same mode answer values (Some x) (Some y) b is left cases =
-    ap (λ (z : CopiedElements). Buffer (copied_in z)) cases
-    ∙ (ap (λ (z : Copied). Buffer z) (same x) ∙ some_left k word_of mode answer values x b is left)
-left_mapped k word_of wrap same mode answer values (Some x) None b is left cases = absurd cases
-left_mapped k word_of wrap same mode answer values None mapped b is left cases =
-    ap binding_left cases ∙ none_left mode answer values (Buffer b) left
+    → ((vs : List V) → copied_in (wrap vs) ≡ copied_as k word_of vs) → (mode : Mode)
+    (answer handed : Result Reply Fault) (values : List V) (left : Option (List V)) (mapped : Option CopiedElements)
+    (b : Copied) → copied_as k word_of values ≡ b → left ≡ elements_left mode answer values
+    → MatchOption left (mapped ≡ None) (λ x. IsSomeAnd mapped (λ y. y ≡ wrap x)) → handed ≡ answer
+    → binding_left mapped ≡ left_by mode handed (Buffer b)
+left_mapped k word_of wrap same mode answer handed values (Some x) (Some y) b is left cases was =
+    ap (λ (z : CopiedElements). Buffer (copied_in z)) cases ∙ (ap (λ (z : Copied). Buffer z) (same x)
+    ∙ (some_left k word_of mode answer values x b is left ∙ ap (λ a. left_by mode a (Buffer b)) (sym was)))
+left_mapped k word_of wrap same mode answer handed values (Some x) None b is left cases was = absurd cases
+left_mapped k word_of wrap same mode answer handed values None mapped b is left cases was =
+    ap binding_left cases
+    ∙ (none_left mode answer values (Buffer b) left ∙ ap (λ a. left_by mode a (Buffer b)) (sym was))
 
 -- what was put was answered so
 pub done_of : {A : Type 0} (r : Result A Fault) → ◌≡◌ {A = Result (Unit {0}) Fault} (Ok tt) (answer_in (λ _. tt) r)

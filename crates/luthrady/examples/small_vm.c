@@ -12,7 +12,7 @@
 #include <stdlib.h>
 #include <string.h>
 
-enum { THREADS = 4, SHIFTS = 20, ROUNDS = 15, CLASSES = 5, WATCHED = 32, PAYLOAD = 8, TRIES = 1000 };
+enum { THREADS = 4, SHIFTS = 20, ROUNDS = 15, CLASSES = 5, WATCHED = 32, PAYLOAD = 8, TRIES = 1000, TURNS = 10 };
 enum { INSTANCES = THREADS * SHIFTS * ROUNDS };
 
 // The fields of an instance, which is an array of objects.
@@ -94,16 +94,8 @@ static void unlock(pthread_mutex_t *mutex) {
 
 // ---- calls that are made again
 
-static bool collect(struct thread *thread, struct luthrady_counts *counts) {
-    struct luthrady_reply reply = luthrady_collect_announced(&thread->env, TRIES, counts);
-    switch (reply.fault) {
-    case 0: return true;
-    // Another thread collects, has announced that it will, or is in a call.
-    case LUTHRADY_FAULT_BUSY:
-    case LUTHRADY_FAULT_MOVED: return false;
-    default: fail("collect", reply);
-    }
-}
+// Collects, and queues what went. Tells whether it was its turn.
+static bool collect(struct thread *thread, struct luthrady_counts *counts);
 
 // Whether a refused call is made again: another thread was in the way, or a collection can make room for it.
 static bool is_made_again(struct thread *thread, struct luthrady_reply reply) {
@@ -183,12 +175,11 @@ static uint64_t new_weak(struct thread *thread, uint64_t object) {
     return answer("new_weak_global_ref", reply);
 }
 
-// Deletes a weak reference where its object went. Returns whether it did.
-static bool delete_cleared(struct thread *thread, uint64_t reference) {
+static void delete_weak(struct thread *thread, uint64_t reference) {
     struct luthrady_reply reply;
-    do reply = luthrady_delete_cleared(&thread->env, reference);
+    do reply = luthrady_delete_weak_global_ref(&thread->env, reference);
     while (is_made_again(thread, reply));
-    return answer("delete_cleared", reply) == 1;
+    answer("delete_weak_global_ref", reply);
 }
 
 static uint64_t identity_of(struct thread *thread, uint64_t object) {
@@ -280,14 +271,16 @@ static uint64_t new_instance(struct thread *thread, int class, int number) {
     return instance;
 }
 
-// The number of an instance, once its whole payload was looked at: as it stood in one critical region, which no collection enters.
+// The number of an instance, once its whole payload was looked at in one critical region: no collection comes while that stands.
 static int number_of(struct thread *thread, uint64_t instance) {
     int32_t payload[PAYLOAD];
     uint64_t array = field_of(thread, instance, FIELD_PAYLOAD);
     struct luthrady_reply reply;
-    do reply = luthrady_get_int_array_elements(&thread->env, array, payload, PAYLOAD);
+    do reply = luthrady_get_array_critical(&thread->env, array);
     while (is_made_again(thread, reply));
-    answer("get_int_array_elements", reply);
+    uint32_t level = (uint32_t)answer("get_array_critical", reply);
+    answer("get_int_level_part", luthrady_get_int_level_part(&thread->env, level, 0, payload, PAYLOAD));
+    answer("release_critical", luthrady_release_critical(&thread->env));
     for (int i = 0; i < PAYLOAD; i++) check(payload[i] == payload[0] + i, "a payload is as it was written");
     return payload[0];
 }
@@ -308,25 +301,33 @@ static void keep_newest(struct thread *thread, int class, uint64_t instance) {
 
 // ---- weak references, and the queue of what went
 
-// Puts a watch whose instance went on the queue, and frees its place. The caller has the lock.
-static void take_if_gone(struct thread *thread, struct watch *watch) {
+// Puts the watch of a reference that was cleared on the queue, and frees its place. The caller has the lock.
+static void take(struct thread *thread, uint64_t weak) {
     struct machine *all = thread->machine;
-    if (watch->weak == 0 || !delete_cleared(thread, watch->weak)) return;
-    watch->weak = 0;
+    int place = 0;
+    while (place < WATCHED && all->watches[place].weak != weak) place++;
+    check(place < WATCHED, "what went was watched");
+    delete_weak(thread, weak);
+    all->watches[place].weak = 0;
     check(all->queued < INSTANCES, "no more go than were made");
-    all->queue[all->queued++] = watch->number;
+    all->queue[all->queued++] = all->watches[place].number;
 }
 
-static void sweep(struct thread *thread) {
+// Each collection lists what it cleared, and so each reference is in one list. Another thread may be in the way at each turn: then that one may collect.
+static bool collect(struct thread *thread, struct luthrady_counts *counts) {
+    uint64_t cleared[WATCHED];
+    struct luthrady_reply reply = luthrady_collect_in_turn_listing(&thread->env, TRIES, TURNS, cleared, WATCHED, NULL, 0, counts);
+    switch (reply.fault) {
+    case 0: break;
+    case LUTHRADY_FAULT_BUSY:
+    case LUTHRADY_FAULT_MOVED: return false;
+    default: fail("collect", reply);
+    }
+    check(counts->cleared <= WATCHED, "no more go than are watched");
     lock(&thread->machine->watching);
-    for (int i = 0; i < WATCHED; i++) take_if_gone(thread, &thread->machine->watches[i]);
+    for (uint32_t i = 0; i < counts->cleared; i++) take(thread, cleared[i]);
     unlock(&thread->machine->watching);
-}
-
-// Collects, and queues what went. Another thread may be collecting: then that one does it.
-static void collect_and_sweep(struct thread *thread) {
-    struct luthrady_counts counts;
-    if (collect(thread, &counts)) sweep(thread);
+    return true;
 }
 
 // Watches an instance, where a place is free.
@@ -346,8 +347,9 @@ static void make_and_drop(struct thread *thread, int number) {
     int class = number % CLASSES;
     push_frame(thread, 16);
     uint64_t instance = new_instance(thread, class, number);
+    struct luthrady_counts counts;
     while (!try_to_watch(thread, instance, number)) {
-        collect_and_sweep(thread);
+        collect(thread, &counts);
         sched_yield();
     }
     check(class_of(thread, instance) == class && number_of(thread, instance) == number, "an instance is what was made");
@@ -356,10 +358,11 @@ static void make_and_drop(struct thread *thread, int number) {
 }
 
 static void work_a_shift(struct thread *thread, int shift) {
+    struct luthrady_counts counts;
     for (int round = 0; round < ROUNDS; round++) {
         make_and_drop(thread, (thread->number * SHIFTS + shift) * ROUNDS + round);
         // Each thread collects in rounds of its own.
-        if (round % THREADS == thread->number) collect_and_sweep(thread);
+        if (round % THREADS == thread->number) collect(thread, &counts);
     }
 }
 
@@ -400,11 +403,10 @@ static void print_queue(void) {
     printf("in all %d of %d\n", machine.queued, INSTANCES);
 }
 
-// Collects with no thread beside, and queues what went.
+// Collects with no thread beside.
 static struct luthrady_counts collect_alone(struct thread *thread) {
     struct luthrady_counts counts;
-    answer("collect", luthrady_collect(&thread->env, &counts));
-    sweep(thread);
+    check(collect(thread, &counts), "no thread is in the way");
     return counts;
 }
 

@@ -1,10 +1,15 @@
 pub mod Pointers
 pub mod Lending
 pub mod Asking
+pub mod Emptying
 pub mod ThroughPointers
 pub mod DoingBy
 pub mod OwnRegions
+pub mod KeepingRegions
 pub mod AllElements
 pub mod Batching
 pub mod Pooling
 pub mod ClearedOnce
+pub mod WrittenRows
+pub mod ListedWords
+pub mod TakenDumps

@@ -4,7 +4,7 @@ use Rattle.std.proofs.Common.{length}
 use Rattle.std.proofs.Common.{Result, Ok, Err, Option, None, ⊎_elim, Some, ap, arith, refl, rules, subst, sym}
 use Rattle.std.proofs.Math.Logic.{∥∥₁_elim}
 use Rattle.std.proofs.Props.{props}
-use Rattle.std.specs.Prelude.{◌≤◌, IfErr, is_some}
+use Rattle.std.specs.Prelude.{◌≤◌, IfErr}
 use Rattle.std.proofs.lemmas.Bool.{false≢true}
 use Rattle.std.specs.Global.{Box}
 use Rattle.std.specs.List.{All, AllZip}
@@ -35,12 +35,15 @@ use Rattle.luthrady.specs.declared.handles.EnvHandle.{EnvHandle}
 use Rattle.luthrady.specs.declared.handles.RoomHandle.{RoomHandle}
 use Rattle.luthrady.specs.declared.held.Native.{Native}
 use Rattle.luthrady.specs.declared.held.Opened.{Opened}
+use Rattle.luthrady.specs.declared.held.Presence.{Presence}
+use Rattle.luthrady.specs.declared.held.Presence.TheVariants.{Critical, Detached, Ready}
 use Rattle.luthrady.specs.Threads.{ComesBack, EndsAs, EnvIsFreed, IsDetachedBy, LeavesSome, RoomIsFreed, TakesBack}
 use Rattle.luthrady.specs.Threads.{UnlessAttached, WasClosedBy}
+use Rattle.luthrady.specs.Behind.{is_attached}
 use Rattle.luthrady.specs.Replies.{nothing_told, reply_of}
 use Rattle.luthrady.specs.declared.reply.Reply.{Reply}
 use Rattle.luthrady.specs.Calls.{ByThread}
-use Rattle.luthrady.specs.Places.{is_env, native_behind}
+use Rattle.luthrady.specs.Places.{absence, is_env, native_behind}
 
 freed_frames : (old new : Frames) (acts : List Act) → entered freeing old acts (Ok tt) new → new.frames ≡ [] ∷ []
 freed_frames old new acts d = ⊎_elim
@@ -152,7 +155,7 @@ pub went : (o : Option (Box Native)) (old mid : EnvHandle) (answer : Result (Uni
     → ByThread old mid o free_locals answer → answer ≡ Ok tt → native_behind mid ≡ Some m
     → (n : Box Native) × (o ≡ Some n) × Does n.value.env m.value.env free_locals (Ok tt)
 went None old mid answer m by is there =
-    let no : ◌≡◌ {A = Result (Unit {0}) Fault} (Ok tt) (Err NotFresh) = sym is ∙ by.0 in absurd cc
+    let no : ◌≡◌ {A = Result (Unit {0}) Fault} (Ok tt) (Err (absence old)) = sym is ∙ by.0 in absurd cc
 went (Some n) old mid answer m by is there =
     let one = ap (found_or by.0) (sym by.1 ∙ there) in (
       n,
@@ -164,7 +167,7 @@ went (Some n) old mid answer m by is there =
 -- and the room takes it back
 pub gone : (b : Bool) (o : Option (Box Native)) (room room' : RoomHandle) (old new : EnvHandle)
     (answer : Result (Option Summary) Fault) (n m : Box Native) → b ≡ true → o ≡ Some n
-    → Does n.value.env m.value.env free_locals (Ok tt) → is_env new ≡ true → new.value.native ≡ None
+    → Does n.value.env m.value.env free_locals (Ok tt) → is_env new ≡ true → new.value.presence ≡ Detached
     → TakesBack room.value room'.value m.value answer → IsDetachedBy b o room room' old new answer
 gone b o room room' old new answer n m can some does place none takes =
     subst (λ (x : Bool). IsDetachedBy x o room room' old new answer) (sym can)
@@ -172,11 +175,12 @@ gone b o room room' old new answer n m can some does place none takes =
     (m, Ok tt, does, (place, none, idle_freed n.value.env m.value.env does, takes)))
 
 -- an env's place in which an env stands is not freed, nor is a room's with attached threads
-pub kept : (b : Bool) (o : Option (Box Native)) (old new : EnvHandle) (reply : Reply) → b ≡ true → is_some o ≡ true
-    → reply ≡ reply_of nothing_told (Err InCritical) → new ≡ old → EnvIsFreed b o old new reply
-kept true (Some n) old new reply is some told same = (told, same)
-kept true None old new reply is some told same = absurd (false≢true some)
-kept false o old new reply is some told same = absurd (false≢true is)
+pub kept : (b : Bool) (p : Presence) (old new : EnvHandle) (reply : Reply) → b ≡ true → is_attached p ≡ true
+    → reply ≡ reply_of nothing_told (Err InCritical) → new ≡ old → EnvIsFreed b p old new reply
+kept true (Ready n) old new reply is some told same = (told, same)
+kept true (Critical r) old new reply is some told same = (told, same)
+kept true Detached old new reply is some told same = absurd (false≢true some)
+kept false p old new reply is some told same = absurd (false≢true is)
 
 pub held : (b : Bool) (old new : RoomHandle) (k : ℕ) (reply : Reply) → b ≡ true → k ≡ old.value.attached → (k ≡ 0 → ⊥)
     → reply ≡ reply_of nothing_told (Err (LeftInside k)) → new ≡ old → RoomIsFreed b old new reply

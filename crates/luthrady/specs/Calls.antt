@@ -2,19 +2,18 @@
 use Rattle.std.specs.Prelude.{◌≡◌, ℕ, Option, Some, None, Result, Err, IfErr, List}
 use Rattle.std.specs.Global.{Box}
 use Rattle.jr_word.specs.declared.fault.Fault.{Fault}
-use Rattle.jr_word.specs.declared.fault.Fault.TheVariants.{NotFresh}
 use Rattle.jr_env.specs.Envs.{Does}
 use Rattle.jr_env.specs.Deeds.{Deed, read_answer}
 use Rattle.luthrady.specs.declared.handles.EnvHandle.{EnvHandle}
 use Rattle.luthrady.specs.declared.held.Native.{Native}
 use Rattle.luthrady.specs.declared.reply.Reply.{Reply}
-use Rattle.luthrady.specs.Places.{native_behind}
+use Rattle.luthrady.specs.Places.{absence, native_behind}
 use Rattle.luthrady.specs.Replies.{reply_of, nothing_told}
 
--- the env that stood there did the deed, and still stands, with the marker as it was;
--- where none stood, it is E21, and nothing has changed
+-- the env that was ready there did the deed, and still is, with the marker as it was;
+-- where none was ready, it is E21 or E19 (`absence`), and nothing has changed
 abbrev pub ByThread : {A : Type 0} → EnvHandle → EnvHandle → Option (Box Native) → Deed A → Result A Fault → Type 0
-ByThread old new None deed answer = (answer ≡ Err NotFresh) × (new ≡ old)
+ByThread old new None deed answer = (answer ≡ Err (absence old)) × (new ≡ old)
 ByThread old new (Some n) deed answer =
     (m : Box Native) × (native_behind new ≡ Some m) × Does n.value.env m.value.env deed answer
     × (m.value.marker ≡ n.value.marker)

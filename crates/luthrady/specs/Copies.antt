@@ -1,7 +1,7 @@
 -- What the calls did that copy all elements of an array out, and back.
 use Rattle.std.specs.Prelude.{◌≡◌, ◌≢◌, ℕ, List, Option, Some, None, Result, Ok, Err, IfErr}
 use Rattle.jr_word.specs.declared.fault.Fault.{Fault}
-use Rattle.jr_word.specs.declared.fault.Fault.TheVariants.{NotFresh, Range}
+use Rattle.jr_word.specs.declared.fault.Fault.TheVariants.{Range}
 use Rattle.jr_word.specs.declared.kind.Kind.{Kind}
 use Rattle.jr_model.specs.declared.frames.Mode.{Mode}
 use Rattle.jr_model.specs.declared.frames.Mode.TheVariants.{Copy, Commit, Abort}
@@ -12,6 +12,7 @@ use Rattle.luthrady.specs.declared.handles.EnvHandle.{EnvHandle}
 use Rattle.luthrady.specs.declared.reply.Reply.{Reply}
 use Rattle.luthrady.specs.Doings.{WasDoneBy}
 use Rattle.luthrady.specs.InRegions.{DoneInRegion, ReadsAll, WritesAll, over_array}
+use Rattle.luthrady.specs.Places.{absence}
 use Rattle.luthrady.specs.Replies.{reply_of, nothing_told}
 
 -- the number of a mode, as JNI has it
@@ -46,11 +47,11 @@ module _ {S : Type 0} {G : Ghosts S} where
 abbrev pub CopyReplied : Kind → EnvHandle → EnvHandle → ℕ → ℕ → Reply → List ℕ → List ℕ → Type 0
 CopyReplied kind old new w n reply before after =
     (answer : Result (Unit {0}) Fault) × (reply ≡ reply_of nothing_told answer)
-    × WasDoneBy (λ a b. CopiesOut kind a.env b.env w n (part_read answer after)) (answer ≡ Err NotFresh)
+    × WasDoneBy (λ a b. CopiesOut kind a.env b.env w n (part_read answer after)) (answer ≡ Err (absence old))
     old new × IfErr answer (λ e. after ≡ before)
 
 -- A COPY WAS RELEASED by it, by the mode of a number, with an answer that the reply tells
 abbrev pub ReleaseOfCopyReplied : ℕ → Kind → EnvHandle → EnvHandle → ℕ → List ℕ → Reply → Type 0
 ReleaseOfCopyReplied mode kind old new w words reply = (m : Option Mode) × IsModeNumber mode m
     × (answer : Result (Unit {0}) Fault) × (reply ≡ reply_of nothing_told answer)
-    × WasDoneBy (λ a b. ReleasesBy m kind a.env b.env w words answer) (answer ≡ Err NotFresh) old new
+    × WasDoneBy (λ a b. ReleasesBy m kind a.env b.env w words answer) (answer ≡ Err (absence old)) old new

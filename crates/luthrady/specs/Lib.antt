@@ -10,6 +10,9 @@ pub mod Counting
 pub mod Batches
 pub mod Doings
 pub mod InRegions
+pub mod KeptRegions
 pub mod Strings
 pub mod Copies
+pub mod Listed
+pub mod Dumped
 pub mod Behind

@@ -3,7 +3,7 @@ use Rattle.std.specs.Prelude.{◌≡◌, ◌++◌, ◌⊎◌, ℕ, Bool, true, f
 use Rattle.std.specs.Prelude.{drop, length, map, nat_le}
 use Rattle.std.specs.Str.{IsUtf8}
 use Rattle.jr_word.specs.declared.fault.Fault.{Fault}
-use Rattle.jr_word.specs.declared.fault.Fault.TheVariants.{NotFresh, Value}
+use Rattle.jr_word.specs.declared.fault.Fault.TheVariants.{Value}
 use Rattle.jr_word.specs.declared.handle.Handle.{Handle}
 use Rattle.jr_word.specs.declared.kind.Kind.TheVariants.{Char}
 use Rattle.jr_steps.specs.declared.steps.Steps.{Ghosts}
@@ -14,6 +14,7 @@ use Rattle.luthrady.specs.declared.handles.EnvHandle.{EnvHandle}
 use Rattle.luthrady.specs.declared.reply.Reply.{Reply}
 use Rattle.luthrady.specs.Doings.{WasDoneBy}
 use Rattle.luthrady.specs.InRegions.{DoneInRegion, over_string}
+use Rattle.luthrady.specs.Places.{absence}
 use Rattle.luthrady.specs.Replies.{reply_of, nothing_told, the_number, the_word}
 
 -- a text in front of what stood there, where it fits; else what stood there
@@ -52,15 +53,15 @@ abbrev pub UnitsReplied : EnvHandle → EnvHandle → ℕ → ℕ → Reply → 
 UnitsReplied old new w start reply before after =
     (answer : Result (Unit {0}) Fault) × (reply ≡ reply_of nothing_told answer)
     × WasDoneBy (λ a b. ReadsUnits a.env b.env w start (length before) (part_read answer (map the_number after)))
-    (answer ≡ Err NotFresh) old new × IfErr answer (λ e. after ≡ before)
+    (answer ≡ Err (absence old)) old new × IfErr answer (λ e. after ≡ before)
 
 -- A STRING OF THESE BYTES WAS MADE by it, with an answer that the reply tells
 abbrev pub BytesReplied : EnvHandle → EnvHandle → List ℕ → Reply → Type 0
 BytesReplied old new bytes reply = (answer : Result Handle Fault) × (reply ≡ reply_of the_word answer)
-    × WasDoneBy (λ a b. MakesOfBytes a.env b.env bytes answer) (answer ≡ Err NotFresh) old new
+    × WasDoneBy (λ a b. MakesOfBytes a.env b.env bytes answer) (answer ≡ Err (absence old)) old new
 
 -- A STRING WAS READ AS A TEXT by it, with an answer that the reply tells; where no env stood the bytes are as they were
 abbrev pub TextReplied : EnvHandle → EnvHandle → ℕ → Reply → List ℕ → List ℕ → Type 0
 TextReplied old new w reply before after = (answer : Result ℕ Fault) × (reply ≡ reply_of the_number answer)
     × WasDoneBy (λ a b. TellsText a.env b.env w answer before after)
-    ((answer ≡ Err NotFresh) × (after ≡ before)) old new
+    ((answer ≡ Err (absence old)) × (after ≡ before)) old new

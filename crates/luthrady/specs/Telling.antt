@@ -2,7 +2,6 @@
 use Rattle.std.specs.Prelude.{◌≡◌, ℕ, Option, Some, None, Result, Ok, Err}
 use Rattle.std.specs.Global.{Box}
 use Rattle.jr_word.specs.declared.fault.Fault.{Fault}
-use Rattle.jr_word.specs.declared.fault.Fault.TheVariants.{NotFresh}
 use Rattle.jr_word.specs.declared.kind.Kind.{Kind}
 use Rattle.jr_word.specs.Handle.{reference_code}
 use Rattle.jr_word.specs.Kind.{kind_code}
@@ -17,7 +16,7 @@ use Rattle.luthrady.specs.declared.reply.Reply.{Reply}
 use Rattle.luthrady.specs.declared.telling.Explained.{Explained}
 use Rattle.luthrady.specs.declared.telling.Locals.{Locals}
 use Rattle.luthrady.specs.Calls.{WasMade}
-use Rattle.luthrady.specs.Places.{native_behind}
+use Rattle.luthrady.specs.Places.{absence, native_behind}
 use Rattle.luthrady.specs.Replies.{reply_of}
 use Rattle.luthrady.specs.Threads.{elsewhere}
 
@@ -66,15 +65,15 @@ explained_of e =
 abbrev pub told_locals : LocalCounts → Locals
 told_locals x = record { frames = x.frames; standing = x.standing; free = x.free; given = x.given }
 
--- they were counted by the env that stands there; where none stands, it is E21
-abbrev pub CountsLocals : Option (Box Native) → Result LocalCounts Fault → Type 0
-CountsLocals (Some n) (Ok x) = AreCounted n.value.env.held.frames x
-CountsLocals (Some n) (Err e) = ⊥
-CountsLocals None answer = answer ≡ Err NotFresh
+-- they were counted by the env that is ready there; where none is, it is refused for this
+abbrev pub CountsLocals : Fault → Option (Box Native) → Result LocalCounts Fault → Type 0
+CountsLocals why (Some n) (Ok x) = AreCounted n.value.env.held.frames x
+CountsLocals why (Some n) (Err e) = ⊥
+CountsLocals why None answer = answer ≡ Err why
 
--- so they are by the env behind a handle, and nothing has changed
+-- so they are by the env behind a handle, or it is E21 or E19 (`absence`), and nothing has changed
 abbrev pub TellsLocals : EnvHandle → EnvHandle → Result LocalCounts Fault → Type 0
-TellsLocals old new answer = (new ≡ old) × CountsLocals (native_behind old) answer
+TellsLocals old new answer = (new ≡ old) × CountsLocals (absence old) (native_behind old) answer
 
 -- THE LOCAL REFERENCES WERE COUNTED, as the reply and what is written tell
 abbrev pub LocalsReplied : EnvHandle → EnvHandle → Reply → Locals → Locals → Type 0

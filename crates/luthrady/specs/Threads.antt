@@ -22,14 +22,16 @@ use Rattle.luthrady.specs.declared.handles.RoomHandle.{RoomHandle}
 use Rattle.luthrady.specs.declared.held.EnvPlace.{EnvPlace}
 use Rattle.luthrady.specs.declared.held.Native.{Native}
 use Rattle.luthrady.specs.declared.held.Opened.{Opened}
+use Rattle.luthrady.specs.declared.held.Presence.{Presence}
+use Rattle.luthrady.specs.declared.held.Presence.TheVariants.{Critical, Detached, Ready}
 use Rattle.luthrady.specs.declared.reply.Reply.{Reply}
 use Rattle.luthrady.specs.declared.rooms.Stood.{Stood}
-use Rattle.luthrady.specs.Places.{env_mark, has_attached, is_env, is_null, is_room, native_behind}
+use Rattle.luthrady.specs.Places.{absence, env_mark, has_attached, is_env, is_null, is_room, native_behind}
 use Rattle.luthrady.specs.Replies.{reply_of, nothing_told, the_number}
 
 -- AN ENV STANDS IN ITS PLACE, with a marker that fits its room
 abbrev pub IsPlaced : Box Native → EnvPlace → Type 0
-IsPlaced n a = (a.native ≡ Some n) × (a.mark ≡ env_mark) × FitsRoom n.value.marker n.value.env
+IsPlaced n a = (a.presence ≡ Ready n) × (a.mark ≡ env_mark) × FitsRoom n.value.marker n.value.env
 
 -- the place of a room has the same envs, so many attached threads, and is released or not, as before
 abbrev pub IsSamePlace : Opened → Opened → Type 0
@@ -122,15 +124,16 @@ abbrev pub IsDetachedOnce : Result (Unit {0}) Fault → Box Native → Box Nativ
     → EnvHandle → Result (Option Summary) Fault → Type 0
 IsDetachedOnce (Err e) n m room room' old new answer = (answer ≡ Err e) × (room' ≡ room) × (native_behind new ≡ Some m)
     × (m.value.marker ≡ n.value.marker)
-IsDetachedOnce (Ok u) n m room room' old new answer = (is_env new ≡ true) × (new.value.native ≡ None)
+IsDetachedOnce (Ok u) n m room room' old new answer = (is_env new ≡ true) × (new.value.presence ≡ Detached)
     × IsIdle m.value.env × TakesBack room.value room'.value m.value answer
 
--- by a room that has attached threads, of a thread that has an env; else it is E21, and nothing has changed
+-- by a room that has attached threads, of a thread whose env is ready; where none is, it is E21 or E19 (`absence`),
+-- and at another room E21, and nothing has changed
 abbrev pub IsDetachedBy : Bool → Option (Box Native) → RoomHandle → RoomHandle → EnvHandle → EnvHandle
     → Result (Option Summary) Fault → Type 0
 IsDetachedBy true (Some n) room room' old new answer = (m : Box Native) × (freed : Result (Unit {0}) Fault)
     × Does n.value.env m.value.env free_locals freed × IsDetachedOnce freed n m room room' old new answer
-IsDetachedBy true None room room' old new answer = (answer ≡ Err NotFresh) × (room' ≡ room) × (new ≡ old)
+IsDetachedBy true None room room' old new answer = (answer ≡ Err (absence old)) × (room' ≡ room) × (new ≡ old)
 IsDetachedBy false o room room' old new answer = (answer ≡ Err NotFresh) × (room' ≡ room) × (new ≡ old)
 
 -- A THREAD WAS DETACHED, or was refused; both handles point where they did
@@ -144,16 +147,17 @@ DetachReplied room room' old new reply before after = (answer : Result (Option S
     × (reply ≡ reply_of the_number (leaving_answer answer)) × (after ≡ stood_of answer before)
     × WasDetached room room' old new answer
 
--- of an env's place, by its mark, which has an env or none: it is freed where it has none, and the handle holds NULL;
--- else it is E19, and where no place stands E21, and nothing has changed
-abbrev pub EnvIsFreed : Bool → Option (Box Native) → EnvHandle → EnvHandle → Reply → Type 0
-EnvIsFreed true None old new reply = (reply ≡ reply_of nothing_told (Ok tt)) × (is_null new.at ≡ true)
-EnvIsFreed true (Some n) old new reply = (reply ≡ reply_of nothing_told (Err InCritical)) × (new ≡ old)
-EnvIsFreed false o old new reply = (reply ≡ reply_of nothing_told (Err NotFresh)) × (new ≡ old)
+-- of an env's place, by its mark, whose thread is attached or not: it is freed where it is not, and the handle holds
+-- NULL; else it is E19, in a critical region too, and where no place stands E21, and nothing has changed
+abbrev pub EnvIsFreed : Bool → Presence → EnvHandle → EnvHandle → Reply → Type 0
+EnvIsFreed true Detached old new reply = (reply ≡ reply_of nothing_told (Ok tt)) × (is_null new.at ≡ true)
+EnvIsFreed true (Ready n) old new reply = (reply ≡ reply_of nothing_told (Err InCritical)) × (new ≡ old)
+EnvIsFreed true (Critical r) old new reply = (reply ≡ reply_of nothing_told (Err InCritical)) × (new ≡ old)
+EnvIsFreed false p old new reply = (reply ≡ reply_of nothing_told (Err NotFresh)) × (new ≡ old)
 
 -- AN ENV'S PLACE WAS FREED, or it was refused, as the reply tells
 abbrev pub FreeEnvReplied : EnvHandle → EnvHandle → Reply → Type 0
-FreeEnvReplied old new reply = EnvIsFreed (is_env old) old.value.native old new reply
+FreeEnvReplied old new reply = EnvIsFreed (is_env old) old.value.presence old new reply
 
 -- of a room with so many attached threads: it is freed where there is none, and the handle holds NULL;
 -- else it is E22 with how many there are, and nothing has changed

@@ -11,7 +11,7 @@ ghost use Rattle.luthrady.specs.Replies.{nothing_told, the_number};
 use crate::behind::{env_of, is_env};
 use crate::calling::make;
 use crate::handles::EnvHandle;
-use crate::held::Native;
+use crate::held::{Native, Presence};
 use crate::reply::{Reply, nothing_reply};
 use jr_env::NativeInterface;
 use jr_env::calls::SetArrayRegion;
@@ -21,7 +21,7 @@ use jr_word::{Elem, Fault, Handle};
 ///
 /// # Errors
 ///
-/// E21 where no env stands behind the handle; else those of `NativeInterface::set_array_region`.
+/// E21 where no env stands behind the handle; E19 in a critical region; else those of `NativeInterface::set_array_region`.
 #[unsafe(no_mangle)]
 pub extern "C" fn luthrady_set_boolean_array_region(
     env: &mut EnvHandle,
@@ -39,7 +39,7 @@ pub extern "C" fn luthrady_set_boolean_array_region(
 ///
 /// # Errors
 ///
-/// E21 where no env stands behind the handle; else those of `NativeInterface::set_array_region`.
+/// E21 where no env stands behind the handle; E19 in a critical region; else those of `NativeInterface::set_array_region`.
 #[unsafe(no_mangle)]
 pub extern "C" fn luthrady_set_byte_array_region(
     env: &mut EnvHandle,
@@ -57,7 +57,7 @@ pub extern "C" fn luthrady_set_byte_array_region(
 ///
 /// # Errors
 ///
-/// E21 where no env stands behind the handle; else those of `NativeInterface::set_array_region`.
+/// E21 where no env stands behind the handle; E19 in a critical region; else those of `NativeInterface::set_array_region`.
 #[unsafe(no_mangle)]
 pub extern "C" fn luthrady_set_char_array_region(
     env: &mut EnvHandle,
@@ -75,7 +75,7 @@ pub extern "C" fn luthrady_set_char_array_region(
 ///
 /// # Errors
 ///
-/// E21 where no env stands behind the handle; else those of `NativeInterface::set_array_region`.
+/// E21 where no env stands behind the handle; E19 in a critical region; else those of `NativeInterface::set_array_region`.
 #[unsafe(no_mangle)]
 pub extern "C" fn luthrady_set_short_array_region(
     env: &mut EnvHandle,
@@ -93,7 +93,7 @@ pub extern "C" fn luthrady_set_short_array_region(
 ///
 /// # Errors
 ///
-/// E21 where no env stands behind the handle; else those of `NativeInterface::set_array_region`.
+/// E21 where no env stands behind the handle; E19 in a critical region; else those of `NativeInterface::set_array_region`.
 #[unsafe(no_mangle)]
 pub extern "C" fn luthrady_set_int_array_region(
     env: &mut EnvHandle,
@@ -111,7 +111,7 @@ pub extern "C" fn luthrady_set_int_array_region(
 ///
 /// # Errors
 ///
-/// E21 where no env stands behind the handle; else those of `NativeInterface::set_array_region`.
+/// E21 where no env stands behind the handle; E19 in a critical region; else those of `NativeInterface::set_array_region`.
 #[unsafe(no_mangle)]
 pub extern "C" fn luthrady_set_long_array_region(
     env: &mut EnvHandle,
@@ -129,7 +129,7 @@ pub extern "C" fn luthrady_set_long_array_region(
 ///
 /// # Errors
 ///
-/// E21 where no env stands behind the handle; else those of `NativeInterface::get_array_region`.
+/// E21 where no env stands behind the handle; E19 in a critical region; else those of `NativeInterface::get_array_region`.
 #[unsafe(no_mangle)]
 pub extern "C" fn luthrady_get_boolean_array_region(
     env: &mut EnvHandle,
@@ -146,7 +146,7 @@ pub extern "C" fn luthrady_get_boolean_array_region(
 ///
 /// # Errors
 ///
-/// E21 where no env stands behind the handle; else those of `NativeInterface::get_array_region`.
+/// E21 where no env stands behind the handle; E19 in a critical region; else those of `NativeInterface::get_array_region`.
 #[unsafe(no_mangle)]
 pub extern "C" fn luthrady_get_byte_array_region(
     env: &mut EnvHandle,
@@ -163,7 +163,7 @@ pub extern "C" fn luthrady_get_byte_array_region(
 ///
 /// # Errors
 ///
-/// E21 where no env stands behind the handle; else those of `NativeInterface::get_array_region`.
+/// E21 where no env stands behind the handle; E19 in a critical region; else those of `NativeInterface::get_array_region`.
 #[unsafe(no_mangle)]
 pub extern "C" fn luthrady_get_char_array_region(
     env: &mut EnvHandle,
@@ -180,7 +180,7 @@ pub extern "C" fn luthrady_get_char_array_region(
 ///
 /// # Errors
 ///
-/// E21 where no env stands behind the handle; else those of `NativeInterface::get_array_region`.
+/// E21 where no env stands behind the handle; E19 in a critical region; else those of `NativeInterface::get_array_region`.
 #[unsafe(no_mangle)]
 pub extern "C" fn luthrady_get_short_array_region(
     env: &mut EnvHandle,
@@ -197,7 +197,7 @@ pub extern "C" fn luthrady_get_short_array_region(
 ///
 /// # Errors
 ///
-/// E21 where no env stands behind the handle; else those of `NativeInterface::get_array_region`.
+/// E21 where no env stands behind the handle; E19 in a critical region; else those of `NativeInterface::get_array_region`.
 #[unsafe(no_mangle)]
 pub extern "C" fn luthrady_get_int_array_region(
     env: &mut EnvHandle,
@@ -214,7 +214,7 @@ pub extern "C" fn luthrady_get_int_array_region(
 ///
 /// # Errors
 ///
-/// E21 where no env stands behind the handle; else those of `NativeInterface::get_array_region`.
+/// E21 where no env stands behind the handle; E19 in a critical region; else those of `NativeInterface::get_array_region`.
 #[unsafe(no_mangle)]
 pub extern "C" fn luthrady_get_long_array_region(
     env: &mut EnvHandle,
@@ -231,7 +231,7 @@ pub extern "C" fn luthrady_get_long_array_region(
 ///
 /// # Errors
 ///
-/// E21 where no env stands behind the handle; else those of `Env::get_array_region`.
+/// E21 where no env stands behind the handle; E19 in a critical region; else those of `Env::get_array_region`.
 fn read<E: Elem>(
     handle: &mut EnvHandle,
     array: Handle,
@@ -245,10 +245,11 @@ fn read<E: Elem>(
     if !is_env(handle) {
         return Err(Fault::NotFresh);
     }
-    let Some(native) = &mut env_of(handle).native else {
-        return Err(Fault::NotFresh);
-    };
-    read_by(&mut *native, array, start, elements)
+    match &mut env_of(handle).presence {
+        Presence::Ready(native) => read_by(&mut *native, array, start, elements),
+        Presence::Critical(_) => Err(Fault::InCritical),
+        Presence::Detached => Err(Fault::NotFresh),
+    }
 }
 
 /// Copies a part of an array out, by a thread's env.

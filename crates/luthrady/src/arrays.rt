@@ -17,7 +17,7 @@ use jr_word::Handle;
 ///
 /// # Errors
 ///
-/// E21 where no env stands behind the handle; else those of `NativeInterface::new_plain`.
+/// E21 where no env stands behind the handle; E19 in a critical region; else those of `NativeInterface::new_plain`.
 #[unsafe(no_mangle)]
 pub extern "C" fn luthrady_new_plain(env: &mut EnvHandle) -> Reply
     ensures { Replied the_word env.old env.new (new_plain) result }
@@ -29,7 +29,7 @@ pub extern "C" fn luthrady_new_plain(env: &mut EnvHandle) -> Reply
 ///
 /// # Errors
 ///
-/// E21 where no env stands behind the handle; else those of `NativeInterface::new_array`.
+/// E21 where no env stands behind the handle; E19 in a critical region; else those of `NativeInterface::new_array`.
 #[unsafe(no_mangle)]
 pub extern "C" fn luthrady_new_boolean_array(env: &mut EnvHandle, length: u32) -> Reply
     ensures { Replied the_word env.old env.new (new_array Boolean length) result }
@@ -41,7 +41,7 @@ pub extern "C" fn luthrady_new_boolean_array(env: &mut EnvHandle, length: u32) -
 ///
 /// # Errors
 ///
-/// E21 where no env stands behind the handle; else those of `NativeInterface::new_array`.
+/// E21 where no env stands behind the handle; E19 in a critical region; else those of `NativeInterface::new_array`.
 #[unsafe(no_mangle)]
 pub extern "C" fn luthrady_new_byte_array(env: &mut EnvHandle, length: u32) -> Reply
     ensures { Replied the_word env.old env.new (new_array Byte length) result }
@@ -53,7 +53,7 @@ pub extern "C" fn luthrady_new_byte_array(env: &mut EnvHandle, length: u32) -> R
 ///
 /// # Errors
 ///
-/// E21 where no env stands behind the handle; else those of `NativeInterface::new_array`.
+/// E21 where no env stands behind the handle; E19 in a critical region; else those of `NativeInterface::new_array`.
 #[unsafe(no_mangle)]
 pub extern "C" fn luthrady_new_char_array(env: &mut EnvHandle, length: u32) -> Reply
     ensures { Replied the_word env.old env.new (new_array Char length) result }
@@ -65,7 +65,7 @@ pub extern "C" fn luthrady_new_char_array(env: &mut EnvHandle, length: u32) -> R
 ///
 /// # Errors
 ///
-/// E21 where no env stands behind the handle; else those of `NativeInterface::new_array`.
+/// E21 where no env stands behind the handle; E19 in a critical region; else those of `NativeInterface::new_array`.
 #[unsafe(no_mangle)]
 pub extern "C" fn luthrady_new_short_array(env: &mut EnvHandle, length: u32) -> Reply
     ensures { Replied the_word env.old env.new (new_array Short length) result }
@@ -77,7 +77,7 @@ pub extern "C" fn luthrady_new_short_array(env: &mut EnvHandle, length: u32) -> 
 ///
 /// # Errors
 ///
-/// E21 where no env stands behind the handle; else those of `NativeInterface::new_array`.
+/// E21 where no env stands behind the handle; E19 in a critical region; else those of `NativeInterface::new_array`.
 #[unsafe(no_mangle)]
 pub extern "C" fn luthrady_new_int_array(env: &mut EnvHandle, length: u32) -> Reply
     ensures { Replied the_word env.old env.new (new_array Int length) result }
@@ -89,7 +89,7 @@ pub extern "C" fn luthrady_new_int_array(env: &mut EnvHandle, length: u32) -> Re
 ///
 /// # Errors
 ///
-/// E21 where no env stands behind the handle; else those of `NativeInterface::new_array`.
+/// E21 where no env stands behind the handle; E19 in a critical region; else those of `NativeInterface::new_array`.
 #[unsafe(no_mangle)]
 pub extern "C" fn luthrady_new_long_array(env: &mut EnvHandle, length: u32) -> Reply
     ensures { Replied the_word env.old env.new (new_array Long length) result }
@@ -101,7 +101,7 @@ pub extern "C" fn luthrady_new_long_array(env: &mut EnvHandle, length: u32) -> R
 ///
 /// # Errors
 ///
-/// E21 where no env stands behind the handle; else those of `NativeInterface::new_object_array`.
+/// E21 where no env stands behind the handle; E19 in a critical region; else those of `NativeInterface::new_object_array`.
 #[unsafe(no_mangle)]
 pub extern "C" fn luthrady_new_object_array(env: &mut EnvHandle, length: u32, initial: u64) -> Reply
     ensures { Replied the_word env.old env.new (new_object_array length initial) result }
@@ -113,7 +113,7 @@ pub extern "C" fn luthrady_new_object_array(env: &mut EnvHandle, length: u32, in
 ///
 /// # Errors
 ///
-/// E21 where no env stands behind the handle; else those of `NativeInterface::new_string`.
+/// E21 where no env stands behind the handle; E19 in a critical region; else those of `NativeInterface::new_string`.
 #[unsafe(no_mangle)]
 pub extern "C" fn luthrady_new_string(env: &mut EnvHandle, units: &[u16]) -> Reply
     ensures { Replied the_word env.old env.new (new_string units.now) result }
@@ -125,7 +125,7 @@ pub extern "C" fn luthrady_new_string(env: &mut EnvHandle, units: &[u16]) -> Rep
 ///
 /// # Errors
 ///
-/// E21 where no env stands behind the handle; else those of `NativeInterface::get_array_length`.
+/// E21 where no env stands behind the handle; E19 in a critical region; else those of `NativeInterface::get_array_length`.
 #[unsafe(no_mangle)]
 pub extern "C" fn luthrady_get_array_length(env: &mut EnvHandle, array: u64) -> Reply
     ensures { Replied the_number env.old env.new (get_array_length array) result }
@@ -137,7 +137,7 @@ pub extern "C" fn luthrady_get_array_length(env: &mut EnvHandle, array: u64) -> 
 ///
 /// # Errors
 ///
-/// E21 where no env stands behind the handle; else those of `NativeInterface::get_string_length`.
+/// E21 where no env stands behind the handle; E19 in a critical region; else those of `NativeInterface::get_string_length`.
 #[unsafe(no_mangle)]
 pub extern "C" fn luthrady_get_string_length(env: &mut EnvHandle, string: u64) -> Reply
     ensures { Replied the_number env.old env.new (get_string_length string) result }
@@ -149,7 +149,7 @@ pub extern "C" fn luthrady_get_string_length(env: &mut EnvHandle, string: u64) -
 ///
 /// # Errors
 ///
-/// E21 where no env stands behind the handle; else those of `NativeInterface::get_object_array_element`.
+/// E21 where no env stands behind the handle; E19 in a critical region; else those of `NativeInterface::get_object_array_element`.
 #[unsafe(no_mangle)]
 pub extern "C" fn luthrady_get_object_array_element(
     env: &mut EnvHandle,
@@ -165,7 +165,7 @@ pub extern "C" fn luthrady_get_object_array_element(
 ///
 /// # Errors
 ///
-/// E21 where no env stands behind the handle; else those of `NativeInterface::set_object_array_element`.
+/// E21 where no env stands behind the handle; E19 in a critical region; else those of `NativeInterface::set_object_array_element`.
 #[unsafe(no_mangle)]
 pub extern "C" fn luthrady_set_object_array_element(
     env: &mut EnvHandle,

@@ -12,7 +12,7 @@ ghost use Rattle.luthrady.specs.declared.held.Native.{Native};
 ghost use Rattle.luthrady.specs.Opening.{IsPlaceOpened};
 ghost use Rattle.luthrady.specs.Threads.{IsAttached, IsLetGo, IsPlaced, LeavesSome, TakesBack};
 
-use crate::held::{ENV_MARK, EnvPlace, Native, Opened, ROOM_MARK};
+use crate::held::{ENV_MARK, EnvPlace, Native, Opened, Presence, ROOM_MARK};
 use jr_model::Summary;
 use jr_owned::{OwnedEnv, close_owned, open_envs};
 use jr_word::{Config, Fault};
@@ -109,14 +109,14 @@ fn place_of(alloc: Global, env: OwnedEnv) -> Result<Box<EnvPlace>, OwnedEnv>
 {
     let nobody = EnvPlace {
         mark: ENV_MARK,
-        native: None,
+        presence: Presence::Detached,
     };
     let Ok(mut place) = Box::new(alloc, nobody) else {
         return Err(env);
     };
     match native_of(alloc, env) {
         Ok(native) => {
-            place.native = Some(native);
+            place.presence = Presence::Ready(native);
             Ok(place)
         }
         Err(env) => Err(env),

@@ -5,8 +5,8 @@ ghost use Rattle.luthrady.specs.Batches.{operation_number, AreMade, BatchReplied
 
 use crate::behind::{env_of, is_env};
 use crate::handles::EnvHandle;
-use crate::held::Native;
-use crate::reply::{Reply, bool_reply, byte_reply, nothing_reply, number_reply, optional_reply};
+use crate::held::{Native, Presence};
+use crate::reply::{Reply, bool_reply, nothing_reply, number_reply, optional_reply, type_reply};
 use jr_env::{Env, NativeInterface, Stay};
 use jr_steps::Steps;
 use jr_word::{Fault, Handle};
@@ -43,7 +43,7 @@ pub enum Operation {
 /// A call of a batch, and its answer.
 #[repr(C)]
 #[derive(Clone, Copy)]
-pub struct Call {
+pub struct BatchCall {
     /// Which call it is, by its number.
     pub operation: u32,
     /// The index of an element, where the call has one.
@@ -84,11 +84,11 @@ impl Operation {
 ///
 /// # Errors
 ///
-/// E21 where no env stands behind the handle; that of the gate.
+/// E21 where no env stands behind the handle; E19 in a critical region; that of the gate.
 ///
 /// No call is made then.
 #[unsafe(no_mangle)]
-pub extern "C" fn luthrady_batch(env: &mut EnvHandle, calls: &mut [Call]) -> Reply
+pub extern "C" fn luthrady_batch(env: &mut EnvHandle, calls: &mut [BatchCall]) -> Reply
     ensures { BatchReplied env.old env.new calls.old calls.new result }
 {
     nothing_reply(batch(env, calls))
@@ -98,17 +98,18 @@ pub extern "C" fn luthrady_batch(env: &mut EnvHandle, calls: &mut [Call]) -> Rep
 ///
 /// # Errors
 ///
-/// E21 where no env stands behind the handle; E13 where no stay was entered.
-fn batch(handle: &mut EnvHandle, calls: &mut [Call]) -> Result<(), Fault>
+/// E21 where no env stands behind the handle; E19 in a critical region; E13 where no stay was entered.
+fn batch(handle: &mut EnvHandle, calls: &mut [BatchCall]) -> Result<(), Fault>
     ensures { WasBatched handle.old handle.new calls.old calls.new result }
 {
     if !is_env(handle) {
         return Err(Fault::NotFresh);
     }
-    let Some(native) = &mut env_of(handle).native else {
-        return Err(Fault::NotFresh);
-    };
-    batch_by(&mut *native, calls)
+    match &mut env_of(handle).presence {
+        Presence::Ready(native) => batch_by(&mut *native, calls),
+        Presence::Critical(_) => Err(Fault::InCritical),
+        Presence::Detached => Err(Fault::NotFresh),
+    }
 }
 
 /// Makes calls in one stay of a thread's env.
@@ -116,7 +117,7 @@ fn batch(handle: &mut EnvHandle, calls: &mut [Call]) -> Result<(), Fault>
 /// # Errors
 ///
 /// E13 where no stay was entered.
-fn batch_by(native: &mut Native, calls: &mut [Call]) -> Result<(), Fault>
+fn batch_by(native: &mut Native, calls: &mut [BatchCall]) -> Result<(), Fault>
     ensures call { WasStayed native.old.env native.new.env calls.old calls.new result }
     ensures marker { native.new.marker ≡ native.old.marker }
 {
@@ -128,7 +129,7 @@ fn batch_by(native: &mut Native, calls: &mut [Call]) -> Result<(), Fault>
 /// # Errors
 ///
 /// E13 where no stay was entered.
-fn in_one_stay<S: Steps>(env: &mut Env<S>, calls: &mut [Call]) -> Result<(), Fault>
+fn in_one_stay<S: Steps>(env: &mut Env<S>, calls: &mut [BatchCall]) -> Result<(), Fault>
     ensures { WasStayed env.old env.new calls.old calls.new result }
 {
     match env.stay() {
@@ -142,7 +143,7 @@ fn in_one_stay<S: Steps>(env: &mut Env<S>, calls: &mut [Call]) -> Result<(), Fau
 }
 
 /// Makes calls in a stay, one after the other.
-fn make_all<S: Steps>(stay: &mut Stay<'_, S>, calls: &mut [Call])
+fn make_all<S: Steps>(stay: &mut Stay<'_, S>, calls: &mut [BatchCall])
     ensures same_reference { (env_in stay.new).ghost_name ≡ (env_in stay.old).ghost_name }
     ensures made { AreMade stay.old stay.new calls.old calls.new }
 {
@@ -152,7 +153,7 @@ fn make_all<S: Steps>(stay: &mut Stay<'_, S>, calls: &mut [Call])
 }
 
 /// Makes a call in a stay.
-fn make_one<S: Steps>(stay: &mut Stay<'_, S>, call: Call) -> Reply
+fn make_one<S: Steps>(stay: &mut Stay<'_, S>, call: BatchCall) -> Reply
     ensures same_reference { (env_in stay.new).ghost_name ≡ (env_in stay.old).ghost_name }
     ensures made { WasMadeInStay stay.old stay.new call result }
 {
@@ -169,7 +170,7 @@ fn make_one<S: Steps>(stay: &mut Stay<'_, S>, call: Call) -> Reply
         Operation::DeleteWeakGlobalRef => nothing_reply(stay.delete_weak_global_ref(first)),
         Operation::DeleteLocalRef => nothing_reply(stay.delete_local_ref(first)),
         Operation::IsSameObject => bool_reply(stay.is_same_object(first, second)),
-        Operation::GetObjectRefType => byte_reply(stay.get_object_ref_type(first)),
+        Operation::GetObjectRefType => type_reply(stay.get_object_ref_type(first)),
         Operation::GetArrayLength => number_reply(stay.get_array_length(first)),
         Operation::GetStringLength => number_reply(stay.get_string_length(first)),
         Operation::GetObjectArrayElement => {

@@ -4,9 +4,9 @@ ghost use Rattle.jr_env.specs.Deeds.{whole};
 ghost use Rattle.jr_env.specs.Envs.{Does};
 ghost use Rattle.luthrady.specs.Calls.{WasMade};
 
-use crate::behind::{env_of, is_env};
+use crate::behind::{env_of, is_env, seldom};
 use crate::handles::EnvHandle;
-use crate::held::Native;
+use crate::held::{Native, Presence};
 use jr_env::{NativeCall, NativeCaller};
 use jr_owned::OwnedSteps;
 use jr_word::Fault;
@@ -15,7 +15,8 @@ use jr_word::Fault;
 ///
 /// # Errors
 ///
-/// E21 where no env stands behind the handle; else those of the call.
+/// E21 where no env stands behind the handle; E19 in a critical region; else those of the call.
+#[inline(always)]
 pub(crate) fn make<C: NativeCall<OwnedSteps> + Copy>(
     handle: &mut EnvHandle,
     call: C,
@@ -23,12 +24,20 @@ pub(crate) fn make<C: NativeCall<OwnedSteps> + Copy>(
     ensures { WasMade handle.old handle.new (whole (C.request call)) result }
 {
     if !is_env(handle) {
+        seldom();
         return Err(Fault::NotFresh);
     }
-    let Some(native) = &mut env_of(handle).native else {
-        return Err(Fault::NotFresh);
-    };
-    make_by(&mut *native, call)
+    match &mut env_of(handle).presence {
+        Presence::Ready(native) => make_by(&mut *native, call),
+        Presence::Critical(_) => {
+            seldom();
+            Err(Fault::InCritical)
+        }
+        Presence::Detached => {
+            seldom();
+            Err(Fault::NotFresh)
+        }
+    }
 }
 
 /// Makes a call of a thread's env.
@@ -36,6 +45,7 @@ pub(crate) fn make<C: NativeCall<OwnedSteps> + Copy>(
 /// # Errors
 ///
 /// Those of the call.
+#[inline(always)]
 fn make_by<C: NativeCall<OwnedSteps> + Copy>(
     native: &mut Native,
     call: C,

@@ -75,7 +75,7 @@ pub struct Inventory {
 ///
 /// # Errors
 ///
-/// E21 where no env stands behind the handle; else those of `Env::census`.
+/// E21 where no env stands behind the handle; E19 in a critical region; else those of `Env::census`.
 #[unsafe(no_mangle)]
 pub extern "C" fn luthrady_census(
     env: &mut EnvHandle,
@@ -91,7 +91,7 @@ pub extern "C" fn luthrady_census(
 ///
 /// # Errors
 ///
-/// E21 where no env stands behind the handle; else those of `Env::census_announced`.
+/// E21 where no env stands behind the handle; E19 in a critical region; else those of `Env::census_announced`.
 #[unsafe(no_mangle)]
 pub extern "C" fn luthrady_census_announced(
     env: &mut EnvHandle,

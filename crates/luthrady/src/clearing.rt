@@ -18,7 +18,7 @@ use jr_word::{Fault, Handle};
 ///
 /// # Errors
 ///
-/// E21 where no env stands behind the handle; else those of `NativeInterface::upgrade_local`.
+/// E21 where no env stands behind the handle; E19 in a critical region; else those of `NativeInterface::upgrade_local`.
 #[unsafe(no_mangle)]
 pub extern "C" fn luthrady_upgrade_local(env: &mut EnvHandle, weak: u64) -> Reply
     ensures { Replied word_or_null env.old env.new (new_local_ref weak) result }
@@ -30,7 +30,7 @@ pub extern "C" fn luthrady_upgrade_local(env: &mut EnvHandle, weak: u64) -> Repl
 ///
 /// # Errors
 ///
-/// E21 where no env stands behind the handle; else those of `NativeInterface::upgrade_global`.
+/// E21 where no env stands behind the handle; E19 in a critical region; else those of `NativeInterface::upgrade_global`.
 #[unsafe(no_mangle)]
 pub extern "C" fn luthrady_upgrade_global(env: &mut EnvHandle, weak: u64) -> Reply
     ensures { Replied word_or_null env.old env.new (new_reference Global weak) result }
@@ -43,8 +43,8 @@ pub extern "C" fn luthrady_upgrade_global(env: &mut EnvHandle, weak: u64) -> Rep
 ///
 /// # Errors
 ///
-/// E21 where no env stands behind the handle; E13 where a thread is collecting at an entry, or has announced that it will; E2 where the handle is malformed or lies outside the room;
-/// E3 where it is a local one of another thread; E2 where its reference does not stand, at the comparison or at the deletion.
+/// E21 where no env stands behind the handle; E19 in a critical region; E13 where a thread is collecting at an entry, or has announced that it will;
+/// E2 where the handle is malformed or lies outside the room; E3 where it is a local one of another thread; E2 where its reference does not stand, at the comparison or at the deletion.
 ///
 /// Nothing has changed then.
 #[unsafe(no_mangle)]

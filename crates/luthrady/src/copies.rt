@@ -1,7 +1,6 @@
 //! Copies of all elements of an array, in memory of the caller's.
 ghost use Rattle.std.specs.Prelude.{◌≡◌, ◌<◌, Err, IfErr, length, map};
 ghost use Rattle.std.specs.Int.{w8, w16, w32, w64};
-ghost use Rattle.jr_word.specs.declared.fault.Fault.TheVariants.{NotFresh};
 ghost use Rattle.jr_word.specs.declared.kind.Kind.TheVariants.{Boolean, Byte, Char, Int, Long, Short};
 ghost use Rattle.jr_word.specs.Elem.{bool_word, signed_word};
 ghost use Rattle.jr_critical.specs.LevelParts.{part_read};
@@ -10,11 +9,12 @@ ghost use Rattle.jr_env.specs.StandingRegions.{StandsOn};
 ghost use Rattle.luthrady.specs.Copies.{CopiesBack, CopiesOut, CopyReplied, IsModeNumber, ReleaseOfCopyReplied, ReleasesBy};
 ghost use Rattle.luthrady.specs.Doings.{WasDoneBy};
 ghost use Rattle.luthrady.specs.InRegions.{AreAll, ReadsAll, WritesAll};
+ghost use Rattle.luthrady.specs.Places.{absence};
 ghost use Rattle.luthrady.specs.Replies.{the_number};
 
 use crate::behind::{env_of, is_env};
 use crate::handles::EnvHandle;
-use crate::held::Native;
+use crate::held::{Native, Presence};
 use crate::reply::{Reply, nothing_reply};
 use jr_critical::Levels;
 use jr_env::{Env, levels_beside};
@@ -26,8 +26,8 @@ use jr_word::{Elem, Fault, Handle, Kind};
 ///
 /// # Errors
 ///
-/// E21 where no env stands behind the handle; that of the gate; those of a handle to an object; E5 where it is to a plain object or a string; E6 where it is to an array of other elements;
-/// E7 where the array has another number of elements.
+/// E21 where no env stands behind the handle; E19 in a critical region; that of the gate; those of a handle to an object; E5 where it is to a plain object or a string;
+/// E6 where it is to an array of other elements; E7 where the array has another number of elements.
 ///
 /// The elements are as they were, and nothing has changed.
 #[unsafe(no_mangle)]
@@ -45,8 +45,8 @@ pub extern "C" fn luthrady_get_boolean_array_elements(
 ///
 /// # Errors
 ///
-/// E21 where no env stands behind the handle; that of the gate; those of a handle to an object; E5 where it is to a plain object or a string; E6 where it is to an array of other elements;
-/// E7 where the array has another number of elements.
+/// E21 where no env stands behind the handle; E19 in a critical region; that of the gate; those of a handle to an object; E5 where it is to a plain object or a string;
+/// E6 where it is to an array of other elements; E7 where the array has another number of elements.
 ///
 /// The elements are as they were, and nothing has changed.
 #[unsafe(no_mangle)]
@@ -64,8 +64,8 @@ pub extern "C" fn luthrady_get_byte_array_elements(
 ///
 /// # Errors
 ///
-/// E21 where no env stands behind the handle; that of the gate; those of a handle to an object; E5 where it is to a plain object or a string; E6 where it is to an array of other elements;
-/// E7 where the array has another number of elements.
+/// E21 where no env stands behind the handle; E19 in a critical region; that of the gate; those of a handle to an object; E5 where it is to a plain object or a string;
+/// E6 where it is to an array of other elements; E7 where the array has another number of elements.
 ///
 /// The elements are as they were, and nothing has changed.
 #[unsafe(no_mangle)]
@@ -83,8 +83,8 @@ pub extern "C" fn luthrady_get_char_array_elements(
 ///
 /// # Errors
 ///
-/// E21 where no env stands behind the handle; that of the gate; those of a handle to an object; E5 where it is to a plain object or a string; E6 where it is to an array of other elements;
-/// E7 where the array has another number of elements.
+/// E21 where no env stands behind the handle; E19 in a critical region; that of the gate; those of a handle to an object; E5 where it is to a plain object or a string;
+/// E6 where it is to an array of other elements; E7 where the array has another number of elements.
 ///
 /// The elements are as they were, and nothing has changed.
 #[unsafe(no_mangle)]
@@ -102,8 +102,8 @@ pub extern "C" fn luthrady_get_short_array_elements(
 ///
 /// # Errors
 ///
-/// E21 where no env stands behind the handle; that of the gate; those of a handle to an object; E5 where it is to a plain object or a string; E6 where it is to an array of other elements;
-/// E7 where the array has another number of elements.
+/// E21 where no env stands behind the handle; E19 in a critical region; that of the gate; those of a handle to an object; E5 where it is to a plain object or a string;
+/// E6 where it is to an array of other elements; E7 where the array has another number of elements.
 ///
 /// The elements are as they were, and nothing has changed.
 #[unsafe(no_mangle)]
@@ -121,8 +121,8 @@ pub extern "C" fn luthrady_get_int_array_elements(
 ///
 /// # Errors
 ///
-/// E21 where no env stands behind the handle; that of the gate; those of a handle to an object; E5 where it is to a plain object or a string; E6 where it is to an array of other elements;
-/// E7 where the array has another number of elements.
+/// E21 where no env stands behind the handle; E19 in a critical region; that of the gate; those of a handle to an object; E5 where it is to a plain object or a string;
+/// E6 where it is to an array of other elements; E7 where the array has another number of elements.
 ///
 /// The elements are as they were, and nothing has changed.
 #[unsafe(no_mangle)]
@@ -141,7 +141,7 @@ pub extern "C" fn luthrady_get_long_array_elements(
 ///
 /// # Errors
 ///
-/// E21 where no env stands behind the handle; E7 where no mode has the number; that of the gate; those of a handle to an object;
+/// E21 where no env stands behind the handle; E19 in a critical region; E7 where no mode has the number; that of the gate; those of a handle to an object;
 /// E5 where it is to a plain object or a string; E6 where it is to an array of other elements; E7 where the array has another number of elements.
 ///
 /// Nothing is written then.
@@ -162,7 +162,7 @@ pub extern "C" fn luthrady_release_boolean_array_elements(
 ///
 /// # Errors
 ///
-/// E21 where no env stands behind the handle; E7 where no mode has the number; that of the gate; those of a handle to an object;
+/// E21 where no env stands behind the handle; E19 in a critical region; E7 where no mode has the number; that of the gate; those of a handle to an object;
 /// E5 where it is to a plain object or a string; E6 where it is to an array of other elements; E7 where the array has another number of elements.
 ///
 /// Nothing is written then.
@@ -183,7 +183,7 @@ pub extern "C" fn luthrady_release_byte_array_elements(
 ///
 /// # Errors
 ///
-/// E21 where no env stands behind the handle; E7 where no mode has the number; that of the gate; those of a handle to an object;
+/// E21 where no env stands behind the handle; E19 in a critical region; E7 where no mode has the number; that of the gate; those of a handle to an object;
 /// E5 where it is to a plain object or a string; E6 where it is to an array of other elements; E7 where the array has another number of elements.
 ///
 /// Nothing is written then.
@@ -204,7 +204,7 @@ pub extern "C" fn luthrady_release_char_array_elements(
 ///
 /// # Errors
 ///
-/// E21 where no env stands behind the handle; E7 where no mode has the number; that of the gate; those of a handle to an object;
+/// E21 where no env stands behind the handle; E19 in a critical region; E7 where no mode has the number; that of the gate; those of a handle to an object;
 /// E5 where it is to a plain object or a string; E6 where it is to an array of other elements; E7 where the array has another number of elements.
 ///
 /// Nothing is written then.
@@ -225,7 +225,7 @@ pub extern "C" fn luthrady_release_short_array_elements(
 ///
 /// # Errors
 ///
-/// E21 where no env stands behind the handle; E7 where no mode has the number; that of the gate; those of a handle to an object;
+/// E21 where no env stands behind the handle; E19 in a critical region; E7 where no mode has the number; that of the gate; those of a handle to an object;
 /// E5 where it is to a plain object or a string; E6 where it is to an array of other elements; E7 where the array has another number of elements.
 ///
 /// Nothing is written then.
@@ -246,7 +246,7 @@ pub extern "C" fn luthrady_release_int_array_elements(
 ///
 /// # Errors
 ///
-/// E21 where no env stands behind the handle; E7 where no mode has the number; that of the gate; those of a handle to an object;
+/// E21 where no env stands behind the handle; E19 in a critical region; E7 where no mode has the number; that of the gate; those of a handle to an object;
 /// E5 where it is to a plain object or a string; E6 where it is to an array of other elements; E7 where the array has another number of elements.
 ///
 /// Nothing is written then.
@@ -278,18 +278,20 @@ fn mode_of(number: u32) -> Option<Mode>
 ///
 /// # Errors
 ///
-/// E21 where no env stands behind the handle; else those of `copy_out_in`.
+/// E21 where no env stands behind the handle; E19 in a critical region; else those of `copy_out_in`.
 fn copy_out<E: Elem>(handle: &mut EnvHandle, array: Handle, elements: &mut [E]) -> Result<(), Fault>
-    ensures call { WasDoneBy (λ a b. CopiesOut E.KIND a.env b.env array.0 (length elements.old) (part_read result (map E.word_of elements.new))) (result ≡ Err NotFresh) handle.old handle.new }
+    ensures call { WasDoneBy (λ a b. CopiesOut E.KIND a.env b.env array.0 (length elements.old) (part_read result (map E.word_of elements.new)))
+        (result ≡ Err (absence handle.old)) handle.old handle.new }
     ensures err { IfErr result (λ _. elements.new ≡ elements.old) }
 {
     if !is_env(handle) {
         return Err(Fault::NotFresh);
     }
-    let Some(native) = &mut env_of(handle).native else {
-        return Err(Fault::NotFresh);
-    };
-    copy_out_by(&mut *native, array, elements)
+    match &mut env_of(handle).presence {
+        Presence::Ready(native) => copy_out_by(&mut *native, array, elements),
+        Presence::Critical(_) => Err(Fault::InCritical),
+        Presence::Detached => Err(Fault::NotFresh),
+    }
 }
 
 /// Copies all elements of an array out, by a thread's env.
@@ -368,22 +370,23 @@ fn are_all(levels: &Levels, kind: Kind, count: usize) -> Result<(), Fault>
 ///
 /// # Errors
 ///
-/// E21 where no env stands behind the handle; else those of `release_by`.
+/// E21 where no env stands behind the handle; E19 in a critical region; else those of `release_by`.
 fn release<E: Elem>(
     handle: &mut EnvHandle,
     array: Handle,
     elements: &[E],
     mode: Option<Mode>,
 ) -> Result<(), Fault>
-    ensures { WasDoneBy (λ a b. ReleasesBy mode E.KIND a.env b.env array.0 (map E.word_of elements.now) result) (result ≡ Err NotFresh) handle.old handle.new }
+    ensures { WasDoneBy (λ a b. ReleasesBy mode E.KIND a.env b.env array.0 (map E.word_of elements.now) result) (result ≡ Err (absence handle.old)) handle.old handle.new }
 {
     if !is_env(handle) {
         return Err(Fault::NotFresh);
     }
-    let Some(native) = &mut env_of(handle).native else {
-        return Err(Fault::NotFresh);
-    };
-    release_by(&mut *native, array, elements, mode)
+    match &mut env_of(handle).presence {
+        Presence::Ready(native) => release_by(&mut *native, array, elements, mode),
+        Presence::Critical(_) => Err(Fault::InCritical),
+        Presence::Detached => Err(Fault::NotFresh),
+    }
 }
 
 /// Releases a copy by a mode, by a thread's env.

@@ -15,7 +15,7 @@ use jr_word::{Fault, Handle};
 ///
 /// # Errors
 ///
-/// E21 where no env stands behind the handle; else those of `Env::ensure_local_capacity`.
+/// E21 where no env stands behind the handle; E19 in a critical region; else those of `Env::ensure_local_capacity`.
 #[unsafe(no_mangle)]
 pub extern "C" fn luthrady_ensure_local_capacity(env: &mut EnvHandle, capacity: u32) -> Reply
     ensures { Replied nothing_told env.old env.new (ensure_local_capacity capacity) result }
@@ -27,7 +27,7 @@ pub extern "C" fn luthrady_ensure_local_capacity(env: &mut EnvHandle, capacity: 
 ///
 /// # Errors
 ///
-/// E21 where no env stands behind the handle; else those of `Env::push_local_frame`.
+/// E21 where no env stands behind the handle; E19 in a critical region; else those of `Env::push_local_frame`.
 #[unsafe(no_mangle)]
 pub extern "C" fn luthrady_push_local_frame(env: &mut EnvHandle, capacity: u32) -> Reply
     ensures { Replied nothing_told env.old env.new (push_local_frame capacity) result }
@@ -39,7 +39,7 @@ pub extern "C" fn luthrady_push_local_frame(env: &mut EnvHandle, capacity: u32) 
 ///
 /// # Errors
 ///
-/// E21 where no env stands behind the handle; else those of `NativeInterface::pop_local_frame`.
+/// E21 where no env stands behind the handle; E19 in a critical region; else those of `NativeInterface::pop_local_frame`.
 #[unsafe(no_mangle)]
 pub extern "C" fn luthrady_pop_local_frame(env: &mut EnvHandle, kept: u64) -> Reply
     ensures { Replied word_or_null env.old env.new (pop_local_frame kept) result }
@@ -51,7 +51,7 @@ pub extern "C" fn luthrady_pop_local_frame(env: &mut EnvHandle, kept: u64) -> Re
 ///
 /// # Errors
 ///
-/// E21 where no env stands behind the handle; else those of `NativeInterface::free_locals`.
+/// E21 where no env stands behind the handle; E19 in a critical region; else those of `NativeInterface::free_locals`.
 #[unsafe(no_mangle)]
 pub extern "C" fn luthrady_free_locals(env: &mut EnvHandle) -> Reply
     ensures { Replied nothing_told env.old env.new (free_locals) result }

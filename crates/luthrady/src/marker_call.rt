@@ -3,7 +3,7 @@ ghost use Rattle.luthrady.specs.Collecting.{WasMadeMarking};
 
 use crate::behind::{env_of, is_env};
 use crate::handles::EnvHandle;
-use crate::held::Native;
+use crate::held::{Native, Presence};
 use jr_word::Fault;
 
 /// A call of a thread's env with the thread's own marker: a collection, or a census.
@@ -33,7 +33,7 @@ pub(crate) trait MarkerCall {
 ///
 /// # Errors
 ///
-/// E21 where no env stands behind the handle; else those of the call.
+/// E21 where no env stands behind the handle; E19 in a critical region; else those of the call.
 pub(crate) fn make_marking<T: MarkerCall + Copy>(
     handle: &mut EnvHandle,
     call: T,
@@ -43,8 +43,9 @@ pub(crate) fn make_marking<T: MarkerCall + Copy>(
     if !is_env(handle) {
         return Err(Fault::NotFresh);
     }
-    let Some(native) = &mut env_of(handle).native else {
-        return Err(Fault::NotFresh);
-    };
-    call.by(&mut *native)
+    match &mut env_of(handle).presence {
+        Presence::Ready(native) => call.by(&mut *native),
+        Presence::Critical(_) => Err(Fault::InCritical),
+        Presence::Detached => Err(Fault::NotFresh),
+    }
 }

@@ -6,18 +6,21 @@ ghost use Rattle.luthrady.specs.Replies.{nothing_told, the_number, word_or_null,
 
 use crate::calling::make;
 use crate::handles::EnvHandle;
-use crate::reply::{Reply, bool_reply, byte_reply, nothing_reply, optional_reply};
+use crate::held::Native;
+use crate::reply::{Reply, bool_reply, nothing_reply, optional_reply, type_reply};
+use crate::thread_call::{ThreadCall, make_by_thread};
+use jr_env::NativeInterface;
 use jr_env::calls::{
-    DeleteGlobalRef, DeleteLocalRef, DeleteWeakGlobalRef, GetObjectRefType, IsSameObject,
-    NewGlobalRef, NewLocalRef, NewWeakGlobalRef,
+    DeleteGlobalRef, DeleteLocalRef, DeleteWeakGlobalRef, GetObjectRefType, NewGlobalRef,
+    NewLocalRef, NewWeakGlobalRef,
 };
-use jr_word::Handle;
+use jr_word::{Fault, Handle};
 
 /// A new global reference to what the word names, NULL to null. (JNI Specification, chapter 4, "NewGlobalRef")
 ///
 /// # Errors
 ///
-/// E21 where no env stands behind the handle; else those of `NativeInterface::new_global_ref`.
+/// E21 where no env stands behind the handle; E19 in a critical region; else those of `NativeInterface::new_global_ref`.
 #[unsafe(no_mangle)]
 pub extern "C" fn luthrady_new_global_ref(env: &mut EnvHandle, object: u64) -> Reply
     ensures { Replied word_or_null env.old env.new (new_reference Global object) result }
@@ -29,7 +32,7 @@ pub extern "C" fn luthrady_new_global_ref(env: &mut EnvHandle, object: u64) -> R
 ///
 /// # Errors
 ///
-/// E21 where no env stands behind the handle; else those of `NativeInterface::new_weak_global_ref`.
+/// E21 where no env stands behind the handle; E19 in a critical region; else those of `NativeInterface::new_weak_global_ref`.
 #[unsafe(no_mangle)]
 pub extern "C" fn luthrady_new_weak_global_ref(env: &mut EnvHandle, object: u64) -> Reply
     ensures { Replied word_or_null env.old env.new (new_reference Weak object) result }
@@ -41,7 +44,7 @@ pub extern "C" fn luthrady_new_weak_global_ref(env: &mut EnvHandle, object: u64)
 ///
 /// # Errors
 ///
-/// E21 where no env stands behind the handle; else those of `NativeInterface::new_local_ref`.
+/// E21 where no env stands behind the handle; E19 in a critical region; else those of `NativeInterface::new_local_ref`.
 #[unsafe(no_mangle)]
 pub extern "C" fn luthrady_new_local_ref(env: &mut EnvHandle, object: u64) -> Reply
     ensures { Replied word_or_null env.old env.new (new_local_ref object) result }
@@ -53,7 +56,7 @@ pub extern "C" fn luthrady_new_local_ref(env: &mut EnvHandle, object: u64) -> Re
 ///
 /// # Errors
 ///
-/// E21 where no env stands behind the handle; else those of `NativeInterface::delete_global_ref`.
+/// E21 where no env stands behind the handle; E19 in a critical region; else those of `NativeInterface::delete_global_ref`.
 #[unsafe(no_mangle)]
 pub extern "C" fn luthrady_delete_global_ref(env: &mut EnvHandle, reference: u64) -> Reply
     ensures { Replied nothing_told env.old env.new (delete_reference Global reference) result }
@@ -65,7 +68,7 @@ pub extern "C" fn luthrady_delete_global_ref(env: &mut EnvHandle, reference: u64
 ///
 /// # Errors
 ///
-/// E21 where no env stands behind the handle; else those of `NativeInterface::delete_weak_global_ref`.
+/// E21 where no env stands behind the handle; E19 in a critical region; else those of `NativeInterface::delete_weak_global_ref`.
 #[unsafe(no_mangle)]
 pub extern "C" fn luthrady_delete_weak_global_ref(env: &mut EnvHandle, reference: u64) -> Reply
     ensures { Replied nothing_told env.old env.new (delete_reference Weak reference) result }
@@ -77,7 +80,7 @@ pub extern "C" fn luthrady_delete_weak_global_ref(env: &mut EnvHandle, reference
 ///
 /// # Errors
 ///
-/// E21 where no env stands behind the handle; else those of `NativeInterface::delete_local_ref`.
+/// E21 where no env stands behind the handle; E19 in a critical region; else those of `NativeInterface::delete_local_ref`.
 #[unsafe(no_mangle)]
 pub extern "C" fn luthrady_delete_local_ref(env: &mut EnvHandle, reference: u64) -> Reply
     ensures { Replied nothing_told env.old env.new (delete_local_ref reference) result }
@@ -89,22 +92,37 @@ pub extern "C" fn luthrady_delete_local_ref(env: &mut EnvHandle, reference: u64)
 ///
 /// # Errors
 ///
-/// E21 where no env stands behind the handle; else those of `NativeInterface::is_same_object`.
+/// E21 where no env stands behind the handle; E19 in a critical region; else those of `NativeInterface::is_same_object`.
 #[unsafe(no_mangle)]
 pub extern "C" fn luthrady_is_same_object(env: &mut EnvHandle, left: u64, right: u64) -> Reply
     ensures { Replied zero_or_one env.old env.new (is_same_object left right) result }
 {
-    bool_reply(make(env, IsSameObject(Handle(left), Handle(right))))
+    bool_reply(make_by_thread(env, Compare(Handle(left), Handle(right))))
+}
+
+/// A comparison of two references, as an env makes it: of two shared ones in a place of its own.
+#[derive(Clone, Copy)]
+struct Compare(Handle, Handle);
+
+impl ThreadCall for Compare {
+    type Answer = bool;
+
+    ghost deed = { λ c. is_same_object c.0.0 c.1.0 };
+
+    #[inline(always)]
+    fn by(self, native: &mut Native) -> Result<bool, Fault> {
+        native.env.is_same_object(self.0, self.1)
+    }
 }
 
 /// The type of a reference: 0 invalid, 1 local, 2 global, 3 weak. (JNI Specification, chapter 4, "GetObjectRefType")
 ///
 /// # Errors
 ///
-/// E21 where no env stands behind the handle; else those of `NativeInterface::get_object_ref_type`.
+/// E21 where no env stands behind the handle; E19 in a critical region; else those of `NativeInterface::get_object_ref_type`.
 #[unsafe(no_mangle)]
 pub extern "C" fn luthrady_get_object_ref_type(env: &mut EnvHandle, object: u64) -> Reply
     ensures { Replied the_number env.old env.new (get_object_ref_type object) result }
 {
-    byte_reply(make(env, GetObjectRefType(Handle(object))))
+    type_reply(make(env, GetObjectRefType(Handle(object))))
 }

@@ -1,8 +1,9 @@
 //! What a call answers, as C and Rust see it.
 ghost use Rattle.std.specs.Prelude.{◌≡◌, Ok, Err};
+ghost use Rattle.jr_critical.specs.Levels.{in_words};
 ghost use Rattle.luthrady.specs.Replies.{told_beside, found_beside, reply_of, the_number, the_word, word_or_null, zero_or_one, nothing_told};
 
-use jr_word::{Fault, Handle};
+use jr_word::{Elem, Fault, Handle};
 
 /// A call's answer.
 #[repr(C)]
@@ -78,7 +79,7 @@ pub(crate) fn number_reply(answer: Result<u32, Fault>) -> Reply
 }
 
 /// The answer of a call that gives a count.
-pub(crate) fn size_reply(answer: Result<usize, Fault>) -> Reply
+pub(crate) fn count_reply(answer: Result<usize, Fault>) -> Reply
     ensures { result ≡ reply_of the_number answer }
 {
     match answer {
@@ -87,12 +88,22 @@ pub(crate) fn size_reply(answer: Result<usize, Fault>) -> Reply
     }
 }
 
-/// The answer of a call that gives a kind's number.
-pub(crate) fn byte_reply(answer: Result<u8, Fault>) -> Reply
+/// The answer of a call that gives a reference's type.
+pub(crate) fn type_reply(answer: Result<u8, Fault>) -> Reply
     ensures { result ≡ reply_of the_number answer }
 {
     match answer {
         Ok(number) => answered(u64::from(number)),
+        Err(fault) => refused(fault),
+    }
+}
+
+/// The answer of a call that gives an element: its word.
+pub(crate) fn element_reply<E: Elem>(answer: Result<E, Fault>) -> Reply
+    ensures { result ≡ reply_of the_number (in_words E.word_of answer) }
+{
+    match answer {
+        Ok(element) => answered(element.to_word()),
         Err(fault) => refused(fault),
     }
 }

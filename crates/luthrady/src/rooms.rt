@@ -143,10 +143,10 @@ fn told_of(summary: Summary) -> Stood
 ///
 /// # Errors
 ///
-/// E21 where no room stands behind the room's handle, no thread is attached to it, or no env stands behind the env's handle; E13 where a thread is collecting, or has announced that it will;
-/// E22 with how many threads were inside, knocking, announcing or collecting as the last one closed the room, at least 1.
+/// E21 where no room stands behind the room's handle, no thread is attached to it, or no env stands behind the env's handle; E19 in a critical region;
+/// E13 where a thread is collecting, or has announced that it will; E22 with how many threads were inside, knocking, announcing or collecting as the last one closed the room, at least 1.
 ///
-/// At E21 nothing has changed. At E13 the thread is still attached, with its local references. At E22 it is detached, and the room can't be closed any more.
+/// At E21 and E19 nothing has changed. At E13 the thread is still attached, with its local references. At E22 it is detached, and the room can't be closed any more.
 #[unsafe(no_mangle)]
 pub extern "C" fn luthrady_detach(
     room: &mut RoomHandle,
@@ -162,7 +162,7 @@ pub extern "C" fn luthrady_detach(
 ///
 /// # Errors
 ///
-/// E21, E13 and E22, as `luthrady_detach`.
+/// E21, E19, E13 and E22, as `luthrady_detach`.
 fn detach(room: &mut RoomHandle, handle: &mut EnvHandle) -> Result<Option<Summary>, Fault>
     ensures { WasDetached room.old room.new handle.old handle.new result }
 {
@@ -175,7 +175,7 @@ fn detach(room: &mut RoomHandle, handle: &mut EnvHandle) -> Result<Option<Summar
     if !is_env(handle) {
         return Err(Fault::NotFresh);
     }
-    let Some(native) = env_of(handle).native.take() else {
+    let Some(native) = env_of(handle).leave() else {
         return Err(Fault::NotFresh);
     };
     room_of(room).take_back(native)
@@ -200,7 +200,7 @@ fn told(closed: Result<Option<Summary>, Fault>, out: &mut Stood) -> Reply
 ///
 /// # Errors
 ///
-/// E21 where no place of an env stands behind the handle; E19 where the thread is attached.
+/// E21 where no place of an env stands behind the handle; E19 where the thread is attached, in a critical region too.
 ///
 /// Nothing has changed then.
 #[unsafe(no_mangle)]
@@ -210,7 +210,7 @@ pub extern "C" fn luthrady_free_env(alloc: Global, env: &mut EnvHandle) -> Reply
     if !is_env(env) {
         return nothing_reply(Err(Fault::NotFresh));
     }
-    if env_of(env).native.is_some() {
+    if env_of(env).is_attached() {
         return nothing_reply(Err(Fault::InCritical));
     }
     drop(take_env(alloc, env));

@@ -1,15 +1,15 @@
 //! Units and texts of strings.
 ghost use Rattle.std.specs.Prelude.{◌≡◌, Err, IfErr, length, map};
 ghost use Rattle.jr_critical.specs.LevelParts.{part_read};
-ghost use Rattle.jr_word.specs.declared.fault.Fault.TheVariants.{NotFresh};
 ghost use Rattle.luthrady.specs.Doings.{WasDoneBy};
+ghost use Rattle.luthrady.specs.Places.{absence};
 ghost use Rattle.luthrady.specs.Replies.{the_number};
 ghost use Rattle.luthrady.specs.Strings.{BytesReplied, MakesOfBytes, ReadsUnits, TellsText, TextReplied, UnitsReplied, put_text};
 
 use crate::behind::{env_of, is_env};
 use crate::handles::EnvHandle;
-use crate::held::Native;
-use crate::reply::{Reply, nothing_reply, reference_reply, size_reply};
+use crate::held::{Native, Presence};
+use crate::reply::{Reply, count_reply, nothing_reply, reference_reply};
 use jr_env::{Env, levels_beside};
 use jr_steps::Steps;
 use jr_word::{Fault, Handle};
@@ -19,7 +19,7 @@ use std::alloc::Global;
 ///
 /// # Errors
 ///
-/// E21 where no env stands behind the handle; that of the gate; those of a handle to an object; E4 where it is to no string; E7 where the part does not lie in the string.
+/// E21 where no env stands behind the handle; E19 in a critical region; that of the gate; those of a handle to an object; E4 where it is to no string; E7 where the part does not lie in the string.
 ///
 /// The units are as they were, and nothing has changed.
 #[unsafe(no_mangle)]
@@ -38,23 +38,24 @@ pub extern "C" fn luthrady_get_string_region(
 ///
 /// # Errors
 ///
-/// E21 where no env stands behind the handle; else those of `read_units_in`.
+/// E21 where no env stands behind the handle; E19 in a critical region; else those of `read_units_in`.
 fn read_units(
     handle: &mut EnvHandle,
     string: Handle,
     start: u32,
     units: &mut [u16],
 ) -> Result<(), Fault>
-    ensures call { WasDoneBy (λ a b. ReadsUnits a.env b.env string.0 start (length units.old) (part_read result (map the_number units.new))) (result ≡ Err NotFresh) handle.old handle.new }
+    ensures call { WasDoneBy (λ a b. ReadsUnits a.env b.env string.0 start (length units.old) (part_read result (map the_number units.new))) (result ≡ Err (absence handle.old)) handle.old handle.new }
     ensures err { IfErr result (λ _. units.new ≡ units.old) }
 {
     if !is_env(handle) {
         return Err(Fault::NotFresh);
     }
-    let Some(native) = &mut env_of(handle).native else {
-        return Err(Fault::NotFresh);
-    };
-    read_units_by(&mut *native, string, start, units)
+    match &mut env_of(handle).presence {
+        Presence::Ready(native) => read_units_by(&mut *native, string, start, units),
+        Presence::Critical(_) => Err(Fault::InCritical),
+        Presence::Detached => Err(Fault::NotFresh),
+    }
 }
 
 /// Copies a part of a string's units out, by a thread's env.
@@ -99,7 +100,8 @@ fn read_units_in<S: Steps>(
 ///
 /// # Errors
 ///
-/// E21 where no env stands behind the handle; E18 where the bytes are no UTF-8; E16 where memory was refused; that of the gate; E9 where no local place is free; those of space.
+/// E21 where no env stands behind the handle; E19 in a critical region; E18 where the bytes are no UTF-8; E16 where memory was refused; that of the gate; E9 where no local place is free;
+/// those of space.
 ///
 /// Nothing has changed then; but after E11 the words of the string stay reserved until the next collection.
 #[unsafe(no_mangle)]
@@ -113,17 +115,18 @@ pub extern "C" fn luthrady_new_string_utf8(alloc: Global, env: &mut EnvHandle, t
 ///
 /// # Errors
 ///
-/// E21 where no env stands behind the handle; else those of `make_text_by`.
+/// E21 where no env stands behind the handle; E19 in a critical region; else those of `make_text_by`.
 fn make_text(alloc: Global, handle: &mut EnvHandle, text: &[u8]) -> Result<Handle, Fault>
-    ensures { WasDoneBy (λ a b. MakesOfBytes a.env b.env text.now result) (result ≡ Err NotFresh) handle.old handle.new }
+    ensures { WasDoneBy (λ a b. MakesOfBytes a.env b.env text.now result) (result ≡ Err (absence handle.old)) handle.old handle.new }
 {
     if !is_env(handle) {
         return Err(Fault::NotFresh);
     }
-    let Some(native) = &mut env_of(handle).native else {
-        return Err(Fault::NotFresh);
-    };
-    make_text_by(alloc, &mut *native, text)
+    match &mut env_of(handle).presence {
+        Presence::Ready(native) => make_text_by(alloc, &mut *native, text),
+        Presence::Critical(_) => Err(Fault::InCritical),
+        Presence::Detached => Err(Fault::NotFresh),
+    }
 }
 
 /// Makes a string of a text, by a thread's env.
@@ -146,7 +149,7 @@ fn make_text_by(alloc: Global, native: &mut Native, text: &[u8]) -> Result<Handl
 ///
 /// # Errors
 ///
-/// E21 where no env stands behind the handle; that of the gate; those of a handle to an object; E4 where it is to no string; E16 where memory was refused;
+/// E21 where no env stands behind the handle; E19 in a critical region; that of the gate; those of a handle to an object; E4 where it is to no string; E16 where memory was refused;
 /// E18 where a surrogate among the units has no partner.
 ///
 /// The bytes are as they were, and nothing has changed.
@@ -159,29 +162,30 @@ pub extern "C" fn luthrady_get_string_utf8(
 ) -> Reply
     ensures { TextReplied env.old env.new string result bytes.old bytes.new }
 {
-    size_reply(read_text(alloc, env, Handle(string), bytes))
+    count_reply(read_text(alloc, env, Handle(string), bytes))
 }
 
 /// Reads a string as a text, by the env behind a pointer.
 ///
 /// # Errors
 ///
-/// E21 where no env stands behind the handle; else those of `read_text_by`.
+/// E21 where no env stands behind the handle; E19 in a critical region; else those of `read_text_by`.
 fn read_text(
     alloc: Global,
     handle: &mut EnvHandle,
     string: Handle,
     bytes: &mut [u8],
 ) -> Result<usize, Fault>
-    ensures { WasDoneBy (λ a b. TellsText a.env b.env string.0 result bytes.old bytes.new) ((result ≡ Err NotFresh) × (bytes.new ≡ bytes.old)) handle.old handle.new }
+    ensures { WasDoneBy (λ a b. TellsText a.env b.env string.0 result bytes.old bytes.new) ((result ≡ Err (absence handle.old)) × (bytes.new ≡ bytes.old)) handle.old handle.new }
 {
     if !is_env(handle) {
         return Err(Fault::NotFresh);
     }
-    let Some(native) = &mut env_of(handle).native else {
-        return Err(Fault::NotFresh);
-    };
-    read_text_by(alloc, &mut *native, string, bytes)
+    match &mut env_of(handle).presence {
+        Presence::Ready(native) => read_text_by(alloc, &mut *native, string, bytes),
+        Presence::Critical(_) => Err(Fault::InCritical),
+        Presence::Detached => Err(Fault::NotFresh),
+    }
 }
 
 /// Reads a string as a text, by a thread's env.

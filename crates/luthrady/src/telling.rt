@@ -15,7 +15,7 @@ ghost use Rattle.luthrady.specs.Threads.{elsewhere};
 use crate::behind::{env_of, is_env};
 use crate::calling::make;
 use crate::handles::EnvHandle;
-use crate::held::Native;
+use crate::held::{Native, Presence};
 use crate::reply::{Reply, answered, nothing_reply, number_reply, refused};
 use crate::thread_call::{ThreadCall, make_by_thread};
 use jr_env::calls::{IdentityOf, KindOf};
@@ -27,7 +27,7 @@ use jr_word::{Fault, Handle, Kind};
 ///
 /// # Errors
 ///
-/// E21 where no env stands behind the handle; else those of `NativeInterface::kind_of`.
+/// E21 where no env stands behind the handle; E19 in a critical region; else those of `NativeInterface::kind_of`.
 #[unsafe(no_mangle)]
 pub extern "C" fn luthrady_kind_of(env: &mut EnvHandle, object: u64) -> Reply
     ensures { Replied kind_code env.old env.new (kind_of object) result }
@@ -50,7 +50,7 @@ fn of_kind(answer: Result<Kind, Fault>) -> Reply
 ///
 /// # Errors
 ///
-/// E21 where no env stands behind the handle; else those of `NativeInterface::identity_of`.
+/// E21 where no env stands behind the handle; E19 in a critical region; else those of `NativeInterface::identity_of`.
 #[unsafe(no_mangle)]
 pub extern "C" fn luthrady_identity_of(env: &mut EnvHandle, object: u64) -> Reply
     ensures { Replied the_number env.old env.new (whole (for_identity_of object)) result }
@@ -84,7 +84,7 @@ pub struct Explained {
 ///
 /// # Errors
 ///
-/// E21 where no env stands behind the handle; E13 where a thread is collecting at the entry, or has announced that it will.
+/// E21 where no env stands behind the handle; E19 in a critical region; E13 where a thread is collecting at the entry, or has announced that it will.
 ///
 /// Nothing has changed then.
 #[unsafe(no_mangle)]
@@ -167,7 +167,7 @@ fn kind_number(kind: Option<Kind>) -> u32
 ///
 /// # Errors
 ///
-/// E21 where no env stands behind the handle; E13 where a thread is collecting at the entry, or has announced that it will.
+/// E21 where no env stands behind the handle; E19 in a critical region; E13 where a thread is collecting at the entry, or has announced that it will.
 ///
 /// Nothing has changed then.
 #[unsafe(no_mangle)]
@@ -209,7 +209,7 @@ pub struct Locals {
 ///
 /// # Errors
 ///
-/// E21 where no env stands behind the handle.
+/// E21 where no env stands behind the handle; E19 in a critical region.
 ///
 /// Nothing has changed then, and nothing is written.
 #[unsafe(no_mangle)]
@@ -223,17 +223,18 @@ pub extern "C" fn luthrady_local_counts(env: &mut EnvHandle, out: &mut Locals) -
 ///
 /// # Errors
 ///
-/// E21 where no env stands behind the handle.
+/// E21 where no env stands behind the handle; E19 in a critical region.
 fn local_counts(handle: &mut EnvHandle) -> Result<LocalCounts, Fault>
     ensures { TellsLocals handle.old handle.new result }
 {
     if !is_env(handle) {
         return Err(Fault::NotFresh);
     }
-    let Some(native) = &env_of(handle).native else {
-        return Err(Fault::NotFresh);
-    };
-    Ok(counted_by(&*native))
+    match &env_of(handle).presence {
+        Presence::Ready(native) => Ok(counted_by(&*native)),
+        Presence::Critical(_) => Err(Fault::InCritical),
+        Presence::Detached => Err(Fault::NotFresh),
+    }
 }
 
 /// Counts the local references of a thread's env.

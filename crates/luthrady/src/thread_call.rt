@@ -1,9 +1,9 @@
 //! A call of a thread's env that is no value of `jr_env`, and how it is made by the env behind a pointer.
 ghost use Rattle.luthrady.specs.Calls.{WasMade};
 
-use crate::behind::{env_of, is_env};
+use crate::behind::{env_of, is_env, seldom};
 use crate::handles::EnvHandle;
-use crate::held::Native;
+use crate::held::{Native, Presence};
 use jr_word::Fault;
 
 /// A call of a thread's env, with what it is handed.
@@ -31,7 +31,8 @@ pub(crate) trait ThreadCall {
 ///
 /// # Errors
 ///
-/// E21 where no env stands behind the handle; else those of the call.
+/// E21 where no env stands behind the handle; E19 in a critical region; else those of the call.
+#[inline(always)]
 pub(crate) fn make_by_thread<T: ThreadCall + Copy>(
     handle: &mut EnvHandle,
     call: T,
@@ -39,10 +40,18 @@ pub(crate) fn make_by_thread<T: ThreadCall + Copy>(
     ensures { WasMade handle.old handle.new (T.deed call) result }
 {
     if !is_env(handle) {
+        seldom();
         return Err(Fault::NotFresh);
     }
-    let Some(native) = &mut env_of(handle).native else {
-        return Err(Fault::NotFresh);
-    };
-    call.by(&mut *native)
+    match &mut env_of(handle).presence {
+        Presence::Ready(native) => call.by(&mut *native),
+        Presence::Critical(_) => {
+            seldom();
+            Err(Fault::InCritical)
+        }
+        Presence::Detached => {
+            seldom();
+            Err(Fault::NotFresh)
+        }
+    }
 }

@@ -13,6 +13,7 @@ ghost use Rattle.jr_env.specs.OpenStays.{StaysOn};
 ghost use Rattle.jr_env.specs.Works.{Serves, ServesWhole, ServesWithin};
 
 use crate::calls::names;
+use crate::demand::Demand;
 use crate::native_call::{Handed, NativeCall};
 use crate::span::Span;
 use crate::work::outside;
@@ -48,6 +49,11 @@ impl<S: Steps, E: Elem> NativeCall<S> for SetArrayRegion<'_, E> {
                 count: self.2.len(),
             },
         )
+    }
+
+    #[inline(always)]
+    fn demand(&self) -> Demand {
+        Demand::Nothing
     }
 
     #[inline(always)]

@@ -1,5 +1,6 @@
-//! A collection as a call of an env.
+//! A collection as a call of an env: one that is made at once, one that is announced, and one that gets its turn.
 use crate::env::Env;
+use crate::patience::Patience;
 use crate::work::outside;
 use jr_steps::Steps;
 use jr_weak::{Collected, Marker, collect_announced_listing, collect_listing};
@@ -14,7 +15,8 @@ impl<S: Steps> Env<S> {
     ghost use Rattle.jr_weak.specs.Markers.{marks_of, room_of};
     ghost use Rattle.jr_env.specs.Collections.{CallShutsActByAct, FitsRoom, IsNoTurn, announced_collection, collection};
     ghost use Rattle.jr_env.specs.Envs.{Does};
-    ghost use Rattle.jr_env.specs.Listings.{listed_announced, listed_collection};
+    ghost use Rattle.jr_env.specs.Listings.{listed_announced, listed_collection, listed_in_turn};
+    ghost use Rattle.jr_env.specs.Remedies.{collection_in_turn};
     ghost use Rattle.jr_weak.specs.Listing.{ListsTell};
 
     /// A marker for the collections of the env's room, in which nothing is marked. It takes all the memory that they need, and fits each env of a room with as many objects.
@@ -172,5 +174,83 @@ impl<S: Steps> Env<S> {
         let held = &mut self.held;
         outside(held);
         collect_announced_listing(&mut held.steps, marker, tries, handles, numbers)
+    }
+
+    /// Collects as `collect_announced` does, and announces it anew as long as it gets no turn (E14, E23), but no more than so many times more.
+    /// Between two announcements none stands, so that others go in; and the thread yields, where the patience does. Whether the patience waits for room makes no difference.
+    /// The last answer is the answer.
+    ///
+    /// # Errors
+    ///
+    /// E17 exactly where the marker was made for another number of objects; E14 with how many threads were inside, knocking, announcing or collecting, at least 1,
+    /// where another thread kept the gate closed at the last announcement; E23 with two counts of the open gate, where another thread went in or out between its look at the gate and that
+    /// announcement; E14 with how many other threads were inside or knocking at its last try, at least 1.
+    ///
+    /// Nothing has changed then, and the marker is as it was. At E14 and E23 the thread stands outside, and at E17 it has taken no step. Over one thread a marker that fits is never refused.
+    ///
+    /// # Operations
+    ///
+    /// None at E17, and else those of each announcement.
+    pub fn collect_in_turn(
+        &mut self,
+        marker: &mut Marker,
+        tries: u32,
+        patience: Patience,
+    ) -> Result<Collected, Fault>
+        requires { 1 ≤ tries }
+        ensures call { FitsRoom marker.old self.old → Does self.old self.new (collection_in_turn tries patience.more) result }
+        ensures size { (result ≡ Err Size) ↔ ¬ (FitsRoom marker.old self.old) }
+        ensures same { ¬ (FitsRoom marker.old self.old) → self.new ≡ self.old }
+        ensures room { room_of marker.new ≡ room_of marker.old }
+        ensures refused { FitsRoom marker.old self.old → IfErr result IsNoTurn }
+        ensures kept { OnErr result (marker.new ≡ marker.old) }
+        ensures alone { FitsRoom marker.old self.old → (S.facts self.old.held.steps).stands.config.threads ≡ 1 → IsOk result }
+    {
+        self.collect_in_turn_listing(marker, tries, patience, &mut [], &mut [])
+    }
+
+    /// Collects as `collect_in_turn` does, and lists what went as `collect_listing` does.
+    ///
+    /// # Errors
+    ///
+    /// E17 exactly where the marker was made for another number of objects; E14 with how many threads were inside, knocking, announcing or collecting, at least 1,
+    /// where another thread kept the gate closed at the last announcement; E23 with two counts of the open gate, where another thread went in or out between its look at the gate and that
+    /// announcement; E14 with how many other threads were inside or knocking at its last try, at least 1.
+    ///
+    /// Nothing has changed then, and the marker and the buffers are as they were. At E14 and E23 the thread stands outside, and at E17 it has taken no step.
+    /// Over one thread a marker that fits is never refused.
+    ///
+    /// # Operations
+    ///
+    /// Those of `collect_in_turn`.
+    pub fn collect_in_turn_listing(
+        &mut self,
+        marker: &mut Marker,
+        tries: u32,
+        patience: Patience,
+        handles: &mut [Handle],
+        numbers: &mut [u16],
+    ) -> Result<Collected, Fault>
+        requires { 1 ≤ tries }
+        ensures call { FitsRoom marker.old self.old → Does self.old self.new
+            (listed_in_turn tries patience.more (marks_of marker.new) (ListsTell handles.old numbers.old handles.new numbers.new)) result }
+        ensures size { (result ≡ Err Size) ↔ ¬ (FitsRoom marker.old self.old) }
+        ensures same { ¬ (FitsRoom marker.old self.old) → self.new ≡ self.old }
+        ensures room { room_of marker.new ≡ room_of marker.old }
+        ensures refused { FitsRoom marker.old self.old → IfErr result IsNoTurn }
+        ensures kept { OnErr result (marker.new ≡ marker.old) }
+        ensures unlisted { OnErr result ((handles.new ≡ handles.old) × (numbers.new ≡ numbers.old)) }
+        ensures alone { FitsRoom marker.old self.old → (S.facts self.old.held.steps).stands.config.threads ≡ 1 → IsOk result }
+    {
+        if !self.has_marker(marker) {
+            return Err(Fault::Size);
+        }
+        for _ in 0..patience.more {
+            match self.collect_announced_listing(marker, tries, handles, numbers) {
+                Ok(collected) => return Ok(collected),
+                Err(_) => patience.pause(),
+            }
+        }
+        self.collect_announced_listing(marker, tries, handles, numbers)
     }
 }

@@ -1,15 +1,15 @@
-//! The calls of the Java Native Interface that copy all elements of an array or string out, and back, over any steps.
+//! The calls of the Java Native Interface that copy all elements of an array out, and back, over any steps.
 use crate::calls::array_parts::has_elements;
 use crate::calls::names;
+use crate::demand::Demand;
 use crate::env::Env;
 use crate::native_call::{Handed, NativeCall, NativeCaller};
-use crate::patience::Patience;
 use crate::span::Span;
 use crate::work::outside;
 use jr_elements::{Elements, elements_of, put_back, read_all};
 use jr_frames::{Frames, Reference, find};
 use jr_gate::Inside;
-use jr_heap::{Numbers, is_text};
+use jr_heap::Numbers;
 use jr_model::Mode;
 use jr_steps::Steps;
 use jr_word::{Elem, Fault, Handle};
@@ -21,7 +21,6 @@ impl<S: Steps> Env<S> {
     ghost use Rattle.jr_elements.specs.Copies.{kept};
     ghost use Rattle.jr_env.specs.Envs.{Does};
     ghost use Rattle.jr_env.specs.Deeds.{release_answer, release_array_elements};
-    ghost use Rattle.jr_env.specs.Retried.{releasing_again};
 
     /// Releases copied elements by a mode. To copy writes them to the whole array, one after the other, rising, and gives them up; to commit writes them and hands them back, as they were;
     /// to abort gives them up, enters no gate, looks at no reference and is never refused. (JNI Specification, chapter 4, "Release<PrimitiveType>ArrayElements Routines")
@@ -55,43 +54,6 @@ impl<S: Steps> Env<S> {
             elements: &elements,
         };
         match self.make(call) {
-            Ok(()) => Ok(elements.kept(mode)),
-            Err(fault) => Err((elements, fault)),
-        }
-    }
-
-    /// Releases copied elements as `release_array_elements` does, and again as long as it is refused by E13, but no more than so many times more.
-    ///
-    /// # Errors
-    ///
-    /// Those of `release_array_elements` at the last try.
-    ///
-    /// The elements are handed back as they were, nothing is written, and the thread stands outside.
-    ///
-    /// # Operations
-    ///
-    /// Those of each try. To abort takes none.
-    pub fn retry_release<E: Elem>(
-        &mut self,
-        array: Handle,
-        elements: Elements<E>,
-        mode: Mode,
-        patience: Patience,
-    ) -> Result<Option<Elements<E>>, (Elements<E>, Fault)>
-        ensures call { Does self.old self.new (releasing_again patience E.KIND array.0 (map E.word_of elements) mode) (release_answer (map E.word_of) result) }
-        ensures ok { IfOk result (λ left. left ≡ kept mode elements) }
-        ensures err { IfErr result (λ refused. refused.0 ≡ elements) }
-    {
-        if !mode.copies_back() {
-            outside(&mut self.held);
-            elements.discard();
-            return Ok(None);
-        }
-        let call = CopyBack {
-            array,
-            elements: &elements,
-        };
-        match self.retry(call, patience) {
             Ok(()) => Ok(elements.kept(mode)),
             Err(fault) => Err((elements, fault)),
         }
@@ -144,6 +106,11 @@ impl<S: Steps, E: Elem> NativeCall<S> for GetArrayElements<E> {
     }
 
     #[inline(always)]
+    fn demand(&self) -> Demand {
+        Demand::Nothing
+    }
+
+    #[inline(always)]
     fn work(
         self,
         steps: &mut S,
@@ -156,49 +123,6 @@ impl<S: Steps, E: Elem> NativeCall<S> for GetArrayElements<E> {
         has_elements(E::KIND, header.kind)?;
         let items = read_all(self.alloc, steps, object, header)?;
         Ok(elements_of(items))
-    }
-}
-
-/// A copy of all units of a string.
-#[derive(Clone, Copy)]
-pub struct GetStringChars {
-    /// What the memory is taken from.
-    pub alloc: Global,
-    /// The string.
-    pub string: Handle,
-}
-
-impl<S: Steps> NativeCall<S> for GetStringChars {
-    ghost use Rattle.jr_env.specs.Requests.{for_get_string_chars, told_by};
-
-    type Answer = Vec<u16>;
-
-    ghost request = { λ c. told_by (λ units. units.items) (for_get_string_chars c.string.0) };
-
-    #[inline(always)]
-    fn name(&self) -> &'static str {
-        "GetStringChars"
-    }
-
-    #[inline(always)]
-    fn handed(&self) -> Handed {
-        Handed::One(self.string)
-    }
-
-    #[inline(always)]
-    fn work(
-        self,
-        steps: &mut S,
-        inside: &Inside,
-        frames: &mut Frames,
-        _numbers: &mut Numbers,
-    ) -> Result<Vec<u16>, Fault> {
-        let string = Reference::of(self.string);
-        let (object, header) = find(steps, inside, frames, string)?;
-        if !is_text(header.kind) {
-            return Err(Fault::WrongKind);
-        }
-        read_all(self.alloc, steps, object, header)
     }
 }
 
@@ -233,6 +157,11 @@ impl<S: Steps, E: Elem> NativeCall<S> for CopyBack<'_, E> {
                 count: self.elements.length() as usize,
             },
         )
+    }
+
+    #[inline(always)]
+    fn demand(&self) -> Demand {
+        Demand::Nothing
     }
 
     #[inline(always)]

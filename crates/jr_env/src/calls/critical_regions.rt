@@ -2,21 +2,17 @@
 use crate::critical_region::Region;
 use crate::env::Env;
 use crate::levels_beside;
-use crate::levels_beside::First;
-use crate::patience::Patience;
 use jr_steps::Steps;
 use jr_word::{Fault, Handle};
 
 impl<S: Steps> Env<S> {
-    ghost use Rattle.std.specs.Prelude.{◌≡◌, Ok, IfOk};
+    ghost use Rattle.std.specs.Prelude.{◌≡◌, IfOk};
     ghost use Rattle.std.specs.Borrow.{sem};
     ghost use Rattle.jr_model.specs.CallPrograms.{get_array_critical, get_string_critical};
     ghost use Rattle.jr_critical.specs.Levels.{opened_by};
-    ghost use Rattle.jr_env.specs.declared.levels_beside.First.TheVariants.{Array, Text};
     ghost use Rattle.jr_env.specs.Envs.{IsOutside};
     ghost use Rattle.jr_env.specs.StandingRegions.{StandsSince};
     ghost use Rattle.jr_env.specs.Criticals.{env_of, held_of, levels_of, rests_in, WasOpened};
-    ghost use Rattle.jr_env.specs.Retried.{rests_opening, TriesAgainToOpen};
 
     /// Opens a critical region, with the array at its first level. The thread is within until that level is released. (JNI Specification, chapter 4, "GetPrimitiveArrayCritical")
     ///
@@ -59,54 +55,6 @@ impl<S: Steps> Env<S> {
         ensures region { IfOk result (λ r. IsOutside self.old → StandsSince self.old.held (held_of r) (levels_of r)) }
     {
         let levels = levels_beside::open_string(self, string)?;
-        Ok(Region::over(self, levels))
-    }
-
-    /// Opens a critical region as `get_array_critical` does, and again as long as it is refused by E13, but no more than so many times more.
-    ///
-    /// # Errors
-    ///
-    /// Those of `get_array_critical` at the last try.
-    ///
-    /// Nothing has changed then, and the thread stands outside.
-    ///
-    /// # Operations
-    ///
-    /// Those of each try.
-    pub fn retry_array_critical(
-        &mut self,
-        array: Handle,
-        patience: Patience,
-    ) -> Result<Region<'_, S>, Fault>
-        ensures* rests { sem 𝓛 (rests_opening S.row S.Steps patience (Array array) self.entry result) }
-        ensures same_reference { IfOk result (λ r. (env_of r).ghost_name ≡ self.entry.ghost_name) }
-        ensures opened { IfOk result (λ r. TriesAgainToOpen patience (Array array) self.old (Ok (levels_of r)) (env_of r).now) }
-    {
-        let levels = levels_beside::retry_open(self, First::Array(array), patience)?;
-        Ok(Region::over(self, levels))
-    }
-
-    /// Opens a critical region as `get_string_critical` does, and again as long as it is refused by E13, but no more than so many times more.
-    ///
-    /// # Errors
-    ///
-    /// Those of `get_string_critical` at the last try.
-    ///
-    /// Nothing has changed then, and the thread stands outside.
-    ///
-    /// # Operations
-    ///
-    /// Those of each try.
-    pub fn retry_string_critical(
-        &mut self,
-        string: Handle,
-        patience: Patience,
-    ) -> Result<Region<'_, S>, Fault>
-        ensures* rests { sem 𝓛 (rests_opening S.row S.Steps patience (Text string) self.entry result) }
-        ensures same_reference { IfOk result (λ r. (env_of r).ghost_name ≡ self.entry.ghost_name) }
-        ensures opened { IfOk result (λ r. TriesAgainToOpen patience (Text string) self.old (Ok (levels_of r)) (env_of r).now) }
-    {
-        let levels = levels_beside::retry_open(self, First::Text(string), patience)?;
         Ok(Region::over(self, levels))
     }
 }

@@ -1,4 +1,5 @@
 //! The calls of the Java Native Interface for the frames of one thread, over any steps.
+use crate::demand::Demand;
 use crate::env::Env;
 use crate::native_call::{Handed, NativeCall};
 use crate::work::outside;
@@ -83,6 +84,11 @@ impl<S: Steps> NativeCall<S> for PopLocalFrame {
     }
 
     #[inline(always)]
+    fn demand(&self) -> Demand {
+        Demand::Nothing
+    }
+
+    #[inline(always)]
     fn work(
         self,
         steps: &mut S,
@@ -120,6 +126,11 @@ impl<S: Steps> NativeCall<S> for FreeLocals {
     #[inline(always)]
     fn handed(&self) -> Handed {
         Handed::Nothing
+    }
+
+    #[inline(always)]
+    fn demand(&self) -> Demand {
+        Demand::Nothing
     }
 
     #[inline(always)]

@@ -1,4 +1,5 @@
 //! Which object a reference is to, as a number: a call at a reference, over any steps.
+use crate::demand::Demand;
 use crate::native_call::{Handed, NativeCall};
 use jr_frames::{Frames, Reference, resolve};
 use jr_gate::Inside;
@@ -25,6 +26,11 @@ impl<S: Steps> NativeCall<S> for IdentityOf {
     #[inline(always)]
     fn handed(&self) -> Handed {
         Handed::One(self.0)
+    }
+
+    #[inline(always)]
+    fn demand(&self) -> Demand {
+        Demand::Nothing
     }
 
     #[inline(always)]

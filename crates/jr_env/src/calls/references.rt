@@ -12,7 +12,9 @@ ghost use Rattle.jr_env.specs.Requests.{for_delete_reference, for_is_same_object
 ghost use Rattle.jr_env.specs.Works.{Serves};
 
 use crate::demand::Demand;
+use crate::env::Env;
 use crate::native_call::{Handed, NativeCall};
+use crate::patience::Patience;
 use jr_frames::{
     Frames, Reference, delete_local, lies_outside, names_kind, new_local, resolve, resolve_both,
     type_of,
@@ -22,6 +24,33 @@ use jr_heap::Numbers;
 use jr_row::{create, delete};
 use jr_steps::Steps;
 use jr_word::{Fault, Handle, HandleParts, RefKind};
+
+impl<S: Steps> Env<S> {
+    ghost use Rattle.jr_env.specs.Envs.{Does};
+    ghost use Rattle.jr_env.specs.Remedies.{deleting_cleared};
+
+    /// Deletes a weak global reference where it is cleared, and tells whether it was. It compares it with NULL first, and makes both calls as `retry` does.
+    /// Behind a collection it gives slots back, where all were held (E8). NULL counts as cleared, and nothing is deleted for it.
+    ///
+    /// # Errors
+    ///
+    /// Those of `is_same_object` with NULL at its last try, and where the reference is cleared those of `delete_weak_global_ref` at its last try.
+    ///
+    /// Nothing has changed then, and the thread stands outside.
+    ///
+    /// # Operations
+    ///
+    /// Those of each try of the two calls.
+    pub fn delete_cleared(&mut self, weak: Handle, patience: Patience) -> Result<bool, Fault>
+        ensures { Does self.old self.new (deleting_cleared patience.waits_for_room patience.more weak.0) result }
+    {
+        if self.retry(IsSameObject(weak, Handle::NULL), patience)? {
+            self.retry(DeleteWeakGlobalRef(weak), patience)?;
+            return Ok(true);
+        }
+        Ok(false)
+    }
+}
 
 /// A global reference to what a handle names, none for NULL.
 #[derive(Clone, Copy)]
@@ -123,6 +152,11 @@ impl<S: Steps> NativeCall<S> for NewLocalRef {
     }
 
     #[inline(always)]
+    fn demand(&self) -> Demand {
+        Demand::Nothing
+    }
+
+    #[inline(always)]
     fn work(
         self,
         steps: &mut S,
@@ -160,6 +194,11 @@ impl<S: Steps> NativeCall<S> for DeleteGlobalRef {
     }
 
     #[inline(always)]
+    fn demand(&self) -> Demand {
+        Demand::Nothing
+    }
+
+    #[inline(always)]
     fn work(
         self,
         steps: &mut S,
@@ -194,6 +233,11 @@ impl<S: Steps> NativeCall<S> for DeleteWeakGlobalRef {
     }
 
     #[inline(always)]
+    fn demand(&self) -> Demand {
+        Demand::Nothing
+    }
+
+    #[inline(always)]
     fn work(
         self,
         steps: &mut S,
@@ -224,6 +268,11 @@ impl<S: Steps> NativeCall<S> for DeleteLocalRef {
     #[inline(always)]
     fn handed(&self) -> Handed {
         Handed::One(self.0)
+    }
+
+    #[inline(always)]
+    fn demand(&self) -> Demand {
+        Demand::Nothing
     }
 
     #[inline(always)]
@@ -265,6 +314,11 @@ impl<S: Steps> NativeCall<S> for IsSameObject {
     }
 
     #[inline(always)]
+    fn demand(&self) -> Demand {
+        Demand::Nothing
+    }
+
+    #[inline(always)]
     fn work(
         self,
         steps: &mut S,
@@ -295,6 +349,11 @@ impl<S: Steps> NativeCall<S> for GetObjectRefType {
     #[inline(always)]
     fn handed(&self) -> Handed {
         Handed::One(self.0)
+    }
+
+    #[inline(always)]
+    fn demand(&self) -> Demand {
+        Demand::Nothing
     }
 
     #[inline(always)]

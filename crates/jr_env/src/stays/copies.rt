@@ -1,5 +1,5 @@
-//! The calls that copy all elements of an array or string out, and back, in a stay, over any steps.
-use crate::calls::copies::CopyBack;
+//! The calls that copy all elements of an array back, in a stay, over any steps.
+use crate::calls::CopyBack;
 use crate::native_call::NativeCaller;
 use crate::stay::Stay;
 use jr_elements::Elements;

@@ -29,7 +29,7 @@ fn used_inside<S: Steps>(held: &mut Held<S>, _inside: &Inside) -> u32
 impl<S: Steps> Env<S> {
     /// The same of an env whose thread is within.
     #[inline(always)]
-    fn used_within(&mut self, inside: &Inside) -> u32
+    pub(crate) fn used_within(&mut self, inside: &Inside) -> u32
         requires { IsOwnStay inside.now (S.facts self.old.held.steps).stands }
         ensures call { TellsUsedWithin self.old.held self.new.held result }
         ensures frames { self.new.held.frames ≡ self.old.held.frames }

@@ -1,8 +1,7 @@
 //! Chains of as many arrays as there may be, each of which names the one before, followed without recursion.
 
-use crate::plain::{EnvTest, alone};
 use jr_env::{Env, NativeInterface};
-use jr_fixtures::{collects, has_type, made};
+use jr_fixtures::{EnvTest, alone, collects, has_type, made};
 use jr_steps::Steps;
 use jr_word::{Config, Handle};
 use std::alloc::Global;
@@ -42,10 +41,11 @@ fn close<S: Steps>(env: &mut Env<S>, first: Handle, last: Handle) -> Result<(), 
 }
 
 /// A chain stands while its last is named, and is dropped then.
+#[derive(Drop)]
 struct ReachesAChain;
 
-impl EnvTest for ReachesAChain {
-    fn run<S: Steps, R: Abort>(_rt: &R, alloc: Global, env: &mut Env<S>) -> Result<(), Fail> {
+impl<R: Abort> EnvTest<R> for ReachesAChain {
+    fn run<S: Steps>(self, _rt: &R, alloc: Global, env: &mut Env<S>) -> Result<(), Fail> {
         let first = env.new_object_array(1, Handle::NULL)?;
         let last = chain(env, first, LINKS)?;
         collects(alloc, env, [0, 0, 60_000])?;
@@ -56,14 +56,15 @@ impl EnvTest for ReachesAChain {
 
 #[test]
 fn a_chain_is_reached_from_its_last(rt: HostRuntime) -> Result<(), Fail> {
-    alone::<ReachesAChain, _>(&rt, rt.alloc(), LONG)
+    alone(&rt, rt.alloc(), LONG, ReachesAChain)
 }
 
 /// A cycle stands while one of it is named, and is dropped then.
+#[derive(Drop)]
 struct ReachesACycle;
 
-impl EnvTest for ReachesACycle {
-    fn run<S: Steps, R: Abort>(_rt: &R, alloc: Global, env: &mut Env<S>) -> Result<(), Fail> {
+impl<R: Abort> EnvTest<R> for ReachesACycle {
+    fn run<S: Steps>(self, _rt: &R, alloc: Global, env: &mut Env<S>) -> Result<(), Fail> {
         let first = env.new_object_array(1, Handle::NULL)?;
         let kept = made(env.new_global_ref(first))?;
         let word = made(env.new_weak_global_ref(first))?;
@@ -78,5 +79,5 @@ impl EnvTest for ReachesACycle {
 
 #[test]
 fn a_cycle_is_reached_from_any_and_else_dropped(rt: HostRuntime) -> Result<(), Fail> {
-    alone::<ReachesACycle, _>(&rt, rt.alloc(), LONG)
+    alone(&rt, rt.alloc(), LONG, ReachesACycle)
 }

@@ -1,8 +1,8 @@
 //! The words that a collection leaves.
 
-use crate::plain::{EnvTest, leaves_words};
+use crate::plain::leaves_words;
 use jr_env::{Env, NativeInterface};
-use jr_fixtures::{collects, made};
+use jr_fixtures::{EnvTest, collects, made};
 use jr_steps::Steps;
 use jr_word::Config;
 use std::alloc::Global;
@@ -30,19 +30,21 @@ fn fills<S: Steps>(env: &mut Env<S>) -> Result<(), Fail> {
 }
 
 /// They are made.
+#[derive(Drop)]
 struct Filled;
 
-impl EnvTest for Filled {
-    fn run<S: Steps, R: Abort>(_rt: &R, _alloc: Global, env: &mut Env<S>) -> Result<(), Fail> {
+impl<R: Abort> EnvTest<R> for Filled {
+    fn run<S: Steps>(self, _rt: &R, _alloc: Global, env: &mut Env<S>) -> Result<(), Fail> {
         fills(env)
     }
 }
 
 /// They are made, and a collection behind it.
+#[derive(Drop)]
 struct FilledAndCollected;
 
-impl EnvTest for FilledAndCollected {
-    fn run<S: Steps, R: Abort>(_rt: &R, alloc: Global, env: &mut Env<S>) -> Result<(), Fail> {
+impl<R: Abort> EnvTest<R> for FilledAndCollected {
+    fn run<S: Steps>(self, _rt: &R, alloc: Global, env: &mut Env<S>) -> Result<(), Fail> {
         fills(env)?;
         collects(alloc, env, [1, 1, 2])
     }
@@ -60,12 +62,12 @@ fn a_collection_leaves_these_words(rt: HostRuntime) -> Result<(), Fail> {
     row[22] = 9;
     row[23] = 5;
     row[24] = 0xFFFF_FFFF_FFFF_FFFA;
-    leaves_words::<Filled, _>(&rt, rt.alloc(), PAIR, &row)?;
+    leaves_words(&rt, rt.alloc(), PAIR, &row, Filled)?;
     row[1] = 2;
     row[2] = 3;
     row[20] = 0;
     row[21] = 0x27;
     row[22] = 5;
     row[23] = 0xFFFF_FFFF_FFFF_FFFA;
-    leaves_words::<FilledAndCollected, _>(&rt, rt.alloc(), PAIR, &row)
+    leaves_words(&rt, rt.alloc(), PAIR, &row, FilledAndCollected)
 }

@@ -4,6 +4,7 @@
 //! - a handle is what `luthrady_open` or `luthrady_attach` wrote;
 //! - each handle is in one call at a time: an env's by `&mut self`, a room's by a lock;
 //! - a thread is detached from the room that it was attached to;
+//! - a critical region borrows its env, and ends with its value, or where its env's next one is opened;
 //! - an env's place is freed when its value is dropped, so that a call after a detach is E21;
 //! - a room's place is freed with the last value that holds it.
 //!
@@ -13,17 +14,30 @@ use luthrady_sys as sys;
 use std::sync::{Arc, Mutex, MutexGuard, PoisonError};
 use std::{error, fmt, ptr, thread};
 
-pub use sys::{Counts, Operation, Sizes, Stood};
+pub use sys::{Counts, Object, Operation, Sizes, Slot, Stood};
+
+/// Room for a dump.
+#[derive(Debug, Default)]
+pub struct Rows<'a> {
+    /// What each slot has.
+    pub slots: &'a mut [Slot],
+    /// The identities that the local places of each thread have.
+    pub locals: &'a mut [u16],
+    /// What each number of an object has.
+    pub objects: &'a mut [Object],
+    /// The words of the elements.
+    pub words: &'a mut [u64],
+}
 
 /// A call of a batch, and its answer.
 #[derive(Clone, Copy, Debug, Default, PartialEq, Eq)]
 #[repr(transparent)]
-pub struct Call(sys::Call);
+pub struct BatchCall(sys::BatchCall);
 
-impl Call {
+impl BatchCall {
     /// A call that is handed these references, and an index.
-    pub fn new(operation: Operation, first: u64, second: u64, index: u32) -> Call {
-        Call(sys::Call {
+    pub fn new(operation: Operation, first: u64, second: u64, index: u32) -> BatchCall {
+        BatchCall(sys::BatchCall {
             operation: operation as u32,
             index,
             first,
@@ -163,6 +177,14 @@ pub trait Element: Copy {
     fn get_all(env: &mut Env, array: u64, to: &mut [Self]) -> Answer<()>;
     /// Releases a copy of all elements of an array.
     fn release(env: &mut Env, array: u64, from: &[Self], mode: Mode) -> Answer<()>;
+    /// Copies a part of a level of a region out.
+    fn get_part(env: &mut Env, level: u32, start: u32, to: &mut [Self]) -> Answer<()>;
+    /// Copies elements into a part of a level of a region.
+    fn set_part(env: &mut Env, level: u32, start: u32, from: &[Self]) -> Answer<()>;
+    /// An element of a level of a region.
+    fn get_at(env: &mut Env, level: u32, index: u32) -> Answer<Self>;
+    /// Writes an element of a level of a region.
+    fn set_at(env: &mut Env, level: u32, index: u32, value: Self) -> Answer<()>;
 }
 
 /// What becomes of a copy that is released: it is written to the array, or nothing is done.
@@ -174,7 +196,7 @@ pub enum Mode {
 }
 
 macro_rules! element {
-    ($element:ty, $new:path, $get:path, $set:path, $get_all:path, $release:path) => {
+    ($element:ty, $new:path, $get:path, $set:path, $get_all:path, $release:path, $of_level:path, $to_level:path, $at:path, $set_at:path, $of_word:expr) => {
         impl Element for $element {
             fn new_array(env: &mut Env, length: u32) -> Answer<u64> {
                 value(unsafe { $new(&mut env.0, length) })
@@ -199,6 +221,24 @@ macro_rules! element {
                 let (at, count) = (from.as_ptr(), from.len());
                 nothing(unsafe { $release(&mut env.0, array, at, count, mode as u32) })
             }
+
+            fn get_part(env: &mut Env, level: u32, start: u32, to: &mut [Self]) -> Answer<()> {
+                let (at, count) = (to.as_mut_ptr(), to.len());
+                nothing(unsafe { $of_level(&mut env.0, level, start, at, count) })
+            }
+
+            fn set_part(env: &mut Env, level: u32, start: u32, from: &[Self]) -> Answer<()> {
+                let (at, count) = (from.as_ptr(), from.len());
+                nothing(unsafe { $to_level(&mut env.0, level, start, at, count) })
+            }
+
+            fn get_at(env: &mut Env, level: u32, index: u32) -> Answer<Self> {
+                value(unsafe { $at(&mut env.0, level, index) }).map($of_word)
+            }
+
+            fn set_at(env: &mut Env, level: u32, index: u32, value: Self) -> Answer<()> {
+                nothing(unsafe { $set_at(&mut env.0, level, index, value) })
+            }
         }
     };
 }
@@ -209,7 +249,12 @@ element!(
     sys::luthrady_get_boolean_array_region,
     sys::luthrady_set_boolean_array_region,
     sys::luthrady_get_boolean_array_elements,
-    sys::luthrady_release_boolean_array_elements
+    sys::luthrady_release_boolean_array_elements,
+    sys::luthrady_get_boolean_level_part,
+    sys::luthrady_set_boolean_level_part,
+    sys::luthrady_get_boolean_level_element,
+    sys::luthrady_set_boolean_level_element,
+    |word| word == 1
 );
 element!(
     i8,
@@ -217,7 +262,12 @@ element!(
     sys::luthrady_get_byte_array_region,
     sys::luthrady_set_byte_array_region,
     sys::luthrady_get_byte_array_elements,
-    sys::luthrady_release_byte_array_elements
+    sys::luthrady_release_byte_array_elements,
+    sys::luthrady_get_byte_level_part,
+    sys::luthrady_set_byte_level_part,
+    sys::luthrady_get_byte_level_element,
+    sys::luthrady_set_byte_level_element,
+    |word| word as i8
 );
 element!(
     u16,
@@ -225,7 +275,12 @@ element!(
     sys::luthrady_get_char_array_region,
     sys::luthrady_set_char_array_region,
     sys::luthrady_get_char_array_elements,
-    sys::luthrady_release_char_array_elements
+    sys::luthrady_release_char_array_elements,
+    sys::luthrady_get_char_level_part,
+    sys::luthrady_set_char_level_part,
+    sys::luthrady_get_char_level_element,
+    sys::luthrady_set_char_level_element,
+    |word| word as u16
 );
 element!(
     i16,
@@ -233,7 +288,12 @@ element!(
     sys::luthrady_get_short_array_region,
     sys::luthrady_set_short_array_region,
     sys::luthrady_get_short_array_elements,
-    sys::luthrady_release_short_array_elements
+    sys::luthrady_release_short_array_elements,
+    sys::luthrady_get_short_level_part,
+    sys::luthrady_set_short_level_part,
+    sys::luthrady_get_short_level_element,
+    sys::luthrady_set_short_level_element,
+    |word| word as i16
 );
 element!(
     i32,
@@ -241,7 +301,12 @@ element!(
     sys::luthrady_get_int_array_region,
     sys::luthrady_set_int_array_region,
     sys::luthrady_get_int_array_elements,
-    sys::luthrady_release_int_array_elements
+    sys::luthrady_release_int_array_elements,
+    sys::luthrady_get_int_level_part,
+    sys::luthrady_set_int_level_part,
+    sys::luthrady_get_int_level_element,
+    sys::luthrady_set_int_level_element,
+    |word| word as i32
 );
 element!(
     i64,
@@ -249,7 +314,12 @@ element!(
     sys::luthrady_get_long_array_region,
     sys::luthrady_set_long_array_region,
     sys::luthrady_get_long_array_elements,
-    sys::luthrady_release_long_array_elements
+    sys::luthrady_release_long_array_elements,
+    sys::luthrady_get_long_level_part,
+    sys::luthrady_set_long_level_part,
+    sys::luthrady_get_long_level_element,
+    sys::luthrady_set_long_level_element,
+    |word| word as i64
 );
 
 impl Env {
@@ -257,9 +327,8 @@ impl Env {
     pub fn detach(&mut self) -> Answer<Option<Stood>> {
         let mut stood = Stood::default();
         let room = self.1.clone();
-        let closed = value(unsafe {
-            sys::luthrady_detach(&mut room.lock().0, &mut self.0, &mut stood)
-        })?;
+        let closed =
+            value(unsafe { sys::luthrady_detach(&mut room.lock().0, &mut self.0, &mut stood) })?;
         Ok((closed == 1).then_some(stood))
     }
 
@@ -384,7 +453,7 @@ impl Env {
     }
 
     /// Makes calls between one entry at the gate and one exit, and writes each answer to its call.
-    pub fn batch(&mut self, calls: &mut [Call]) -> Answer<()> {
+    pub fn batch(&mut self, calls: &mut [BatchCall]) -> Answer<()> {
         nothing(unsafe { sys::luthrady_batch(&mut self.0, calls.as_mut_ptr().cast(), calls.len()) })
     }
 
@@ -400,10 +469,160 @@ impl Env {
         nothing(unsafe { sys::luthrady_collect_announced(&mut self.0, tries, &mut counts) })?;
         Ok(counts)
     }
+
+    /// Collects, announced with so many tries, and again up to so many times more as long as it gets no turn.
+    pub fn collect_in_turn(&mut self, tries: u32, more: u32) -> Answer<Counts> {
+        let mut counts = Counts::default();
+        nothing(unsafe { sys::luthrady_collect_in_turn(&mut self.0, tries, more, &mut counts) })?;
+        Ok(counts)
+    }
+
+    /// The same, which lists the weak references that it cleared and the identities of the objects that it dropped, in front of two slices and as much as there is room for.
+    pub fn collect_listing(
+        &mut self,
+        (tries, more): (u32, u32),
+        references: &mut [u64],
+        identities: &mut [u16],
+    ) -> Answer<Counts> {
+        let mut counts = Counts::default();
+        nothing(unsafe {
+            sys::luthrady_collect_in_turn_listing(
+                &mut self.0,
+                tries,
+                more,
+                references.as_mut_ptr(),
+                references.len(),
+                identities.as_mut_ptr(),
+                identities.len(),
+                &mut counts,
+            )
+        })?;
+        Ok(counts)
+    }
+
+    /// Writes what stands in the room in front of four slices, as much as there is room for.
+    pub fn dump(&mut self, rows: Rows<'_>) -> Answer<()> {
+        nothing(unsafe {
+            sys::luthrady_dump(
+                &mut self.0,
+                rows.slots.as_mut_ptr(),
+                rows.slots.len(),
+                rows.locals.as_mut_ptr(),
+                rows.locals.len(),
+                rows.objects.as_mut_ptr(),
+                rows.objects.len(),
+                rows.words.as_mut_ptr(),
+                rows.words.len(),
+            )
+        })
+    }
+
+    /// The same, announced first, with so many tries at the gate.
+    pub fn dump_announced(&mut self, tries: u32, rows: Rows<'_>) -> Answer<()> {
+        nothing(unsafe {
+            sys::luthrady_dump_announced(
+                &mut self.0,
+                tries,
+                rows.slots.as_mut_ptr(),
+                rows.slots.len(),
+                rows.locals.as_mut_ptr(),
+                rows.locals.len(),
+                rows.objects.as_mut_ptr(),
+                rows.objects.len(),
+                rows.words.as_mut_ptr(),
+                rows.words.len(),
+            )
+        })
+    }
+}
+
+/// A critical region of an env. The elements of the arrays and strings at its levels are read and written in place, and no collection comes.
+/// While it stands no other call by the env compiles. Where it is dropped it ends, with all its levels.
+#[derive(Debug)]
+pub struct Region<'e>(&'e mut Env);
+
+impl Env {
+    /// Opens a region, with the array at level 0. One whose value was forgotten ends before.
+    pub fn array_critical(&mut self, array: u64) -> Answer<Region<'_>> {
+        if value(unsafe { sys::luthrady_get_array_critical(&mut self.0, array) })? != 0 {
+            self.end_region();
+            value(unsafe { sys::luthrady_get_array_critical(&mut self.0, array) })?;
+        }
+        Ok(Region(self))
+    }
+
+    /// Opens a region, with the string at level 0. One whose value was forgotten ends before.
+    pub fn string_critical(&mut self, string: u64) -> Answer<Region<'_>> {
+        if value(unsafe { sys::luthrady_get_string_critical(&mut self.0, string) })? != 0 {
+            self.end_region();
+            value(unsafe { sys::luthrady_get_string_critical(&mut self.0, string) })?;
+        }
+        Ok(Region(self))
+    }
+
+    /// Ends the region that stands, if one does.
+    fn end_region(&mut self) {
+        while value(unsafe { sys::luthrady_release_critical(&mut self.0) })
+            .is_ok_and(|left| left > 0)
+        {}
+    }
+}
+
+impl<'e> Region<'e> {
+    /// Adds a level over an array, and answers its number.
+    pub fn nest_array(&mut self, array: u64) -> Answer<u32> {
+        let level = value(unsafe { sys::luthrady_get_array_critical(&mut self.0.0, array) })?;
+        Ok(level as u32)
+    }
+
+    /// Adds a level over a string, and answers its number.
+    pub fn nest_string(&mut self, string: u64) -> Answer<u32> {
+        let level = value(unsafe { sys::luthrady_get_string_critical(&mut self.0.0, string) })?;
+        Ok(level as u32)
+    }
+
+    /// How many elements or units a level has.
+    pub fn length(&mut self, level: u32) -> Answer<u32> {
+        let length = value(unsafe { sys::luthrady_get_level_length(&mut self.0.0, level) })?;
+        Ok(length as u32)
+    }
+
+    /// Copies a part of a level out.
+    pub fn get<E: Element>(&mut self, level: u32, start: u32, to: &mut [E]) -> Answer<()> {
+        E::get_part(self.0, level, start, to)
+    }
+
+    /// Copies elements into a part of a level.
+    pub fn set<E: Element>(&mut self, level: u32, start: u32, from: &[E]) -> Answer<()> {
+        E::set_part(self.0, level, start, from)
+    }
+
+    /// An element of a level, or a unit as a char.
+    pub fn element<E: Element>(&mut self, level: u32, index: u32) -> Answer<E> {
+        E::get_at(self.0, level, index)
+    }
+
+    /// Writes an element of a level.
+    pub fn set_element<E: Element>(&mut self, level: u32, index: u32, value: E) -> Answer<()> {
+        E::set_at(self.0, level, index, value)
+    }
+
+    /// Releases the last level. With level 0 the region ends, and none is left.
+    pub fn release(self) -> Answer<Option<Region<'e>>> {
+        let left = value(unsafe { sys::luthrady_release_critical(&mut self.0.0) })?;
+        Ok((left > 0).then_some(self))
+    }
+}
+
+impl Drop for Region<'_> {
+    fn drop(&mut self) {
+        self.0.end_region();
+    }
 }
 
 impl Drop for Env {
     fn drop(&mut self) {
+        self.end_region();
         while self.detach().is_err_and(|fault| fault.number == BARRED) {
             thread::yield_now();
         }

@@ -1,6 +1,8 @@
 //! What the crate adds to the functions: refusals as errors, envs that detach, and rooms that are released.
 
-use luthrady::{Answer, Call, Element, Env, Fault, Mode, Operation, Room, Sizes};
+use luthrady::{
+    Answer, BatchCall, Element, Env, Fault, Mode, Object, Operation, Room, Rows, Sizes, Slot,
+};
 use std::error::Error;
 use std::thread;
 
@@ -24,7 +26,10 @@ fn a_refusal_is_an_error_with_text_and_numbers() -> Result<(), Box<dyn Error>> {
         "E10: the request doesn't fit beside the words in use (3)"
     );
     let stale: Box<dyn Error> = Box::new(env.length(7).unwrap_err());
-    assert_eq!(stale.to_string(), "E2: no reference of this word stands");
+    assert_eq!(
+        stale.to_string(),
+        "E2: no reference of this word stands, or no level of this number"
+    );
     Ok(())
 }
 
@@ -117,9 +122,9 @@ fn a_batch_answers_each_call() -> Answer<()> {
     let mut env = room.attach()?;
     let object = env.new_plain()?;
     let mut calls = [
-        Call::new(Operation::GetObjectRefType, object, 0, 0),
-        Call::new(Operation::IsSameObject, object, 0, 0),
-        Call::new(Operation::GetArrayLength, object, 0, 0),
+        BatchCall::new(Operation::GetObjectRefType, object, 0, 0),
+        BatchCall::new(Operation::IsSameObject, object, 0, 0),
+        BatchCall::new(Operation::GetArrayLength, object, 0, 0),
     ];
     env.batch(&mut calls)?;
     assert_eq!(
@@ -127,6 +132,47 @@ fn a_batch_answers_each_call() -> Answer<()> {
         [Ok(1), Ok(0), Err(Fault::new(5, 0))]
     );
     Ok(())
+}
+
+#[test]
+fn what_went_is_listed_as_far_as_there_is_room() -> Answer<()> {
+    let room = Room::open(SIZES)?;
+    let mut env = room.attach()?;
+    let (first, second) = (env.new_plain()?, env.new_plain()?);
+    let weaks = [env.weak(first)?, env.weak(second)?];
+    assert_eq!(env.collect_in_turn(1, 0)?.cleared, 0);
+    env.delete_local(first)?;
+    env.delete_local(second)?;
+    let (mut references, mut identities) = ([0; 1], [0; 3]);
+    let counts = env.collect_listing((1, 0), &mut references, &mut identities)?;
+    assert_eq!((counts.cleared, counts.dropped), (2, 2));
+    assert!(weaks.contains(&references[0]));
+    assert!(identities[0] != 0 && identities[1] != 0 && identities[2] == 0);
+    Ok(())
+}
+
+#[test]
+fn a_dump_has_what_stands() -> Answer<()> {
+    let room = Room::open(SIZES)?;
+    let mut env = room.attach()?;
+    let array = env.new_array::<i32>(2)?;
+    env.set(array, 1, &[5])?;
+    env.global(array)?;
+    let (mut slots, mut objects) = ([Slot::default(); 4], [Object::default(); 4]);
+    let (mut locals, mut words) = ([0; 32], [0; 8]);
+    env.dump(Rows {
+        slots: &mut slots,
+        locals: &mut locals,
+        objects: &mut objects,
+        words: &mut words,
+    })?;
+    let kept = slots.iter().find(|it| it.state == 2).expect("it stands");
+    let object = objects[kept.object as usize - 1];
+    let place = object.place as usize;
+    assert_eq!((object.kind, object.length), (6, 2));
+    assert_eq!(words[place..place + 2], [0, 5]);
+    assert_eq!(locals.iter().filter(|&&it| it != 0).count(), 1);
+    env.dump_announced(1, Rows::default())
 }
 
 #[test]
@@ -175,4 +221,46 @@ fn an_env_and_a_room_may_go_to_another_thread() {
     fn crosses<T: Send>() {}
     crosses::<Env>();
     crosses::<Room>();
+}
+
+#[test]
+fn a_region_has_levels_and_ends_with_the_last() -> Answer<()> {
+    let room = Room::open(SIZES)?;
+    let mut env = room.attach()?;
+    let array = env.new_array::<i16>(3)?;
+    let string = env.new_string(&[7, 8])?;
+    let mut region = env.array_critical(array)?;
+    assert_eq!(region.nest_string(string), Ok(1));
+    region.set(0, 1, &[-5i16, i16::MIN])?;
+    region.set_element(0, 0, -1i16)?;
+    let mut read = [0i16; 3];
+    region.get(0, 0, &mut read)?;
+    assert_eq!(read, [-1, -5, i16::MIN]);
+    assert_eq!(region.element::<i16>(0, 2), Ok(i16::MIN));
+    assert_eq!(region.element::<u16>(1, 1), Ok(8));
+    assert_eq!(region.set_element(1, 1, 9u16), Err(Fault::new(5, 0)));
+    assert_eq!(region.element::<i32>(0, 0), Err(Fault::new(6, 0)));
+    assert_eq!(region.element::<i16>(0, 3), Err(Fault::new(7, 0)));
+    assert_eq!(region.length(1), Ok(2));
+    assert_eq!(region.length(2), Err(Fault::new(2, 0)));
+    let region = region.release()?.expect("one level is left");
+    assert!(region.release()?.is_none());
+    env.get(array, 0, &mut read)?;
+    assert_eq!(read, [-1, -5, i16::MIN]);
+    Ok(())
+}
+
+#[test]
+fn a_region_that_is_dropped_lets_others_collect() -> Answer<()> {
+    let room = Room::open(SIZES)?;
+    let mut env = room.attach()?;
+    let mut other = room.attach()?;
+    let array = env.new_array::<bool>(2)?;
+    let mut region = env.array_critical(array)?;
+    region.nest_array(array)?;
+    assert_eq!(other.collect().unwrap_err(), Fault::new(14, 1));
+    drop(region);
+    other.collect()?;
+    env.length(array)?;
+    Ok(())
 }

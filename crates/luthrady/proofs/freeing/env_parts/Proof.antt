@@ -1,104 +1,13 @@
 -- `env_parts` moves two fields, and what they own goes with them.
-use Rattle.std.proofs.Common.{◌≡◌, List, [], ◌∷◌, ◌++◌, false, refl, sym, subst}
-use seplogic.Ra.Ura.{Ura}
-use mir.Syntax.{impl, tnil, dnil}
-use mir.Val.{Val}
-use base.Logic.{SProp, ent, id⊢}
-use base.Fml.{ftrue, fsep}
-use prog.Memory.{Memory}
-use prog.Routine.{Routine}
-use prog.Wp.{WpFn, Tables}
-use types.Logic.{Logic}
-use contract.Monad.{Fun, fact}
-use contract.Running.{tables, tables_of}
-use sound.WpLaws.{WpFn-mono}
-use types.Kit.{Item, ‵, raw, ◌⊛◌, ◌$◌, ◌∵◌, !, qed, by, move, drop, use1, join, split, fsplit, fjoin, rewrite}
-use types.Kit.{suffices, done}
-use types.Part.{whole, sub, agg}
-use types.Run.{stop, fld, no_more, and_then, of_opd, returns, enter}
-use types.ByLocal.{alloc_all, pass_all, free_all, look_at, get, get_in, sets}
-use denote.Exit.{yes}
-use denote.RawPtr.{Ptr}
-use denote.Signature.{Slot, plain, type_at}
-use denote.Steps.{heard, nothing}
-use denote.Triple.Spec.{triple_of}
-use denote.Triple.Table.{entered}
-use denote.Triple.Walked.{says, Stays, stay_dropped, walk_of, ends_at, Goes-dropped, walk_Meets}
-use Rattle.std.proofs.BoxSteps.Form.{Bx, D, B, word, box_typed}
-use Rattle.std.proofs.BoxSteps.Steps.{box_out, box_in}
-use Rattle.std.proofs.alloc.Global.TheLaws as heap_laws
-use Rattle.std.specs.Box.Ownership.{box_owns}
-use Rattle.std.specs.Ptr.{if_non_null}
-use Rattle.std.specs.contracts.alloc.Global as heap
-use Rattle.std.specs.contracts.impls.GlobalAllocator.TheImpl.{ghosts, dict}
-use Rattle.luthrady.proofs.Pointers.{at_a_block}
-use Rattle.luthrady.proofs.held.EnvPlace.TheLaws as held_laws
-use Rattle.luthrady.specs.Places.{is_null}
-use Rattle.luthrady.specs.contracts.handles.EnvHandle as handle
-use Rattle.luthrady.specs.contracts.held.EnvPlace as held
-use Rattle.luthrady.specs.contracts.freeing.env_parts as F
-use Rattle.luthrady.specs.contracts.freeing.env_parts.Key.{name as #self}
+use Rattle.luthrady.specs.contracts.freeing.env_parts as f
+use Rattle.luthrady.specs.contracts.handles.EnvHandle.{the_type}
+use Rattle.luthrady.specs.contracts.held.EnvPlace.{the_type as inner}
+use Rattle.luthrady.proofs.held.EnvPlace.TheLaws.{the_row_laws}
 use Rattle.luthrady.proofs.freeing.env_parts.Statement.{statement}
 use Rattle.luthrady.proofs.freeing.env_parts.Code as code
-
-abbrev E : Bx
-E = record {
-  row = held.the_row;
-  laws = held_laws.the_row_laws;
-  al = record
-      { row = heap.the_row; laws = heap_laws.the_row_laws; g = ghosts; d = dict; drops = impl [] tnil dnil };
-}
-
-abbrev From : Slot 0
-From = plain (λ _. handle.the_row)
-
-abbrev stayed : Stays (F.ended).signature.params (F.ended).kept
-stayed = (stay_dropped From yes, tt)
-
-module _ {M : Type 1} {𝓤 : Ura M} (𝓛 : Logic 𝓤) (at_mem : Memory → SProp 𝓤) (run : Routine → Fun 𝓤)
-    (𝓣 : Tables 𝓤 𝓛.H) where
-  open 𝓛 use {H}
-
-  walk : (z : (walk_of 𝓛 F.ended stayed (F.clauses 𝓛 at_mem run)).Ghost)
-      → ent 𝓤 ((walk_of 𝓛 F.ended stayed (F.clauses 𝓛 at_mem run)).pre z)
-      (WpFn 𝓤 H 𝓣.C 𝓣.Λ code.function (z.0.4.0 ++ [])
-      ((walk_of 𝓛 F.ended stayed (F.clauses 𝓛 at_mem run)).post z))
-  walk z =
-      let Post = (walk_of 𝓛 F.ended stayed (F.clauses 𝓛 at_mem run)).post z in
-      let h = z.0.3.0 in
-      let v : D E = record { ptr = h.at; alloc = h.alloc; value = h.value } in
-      let To = type_at (F.signature).result tt in
-      let made : To.Denot = record { ptr = h.at; alloc = h.alloc; value = h.value } in
-      qed 𝓛 ((‵ ftrue ⊛ ‵ (fsep (handle.the_row.own_val h z.0.4.0) ftrue)) ∷ raw (fact 𝓤 (is_null h.at ≡ false))
-      ∷ []) ∵
-      move ! (1 ∷ []) $ heard ! (is_null h.at ≡ false) (λ there. split ! $ drop ! $ fsplit ! $ fsplit ! $ move !
-      (1 ∷ []) $
-      at_a_block ! h.at (λ p. if_non_null p (box_owns (ghosts.dealloc_token h.alloc) held.the_row p h.value))
-      there (λ b₀ o₀ e₀.
-      rewrite ! 0 (λ (p : Ptr). ‵ (box_owns (ghosts.dealloc_token h.alloc) held.the_row p h.value)) (sym e₀) refl $
-      move ! (1 ∷ 0 ∷ []) $ fjoin ! $ use1 𝓛 (‵ ((B E).own_val v z.0.4.0)) (id⊢ 𝓤 _) $
-      box_out E ! v z.0.4.0 (λ b o hv e ws fa. box_in E ! v b o v.value e refl $ use1 𝓛
-      (‵ (To.own_val made (word E hv b o ∷ []))) (id⊢ 𝓤 _) $ move ! (1 ∷ []) $ drop ! $
-      let w = word E hv b o in
-      let Γ : List (Item 𝓤) = ‵ (To.own_val made (w ∷ [])) ∷ [] in
-      by ! (subst (λ (us : List Val). ent 𝓤 (types.Kit.⋆ 𝓛 Γ) (WpFn 𝓤 H 𝓣.C 𝓣.Λ code.function (us ++ []) Post))
-      (sym ws)
-      (qed 𝓛 Γ ∵ enter ! 𝓣.C 𝓣.Λ code.function (w ∷ []) _ $ alloc_all !
-      (λ ls. pass_all ! refl (box_typed E hv b o fa, tt) $
-      sets ! (of_opd ! (get_in ! (fld ! refl (stop !)) (sub ! 0 refl (whole !)))) refl (tt, tt) $ sets !
-      (of_opd ! (get_in ! (fld ! refl (stop !)) (sub ! 1 refl (whole !)))) refl fa $
-      sets ! (of_opd ! (get ! refl)) refl (tt, tt) $
-      sets ! (agg ! (and_then ! (get ! refl) (and_then ! (get ! refl) (no_more !)))) refl
-      (box_typed E hv b o fa) $ returns ! (look_at ! 0 refl) $ free_all ! refl $
-      suffices ! _ (ends_at 𝓛 F.ended stayed (F.clauses 𝓛 at_mem run) z w made (tt, tt) (tt, tt)) $ says ! refl $
-      nothing ! $ nothing ! $ fjoin ! $ join ! $ nothing ! $ join ! $ done !))))))
+use Rattle.luthrady.proofs.Emptying.{parts_made}
 
 pub env_parts_spec : {M : Type 1} → statement M
-unfolding tables_of
 env_parts_spec 𝓤 𝓛 𝓜 𝓡 wired =
-    let 𝓣 : Tables 𝓤 𝓛.H = tables_of 𝓤 𝓛.H 𝓜 (tables 𝓤 𝓛.H 𝓜 𝓡 𝓡.env) in
-    entered 𝓤 𝓛.H (triple_of 𝓛 F.signature (F.spec 𝓛 𝓜.mem 𝓡.returns)) 𝓣.C 𝓣.Λ #self code.function
+    parts_made the_type inner the_row_laws (λ h. h.at) (λ h. h.alloc) (λ h. h.value) 𝓛 𝓜 𝓡 f.Key.name
     (code.unfolded 𝓤 𝓛.H 𝓜 𝓡 wired)
-    (walk_Meets 𝓛 F.ended stayed (Goes-dropped 𝓛 0 From yes (λ κs x f. refl), tt) (F.clauses 𝓛 𝓜.mem 𝓡.returns)
-    (WpFn 𝓤 𝓛.H 𝓣.C 𝓣.Λ code.function) (WpFn-mono 𝓤 𝓛.H 𝓛.laws 𝓣 code.function)
-    (walk 𝓛 𝓜.mem 𝓡.returns 𝓣))

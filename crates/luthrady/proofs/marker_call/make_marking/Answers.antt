@@ -1,21 +1,20 @@
-use Rattle.std.proofs.Common.{sym, ap, ◌∙◌, ◌≡◌, None, rules}
-use Rattle.luthrady.specs.declared.handles.EnvHandle.{EnvHandle}
-use Rattle.luthrady.proofs.ThroughPointers.{by_marker, marks_nobody, stands, stood}
+use Rattle.std.proofs.Common.{◌∙◌, refl, sym}
+use Rattle.luthrady.proofs.ThroughPointers.{by_ready_marker, marks_nobody}
 use Rattle.luthrady.proofs.marker_call.make_marking.Goals as goal
 
 -- src/marker_call.rt
-pub returns-in_default : goal.returns-in_default
-returns-in_default g c =
+pub returns-in-Critical : goal.returns-in-Critical
+returns-in-Critical g c =
     let is = sym c.is_env.ensures.value ∙ c.if-not-is_env.false in
-    let none : c.env_of.result.now.native ≡ None = search rules in
-    marks_nobody _ _ _ _ is c.is_env.ensures.unchanged c.env_of.ensures.value none
+    marks_nobody _ _ _ _ _ is c.is_env.ensures.unchanged c.env_of.ensures.value c.in-Critical.is refl
 
-pub returns : goal.returns
-returns g c =
+pub returns-in-Detached : goal.returns-in-Detached
+returns-in-Detached g c =
     let is = sym c.is_env.ensures.value ∙ c.if-not-is_env.false in
-    let same = c.is_env.ensures.unchanged in
-    let lent = c.env_of.ensures.value in (
-      ap (λ (x : EnvHandle). x.at) same,
-      by_marker _ _ _ _ _ _ (stood _ _ _ _ is same lent c.in-Some.is) (stands _ _ _ _ is same lent)
-          c.deref_mut.ensures.value c.by.ensures.call c.by.ensures.room,
-    )
+    marks_nobody _ _ _ _ _ is c.is_env.ensures.unchanged c.env_of.ensures.value c.in-Detached.is refl
+
+pub returns-in-Ready : goal.returns-in-Ready
+returns-in-Ready g c =
+    let is = sym c.is_env.ensures.value ∙ c.if-not-is_env.false in
+    by_ready_marker _ _ _ _ _ _ is c.is_env.ensures.unchanged c.env_of.ensures.value c.in-Ready.is
+    c.deref_mut.ensures.value c.by.ensures.call c.by.ensures.room

@@ -1,6 +1,6 @@
 use Rattle.jr_env.proofs.AnnouncedCollections.{plain_announced}
 use Rattle.jr_env.proofs.EnvCalls.{does_more}
-use Rattle.jr_env.proofs.GivingBack.{until_each}
+use Rattle.jr_env.proofs.Remedies.{until_each}
 use Rattle.jr_env.proofs.env.Env.collect_in_turn.Goals as goal
 
 pub returns-clause-call : goal.returns-clause-call

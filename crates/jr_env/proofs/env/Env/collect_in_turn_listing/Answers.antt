@@ -3,7 +3,7 @@ use Rattle.jr_word.specs.declared.config.Config.{Config}
 use Rattle.jr_weak.specs.Listing.{ListsTell}
 use Rattle.jr_env.specs.Listings.{listed_announced}
 use Rattle.jr_env.proofs.EnvCalls.{does_more, same_room}
-use Rattle.jr_env.proofs.GivingBack.{all_left, lists_same, not_of_size, refused_at, served_at, tried_at}
+use Rattle.jr_env.proofs.Remedies.{all_left, lists_same, not_of_size, refused_at, served_at, tried_at}
 use Rattle.jr_env.proofs.env.Env.collect_in_turn_listing.Goals as goal
 
 pub loop-init : goal.loop-init

@@ -1,4 +1,4 @@
-use Rattle.jr_env.proofs.GivingBack.{left_alone, not_compared, not_deleted, was_deleted}
+use Rattle.jr_env.proofs.Remedies.{left_alone, not_compared, not_deleted, was_deleted}
 use Rattle.jr_env.proofs.env.Env.delete_cleared.Goals as goal
 
 pub returns-in_err-retry : goal.returns-in_err-retry

@@ -9,15 +9,15 @@ returns-in-Ok-clause-call g c fits = was_served c.args.patience.more c.in-Ok.ens
 
 pub returns-then-not-is_short_of_room-clause-call : goal.returns-then-not-is_short_of_room-clause-call
 returns-then-not-is_short_of_room-clause-call g c fits =
-    was_refused c.args.patience.more c.in-Err.fault c.in-Err.ensures (search rules)
+    was_refused c.args.patience.more c.in-Err.refused c.in-Err.ensures (search rules)
 
 pub returns-in-Ok-collect_in_turn-clause-call : goal.returns-in-Ok-collect_in_turn-clause-call
 returns-in-Ok-collect_in_turn-clause-call g c fits =
-    was_collected c.args.patience.more _ c.in-Err.fault c.in-Err.ensures (search rules)
+    was_collected c.args.patience.more _ c.in-Err.refused c.in-Err.ensures (search rules)
     (c.in-Ok-collect_in_turn.ensures.call (fits ∙ sym (ap (λ (z : Config). z.objects) (same_room c.in-Err.ensures))))
     c.retry-in-Ok-collect_in_turn.ensures
 
 pub returns-in-Err-collect_in_turn-clause-call : goal.returns-in-Err-collect_in_turn-clause-call
 returns-in-Err-collect_in_turn-clause-call g c fits =
-    was_kept_out c.args.patience.more _ c.in-Err.fault c.in-Err.ensures (search rules)
+    was_kept_out c.args.patience.more _ c.in-Err.refused c.in-Err.ensures (search rules)
     (c.in-Err-collect_in_turn.ensures.call (fits ∙ sym (ap (λ (z : Config). z.objects) (same_room c.in-Err.ensures))))

@@ -1,0 +1,6 @@
+use Rattle.luthrady.proofs.KeepingRegions.{done_in_its_region}
+use Rattle.luthrady.proofs.held.EnvPlace.get_part.Goals as goal
+
+-- src/presence.rt
+pub returns-in-Critical-clause-call : goal.returns-in-Critical-clause-call
+returns-in-Critical-clause-call g c = done_in_its_region _ _ _ _ _ c.in-Critical.is c.get_part.ensures.call

@@ -1,0 +1,10 @@
+use Rattle.std.proofs.Common.{sym, ◌∙◌}
+use Rattle.luthrady.proofs.KeepingRegions.{done_with}
+use Rattle.luthrady.proofs.regions.get_part.Goals as goal
+
+-- src/regions.rt
+pub returns-clause-call : goal.returns-clause-call
+returns-clause-call g c =
+    let is = sym c.is_env.ensures.value ∙ c.if-not-is_env.false in
+    done_with _ _ _ _ _ _ is c.is_env.ensures.unchanged c.env_of.ensures.value c.get_part.ensures.mark
+    c.get_part.ensures.call
