@@ -1,4 +1,4 @@
-//! The calls of an env by their names, over whoever stands over one: an env, and one that is checked or stressed. The calls of native code that enter the gate are in `native_interface`.
+//! The calls of an env by their names, over whoever stands over one: an env, and one that is checked, stressed or warned. The calls of native code that enter the gate are in `native_interface`.
 ghost use Rattle.std.specs.Prelude.{IfOk};
 ghost use Rattle.jr_critical.specs.Levels.{StandOver};
 ghost use Rattle.jr_env.specs.TellingRegions.{OpensBeneath, OpensTold};
@@ -58,7 +58,7 @@ fn open_told<S: Steps, N: TriesCalls<S> + OverEnv<Env<S>>>(
 }
 
 /// Calls of an env beside those of `NativeInterface`, over whoever stands over an env.
-/// Native code that is generic over it, and over `OverEnv<Env<S>>`, runs over an env, and over one that is checked or stressed. Each call is the one of `Env` of its name;
+/// Native code that is generic over it, and over `OverEnv<Env<S>>`, runs over an env, and over one that is checked, stressed or warned. Each call is the one of `Env` of its name;
 /// where it is refused, that is told. `call_beneath` makes each other call of `Env`, but one that enters a stay.
 pub trait NativeEnv<S: Steps>: TriesCalls<S> {
     ghost use Rattle.std.specs.Prelude.{◌≡◌, ◌≢◌, ◌≤◌, ◌+◌, [], ◌∷◌, true, false, ℕ, codes, map, None, Some, Err, IsOk, IfOk, IfErr, OnErr};

@@ -1,4 +1,4 @@
-//! Who stands over an env: the env itself, and one that is checked or stressed. What each of them does in its own way stands here; the calls by their names are in `env_interface`.
+//! Who stands over an env: the env itself, and one that is checked, stressed or warned. What each of them does in its own way stands here; the calls by their names are in `env_interface`.
 
 use crate::env::Env;
 use crate::native_call::{Handed, NativeCall, NativeCaller};

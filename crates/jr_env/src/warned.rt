@@ -11,7 +11,7 @@ use jr_frames::Explanation;
 use jr_steps::Steps;
 use jr_word::{Elem, Fault, Handle};
 
-/// How much is to be left.
+/// How much is to be left behind a call: who is warned is told where it is less.
 #[derive(Clone, Copy, Debug, PartialEq, Eq)]
 pub struct Reserve {
     /// So many words of array space, of all threads together.
@@ -29,7 +29,7 @@ pub enum Scarce {
     Locals,
 }
 
-/// A call behind which less is left than is to be.
+/// A call that took words or a place, and behind which fewer are left than the reserve.
 #[derive(Clone, Copy, Debug, PartialEq, Eq)]
 pub struct Shortage {
     /// The number of the thread whose call it was.
@@ -42,7 +42,7 @@ pub struct Shortage {
     pub left: u32,
 }
 
-/// Who is told what runs short, before a call is refused for want of it.
+/// Who is told what runs short. A call that asks for more than the reserve can be refused with nobody told before.
 pub trait Warner {
     ghost use Rattle.jr_env.specs.declared.warned.Shortage.{Shortage};
 

@@ -271,6 +271,7 @@ impl<C: Parts<P>, P: Copy> Steps for StepsOver<C, P> {
         Ok(())
     }
 
+    #[inline(always)]
     fn free(&mut self, handle: HandleParts, object: Option<u16>) -> bool
         requires role { self.old.role ≡ Within }
         requires row { handle.index < (C.sight self.old.cells).first.config.slots }

@@ -98,7 +98,8 @@ pub enum Fault {
     Value,
     /// A JNI command in a critical region, or a region command outside one.
     ///
-    /// Scripts alone meet it: end the region first, or open one. In Rust no such call compiles while a `Region` stands.
+    /// Scripts and users of the static library meet it: end the region first, or open one. In Rust no such call compiles while a `Region` stands.
+    /// The library answers it too where the place of an attached thread is to be freed.
     #[error("E19")]
     InCritical,
     /// The turns ran out.

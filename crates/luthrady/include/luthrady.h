@@ -32,7 +32,7 @@
      other way round, since a place begins with a mark. A pointer to anything else is not told.
    - An address of a handle, of an `out` or of `count` elements that is NULL is E21 by the tests in this
      header. They end the call before it comes to the library. With LUTHRADY_NO_CHECKS it ends the process.
-     Where `count` is 0 the address may be NULL.
+     Where `count` is 0 the address may be NULL. LUTHRADY_FAULT_NULL is E1: a reference that is NULL.
    - A thread is detached from the room that it was attached to. Checked: a detach from a room with no
      attached thread is E21.
    - Threads that attach and detach by one room's handle take a lock, since a handle is in one call at a time.
@@ -286,7 +286,8 @@ struct luthrady_sizes {
     uint32_t slots;
     /* How many objects there may be. */
     uint32_t objects;
-    /* How many words of elements there may be. */
+    /* How many words of elements there may be. Each element of an array takes one, of whatever kind, and
+       each unit of a string. */
     uint32_t words;
     /* How many local references a thread may have. */
     uint32_t locals;
@@ -326,12 +327,13 @@ struct luthrady_locals {
     uint32_t given;
 };
 
-/* Opens a room of these sizes, and writes the pointer to it.
+/* Opens a room of these sizes, and writes the pointer to it into `out`, the `at` of a room's handle.
    Refused: E17 where the sizes are beyond their limits; E16 where memory was refused. */
 struct luthrady_reply luthrady_open(struct luthrady_sizes sizes, void **out);
 
-/* Attaches a thread with an env that no other thread holds, and writes the pointer to it. The thread has
-   no local reference. (JNI Specification, chapter 5, "AttachCurrentThread")
+/* Attaches a thread with an env that no other thread holds, and writes the pointer to it into `out`, the
+   `at` of an env's handle. The thread has no local reference. (JNI Specification, chapter 5,
+   "AttachCurrentThread")
    Refused: E21 where no room stands behind the handle, no env of it is free, or it was released; E16 where
    memory was refused.
    Nothing has changed then. */
@@ -344,9 +346,9 @@ struct luthrady_reply luthrady_attach(struct luthrady_room *room, void **out);
 struct luthrady_reply luthrady_release(struct luthrady_room *room);
 
 /* Detaches a thread from the room that it was attached to. Its local references are freed, and no env
-   stands behind its handle then. The room has the env for the next thread. Where the room was released,
-   the last thread closes it: it answers 1, and writes what stood there; else it answers 0. (JNI
-   Specification, chapter 5, "DetachCurrentThread")
+   stands behind its handle then. The handle's place remains until `luthrady_free_env`. The room has the
+   env for the next thread. Where the room was released, the last thread closes it: it answers 1, and
+   writes what stood there; else it answers 0. (JNI Specification, chapter 5, "DetachCurrentThread")
    Refused: E21 where no room stands behind the room's handle, no thread is attached to it, or no env
    stands behind the env's handle; E19 in a critical region; E13 where a thread is collecting, or has
    announced that it will; E22 with how many threads were inside, knocking, announcing or collecting as the

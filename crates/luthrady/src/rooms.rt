@@ -26,13 +26,13 @@ pub struct Sizes {
     pub slots: u32,
     /// How many objects there may be.
     pub objects: u32,
-    /// How many words of elements there may be.
+    /// How many words of elements there may be. Each element of an array takes one, of whatever kind, and each unit of a string.
     pub words: u32,
     /// How many local references a thread may have.
     pub locals: u32,
 }
 
-/// Opens a room of these sizes, and writes the pointer to it.
+/// Opens a room of these sizes, and writes the pointer to it into `out`, the `at` of a room's handle.
 ///
 /// # Errors
 ///
@@ -64,7 +64,8 @@ fn opened(answer: Result<Box<Opened>, Fault>, out: &mut *mut u8) -> Reply
     }
 }
 
-/// Attaches a thread with an env that no other thread holds, and writes the pointer to it. The thread has no local reference. (JNI Specification, chapter 5, "AttachCurrentThread")
+/// Attaches a thread with an env that no other thread holds, and writes the pointer to it into `out`, the `at` of an env's handle.
+/// The thread has no local reference. (JNI Specification, chapter 5, "AttachCurrentThread")
 ///
 /// # Errors
 ///
@@ -138,7 +139,8 @@ fn told_of(summary: Summary) -> Stood
     }
 }
 
-/// Detaches a thread from the room that it was attached to. Its local references are freed, and no env stands behind its handle then. The room has the env for the next thread.
+/// Detaches a thread from the room that it was attached to. Its local references are freed, and no env stands behind its handle then. The handle's place remains until `luthrady_free_env`.
+/// The room has the env for the next thread.
 /// Where the room was released, the last thread closes it: it answers 1, and writes what stood there; else it answers 0. (JNI Specification, chapter 5, "DetachCurrentThread")
 ///
 /// # Errors

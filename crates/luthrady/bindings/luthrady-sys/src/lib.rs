@@ -218,7 +218,7 @@ pub struct Sizes {
     pub slots: u32,
     /// How many objects there may be.
     pub objects: u32,
-    /// How many words of elements there may be.
+    /// How many words of elements there may be. Each element of an array takes one, of whatever kind, and each unit of a string.
     pub words: u32,
     /// How many local references a thread may have.
     pub locals: u32,
@@ -265,11 +265,11 @@ pub struct Locals {
 }
 
 unsafe extern "C" {
-    /// Opens a room of these sizes, and writes the pointer to it.
+    /// Opens a room of these sizes, and writes the pointer to it into `out`, the `at` of a room's handle.
     ///
     /// Refused: E17 where the sizes are beyond their limits; E16 where memory was refused.
     pub fn luthrady_open(sizes: Sizes, out: *mut *mut u8) -> Reply;
-    /// Attaches a thread with an env that no other thread holds, and writes the pointer to it. The thread has no local reference. (JNI Specification, chapter 5, "AttachCurrentThread")
+    /// Attaches a thread with an env that no other thread holds, and writes the pointer to it into `out`, the `at` of an env's handle. The thread has no local reference. (JNI Specification, chapter 5, "AttachCurrentThread")
     ///
     /// Refused: E21 where no room stands behind the handle, no env of it is free, or it was released; E16 where memory was refused.
     ///
@@ -281,7 +281,7 @@ unsafe extern "C" {
     ///
     /// Nothing has changed then.
     pub fn luthrady_release(room: *mut RoomHandle) -> Reply;
-    /// Detaches a thread from the room that it was attached to. Its local references are freed, and no env stands behind its handle then. The room has the env for the next thread. Where the room was released, the last thread closes it: it answers 1, and writes what stood there; else it answers 0. (JNI Specification, chapter 5, "DetachCurrentThread")
+    /// Detaches a thread from the room that it was attached to. Its local references are freed, and no env stands behind its handle then. The handle's place remains until `luthrady_free_env`. The room has the env for the next thread. Where the room was released, the last thread closes it: it answers 1, and writes what stood there; else it answers 0. (JNI Specification, chapter 5, "DetachCurrentThread")
     ///
     /// Refused: E21 where no room stands behind the room's handle, no thread is attached to it, or no env stands behind the env's handle; E19 in a critical region; E13 where a thread is collecting, or has announced that it will; E22 with how many threads were inside, knocking, announcing or collecting as the last one closed the room, at least 1.
     ///
