@@ -4,9 +4,11 @@
 //! With libFuzzer it is `LLVMFuzzerTestOneInput`. Without it `main` draws the bytes: `fuzz RUNS [SEED]`.
 #![allow(dead_code)]
 mod model;
+mod regions;
 
-use luthrady::{Answer, BatchCall, Element, Env, Fault, Operation, Room, Sizes};
-use model::{Kind, Model, Sort};
+use luthrady::{Answer, BatchCall, Env, Fault, Object, Operation, Room, Rows, Sizes, Slot};
+use model::{Kind, LevelPart, Model, Sort};
+use regions::{Compared, Drawn, Inside, Levels, elements, two};
 use std::fmt::Debug;
 
 /// How many words the bytes can name.
@@ -56,33 +58,6 @@ impl Input<'_> {
         [Kind::Local, Kind::Global, Kind::Weak][usize::from(self.byte() % 3)]
     }
 }
-
-/// An element that the bytes can say, and its sort.
-trait Drawn: Element + Debug + PartialEq {
-    const SORT: Sort;
-    fn of(word: u64) -> Self;
-    fn word(self) -> i64;
-}
-
-macro_rules! drawn {
-    ($element:ty, $sort:expr) => {
-        impl Drawn for $element {
-            const SORT: Sort = $sort;
-
-            fn of(word: u64) -> Self {
-                word as Self
-            }
-
-            fn word(self) -> i64 {
-                i64::from(self)
-            }
-        }
-    };
-}
-
-drawn!(i8, Sort::Bytes);
-drawn!(i32, Sort::Ints);
-drawn!(i64, Sort::Longs);
 
 /// A call of a batch.
 struct Asked {
@@ -315,7 +290,7 @@ impl Case<'_> {
         }
     }
 
-    fn region(&mut self, env: usize) {
+    fn part(&mut self, env: usize) {
         match self.input.byte() % 6 {
             0 => self.read::<i8>(env),
             1 => self.read::<i32>(env),
@@ -343,9 +318,7 @@ impl Case<'_> {
     fn write<E: Drawn>(&mut self, env: usize) {
         let (array, start) = (self.word(), self.input.number());
         let count = usize::from(self.input.byte() % 16);
-        let byte = u64::from(self.input.byte());
-        let word = |at: usize| byte.wrapping_mul(0x0101_0101_0101_0101 << at);
-        let written: Vec<E> = (0..count).map(|at| E::of(word(at))).collect();
+        let written: Vec<E> = elements(count, self.input.byte().into());
         let wanted = self.by(env, |model| {
             let part = model.part(env, array, E::SORT, start, count)?;
             let words = written.iter().map(|it| it.word());
@@ -354,6 +327,61 @@ impl Case<'_> {
         });
         let found = self.envs[env].set(array, start, &written);
         self.same(env, wanted, found);
+    }
+
+    /// Opens a critical region, and ends it behind what is done in it.
+    fn region(&mut self, env: usize) {
+        let (is_string, word) = (self.input.byte() % 4 == 0, self.word());
+        let again = if self.input.byte() == 0 { 17 } else { 0 };
+        let mut asked: Vec<Inside> = (0..again).map(|_| Inside::NestArray(word)).collect();
+        asked.extend((0..self.input.byte() % 40).map(|_| self.inside()));
+        let wanted = self.by(env, |model| model.level(env, word, is_string, 0));
+        let (own, other) = two(&mut self.envs, env);
+        let opened = match is_string {
+            true => own.string_critical(word),
+            false => own.array_critical(word),
+        };
+        let mut told: Vec<Compared> = vec![(
+            wanted.map(|_| vec![]),
+            opened.as_ref().map(|_| vec![]).map_err(|it| *it),
+        )];
+        if let (Ok(object), Ok(region)) = (wanted, opened) {
+            let levels = Levels {
+                region,
+                of: vec![object],
+            };
+            let barred = other.map(|(at, it)| (self.is_attached[at], it));
+            regions::act(env, levels, &mut self.model, barred, asked, &mut told);
+        }
+        for (wanted, found) in told {
+            self.same(env, wanted, found);
+        }
+    }
+
+    fn inside(&mut self) -> Inside {
+        let how = self.input.byte() % 16;
+        let level = self.input.number() % 8;
+        match how {
+            0..4 => Inside::NestArray(self.word()),
+            4 | 5 => Inside::NestString(self.word()),
+            6 => Inside::Length(level),
+            7 => Inside::Collect,
+            8 => Inside::Release,
+            _ => {
+                let kind = self.input.byte() % 4;
+                let start = self.input.number();
+                let count = usize::from(self.input.byte() % 8);
+                let at = LevelPart {
+                    level,
+                    start,
+                    count,
+                };
+                match how {
+                    9..12 => Inside::Read(kind, at),
+                    _ => Inside::Write(kind, at, self.input.byte().into()),
+                }
+            }
+        }
     }
 
     /// Makes up to seven calls in one stay. Each answer is compared as that of its own function.
@@ -409,6 +437,59 @@ impl Case<'_> {
         self.same(env, wanted, found);
     }
 
+    /// Collects, and looks at the lists: what was cleared, as much as there is room for, and as many identities.
+    fn collect_listing(&mut self, env: usize) {
+        let turns = (self.input.number(), self.input.number());
+        let room = usize::from(self.input.byte() % 16);
+        let (mut references, mut identities) = (vec![u64::MAX; room], vec![0; room]);
+        let wanted = self.by(env, |model| Ok(model.collect_listing()));
+        let found = self.envs[env].collect_listing(turns, &mut references, &mut identities);
+        if let (Ok((counts, cleared)), Ok(_)) = (&wanted, &found) {
+            let (listed, behind) = references.split_at(room.min(cleared.len()));
+            assert!(
+                listed.iter().all(|it| cleared.contains(it)),
+                "what was cleared"
+            );
+            assert!(behind.iter().all(|it| *it == u64::MAX), "behind the list");
+            references.truncate(listed.len());
+            references.sort_unstable();
+            references.dedup();
+            assert_eq!(references.len(), room.min(cleared.len()), "listed twice");
+            identities.sort_unstable();
+            identities.dedup();
+            identities.retain(|it| *it != 0);
+            assert_eq!(
+                identities.len(),
+                room.min(counts.dropped as usize),
+                "what was dropped"
+            );
+        }
+        self.same(env, wanted.map(|it| it.0), found);
+    }
+
+    fn dump(&mut self, env: usize) {
+        let (sizes, tries) = (*self.model.sizes(), self.input.number());
+        let threads = sizes.threads as usize;
+        let mut slots = vec![Slot::default(); sizes.slots as usize];
+        let mut locals = vec![0; threads * sizes.locals as usize];
+        let mut objects = vec![Object::default(); sizes.objects as usize];
+        let mut words = vec![0; sizes.words as usize];
+        let rows = Rows {
+            slots: &mut slots,
+            locals: &mut locals,
+            objects: &mut objects,
+            words: &mut words,
+        };
+        let found = match tries % 2 {
+            0 => self.envs[env].dump(rows),
+            _ => self.envs[env].dump_announced(tries / 2, rows),
+        };
+        if found.is_ok() {
+            self.model.check_dump(&slots, &locals, &objects, &words);
+        }
+        self.same(env, Ok(()), found);
+    }
+
     // ---- threads
 
     /// A room hands out the env that came back last.
@@ -461,14 +542,16 @@ impl Case<'_> {
             17..20 => self.frames(env),
             20 | 21 => self.length(env),
             22..25 => self.element(env),
-            25..27 => self.region(env),
+            25 => self.part(env),
+            26 => self.region(env),
             27 => self.batch(env),
             28 | 29 => self.collect(env),
             30 => self.attach(),
             _ => match self.input.byte() {
                 0..16 => self.detach(env),
                 16..24 => self.release(),
-                _ => self.collect(env),
+                24..128 => self.dump(env),
+                _ => self.collect_listing(env),
             },
         }
     }
@@ -502,9 +585,7 @@ fn run(bytes: &[u8]) -> Met {
         Err(Fault { number: 17, .. }) if !is_in_limits => return Met::default(),
         it => panic!("an open answered {:?}", it.err()),
     };
-    let mut envs: Vec<Env> = (0..sizes.threads)
-        .map(|_| room.attach().unwrap())
-        .collect();
+    let mut envs: Vec<Env> = (0..sizes.threads).map(|_| room.attach().unwrap()).collect();
     // A room hands the env of its last thread out first.
     envs.reverse();
     let mut case = Case {

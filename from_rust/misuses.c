@@ -399,6 +399,14 @@ void __wrap_free(void *at) {
 
 static struct luthrady_reply open_another(void **out) { return luthrady_open(SIZES, out); }
 static struct luthrady_reply attach_a_third(void **out) { return luthrady_attach(&room, out); }
+static struct luthrady_reply dump_slots(void **out) {
+    (void)out;
+    return luthrady_dump(&env, (struct luthrady_slot[16]){0}, 16, NULL, 0, NULL, 0, NULL, 0);
+}
+static struct luthrady_reply collect_and_list(void **out) {
+    (void)out;
+    return luthrady_collect_in_turn_listing(&env, 1, 0, (uint64_t[2]){0}, 2, (uint16_t[2]){0}, 2, &counts);
+}
 
 // Refuses each allocation of a call in turn, until it is made.
 static void refuse_each(struct luthrady_reply (*call)(void **)) {
@@ -418,6 +426,8 @@ static void refuse_each(struct luthrady_reply (*call)(void **)) {
 }
 MISUSE(memory_open) { (void)given; refuse_each(open_another); }
 MISUSE(memory_attach) { (void)given; refuse_each(attach_a_third); }
+MISUSE(memory_dump) { (void)given; refuse_each(dump_slots); }
+MISUSE(memory_listing) { (void)given; refuse_each(collect_and_list); }
 
 // Elements.
 MISUSE(elements_null) {
@@ -648,6 +658,8 @@ static const struct misuse {
     {"the greatest sizes, and a free", sizes_greatest},
     {"an open, with each allocation refused in turn", memory_open},
     {"an attach, with each allocation refused in turn", memory_attach},
+    {"a dump, with each allocation refused in turn", memory_dump},
+    {"a collection that lists, with each allocation refused in turn", memory_listing},
     {"elements NULL: new_string, get, set, batch", elements_null},
     {"no elements at NULL: the same", elements_none},
     {"counts of 2^64-1, 2^32+4, 2^32 and 5, of 4: get and set; strings of 2^64-1 and 2^32+2", counts_great},

@@ -1,9 +1,10 @@
 //! What the functions of the library answer one thread after the other, as the page of .ci/reference says it: with lists and maps in the
 //! place of a row of words. It is for the fuzz target beside it, and knows nothing of the library's text.
-use luthrady::{Answer, Counts, Fault, Sizes, Stood};
+use luthrady::{Answer, Counts, Fault, Object as ObjectRow, Sizes, Slot, Stood};
 use std::collections::{BTreeMap, BTreeSet, HashMap, HashSet};
 
 const MOST_FRAMES: usize = 256;
+const MOST_LEVELS: usize = 16;
 
 /// The kind of a reference, by its number.
 #[derive(Clone, Copy, PartialEq, Eq, Debug)]
@@ -13,15 +14,28 @@ pub enum Kind {
     Weak = 3,
 }
 
-/// What an object is.
+/// What an object is, by its number as a luthrady_kind.
 #[derive(Clone, Copy, PartialEq, Eq, Debug)]
 pub enum Sort {
-    Plain,
-    Bytes,
-    Ints,
-    Longs,
-    Objects,
-    Text,
+    Plain = 1,
+    Bytes = 3,
+    Ints = 6,
+    Longs = 7,
+    Objects = 8,
+    Text = 9,
+}
+
+impl Sort {
+    /// The word of an element, which is no reference.
+    fn word(self, element: i64) -> u64 {
+        let bits = match self {
+            Sort::Bytes => 8,
+            Sort::Text => 16,
+            Sort::Ints => 32,
+            _ => 64,
+        };
+        element as u64 & u64::MAX >> (64 - bits)
+    }
 }
 
 /// An object: its elements, of an array of objects their numbers, 0 for null.
@@ -38,11 +52,44 @@ struct Reference {
     object: usize,
 }
 
+/// Which object of the model has which identity.
+#[derive(Default)]
+struct Identities {
+    of: BTreeMap<usize, u64>,
+    given: BTreeSet<u64>,
+    /// Those whose elements were not looked at yet.
+    unseen: Vec<(usize, u64)>,
+}
+
+impl Identities {
+    /// Learns that an object, 0 for null, has an identity, 0 for none.
+    fn learn(&mut self, object: usize, identity: u64) {
+        assert_eq!(object == 0, identity == 0, "null in a dump");
+        let known = self.of.insert(object, identity);
+        match known {
+            _ if object == 0 => (),
+            Some(known) => assert_eq!(known, identity, "two identities of one object"),
+            None => {
+                assert!(self.given.insert(identity), "one identity of two objects");
+                self.unseen.push((object, identity));
+            }
+        }
+    }
+}
+
 /// What a word says as a handle.
 struct Parts {
     kind: Kind,
     owner: u64,
     place: u64,
+}
+
+/// A part of a level of a critical region.
+#[derive(Clone, Copy)]
+pub struct LevelPart {
+    pub level: u32,
+    pub start: u32,
+    pub count: usize,
 }
 
 /// A room, and its threads.
@@ -100,6 +147,10 @@ impl Model {
             given: HashSet::new(),
             frames: vec![vec![vec![]]; sizes.threads as usize],
         }
+    }
+
+    pub fn sizes(&self) -> &Sizes {
+        &self.sizes
     }
 
     // ---- checks
@@ -355,6 +406,49 @@ impl Model {
         Ok(())
     }
 
+    // ---- critical regions
+
+    /// What a new level of a region with so many levels is over.
+    pub fn level(&self, thread: usize, word: u64, is_string: bool, levels: usize) -> Answer<usize> {
+        let found = self.object(thread, word)?;
+        match self.objects[&found].sort {
+            it if is_string && it != Sort::Text => refused(4),
+            Sort::Plain | Sort::Text if !is_string => refused(5),
+            Sort::Objects => refused(6),
+            _ if levels == MOST_LEVELS => refused(17),
+            _ => Ok(found),
+        }
+    }
+
+    pub fn level_length(&self, levels: &[usize], level: u32) -> Answer<usize> {
+        match levels.get(level as usize) {
+            Some(found) => Ok(self.objects[found].elements.len()),
+            None => refused(2),
+        }
+    }
+
+    /// A part of a level, to look at or to write in.
+    pub fn level_part(
+        &mut self,
+        levels: &[usize],
+        at: LevelPart,
+        sort: Sort,
+        is_write: bool,
+    ) -> Answer<&mut [i64]> {
+        let Some(found) = levels.get(at.level as usize) else {
+            return refused(2);
+        };
+        let object = self.objects.get_mut(found).unwrap();
+        if object.sort == Sort::Text && is_write {
+            return refused(5);
+        }
+        if object.sort != sort {
+            return refused(6);
+        }
+        let (first, last) = (at.start as usize, at.start as usize + at.count);
+        object.elements.get_mut(first..last).ok_or(Fault::new(7, 0))
+    }
+
     // ---- collections
 
     fn reached(&self) -> BTreeSet<usize> {
@@ -370,10 +464,16 @@ impl Model {
     }
 
     pub fn collect(&mut self) -> Counts {
-        let (reached, mut cleared) = (self.reached(), 0);
-        for it in self.references.values_mut() {
+        self.collect_listing().0
+    }
+
+    /// Collects, and tells which references were cleared.
+    pub fn collect_listing(&mut self) -> (Counts, BTreeSet<u64>) {
+        let (reached, mut cleared) = (self.reached(), BTreeSet::new());
+        for (word, it) in &mut self.references {
             if it.object != 0 && !reached.contains(&it.object) {
-                (it.object, cleared) = (0, cleared + 1);
+                it.object = 0;
+                cleared.insert(*word);
             }
         }
         let before = self.objects.len();
@@ -383,10 +483,45 @@ impl Model {
             .values()
             .map(|it| it.elements.len() as u32)
             .sum();
-        Counts {
-            cleared,
+        let counts = Counts {
+            cleared: cleared.len() as u32,
             dropped: (before - self.objects.len()) as u32,
             used: self.used,
+        };
+        (counts, cleared)
+    }
+
+    /// Checks the rows of a dump. An identity is of one object throughout.
+    pub fn check_dump(&self, slots: &[Slot], locals: &[u16], objects: &[ObjectRow], words: &[u64]) {
+        let mut known = Identities::default();
+        for (word, it) in &self.references {
+            let place = it.place as usize;
+            if it.kind == Kind::Local {
+                let at = it.owner * self.sizes.locals as usize + place;
+                known.learn(it.object, locals[at].into());
+            } else {
+                let slot = slots[place];
+                let stands = u64::from(slot.state) | u64::from(slot.serial) << 2 | it.place << 34;
+                assert_eq!(stands, *word, "the reference in slot {place}");
+                known.learn(it.object, slot.object.into());
+            }
+        }
+        let standing = slots.iter().filter(|it| it.state > 1).count()
+            + locals.iter().filter(|it| **it != 0).count();
+        assert_eq!(standing, self.references.len(), "references in a dump");
+        let present = objects.iter().filter(|it| it.kind > 0).count();
+        assert_eq!(present, self.objects.len(), "objects in a dump");
+        while let Some((object, identity)) = known.unseen.pop() {
+            let (row, it) = (objects[identity as usize - 1], &self.objects[&object]);
+            let length = it.elements.len();
+            assert_eq!((row.kind, row.length), (it.sort as u32, length as u32));
+            let found = &words[row.place as usize..][..length];
+            for (element, word) in it.elements.iter().zip(found) {
+                match it.sort {
+                    Sort::Objects => known.learn(*element as usize, *word),
+                    sort => assert_eq!(*word, sort.word(*element), "an element's word"),
+                }
+            }
         }
     }
 

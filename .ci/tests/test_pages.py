@@ -187,6 +187,13 @@ class Pages(unittest.TestCase):
         self.assertIn("- **Asks**: asked: `A.Asked code`.", lines)
         self.assertEqual(page.faults, ["crates/jr_word/src/kind.rt: the `///` of kind_of says E2 under `# Errors`, and the contract nothing"])
 
+    def test_reference_of_a_trait(self):
+        job = "crates/jr_word/src/job.rt"
+        text = "//! Jobs.\n\n/// A job.\npub trait Job {\n    /// What it answers.\n    type Answer: Drop;\n\n    /// How often it is done.\n    const TIMES: usize = 2;\n\n    /// Who does it.\n    const WHO: u8;\n}\n"
+        with repository({**FILES, "crates/jr_word/src/lib.rt": FILES["crates/jr_word/src/lib.rt"] + "pub mod job;\n", job: text}):
+            lines = [*script("reference").Page(Repository()).type_of("type jr_word Job")]
+        self.assertEqual(lines[-3:], ["- `type Answer: Drop`: What it answers.", "- `const TIMES: usize = 2`: How often it is done.", "- `const WHO: u8`: Who does it."])
+
     def test_reference_of_a_call_in_a_stay(self):
         with repository({**FILES, **STAYS}):
             page = script("reference").Page(Repository())
