@@ -113,8 +113,37 @@ fn queue_for<Q: Site, C: OwnedCode>(
     Ok(Arc::new(alloc, queue)?)
 }
 
-/// Starts the thread of a pass of the site's room.
+/// Starts the thread of a pass of the site's room, which owns the room from here on.
 fn start<R: Threads, Q: Site + Send + Sync + 'static, C: OwnedCode + Send + Sync + 'static>(
+    rt: &R,
+    room: Arc<Room<LAST>>,
+    pass: Pass,
+    code: &Arc<C>,
+    queue: &Arc<NoteQueue<C::Message, Q>>,
+) -> Result<PromisedHandle<C::Answer, RunsCode<C>>, AllocError>
+where
+    C::Message: Send + 'static,
+    C::Answer: Send + 'static,
+    requires opened { IsOpened (arc_value room).row pass }
+    requires site { Some (arc_value room).row.table.shared.table_id ≡ Q.room }
+    ensures pass { IfOk result (λ h. h.promise.pass.value ≡ pass) }
+    ensures code { IfOk result (λ h. h.promise.code.value ≡ arc_value code.now) }
+{
+    let promise = RunsCode {
+        code: Snapshot::of(&**code),
+        pass: Snapshot::of(&pass),
+    };
+    let job = CodeJob {
+        room,
+        pass,
+        code: Arc::try_clone(code)?,
+        queue: Arc::try_clone(queue)?,
+    };
+    Ok(thread::spawn_with(rt, promise, move || job.run())?)
+}
+
+/// Starts the thread of a pass of the site's room, which owns the room with whoever starts it.
+fn start_beside<R: Threads, Q: Site + Send + Sync + 'static, C: OwnedCode + Send + Sync + 'static>(
     rt: &R,
     room: &Arc<Room<LAST>>,
     pass: Pass,
@@ -129,17 +158,7 @@ where
     ensures pass { IfOk result (λ h. h.promise.pass.value ≡ pass) }
     ensures code { IfOk result (λ h. h.promise.code.value ≡ arc_value code.now) }
 {
-    let promise = RunsCode {
-        code: Snapshot::of(&**code),
-        pass: Snapshot::of(&pass),
-    };
-    let job = CodeJob {
-        room: Arc::try_clone(room)?,
-        pass,
-        code: Arc::try_clone(code)?,
-        queue: Arc::try_clone(queue)?,
-    };
-    Ok(thread::spawn_with(rt, promise, move || job.run())?)
+    start::<R, Q, C>(rt, Arc::try_clone(room)?, pass, code, queue)
 }
 
 /// Lets go the ends of threads that were not started, so that the queue is over without them.
@@ -154,7 +173,7 @@ fn start_each<R: Threads, Q: Site + Send + Sync + 'static, C: OwnedCode + Send +
     rt: &R,
     alloc: Global,
     room: Room<LAST>,
-    passes: Vec<Pass>,
+    mut passes: Vec<Pass>,
     code: C,
 ) -> Result<OwnedThreads<C>, OwnedThreads<C>>
 where
@@ -175,13 +194,22 @@ where
     ) else {
         return Err(threads);
     };
+    let Some(last) = passes.pop() else {
+        return Ok(threads);
+    };
     for pass in passes {
-        let Ok(thread) = start::<R, Q, C>(rt, &room, pass, &code, &queue) else {
+        let Ok(thread) = start_beside::<R, Q, C>(rt, &room, pass, &code, &queue) else {
             let_go_ends(&*queue, threads.len(), count);
             return Err(threads);
         };
         threads.push_reserved(thread);
     }
+    // The last one gets the room itself: else all threads could end before it is let go here, and none would close it.
+    let Ok(thread) = start::<R, Q, C>(rt, room, last, &code, &queue) else {
+        let_go_ends(&*queue, threads.len(), count);
+        return Err(threads);
+    };
+    threads.push_reserved(thread);
     Ok(threads)
 }
 
@@ -192,6 +220,7 @@ where
 /// E17 exactly where the sizes are beyond their limits; E16 where memory was refused, or a thread could not be started.
 ///
 /// The threads that were started are handed back, those of the first numbers. They go on, and whoever joins one waits for its end.
+/// Where each of them has ended before the room is let go here, none has closed it.
 pub fn spawn_owned<R: Threads, C: OwnedCode + Send + Sync + 'static>(
     rt: &R,
     alloc: Global,
