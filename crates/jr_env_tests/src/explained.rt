@@ -2,8 +2,7 @@
 
 use crate::references::TWO;
 use assertions::assert_same;
-use jr::Explanation;
-use jr_env::{Env, NativeInterface};
+use jr_env::{Env, Explanation, NativeInterface};
 use jr_fixtures::{EnvTest, alone, made};
 use jr_steps::Steps;
 use jr_word::{Handle, Kind, RefKind};

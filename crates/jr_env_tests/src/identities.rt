@@ -2,8 +2,11 @@
 ghost use Rattle.jr_rule.specs.Passes.{IsOpened};
 
 use assertions::assert_same;
-use jr::{Config, Env, Fault, Handle, NativeInterface, Pass, Room, RoomSteps, Steps};
+use jr_env::{Env, NativeInterface};
 use jr_fixtures::{EnvTest, LAST, alone, collects, made, next_pass, opened_env, refusal};
+use jr_rule::{Pass, Room, RoomSteps};
+use jr_steps::Steps;
+use jr_word::{Config, Fault, Handle};
 use std::alloc::Global;
 use std::process::Abort;
 use std::test::Fail;

@@ -6,8 +6,6 @@ mod again;
 #[cfg(test)]
 mod checked;
 #[cfg(test)]
-mod closing;
-#[cfg(test)]
 mod explained;
 #[cfg(test)]
 mod frames;
@@ -18,17 +16,9 @@ mod held;
 #[cfg(test)]
 mod identities;
 #[cfg(test)]
-mod native_code;
-#[cfg(test)]
 mod notes;
 #[cfg(test)]
 mod numbers;
-#[cfg(test)]
-mod owner_threads;
-#[cfg(test)]
-mod owners;
-#[cfg(test)]
-mod pools;
 #[cfg(test)]
 mod references;
 #[cfg(test)]
@@ -39,8 +29,6 @@ mod row;
 mod scopes;
 #[cfg(test)]
 mod slot_threads;
-#[cfg(test)]
-mod ten_lines;
 #[cfg(test)]
 mod warned;
 #[cfg(test)]

@@ -11,13 +11,13 @@ ghost use Rattle.jr_rule.specs.Rooms.{IsPinnedThere, seen_by_note};
 ghost use Rattle.jr_rule.specs.Sites.{IsSiteOf};
 ghost use Rattle.jr_steps.specs.declared.known.Known.{Known};
 
-use crate::owners::shares;
 use crate::references::{find, opened};
-use jr_env::{Env, Patience};
+use jr_env::{Env, NativeInterface};
 use jr_fixtures::{LAST, has_type, next_pass, opened_env};
 use jr_model::references_stand_until_deleted;
 use jr_rule::{NoteOf, Pass, PinnedNote, Room, RoomSteps, Site, SiteSteps, StepsIn, ThreadNumber};
-use jr_word::Config;
+use jr_steps::Steps;
+use jr_word::{Config, Fault, Handle};
 use std::alloc::Global;
 use std::marker::Brand;
 use std::process::Abort;
@@ -77,6 +77,12 @@ pub(crate) fn learns<Q: Site, S: StepsIn<Q>>(env: &mut Env<S>, note: NoteOf<Q>)
     env.learn(note);
 }
 
+/// A global reference to a new array.
+fn shared_array<S: Steps>(env: &mut Env<S>) -> Result<Handle, Fault> {
+    let array = env.new_array::<i32>(3)?;
+    Ok(Handle::or_null(env.new_global_ref(array)?))
+}
+
 /// Two envs in one thread: the second makes a note once it has made a reference, and the first learns it, and finds the reference. A note that nobody learns, and one that says less, change nothing.
 fn find_by_note<Q: Site, S: StepsIn<Q>, U: StepsIn<Q>>(
     rt: &impl Abort,
@@ -84,7 +90,7 @@ fn find_by_note<Q: Site, S: StepsIn<Q>, U: StepsIn<Q>>(
     second: &mut Env<U>,
 ) -> Result<(), Fail> {
     let early = second.note();
-    let shared = shares(second, Patience::of(0))?;
+    let shared = shared_array(second)?;
     let _ = second.note();
     let note = second.note();
     learns(first, note);
@@ -98,7 +104,7 @@ fn learn_again<Q: Site, S: StepsIn<Q>, U: StepsIn<Q>>(
     first: &mut Env<S>,
     second: &mut Env<U>,
 ) -> Result<(), Fail> {
-    let shared = shares(second, Patience::of(0))?;
+    let shared = shared_array(second)?;
     let pinned = second.pin();
     assert!(rt; first.learn_pinned(&pinned));
     assert!(rt; first.learn_pinned(&pinned));

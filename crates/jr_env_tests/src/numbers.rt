@@ -1,8 +1,10 @@
 //! Numbers that an env tells: local references, frames and places, and words of array space that are used.
 
 use assertions::assert_same;
-use jr::{Config, Env, LocalCounts, NativeInterface, Steps};
+use jr_env::{Env, LocalCounts, NativeInterface};
 use jr_fixtures::{EnvTest, alone, collects, made};
+use jr_steps::Steps;
+use jr_word::Config;
 use std::alloc::Global;
 use std::process::Abort;
 use std::test::Fail;

@@ -1,11 +1,13 @@
 //! Words and places that run short, as a warner is told of them.
 
 use assertions::assert_same;
-use jr::{
-    Checked, Config, Env, Explains, Fault, NativeCaller, NativeInterface, Refusal, Reserve, Scarce,
-    Shortage, Steps, Warned, Warner, Watcher,
+use jr_env::{
+    Checked, Env, Explains, NativeCaller, NativeInterface, Refusal, Reserve, Scarce, Shortage,
+    Warned, Warner, Watcher,
 };
 use jr_fixtures::{EnvTest, alone};
+use jr_steps::Steps;
+use jr_word::{Config, Fault};
 use std::alloc::Global;
 use std::process::Abort;
 use std::test::Fail;

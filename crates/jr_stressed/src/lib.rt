@@ -1,4 +1,4 @@
-//! Calls under stress: by a seed their caller collects before some of them, and some are refused that may be.
+//! Calls under stress: by a plan their caller collects before each n-th, and by its seed refuses some that may be refused.
 #![tactic(auto)]
 
 pub mod laws;

@@ -1,5 +1,5 @@
 use Rattle.std.proofs.Common.{Some}
-use Rattle.jr_env_tests.proofs.pools.an_env_serves_one_thread_at_a_time.Given as goal
+use Rattle.jr_tests.proofs.pools.an_env_serves_one_thread_at_a_time.Given as goal
 
 abbrev pub ghosts-serves_one_at_a_time : goal.ghosts-serves_one_at_a_time
 ghosts-serves_one_at_a_time g a =

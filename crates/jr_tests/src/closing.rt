@@ -5,10 +5,9 @@ use crate::pools::{attached, detach};
 use assertions::assert_same;
 use jr::{
     Config, Dump, Env, EnvPool, Fault, Handle, Kind, Left, Marker, NativeCode, NativeInterface,
-    OwnedEnv, PoolOver, PoolRoom, QueueEnd, Site, StepsIn, Summary, close_collected,
+    OwnedEnv, PoolOver, PoolRoom, QueueEnd, Site, Steps, StepsIn, Summary, close_collected,
     close_collected_listing, open_envs, run_native, run_native_listing,
 };
-use jr_steps::Steps;
 use std::alloc::{AllocError, Global};
 use std::marker::Brand;
 use std::test::Fail;

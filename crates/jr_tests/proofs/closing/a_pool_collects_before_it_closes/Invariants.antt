@@ -1,5 +1,5 @@
 use Rattle.std.proofs.Common.{Some}
-use Rattle.jr_env_tests.proofs.closing.a_pool_collects_before_it_closes.Given as goal
+use Rattle.jr_tests.proofs.closing.a_pool_collects_before_it_closes.Given as goal
 
 abbrev pub ghosts-closes_collected : goal.ghosts-closes_collected
 ghosts-closes_collected g a =
