@@ -239,10 +239,10 @@ class Functions:
                     self.places[name] = (file, way)
 
     def name(self, file, way):
-        """Returns the prover's name for a function: of those that it has, the one that says most of the impl, and where it has none yet, as for a program right behind rt ci, the one that a plain head leads to."""
+        """Returns the prover's name for a function: of those that it has, the one that says most of the impl, and where it has none yet, as for a program right behind rt ci, the one that a plain head leads to, or one with lifetimes alone."""
         modules, head, word = file.modules(way), file.head(way), way[-1].name
         if not self.by_word:
-            plain = re.fullmatch(r"(?:impl|(?:pub )?trait) (?:[\w:<>]+ for )?\w+\s*", head)
+            plain = re.fullmatch(r"(?:impl|(?:pub )?trait) (?:[\w:<>]+ for )?\w+\s*", re.sub(r"<'\w+(?:, '\w+)*>", "", head))
             trait, of = words_of(head)
             owner, is_own = "".join(it[:1].upper() + it[1:] for it in [*of, *trait]), head.startswith("impl") and not trait
             within = self.homes.get(owner, modules) if is_own else modules

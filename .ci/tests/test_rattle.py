@@ -10,6 +10,7 @@ import rattle
 # The prover's name for a function `call` of an impl with this head, in src/place.rt.
 HEADS = {
     "impl Env": "place::Env",
+    "impl<'a> Line<'a>": "place::Line",
     "impl<S: Steps> Env<S>": "place::Env",
     "impl<'a, S: Steps> Region<'a, S>": "place::Region",
     "impl Steps for Plain": "place::PlainSteps",
@@ -28,7 +29,7 @@ HEADS = {
     "pub trait NativeInterface<S: Steps>: NativeCaller<S>": "place::NativeInterface",
 }
 # Those that are told where the prover's names are not at hand.
-PLAIN = ("impl Env", "impl Steps for Plain", "impl From<Reason> for Trouble", "impl fmt::Display for Trouble", "impl Number for i64", "pub trait Cells<P>")
+PLAIN = ("impl Env", "impl<'a> Line<'a>", "impl Steps for Plain", "impl From<Reason> for Trouble", "impl fmt::Display for Trouble", "impl Number for i64", "pub trait Cells<P>")
 TEXT = """//! A file with { a brace in a comment.
 
 /// A call.
