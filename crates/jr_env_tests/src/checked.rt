@@ -5,7 +5,7 @@ use jr_env::calls::{GetArrayLength, NewArray, SetArrayRegion};
 use jr_env::{
     Checked, Env, NativeEnv, NativeInterface, OverEnv, Patience, Refusal, Watcher, with_local_frame,
 };
-use jr_fixtures::is_refused;
+use jr_fixtures::refusal;
 use jr_steps::Steps;
 use jr_word::{Fault, Handle};
 use std::alloc::Global;
@@ -32,12 +32,19 @@ impl Watcher for Tally {
     }
 }
 
-/// Checks the line of a refusal.
-fn said(rt: &impl Abort, alloc: Global, last: Option<Refusal>, wanted: &str) -> Result<(), Fail> {
-    match last {
-        Some(refusal) => assert_eq!(rt; format!(in alloc; "{refusal}")?.as_str(), wanted),
-        None => Err("no refusal was told")?,
-    }
+/// Checks that a call was refused as it was told, and the line of that.
+fn said(
+    rt: &impl Abort,
+    alloc: Global,
+    refused: Option<Fault>,
+    last: Option<Refusal>,
+    wanted: &str,
+) -> Result<(), Fail> {
+    let Some(last) = last else {
+        return Err("no refusal was told")?;
+    };
+    assert_same!(rt; refused, Some(last.fault));
+    assert_eq!(rt; format!(in alloc; "{last}")?.as_str(), wanted);
     Ok(())
 }
 
@@ -56,45 +63,72 @@ pub(crate) fn are_told<S: Steps>(
     env: &mut Env<S>,
 ) -> Result<(), Fail> {
     calls_are_told(rt, alloc, env)?;
-    all_are_told(rt, alloc, env)?;
-    elements_are_told(rt, alloc, env)
+    all_are_told(rt, alloc, env)
 }
 
-/// Each refused call is told with what its words are, and one that is not refused isn't.
+/// The words that the calls are made with: of a string, of an array of three elements, and of one of two objects.
+#[derive(Clone, Copy)]
+struct Words {
+    string: Handle,
+    ints: Handle,
+    objects: Handle,
+}
+
+/// A call that is refused, by its place in `TOLD`.
+fn asks<S: Steps, N: NativeEnv<S>>(checked: &mut N, words: Words, asked: usize) -> Option<Fault> {
+    let Words {
+        string,
+        ints,
+        objects,
+    } = words;
+    match asked {
+        0 => refusal(checked.get_array_length(string)),
+        1 => refusal(checked.is_same_object(ints, Handle(u64::MAX))),
+        2 => refusal(checked.set_array_region(ints, 1, &[7i64])),
+        3 => refusal(checked.get_array_region(ints, 2, &mut [0i32, 0])),
+        4 => refusal(checked.set_array_region(ints, 3, &[7i32])),
+        5 => refusal(checked.get_object_array_element(objects, 2)),
+        6 => refusal(checked.set_object_array_element(objects, 9, Handle::NULL)),
+        7 => refusal(checked.get_array_region(ints, 2, &mut [0i64, 0])),
+        8 => refusal(checked.retry(SetArrayRegion(ints, 4, &[] as &[i32]), Patience::of(3))),
+        _ => None,
+    }
+}
+
+/// What is told of each of these: the call, what its words are, and of E7 which elements it asked, and how many there are.
+const TOLD: [&str; 9] = [
+    "thread 0: GetArrayLength: E5, the object is not an array; 0x1 is a local reference to a String",
+    "thread 0: IsSameObject: E2, no reference of this word stands; 0x400000001 is a local reference to an int[]; 0xffffffffffffffff is no handle",
+    "thread 0: SetLongArrayRegion: E6, the array's elements are of another kind than the call is for; 0x400000001 is a local reference to an int[]",
+    "thread 0: GetIntArrayRegion: E7, an index, a part or a length doesn't fit the object (asked: 2 elements from index 2 on; length: 3); 0x400000001 is a local reference to an int[]",
+    "thread 0: SetIntArrayRegion: E7, an index, a part or a length doesn't fit the object (asked: index 3; length: 3); 0x400000001 is a local reference to an int[]",
+    "thread 0: GetObjectArrayElement: E7, an index, a part or a length doesn't fit the object (asked: index 2; length: 2); 0x800000001 is a local reference to an Object[]",
+    "thread 0: SetObjectArrayElement: E7, an index, a part or a length doesn't fit the object (asked: index 9; length: 2); 0x800000001 is a local reference to an Object[]; 0x0 is NULL",
+    "thread 0: GetLongArrayRegion: E6, the array's elements are of another kind than the call is for; 0x400000001 is a local reference to an int[]",
+    "thread 0: SetIntArrayRegion: E7, an index, a part or a length doesn't fit the object (asked: 0 elements from index 4 on; length: 3); 0x400000001 is a local reference to an int[]",
+];
+
+/// Each refused call is told, once, and one that is not refused isn't. Of another refusal than E7 no elements are told.
 fn calls_are_told<S: Steps>(rt: &impl Abort, alloc: Global, env: &mut Env<S>) -> Result<(), Fail> {
     let string = env.new_string(&[7])?;
-    let array = env.new_array::<i32>(2)?;
+    let ints = env.new_array::<i32>(3)?;
+    let objects = env.new_object_array(2, ints)?;
+    let words = Words {
+        string,
+        ints,
+        objects,
+    };
     let mut checked = Checked::new(env, nothing_told());
-    checked.get_array_length(array)?;
+    checked.get_array_length(ints)?;
     assert!(rt; checked.watcher().last.is_none());
-    let refused = checked.get_array_length(string);
-    assert!(rt; is_refused(refused, Some(Fault::NotArray)));
-    said(
-        rt,
-        alloc,
-        checked.watcher().last,
-        "thread 0: GetArrayLength: E5, the object is not an array; 0x1 is a local reference to a String",
-    )?;
-    let refused = checked.is_same_object(array, Handle(u64::MAX));
-    assert!(rt; is_refused(refused, Some(Fault::Stale)));
-    said(
-        rt,
-        alloc,
-        checked.watcher().last,
-        "thread 0: IsSameObject: E2, no reference of this word stands; 0x400000001 is a local reference to an int[]; 0xffffffffffffffff is no handle",
-    )?;
-    let refused = checked.set_array_region(array, 1, &[7i64]);
-    assert!(rt; is_refused(refused, Some(Fault::WrongElement)));
-    said(
-        rt,
-        alloc,
-        checked.watcher().last,
-        "thread 0: SetLongArrayRegion: E6, the array's elements are of another kind than the call is for; 0x400000001 is a local reference to an int[]",
-    )?;
-    let refused = checked.new_array::<i64>(u32::MAX);
-    assert!(rt; refused.is_err());
+    for asked in 0..TOLD.len() {
+        let refused = asks(&mut checked, words, asked);
+        said(rt, alloc, refused, checked.watcher().last, TOLD[asked])?;
+    }
+    assert!(rt; checked.new_array::<i64>(u32::MAX).is_err());
     let (_env, tally) = checked.into_parts();
-    assert!(rt; tally.counts[2] == 1 && tally.counts[5] == 1 && tally.counts[6] == 1);
+    assert!(rt; tally.counts[2] == 1 && tally.counts[5] == 1);
+    assert!(rt; tally.counts[6] == 2 && tally.counts[7] == 5);
     Ok(())
 }
 
@@ -131,62 +165,11 @@ fn all_are_told<S: Steps>(rt: &impl Abort, alloc: Global, env: &mut Env<S>) -> R
     said(
         rt,
         alloc,
+        Some(Fault::LocalsFull),
         checked.watcher().last,
         "loader: thread 0: PushLocalFrame: E9, the thread has too little room for local references",
     )?;
     let (_env, tally) = checked.into_parts();
     assert!(rt; tally.counts[5] == 2 && tally.counts[9] == 1);
-    Ok(())
-}
-
-/// A call by the index of an element, or of a part: each is refused by E7 here.
-fn asks_elements<S: Steps, N: NativeEnv<S>>(
-    rt: &impl Abort,
-    checked: &mut N,
-    ints: Handle,
-    objects: Handle,
-    asked: usize,
-) {
-    let refused = match asked {
-        0 => checked.get_array_region(ints, 2, &mut [0i32, 0]),
-        1 => checked.set_array_region(ints, 3, &[7i32]),
-        2 => checked.get_object_array_element(objects, 2).map(|_| ()),
-        3 => checked.set_object_array_element(objects, 9, Handle::NULL),
-        4 => checked.retry(SetArrayRegion(ints, 4, &[] as &[i32]), Patience::of(3)),
-        _ => Err(Fault::Range),
-    };
-    assert_same!(rt; refused, Err(Fault::Range); at asked);
-}
-
-/// What is told of each of these, behind the call's name.
-const ASKED: [&str; 5] = [
-    "thread 0: GetIntArrayRegion: E7, an index, a part or a length doesn't fit the object (asked: 2 elements from index 2 on; length: 3); 0x1400000001 is a local reference to an int[]",
-    "thread 0: SetIntArrayRegion: E7, an index, a part or a length doesn't fit the object (asked: index 3; length: 3); 0x1400000001 is a local reference to an int[]",
-    "thread 0: GetObjectArrayElement: E7, an index, a part or a length doesn't fit the object (asked: index 2; length: 2); 0x1800000001 is a local reference to an Object[]",
-    "thread 0: SetObjectArrayElement: E7, an index, a part or a length doesn't fit the object (asked: index 9; length: 2); 0x1800000001 is a local reference to an Object[]; 0x0 is NULL",
-    "thread 0: SetIntArrayRegion: E7, an index, a part or a length doesn't fit the object (asked: 0 elements from index 4 on; length: 3); 0x1400000001 is a local reference to an int[]",
-];
-
-/// Of a call that is refused by E7 it is told which elements it asked, and how many there are; of another refusal of it neither.
-fn elements_are_told<S: Steps>(
-    rt: &impl Abort,
-    alloc: Global,
-    env: &mut Env<S>,
-) -> Result<(), Fail> {
-    let ints = env.new_array::<i32>(3)?;
-    let objects = env.new_object_array(2, ints)?;
-    let mut checked = Checked::new(env, nothing_told());
-    for asked in 0..ASKED.len() {
-        asks_elements(rt, &mut checked, ints, objects, asked);
-        said(rt, alloc, checked.watcher().last, ASKED[asked])?;
-    }
-    let refused = checked.get_array_region(ints, 2, &mut [0i64, 0]);
-    assert_same!(rt; refused, Err(Fault::WrongElement));
-    assert!(rt;
-        checked
-            .watcher()
-            .last
-            .is_some_and(|last| last.missed.is_none())
-    );
     Ok(())
 }

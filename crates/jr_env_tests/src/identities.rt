@@ -1,10 +1,9 @@
 //! An object's identity: its references share it, of two threads too, two objects don't, and a collection that moves the object leaves it.
-ghost use Rattle.jr_rule.specs.Passes.{IsOpened};
 
 use assertions::assert_same;
 use jr_env::{Env, NativeInterface};
-use jr_fixtures::{EnvTest, LAST, alone, collects, made, next_pass, opened_env, refusal};
-use jr_rule::{Pass, Room, RoomSteps};
+use jr_fixtures::{EnvTest, LAST, NoPass, alone, collects, made, next_env, refusal};
+use jr_rule::Room;
 use jr_steps::Steps;
 use jr_word::{Config, Fault, Handle};
 use std::alloc::Global;
@@ -60,9 +59,14 @@ fn are_shared<S: Steps>(rt: &impl Abort, env: &mut Env<S>, array: Handle) -> Res
 
 /// What has no identity.
 fn are_refused<S: Steps>(rt: &impl Abort, env: &mut Env<S>) {
-    assert_same!(rt; refusal(env.identity_of(Handle::NULL)), Some(Fault::Null));
-    assert_same!(rt; refusal(env.identity_of(ONES)), Some(Fault::Stale));
-    assert_same!(rt; refusal(env.identity_of(FOREIGN)), Some(Fault::Foreign));
+    let rows = [
+        (Handle::NULL, Fault::Null),
+        (ONES, Fault::Stale),
+        (FOREIGN, Fault::Foreign),
+    ];
+    for (word, fault) in rows {
+        assert_same!(rt; refusal(env.identity_of(word)), Some(fault); at word);
+    }
 }
 
 /// A collection that drops an array moves the one behind it, and leaves that its identity. A weak reference that it clears has none.
@@ -102,24 +106,29 @@ fn a_moved_object_keeps_its_identity(rt: HostRuntime) -> Result<(), Fail> {
 }
 
 /// What two threads are told of one object: the first by a local reference, the second by a global one.
-fn told_to_two(room: &Room<LAST>, first: Pass, second: Pass) -> Result<[u16; 2], Fail>
-    requires first { IsOpened room.now.row first }
-    requires second { IsOpened room.now.row second }
-{
-    let mut one = opened_env(RoomSteps::new(room, first));
-    let mut other = opened_env(RoomSteps::new(room, second));
+fn told_to_two<S: Steps>(one: &mut Env<S>, other: &mut Env<S>) -> Result<[u16; 2], Fail> {
     let _before = one.new_plain()?;
     let text = one.new_string(&[104, 105])?;
     let global = made(one.new_global_ref(text))?;
     Ok([one.identity_of(text)?, other.identity_of(global)?])
 }
 
+/// Two threads are told one identity, where there is an env for each.
+fn are_told_one<S: Steps + Drop>(
+    rt: &impl Abort,
+    one: Result<Env<S>, NoPass>,
+    other: Result<Env<S>, NoPass>,
+) -> Result<(), Fail> {
+    let (mut one, mut other) = (one?, other?);
+    let [first, second] = told_to_two(&mut one, &mut other)?;
+    assert_same!(rt; first, second);
+    Ok(())
+}
+
 #[test]
 fn two_threads_are_told_one_identity(rt: HostRuntime) -> Result<(), Fail> {
     let (room, mut passes) = Room::<LAST>::open(rt.alloc(), TWO)?;
-    let first = next_pass(&room, &mut passes)?;
-    let second = next_pass(&room, &mut passes)?;
-    let [one, other] = told_to_two(&room, first, second)?;
-    assert_same!(&rt; one, other);
-    Ok(())
+    let one = next_env(&room, &mut passes);
+    let other = next_env(&room, &mut passes);
+    are_told_one(&rt, one, other)
 }

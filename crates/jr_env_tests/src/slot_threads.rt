@@ -38,6 +38,16 @@ const RETIRED: SlotParts = SlotParts::Retired { serial: 2 };
 /// How often two threads fight.
 const ROUNDS: u32 = 100;
 
+/// The place of a handle among all.
+fn place_of(handle: Handle) -> Option<usize> {
+    for place in 0..ALL.len() {
+        if ALL[place] == handle {
+            return Some(place);
+        }
+    }
+    None
+}
+
 /// Makes and deletes global references until no slot is free. How often it was given each of the six handles; nothing where a call answered otherwise.
 fn until_none_is_free<S: Steps>(env: &mut Env<S>) -> Option<[u8; 6]> {
     let object = env.new_plain().ok()?;
@@ -45,8 +55,8 @@ fn until_none_is_free<S: Steps>(env: &mut Env<S>) -> Option<[u8; 6]> {
     for _ in 0..=ALL.len() {
         match env.new_global_ref(object) {
             Ok(Some(handle)) => {
-                let at = ALL.iter().position(|it| *it == handle)?;
-                given[at] = given[at].saturating_add(1);
+                let place = place_of(handle)?;
+                given[place] = given[place].saturating_add(1);
                 env.delete_global_ref(handle).ok()?;
             }
             Err(Fault::RowFull) => return Some(given),

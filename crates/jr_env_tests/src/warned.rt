@@ -102,6 +102,15 @@ fn words_run_short<S: Steps>(rt: &impl Abort, alloc: Global, env: &mut Env<S>) -
     Ok(())
 }
 
+/// Checks that it was places that ran short.
+fn is_of_places(rt: &impl Abort, last: Option<Shortage>) -> Result<(), Fail> {
+    let Some(last) = last else {
+        return Err("nothing was told")?;
+    };
+    assert_same!(rt; last.scarce, Scarce::Locals);
+    Ok(())
+}
+
 /// With a reserve of 2 of 16 places it is told behind the call that leaves 1, and behind the next; E9 comes behind that, of which it isn't told, nor of a call that takes no place.
 fn places_run_short<S: Steps>(
     rt: &impl Abort,
@@ -131,9 +140,7 @@ fn places_run_short<S: Steps>(
         warned.delete_local_ref(handle)?;
     }
     said(rt, alloc, warned.warner(), 2, none)?;
-    let shortage = warned.warner().last;
-    assert_same!(rt; shortage.map(|it| it.scarce), Some(Scarce::Locals));
-    Ok(())
+    is_of_places(rt, warned.warner().last)
 }
 
 /// A warner is told before E9 and E10.

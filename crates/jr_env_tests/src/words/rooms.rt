@@ -88,10 +88,19 @@ fn copied_in<S: Steps>(
     })
 }
 
+/// The same, where there is an env.
+fn copied_by<S: Steps + Drop>(
+    alloc: Global,
+    env: Result<Env<S>, Fault>,
+    words: &mut Vec<Handle>,
+) -> Result<Given, Fail> {
+    let mut env = env?;
+    copied_in(alloc, &mut env, words)
+}
+
 /// The same, by the env of a room that is made for it.
 fn given_by_another(alloc: Global, words: &mut Vec<Handle>) -> Result<Given, Fail> {
-    let mut other = plain_env(alloc, OTHER)?;
-    copied_in(alloc, &mut other, words)
+    copied_by(alloc, plain_env(alloc, OTHER), words)
 }
 
 /// The reference that a call made stands, and is one of the words.
