@@ -55,8 +55,8 @@ fn until_none_is_free<S: Steps>(env: &mut Env<S>) -> Option<[u8; 6]> {
     for _ in 0..=ALL.len() {
         match env.new_global_ref(object) {
             Ok(Some(handle)) => {
-                let place = place_of(handle)?;
-                given[place] = given[place].saturating_add(1);
+                let count = given.get_mut(place_of(handle)?)?;
+                *count = count.saturating_add(1);
                 env.delete_global_ref(handle).ok()?;
             }
             Err(Fault::RowFull) => return Some(given),
